@@ -1,0 +1,111 @@
+-- The tables still say what the history says after one more event.
+use Rattle.std.proofs.Common.{◌≡◌, ℕ, ◌+◌, ◌==◌, ◌||◌, Bool, true, false, cond, sym, ◌∙◌, ap, refl, subst, arith, List, [], ◌∷◌, ◌++◌, Option, Some, None}
+use Rattle.std.specs.Prelude.{unwrap_or, is_some, reverse}
+use Rattle.std.specs.Option.{option_map, option_map_or, option_and_then, option_to_list}
+use Rattle.std.specs.Str.{bytes_eq}
+use Rattle.std.proofs.lemmas.Bool.{eqb-true, cases_Bool}
+use Rattle.es_value.specs.declared.value.Value.{Value}
+use Rattle.es_value.specs.declared.value.Value.TheVariants.{Object}
+use Rattle.es_props.specs.Heap.{has, property, keys}
+use Rattle.es_weakref.specs.WeakRefs.{target}
+use Rattle.es_event.specs.declared.event.Answer.{Answer}
+use Rattle.es_event.specs.declared.event.Refusal.TheVariants.{NotHeldWeakly}
+use Rattle.es_value.specs.Values.{is_held_weakly}
+use Rattle.es_event.specs.declared.event.Answer.TheVariants.{Gives}
+use Rattle.es_event.specs.declared.event.Event.{Event}
+use Rattle.es_event.specs.declared.event.Event.TheVariants.{Did}
+use Rattle.es_event.specs.declared.command.Command.{Command}
+use Rattle.es_event.specs.declared.command.Command.TheVariants.{New, WeakRef}
+use Rattle.es_event.specs.Commands.{first, Kind, weakref_to, kind_made}
+use Rattle.es_event.specs.History.{History, at_key}
+use Rattle.es_event.specs.Identities.{made, makes_at, kind, born, object_of}
+use Rattle.es_event.specs.Jobs.{Receivers}
+use Rattle.es_event.specs.Variables.{var, assigned}
+use Rattle.es_event.specs.Properties.{prop, put, same_key, keys_after, keys as keys_said}
+use Rattle.es_event.specs.WeakRefs.{aims, first_target, kept, keeps, ends_job}
+use Rattle.es_event.specs.Rules.{result, first_refusal, tests, room}
+use Rattle.es_event.specs.Legal.{Lawful, LegalBy}
+use Rattle.es_event.proofs.Accepted.{accepted, is_result, first_holds}
+use Rattle.es_event.proofs.Births.{birth}
+use Rattle.es_event.proofs.Targets.{held_weakly_object}
+use Rattle.es_agent.specs.declared.effects.Effects.{Effects}
+use Rattle.es_agent.specs.Effects.{AreEffects, Applied, object_born, points, with_option}
+use Rattle.es_agent.specs.Tables.{State, Says, bound, aimed}
+use Rattle.es_agent.proofs.Fresh.{next_target, born_next}
+
+-- Objects
+
+born_some : (e : Event) (q : ℕ × Option Kind) → born e ≡ Some q → is_some q.1 ≡ true
+born_some (Did c vs r) q e = ap is_some (birth c vs r q e).1
+born_some _ q e = cc
+
+there : (b : Option (ℕ × Option Kind)) (before : Option Kind) (o : ℕ) → ((q : ℕ × Option Kind) → b ≡ Some q → is_some q.1 ≡ true)
+    → (option_map_or (λ i. i == o) (option_map (λ b. b.0) b) false || is_some before) ≡ is_some (unwrap_or (at_key (λ i j. i == j) o b) before)
+there None before o some = refl
+there (Some q) before o some =
+    elim (q.0 == o) as (λ t. (t || is_some before) ≡ is_some (unwrap_or (cond t (Some q.1) None) before))
+    [ true ↦ sym (some q refl) | false ↦ refl ]
+
+-- Targets
+
+-- an event that makes no WeakRef aims at nothing new
+plain_target : (s : Option ℕ) (before : Option Kind) (b : Option (ℕ × Option Kind)) (w : ℕ)
+    → option_map Object s ≡ option_and_then aims before
+    → ((q : ℕ × Option Kind) → b ≡ Some q → (option_and_then aims q.1 ≡ None) × (q.0 ≡ w → option_and_then aims before ≡ None))
+    → option_map Object s ≡ option_and_then aims (unwrap_or (at_key (λ i j. i == j) w b) before)
+plain_target s before None w same none = same
+plain_target s before (Some q) w same none =
+    elim (q.0 == w) as (λ t. q.0 == w ≡ t → option_map Object s ≡ option_and_then aims (unwrap_or (cond t (Some q.1) None) before))
+    [ true ↦ λ t. same ∙ (none q refl).1 (eqb-true q.0 w t) ∙ sym (none q refl).0 | false ↦ λ t. same ] refl
+
+-- the new WeakRef aims at its target
+new_target : (s : Option ℕ) (before : Option Kind) (n w t : ℕ) → option_map Object s ≡ option_and_then aims before
+    → option_map Object (unwrap_or (at_key (λ i j. i == j) w (Some (n, Some t))) s) ≡ option_and_then aims (unwrap_or (at_key (λ i j. i == j) w (Some (n, Some (weakref_to (Object t))))) before)
+new_target s before n w t same =
+    elim (n == w) as (λ b. option_map Object (unwrap_or (cond b (Some (Some t)) None) s) ≡ option_and_then aims (unwrap_or (cond b (Some (Some (weakref_to (Object t)))) None) before))
+    [ true ↦ refl | false ↦ same ]
+
+aims_at_none : (into : Receivers) (h : History) (e : Event) (w : ℕ) → LegalBy [] into h → Lawful [] into h e
+    → ((q : ℕ × Option Kind) → born e ≡ Some q → option_and_then aims q.1 ≡ None)
+    → (q : ℕ × Option Kind) → born e ≡ Some q → (option_and_then aims q.1 ≡ None) × (q.0 ≡ w → option_and_then aims (kind h w) ≡ None)
+aims_at_none into h e w legal lawful none q is = (
+  none q is,
+  λ same. subst (λ o. first_target h o ≡ None) (born_next into h e q lawful is ∙ same) (next_target into h legal),
+)
+
+ordinary_born : (c : Command) (vs : List Value) (r : Answer) → option_and_then aims (kind_made c vs) ≡ None → (q : ℕ × Option Kind) → born (Did c vs r) ≡ Some q → option_and_then aims q.1 ≡ None
+ordinary_born c vs r none q e = let b = birth c vs r q e in ap (option_and_then aims) (b.1 ∙ sym b.2) ∙ none
+
+target_step : (into : Receivers) (h : History) (e : Event) (s : Option ℕ) (w : ℕ) → LegalBy [] into h → Lawful [] into h e
+    → option_map Object s ≡ first_target h w → option_map Object (unwrap_or (at_key (λ i j. i == j) w (points e)) s) ≡ first_target (e ∷ h) w
+target_step into h (Did (WeakRef to y) vs r) s w legal lawful same =
+    let ok = accepted (first_refusal (tests [] h (WeakRef to y) vs)) (result [] h (WeakRef to y) vs) r lawful.1 in
+    let object = held_weakly_object (first vs) (first_holds (is_held_weakly (first vs)) NotHeldWeakly (room h ∷ []) ok.0).0 in
+    subst (λ r. option_map Object (unwrap_or (at_key (λ i j. i == j) w (points (Did (WeakRef to y) vs r))) s) ≡ first_target (Did (WeakRef to y) vs r ∷ h) w) ok.1
+    (subst (λ v. option_map Object (unwrap_or (at_key (λ i j. i == j) w (option_map (λ t. (made h + 1, Some t)) (object_of v))) s) ≡ option_and_then aims (unwrap_or (at_key (λ i j. i == j) w (Some (made h + 1, Some (weakref_to v)))) (kind h w)))
+        (sym object.1) (new_target s (kind h w) (made h + 1) w object.0 same))
+target_step into h (Did c vs r) s w legal lawful same =
+    plain_target s (kind h w) (born (Did c vs r)) w same (aims_at_none into h (Did c vs r) w legal lawful (ordinary_born c vs r refl))
+target_step into h e s w legal lawful same =
+    plain_target s (kind h w) (born e) w same (λ q is. cc)
+
+-- All tables
+
+pub says_after : (into : Receivers) (h : History) (s t : State) (e : Event) (f : Effects)
+    → LegalBy [] into h → Lawful [] into h e → Says into h s → AreEffects e f → Applied s f t → Says into (e ∷ h) t
+says_after into h s t e f legal lawful says are applied = record {
+  variables = λ x. applied.variables x ∙ ap (λ p. unwrap_or (at_key bytes_eq x p) (bound s.variables x)) (are.assigned into h) ∙ ap (unwrap_or (at_key bytes_eq x (assigned into h e))) (says.variables x);
+  properties = λ o k. applied.properties o k ∙ ap (λ p. unwrap_or (at_key same_key (o, k) p) (property s.heap o k)) are.put ∙ ap (unwrap_or (at_key same_key (o, k) (put e))) (says.properties o k);
+  keys = λ o. applied.keys o ∙ ap (λ p. keys_after o p (keys s.heap o)) are.put ∙ ap (keys_after o (put e)) (says.keys o);
+  objects = λ o. applied.objects o
+      ∙ ap (λ b. option_map_or (λ i. i == o) b false || has s.heap o) are.born
+      ∙ ap (λ b. option_map_or (λ i. i == o) (object_born e) false || b) (says.objects o)
+      ∙ there (born e) (kind h o) o (born_some e);
+  targets = λ w. ap (option_map Object) (applied.targets w ∙ ap (λ p. unwrap_or (at_key (λ i j. i == j) w p) (target s.weakrefs w)) are.points)
+      ∙ target_step into h e (target s.weakrefs w) w legal lawful (says.targets w);
+  kept = applied.kept
+      ∙ ap (λ b. cond b [] (option_to_list f.kept ++ reverse s.weakrefs.kept)) are.clears
+      ∙ ap (λ ids. cond (ends_job e) [] (ids ++ reverse s.weakrefs.kept)) are.kept
+      ∙ ap (λ ids. cond (ends_job e) [] (keeps e ++ ids)) says.kept;
+  made = applied.made ∙ ap (λ n. n + s.made) are.makes ∙ ap (λ n. makes_at e + n) says.made;
+}

@@ -1,0 +1,12 @@
+use Rattle.std.proofs.Common.{◌≡◌, ◌≤◌, length, sym, ap, subst}
+use Rattle.es_event.specs.Jobs.{job}
+use Rattle.es_event.specs.Order.{stand, between}
+use Rattle.es_agent.specs.declared.cursor.Place.{Place}
+use Rattle.es_agent.specs.Book.{need_of}
+use Rattle.es_agent.specs.Cursor.{IsAt}
+use Rattle.es_agent.proofs.Standing.{begins_next, asks_next}
+use Rattle.es_agent.proofs.agent.AgentCore.next.Goals as goal
+
+pub returns-in-Between-2 : goal.returns-in-Between-2
+returns-in-Between-2 c =
+    rw (← c.self.view_is) (sym (asks_next _ _ _ _ c.self.invariant.0 c.in-Between.is (rw c.as_slice.ensures at c.if-self-as_slice.false)))

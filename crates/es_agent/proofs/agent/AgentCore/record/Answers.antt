@@ -1,0 +1,27 @@
+use Rattle.std.proofs.Common.{◌≡◌, ◌≢◌, ◌≤◌, [], ◌∷◌, refl, arith, ap}
+use Rattle.std.specs.Prelude.{vec_len, vec_capacity}
+use Rattle.std.proofs.lemmas.List.{reverse-append}
+use Rattle.es_agent.proofs.Steps.{ties_after, ties_same, few, can_record}
+use Rattle.es_agent.proofs.agent.AgentCore.record.Goals as goal
+
+pub apply-requires-clause-can : goal.apply-requires-clause-can
+apply-requires-clause-can c =
+    let next = rw (← c.self.view_is) at c.requires.next in
+    can_record _ _ _ _ _ c.self.invariant.0 next c.requires.effects
+
+pub apply-requires-clause-few : goal.apply-requires-clause-few
+apply-requires-clause-few c = few _ _ _ _ c.self.invariant.0
+
+pub invariant_of-self-in-Err-apply : goal.invariant_of-self-in-Err-apply
+invariant_of-self-in-Err-apply c =
+    rw c.reserve.ensures.items
+    (ties_same _ _ _ _ _ c.self.invariant.0 c.in-Err-apply.ensures.err, λ open'. omega (arith, c.in_default.ensures.room))
+
+pub invariant_of-self-2 : goal.invariant_of-self-2
+invariant_of-self-2 c =
+    let next = rw (← c.self.view_is) at c.requires.next in
+    rw (c.push_reserved.ensures.items, reverse-append c.reserve.new.events.items (c.args.step.event ∷ []), c.reserve.ensures.items)
+    (
+      ties_after _ _ _ _ _ _ _ c.self.invariant.0 next c.requires.effects c.in_default-apply.ensures.ok (c.after-self-inside.ensures _ c.self.invariant.0.stands next.permitted),
+      λ open'. omega (arith, c.in_default.ensures.room),
+    )

@@ -1,0 +1,5 @@
+pub mod Book
+pub mod Tables
+pub mod Effects
+pub mod Cursor
+pub mod Ties

@@ -1,0 +1,12 @@
+pub mod Accepted
+pub mod Small
+pub mod LookBacks
+pub mod Source
+pub mod Holds
+pub mod Births
+pub mod Targets
+pub mod Born
+pub mod Objects
+pub mod Gone
+pub mod Safe
+pub mod Dead

@@ -1,0 +1,17 @@
+pub mod Literals
+pub mod Commands
+pub mod Reading
+pub mod History
+pub mod Identities
+pub mod Jobs
+pub mod Variables
+pub mod Properties
+pub mod WeakRefs
+pub mod Rules
+pub mod Legal
+pub mod Reach
+pub mod Live
+pub mod Order
+pub mod Follows
+pub mod Runs
+pub mod Report

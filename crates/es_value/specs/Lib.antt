@@ -1,0 +1,4 @@
+pub mod Spelling
+pub mod Padding
+pub mod Values
+pub mod Printed
