@@ -10,3 +10,16 @@ pub mod Objects
 pub mod Gone
 pub mod Safe
 pub mod Dead
+pub mod Examples
+pub mod ExampleDeref
+pub mod ExampleProperties
+pub mod ExampleRefusals
+pub mod ExampleKeys
+pub mod ExampleSymbols
+pub mod ExampleEmpty
+pub mod ExampleCluster
+pub mod Steps
+pub mod Deciding
+pub mod ExampleReach
+pub mod ExampleLive
+pub mod ExampleNeighbours

@@ -30,7 +30,9 @@ pub enum Answer {
 #[derive(Debug, Drop)]
 pub enum Event {
     /// The job of this number, counted from 1, begins.
-    JobBegun { job: usize },
+    JobBegun {
+        job: usize,
+    },
     /// A command was done, with the values of the variables that it read and what it gave.
     Did {
         command: Command,
@@ -38,10 +40,14 @@ pub enum Event {
         answer: Answer,
     },
     /// A command was refused.
-    Refused { code: Refusal },
+    Refused {
+        code: Refusal,
+    },
     /// Values were emptied (ECMA-262, Execution), by rising identity. No agent does so yet: it is
     /// part of the hypothetical executions that say what is live.
-    Emptied { ids: Sequence<Id> },
+    Emptied {
+        ids: Sequence<Id>,
+    },
     /// The job ended, and KeptAlive is empty (ECMA-262, ClearKeptObjects).
     JobEnded,
     /// The agent ended.

@@ -14,11 +14,9 @@ ghost use Rattle.es_event.specs.Runs.{IsRun};
 /// of all that is dead observes a member of it, whatever is emptied on the way.
 pub fn nothing_dead_is_live()
     ensures { (into : Receivers) (h : History) (s : List ℕ) → AreDead into h s → Live into h s → ⊥ }
-{
-}
+{}
 
 /// Nothing in KeptAlive is emptied, in any run of a plan so far.
 pub fn nothing_kept_is_gone()
     ensures { (plan : AgentPlan) (h : History) (i : ℕ) → IsRun plan h → is_in (kept h) i ≡ true → is_in (gone h) i ≡ true → ⊥ }
-{
-}
+{}
