@@ -1,10 +1,10 @@
 -- What the next event does can be applied to the tables.
-use Rattle.std.proofs.Common.{◌≡◌, ℕ, ◌+◌, Bool, true, false, sym, ◌∙◌, ap, refl, subst, List, [], ◌∷◌, Option, Some, None}
+use Rattle.std.proofs.Common.{◌≡◌, ℕ, ◌+◌, Bool, true, false, sym, ◌∙◌, ap, refl, subst, List, [], Option, Some, None}
 use Rattle.std.specs.Prelude.{is_some}
 use Rattle.std.specs.Option.{option_map, option_map_or}
 use Rattle.es_value.specs.declared.value.Value.{Value}
 use Rattle.es_value.specs.declared.value.Value.TheVariants.{Object}
-use Rattle.es_props.specs.Heap.{Store, has}
+use Rattle.es_props.specs.Heap.{has}
 use Rattle.es_weakref.specs.WeakRefs.{target}
 use Rattle.es_event.specs.declared.event.Answer.{Answer}
 use Rattle.es_event.specs.declared.event.Answer.TheVariants.{Gives}
@@ -24,7 +24,7 @@ use Rattle.es_event.proofs.Holds.{put_from}
 use Rattle.es_event.proofs.Objects.{first_object}
 use Rattle.es_agent.specs.declared.effects.Effects.{Effects}
 use Rattle.es_agent.specs.Effects.{AreEffects, CanApply, object_born, points, with_option}
-use Rattle.es_agent.specs.Tables.{State, Says, aimed}
+use Rattle.es_agent.specs.Tables.{State, Says}
 use Rattle.es_agent.proofs.Fresh.{next_kind, next_target, born_next}
 
 if_some : {A : Type 0} (p : A → Bool) (o : Option A) (d : Bool) → ((a : A) → o ≡ Some a → p a ≡ d) → option_map_or p o d ≡ d

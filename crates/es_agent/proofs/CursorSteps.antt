@@ -10,7 +10,7 @@ use Rattle.es_event.specs.declared.event.Event.TheVariants.{Did}
 use Rattle.es_event.specs.declared.plan.AgentPlan.{AgentPlan}
 use Rattle.es_event.specs.History.{History}
 use Rattle.es_event.specs.Jobs.{job}
-use Rattle.es_event.specs.Order.{job_commands, left}
+use Rattle.es_event.specs.Order.{job_commands}
 use Rattle.es_agent.specs.declared.cursor.Cursor.{Cursor}
 use Rattle.es_agent.specs.declared.cursor.Place.{Place}
 use Rattle.es_agent.specs.declared.cursor.Place.TheVariants.{Between, Inside, Stopped, Ended}
@@ -32,8 +32,8 @@ place_did plan h c vs r n Between e at = at
 place_did plan h c vs r n (Inside k) e at = (
   at.0,
   ap (drop 1) (at.1 ∙ ap (λ j. drop k (job_commands plan j)) (sym e))
-  ∙ one_less k (job_commands plan n) _ refl
-  ∙ ap (λ j. drop (cond (nat_lt k (length (job_commands plan n))) (k + 1) k) (job_commands plan j)) (e ∙ same_job h c vs r),
+      ∙ one_less k (job_commands plan n) _ refl
+      ∙ ap (λ j. drop (cond (nat_lt k (length (job_commands plan n))) (k + 1) k) (job_commands plan j)) (e ∙ same_job h c vs r),
   subst (λ j. j ≤ length plan.jobs) (same_job h c vs r) at.2,
 )
 place_did plan h c vs r n Stopped e at = (at.0, subst (λ j. j ≤ length plan.jobs) (same_job h c vs r) at.1)

@@ -1,5 +1,5 @@
 -- What a call that succeeds ensures.
-use Rattle.std.proofs.Common.{Bool, true, false, cond, ◌≡◌, refl, Option, Some, None, Result, Ok, Err}
+use Rattle.std.proofs.Common.{Bool, true, false, cond, ◌≡◌, refl, Option, Some, Result, Ok, Err}
 use Rattle.std.specs.Prelude.{unwrap_or, IsOk, OnOk}
 use Rattle.std.proofs.lemmas.Bool.{false≢true}
 

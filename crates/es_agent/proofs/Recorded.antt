@@ -1,9 +1,9 @@
 -- The tables still say what the history says after one more event.
-use Rattle.std.proofs.Common.{◌≡◌, ℕ, ◌+◌, ◌==◌, ◌||◌, Bool, true, false, cond, sym, ◌∙◌, ap, refl, subst, arith, List, [], ◌∷◌, ◌++◌, Option, Some, None}
+use Rattle.std.proofs.Common.{◌≡◌, ℕ, ◌+◌, ◌==◌, ◌||◌, true, false, cond, sym, ◌∙◌, ap, refl, subst, List, [], ◌∷◌, ◌++◌, Option, Some, None}
 use Rattle.std.specs.Prelude.{unwrap_or, is_some, reverse}
 use Rattle.std.specs.Option.{option_map, option_map_or, option_and_then, option_to_list}
 use Rattle.std.specs.Str.{bytes_eq}
-use Rattle.std.proofs.lemmas.Bool.{eqb-true, cases_Bool}
+use Rattle.std.proofs.lemmas.Bool.{eqb-true}
 use Rattle.es_value.specs.declared.value.Value.{Value}
 use Rattle.es_value.specs.declared.value.Value.TheVariants.{Object}
 use Rattle.es_props.specs.Heap.{has, property, keys}
@@ -11,26 +11,25 @@ use Rattle.es_weakref.specs.WeakRefs.{target}
 use Rattle.es_event.specs.declared.event.Answer.{Answer}
 use Rattle.es_event.specs.declared.event.Refusal.TheVariants.{NotHeldWeakly}
 use Rattle.es_value.specs.Values.{is_held_weakly}
-use Rattle.es_event.specs.declared.event.Answer.TheVariants.{Gives}
 use Rattle.es_event.specs.declared.event.Event.{Event}
 use Rattle.es_event.specs.declared.event.Event.TheVariants.{Did}
 use Rattle.es_event.specs.declared.command.Command.{Command}
-use Rattle.es_event.specs.declared.command.Command.TheVariants.{New, WeakRef}
+use Rattle.es_event.specs.declared.command.Command.TheVariants.{WeakRef}
 use Rattle.es_event.specs.Commands.{first, Kind, weakref_to, kind_made}
 use Rattle.es_event.specs.History.{History, at_key}
 use Rattle.es_event.specs.Identities.{made, makes_at, kind, born, object_of}
 use Rattle.es_event.specs.Jobs.{Receivers}
-use Rattle.es_event.specs.Variables.{var, assigned}
-use Rattle.es_event.specs.Properties.{prop, put, same_key, keys_after, keys as keys_said}
-use Rattle.es_event.specs.WeakRefs.{aims, first_target, kept, keeps, ends_job}
+use Rattle.es_event.specs.Variables.{assigned}
+use Rattle.es_event.specs.Properties.{put, same_key, keys_after}
+use Rattle.es_event.specs.WeakRefs.{aims, first_target, keeps, ends_job}
 use Rattle.es_event.specs.Rules.{result, first_refusal, tests, room}
 use Rattle.es_event.specs.Legal.{Lawful, LegalBy}
-use Rattle.es_event.proofs.Accepted.{accepted, is_result, first_holds}
+use Rattle.es_event.proofs.Accepted.{accepted, first_holds}
 use Rattle.es_event.proofs.Births.{birth}
 use Rattle.es_event.proofs.Targets.{held_weakly_object}
 use Rattle.es_agent.specs.declared.effects.Effects.{Effects}
-use Rattle.es_agent.specs.Effects.{AreEffects, Applied, object_born, points, with_option}
-use Rattle.es_agent.specs.Tables.{State, Says, bound, aimed}
+use Rattle.es_agent.specs.Effects.{AreEffects, Applied, object_born, points}
+use Rattle.es_agent.specs.Tables.{State, Says, bound}
 use Rattle.es_agent.proofs.Fresh.{next_target, born_next}
 
 -- Objects
@@ -83,7 +82,7 @@ target_step into h (Did (WeakRef to y) vs r) s w legal lawful same =
     let object = held_weakly_object (first vs) (first_holds (is_held_weakly (first vs)) NotHeldWeakly (room h ∷ []) ok.0).0 in
     subst (λ r. option_map Object (unwrap_or (at_key (λ i j. i == j) w (points (Did (WeakRef to y) vs r))) s) ≡ first_target (Did (WeakRef to y) vs r ∷ h) w) ok.1
     (subst (λ v. option_map Object (unwrap_or (at_key (λ i j. i == j) w (option_map (λ t. (made h + 1, Some t)) (object_of v))) s) ≡ option_and_then aims (unwrap_or (at_key (λ i j. i == j) w (Some (made h + 1, Some (weakref_to v)))) (kind h w)))
-        (sym object.1) (new_target s (kind h w) (made h + 1) w object.0 same))
+    (sym object.1) (new_target s (kind h w) (made h + 1) w object.0 same))
 target_step into h (Did c vs r) s w legal lawful same =
     plain_target s (kind h w) (born (Did c vs r)) w same (aims_at_none into h (Did c vs r) w legal lawful (ordinary_born c vs r refl))
 target_step into h e s w legal lawful same =

@@ -1,23 +1,21 @@
 -- What is due where an agent stands between two jobs, and at its closing.
-use Rattle.std.proofs.Common.{◌≡◌, ◌≢◌, ℕ, zero, suc, ◌+◌, ◌-◌, ◌<◌, ◌≤◌, ◌&&◌, Bool, true, false, sym, ◌∙◌, ap, refl, subst, arith, List, [], ◌∷◌, length, Option, Some, None}
+use Rattle.std.proofs.Common.{◌≡◌, ℕ, zero, suc, ◌-◌, ◌<◌, ◌≤◌, ◌&&◌, Bool, true, false, sym, ◌∙◌, ap, refl, subst, arith, List, [], ◌∷◌, length, Option, Some, None}
 use Rattle.std.specs.Prelude.{is_none, slice_get}
 use Rattle.std.specs.List.{list_all}
 use Rattle.std.specs.Option.{option_map}
 use Rattle.std.proofs.lemmas.Bool.{false≢true}
 use Rattle.es_event.specs.declared.event.Event.TheVariants.{Closed}
-use Rattle.es_event.specs.declared.command.Command.{Command}
 use Rattle.es_event.specs.declared.plan.AgentPlan.{AgentPlan}
 use Rattle.es_event.specs.declared.plan.Job.{Job}
 use Rattle.es_event.specs.History.{History}
 use Rattle.es_event.specs.Jobs.{Receivers, receivers, job}
-use Rattle.es_event.specs.Order.{Due, begin, receive, run, end_job, close, nothing, due, due_at, due_job, stand, between, ended}
+use Rattle.es_event.specs.Order.{Due, begin, receive, run, end_job, close, nothing, due, due_at, due_job, stand, between}
 use Rattle.es_event.specs.Follows.{Permits}
-use Rattle.es_agent.specs.declared.need.Need.{Need}
-use Rattle.es_agent.specs.declared.need.Need.TheVariants.{Local, Close, Ended}
+use Rattle.es_agent.specs.declared.need.Need.TheVariants.{Local, Close}
 use Rattle.es_agent.specs.declared.cursor.Cursor.{Cursor}
 use Rattle.es_agent.specs.declared.cursor.Place.TheVariants.{Between, Ended as EndPlace}
-use Rattle.es_agent.specs.Book.{is_built, need_of, need}
-use Rattle.es_agent.specs.Cursor.{IsAt, Stands}
+use Rattle.es_agent.specs.Book.{is_built, need_of}
+use Rattle.es_agent.specs.Cursor.{IsAt}
 use Rattle.es_agent.specs.Tables.{State, Says}
 use Rattle.es_agent.specs.Ties.{Ties}
 

@@ -1,12 +1,11 @@
 -- One more event keeps what holds of an agent.
-use Rattle.std.proofs.Common.{◌≡◌, ℕ, ◌+◌, ◌<◌, ◌≤◌, sym, ◌∙◌, ap, refl, subst, arith, List, [], ◌∷◌, length, zero}
+use Rattle.std.proofs.Common.{◌<◌, ◌∙◌, ap, arith, [], ◌∷◌}
 use Rattle.std.specs.Prelude.{reverse}
 use Rattle.std.specs.Option.{option_map}
 use Rattle.es_value.specs.declared.value.Value.TheVariants.{Object}
 use Rattle.es_event.specs.declared.event.Event.{Event}
 use Rattle.es_event.specs.declared.plan.AgentPlan.{AgentPlan}
 use Rattle.es_event.specs.History.{History}
-use Rattle.es_event.specs.Identities.{made}
 use Rattle.es_event.specs.Jobs.{receivers}
 use Rattle.es_event.proofs.Small.{made_small}
 use Rattle.es_agent.specs.declared.cursor.Cursor.{Cursor}
@@ -14,7 +13,7 @@ use Rattle.es_agent.specs.declared.effects.Effects.{Effects}
 use Rattle.es_agent.specs.Book.{Book, IsNext}
 use Rattle.es_agent.specs.Cursor.{Stands}
 use Rattle.es_agent.specs.Effects.{AreEffects, Applied, CanApply}
-use Rattle.es_agent.specs.Tables.{State, Says, SameState, bound, aimed}
+use Rattle.es_agent.specs.Tables.{State, SameState}
 use Rattle.es_agent.specs.Ties.{Ties}
 use Rattle.es_agent.proofs.Recorded.{says_after}
 use Rattle.es_agent.proofs.Applying.{can_apply}

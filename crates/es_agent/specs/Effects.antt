@@ -1,8 +1,7 @@
 -- What an event does to the tables.
-use Rattle.std.specs.Prelude.{ℕ, ◌≡◌, ◌+◌, ◌==◌, ◌||◌, ◌++◌, ◌∷◌, Bool, true, false, List, [], Option, Some, None, unwrap_or, is_some, reverse, if◌then◌else◌}
+use Rattle.std.specs.Prelude.{ℕ, ◌≡◌, ◌+◌, ◌==◌, ◌||◌, ◌++◌, true, false, List, [], Option, Some, None, unwrap_or, is_some, reverse, if◌then◌else◌}
 use Rattle.std.specs.Option.{option_map, option_map_or, option_to_list}
 use Rattle.std.specs.Str.{bytes_eq}
-use Rattle.es_value.specs.declared.value.Value.{Value}
 use Rattle.es_value.specs.declared.value.Value.TheVariants.{Object}
 use Rattle.es_event.specs.declared.event.Answer.TheVariants.{Gives}
 use Rattle.es_event.specs.declared.event.Event.{Event}

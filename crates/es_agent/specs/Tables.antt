@@ -1,5 +1,5 @@
 -- What the tables of an agent say, and that they say what its history says.
-use Rattle.std.specs.Prelude.{ℕ, ◌≡◌, ◌<◌, Bool, List, Option, unwrap_or, is_some, reverse}
+use Rattle.std.specs.Prelude.{ℕ, ◌≡◌, List, Option, unwrap_or, is_some, reverse}
 use Rattle.std.specs.Map.{lookup}
 use Rattle.std.specs.Option.{option_map}
 use Rattle.std.specs.Str.{bytes_eq}

@@ -1,9 +1,10 @@
 ghost use Rattle.std.specs.Prelude.{◌≡◌, None, IfOk};
 
 use crate::{AgentCore, Need};
-use es_event::{AgentPlan, Answer, Command, Event, Job, Literal, Refusal, Sequence};
-use es_value::{Id, Name, Value, write_value};
+use es_event::{AgentPlan, Answer, Command, Event, Job, Literal, Sequence};
+use es_value::{Name, Value, write_value};
 use std::alloc::Global;
+use std::io::Write;
 use std::test::Fail;
 
 fn name(alloc: Global, text: &str) -> Result<Name, Fail> {
@@ -84,42 +85,43 @@ fn plan(alloc: Global, jobs: Vec<Job>) -> Result<AgentPlan, Fail>
     })
 }
 
-/// What the events say, one line each, as a report would.
+/// What the events say, one part each, as a report would.
 fn said(alloc: Global, events: &[Event]) -> Result<Vec<u8>, Fail> {
-    let mut lines = Vec::new(alloc);
+    let mut text = Vec::new(alloc);
     for event in events {
-        match event {
-            Event::Did {
-                command: Command::Say { .. },
-                values,
-                ..
-            } => {
-                for value in values.as_slice() {
-                    write_value(value, &mut lines)?;
-                }
-            }
-            Event::Did {
-                answer: Answer::Listed(keys),
-                ..
-            } => {
-                for key in keys.as_slice() {
-                    lines.extend_from_slice(key.as_bytes())?;
-                }
-            }
-            Event::Refused {
-                code: Refusal::NotAnObject,
-            } => lines.extend_from_slice(b"not an object")?,
-            Event::Refused {
-                code: Refusal::NotAWeakRef,
-            } => lines.extend_from_slice(b"not a WeakRef")?,
-            Event::Refused {
-                code: Refusal::NotHeldWeakly,
-            } => lines.extend_from_slice(b"not held weakly")?,
-            _ => continue,
-        }
-        lines.push(b';')?;
+        say_event(event, &mut text)?;
     }
-    Ok(lines)
+    Ok(text)
+}
+
+fn say_event(event: &Event, text: &mut Vec<u8>) -> Result<(), Fail> {
+    match event {
+        Event::Did {
+            command: Command::Say { .. },
+            values,
+            ..
+        } => say_first(values.as_slice(), text),
+        Event::Did {
+            answer: Answer::Listed(keys),
+            ..
+        } => say_keys(keys.as_slice(), text),
+        Event::Refused { code } => Ok(write!(text, "{code:?};")?),
+        _ => Ok(()),
+    }
+}
+
+fn say_first(values: &[Value], text: &mut Vec<u8>) -> Result<(), Fail> {
+    for value in values {
+        write_value(value, text)?;
+    }
+    Ok(text.push(b';')?)
+}
+
+fn say_keys(keys: &[Name], text: &mut Vec<u8>) -> Result<(), Fail> {
+    for key in keys {
+        text.extend_from_slice(key.as_bytes())?;
+    }
+    Ok(text.push(b';')?)
 }
 
 fn run_whole(core: &mut AgentCore) -> Result<(), Fail> {
@@ -172,7 +174,11 @@ fn keeps_targets_until_the_end_of_the_job(rt: HostRuntime) -> Result<(), Fail> {
 #[test]
 fn a_refusal_ends_its_job_and_changes_nothing_else(rt: HostRuntime) -> Result<(), Fail> {
     let alloc = rt.alloc();
-    let first = vec![in alloc; number(alloc, "x", 1)?, set(alloc, "x", "p", "x")?, say(alloc, "x")?]?;
+    let first = vec![in alloc;
+        number(alloc, "x", 1)?,
+        set(alloc, "x", "p", "x")?,
+        say(alloc, "x")?,
+    ]?;
     let second = vec![in alloc; weakref(alloc, "w", "x")?]?;
     let third = vec![in alloc; deref(alloc, "y", "x")?]?;
     let fourth = vec![in alloc; say(alloc, "x")?, say(alloc, "w")?, say(alloc, "y")?]?;
@@ -181,7 +187,7 @@ fn a_refusal_ends_its_job_and_changes_nothing_else(rt: HostRuntime) -> Result<()
     let mut core = AgentCore::new(alloc, plan, 0, 1)?;
     run_whole(&mut core)?;
     let said = said(alloc, core.history())?;
-    let want = b"not an object;not held weakly;not a WeakRef;1;undefined;undefined;";
+    let want = b"NotAnObject;NotHeldWeakly;NotAWeakRef;1;undefined;undefined;";
     assert_eq!(rt; said.as_slice(), want.as_slice());
     Ok(())
 }

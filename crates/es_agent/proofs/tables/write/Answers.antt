@@ -1,4 +1,3 @@
-use Rattle.std.proofs.Common.{◌≡◌}
 use Rattle.es_props.proofs.CallerLemmas.{property-set, keys-set, property-delete, keys-delete}
 use Rattle.es_agent.proofs.Outcomes.{on_map}
 use Rattle.es_agent.proofs.tables.write.Goals as goal

@@ -1,10 +1,5 @@
-use Rattle.std.proofs.Common.{◌≡◌, ◌≤◌, length, sym, ap, subst}
-use Rattle.es_event.specs.Jobs.{job}
-use Rattle.es_event.specs.Order.{stand, between}
-use Rattle.es_agent.specs.declared.cursor.Place.{Place}
-use Rattle.es_agent.specs.Book.{need_of}
-use Rattle.es_agent.specs.Cursor.{IsAt}
-use Rattle.es_agent.proofs.Standing.{begins_next, asks_next}
+use Rattle.std.proofs.Common.{sym}
+use Rattle.es_agent.proofs.Standing.{asks_next}
 use Rattle.es_agent.proofs.agent.AgentCore.next.Goals as goal
 
 pub returns-in-Between-2 : goal.returns-in-Between-2

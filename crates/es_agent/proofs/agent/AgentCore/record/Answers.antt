@@ -1,5 +1,4 @@
-use Rattle.std.proofs.Common.{◌≡◌, ◌≢◌, ◌≤◌, [], ◌∷◌, refl, arith, ap}
-use Rattle.std.specs.Prelude.{vec_len, vec_capacity}
+use Rattle.std.proofs.Common.{[], ◌∷◌, arith}
 use Rattle.std.proofs.lemmas.List.{reverse-append}
 use Rattle.es_agent.proofs.Steps.{ties_after, ties_same, few, can_record}
 use Rattle.es_agent.proofs.agent.AgentCore.record.Goals as goal
@@ -20,8 +19,7 @@ invariant_of-self-in-Err-apply c =
 pub invariant_of-self-2 : goal.invariant_of-self-2
 invariant_of-self-2 c =
     let next = rw (← c.self.view_is) at c.requires.next in
-    rw (c.push_reserved.ensures.items, reverse-append c.reserve.new.events.items (c.args.step.event ∷ []), c.reserve.ensures.items)
-    (
+    rw (c.push_reserved.ensures.items, reverse-append c.reserve.new.events.items (c.args.step.event ∷ []), c.reserve.ensures.items) (
       ties_after _ _ _ _ _ _ _ c.self.invariant.0 next c.requires.effects c.in_default-apply.ensures.ok (c.after-self-inside.ensures _ c.self.invariant.0.stands next.permitted),
       λ open'. omega (arith, c.in_default.ensures.room),
     )

@@ -1,4 +1,4 @@
-use Rattle.std.proofs.Common.{◌≡◌, ap, []}
+use Rattle.std.proofs.Common.{ap, []}
 use Rattle.std.specs.Option.{option_map}
 use Rattle.es_value.specs.declared.value.Value.TheVariants.{Object}
 use Rattle.es_event.proofs.Gone.{target_stays}

@@ -1,4 +1,3 @@
-use Rattle.std.proofs.Common.{◌≡◌, sym}
 use Rattle.es_agent.proofs.agent.AgentCore.variable.Goals as goal
 
 pub returns : goal.returns

@@ -1,4 +1,4 @@
-use Rattle.std.proofs.Common.{◌≡◌, ap, ◌∙◌, length}
+use Rattle.std.proofs.Common.{ap, ◌∙◌, length}
 use Rattle.es_agent.specs.Cursor.{place_after}
 use Rattle.es_agent.proofs.CursorSteps.{after_did}
 use Rattle.es_agent.proofs.cursor.Cursor.after.Goals as goal

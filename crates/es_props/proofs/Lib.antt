@@ -1,0 +1,3 @@
+pub mod CallerLemmas
+mod Objects
+mod Tables

@@ -1,0 +1,58 @@
+//! The properties of one object.
+ghost use Rattle.std.specs.Prelude.{◌≡◌, ◌++◌, IfOk, OnOk, OnErr, is_some};
+ghost use Rattle.std.specs.List.{flat_map};
+ghost use Rattle.std.specs.Option.{option_to_list};
+ghost use Rattle.es_value.specs.Values.{identity};
+ghost use Rattle.es_props.specs.Heap.{value_at, keys_of, with_property, without_property};
+
+use es_value::{Id, Name, NoMemory, Value};
+use indexmap::IndexMap;
+use std::alloc::Global;
+
+/// Sets a property: a key that is there keeps its place, and a new one goes last.
+#[tactic(auto, using(crate::proofs::Tables::with_property_is_insert))]
+pub(crate) fn put(
+    properties: &mut IndexMap<Name, Value>,
+    key: Name,
+    value: Value,
+) -> Result<(), NoMemory>
+    ensures ok { OnOk result (properties.new.entries ≡ with_property properties.old.entries key value) }
+    ensures err { OnErr result (properties.new.entries ≡ properties.old.entries) }
+{
+    properties.insert(key, value)?;
+    Ok(())
+}
+
+/// Takes a property out, and leaves the others in their order; whether it was there.
+#[tactic(auto, using(crate::proofs::Tables::value_at_is_lookup))]
+pub(crate) fn take_out(properties: &mut IndexMap<Name, Value>, key: &Name) -> bool
+    ensures was_there { result ≡ is_some (value_at properties.old.entries key.now) }
+    ensures after { properties.new.entries ≡ without_property properties.old.entries key.now }
+{
+    properties.shift_remove(key).is_some()
+}
+
+/// The keys, in order of creation.
+pub(crate) fn keys(properties: &IndexMap<Name, Value>, alloc: Global) -> Result<Vec<Name>, NoMemory>
+    ensures { IfOk result (λ ks. ks.items ≡ keys_of properties.now.entries) }
+{
+    let keys = properties.keys().copied().collect(alloc)?;
+    Ok(keys)
+}
+
+/// Adds the identities that the values have to `found`, in order.
+pub(crate) fn add_identities(
+    properties: &IndexMap<Name, Value>,
+    found: &mut Vec<Id>,
+) -> Result<(), NoMemory>
+    ensures ok { OnOk result (found.new.items ≡ found.old.items ++ flat_map (λ p. option_to_list (identity p.1)) properties.now.entries) }
+    ensures err { OnErr result (found.new.items ≡ found.old.items) }
+{
+    found.reserve(properties.len())?;
+    for (_, value) in properties {
+        if let Some(edge) = value.identity() {
+            found.push(edge)?;
+        }
+    }
+    Ok(())
+}

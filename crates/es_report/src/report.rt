@@ -1,0 +1,45 @@
+ghost use Rattle.std.specs.Prelude.{OnOk};
+ghost use Rattle.std.specs.Io.KnownBytes.{Appends};
+ghost use Rattle.es_event.specs.Report.{agents_text, cluster_text, report};
+
+use crate::agent::write_agent;
+use es_event::{Event, Outcome, Sequence};
+use es_value::Name;
+use std::io;
+use std::io::Write;
+
+/// Writes the report of a run: the lines of each agent in the plan's order, and then the cluster's.
+/// A name without a history, or a history without a name, has no lines.
+///
+/// It takes no memory and hands the writer one piece of a line after another. Where the writer
+/// fails, it answers that error and writes nothing more.
+pub fn write_report<W: Write>(outcome: &Outcome, writer: &mut W) -> Result<(), io::Error>
+    ensures { OnOk result (Appends (W.contents writer.old) (W.contents writer.new) (report outcome.now)) }
+{
+    write_agents(
+        outcome.names.as_slice(),
+        outcome.histories.as_slice(),
+        writer,
+    )?;
+    write_cluster(writer)
+}
+
+fn write_agents<W: Write>(
+    names: &[Name],
+    histories: &[Sequence<Event>],
+    writer: &mut W,
+) -> Result<(), io::Error>
+    ensures { OnOk result (Appends (W.contents writer.old) (W.contents writer.new) (agents_text names.now histories.now)) }
+{
+    for (name, history) in names.iter().zip(histories) {
+        write_agent(name, history, writer)?;
+    }
+    Ok(())
+}
+
+// No program has a block or a message yet, so every count is 0.
+fn write_cluster<W: Write>(writer: &mut W) -> Result<(), io::Error>
+    ensures { OnOk result (Appends (W.contents writer.old) (W.contents writer.new) cluster_text) }
+{
+    writer.write_all(b"cluster\nblocks 0 released 0\nmessages posted 0 taken 0 drained 0\n")
+}

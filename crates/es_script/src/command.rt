@@ -1,0 +1,130 @@
+//! Commands and lists of them.
+
+ghost use Rattle.std.specs.Prelude.{◌≡◌};
+ghost use Rattle.serde_json.specs.View.{view, items_view};
+ghost use Rattle.es_script.specs.Table.{form};
+ghost use Rattle.es_script.specs.Reading.{Gives, form_read, command_read, commands_read, run_read};
+
+use crate::fault::{FaultCode, Spot, fault_in};
+use crate::operand::{one, three, two};
+use crate::parts::has_at_most;
+use crate::{Place, ReadFault};
+use es_event::{Command, Sequence};
+use serde_json::Value;
+use std::alloc::Global;
+
+/// How many commands a callback or a job has at most.
+const MOST_COMMANDS: usize = 10000;
+
+/// The commands of a callback or a job.
+pub(crate) fn run_of(
+    alloc: Global,
+    list: &[Value],
+    place: Place,
+) -> Result<Sequence<Command>, ReadFault>
+    ensures { Gives (λ cs. cs) result (run_read place (items_view list.now)) }
+{
+    if !has_at_most(list, MOST_COMMANDS) {
+        return Err(fault_in(place, FaultCode::Limit));
+    }
+    commands_of(alloc, list, place)
+}
+
+fn commands_of(alloc: Global, list: &[Value], place: Place) -> Result<Sequence<Command>, ReadFault>
+    ensures { Gives (λ cs. cs) result (commands_read place 1 (items_view list.now)) }
+{
+    let mut commands = Sequence::new(alloc);
+    for (index, value) in list.iter().enumerate() {
+        let spot = Spot {
+            place,
+            command: index + 1,
+        };
+        let command = command_of(alloc, value, spot)?;
+        commands.push(command)?;
+    }
+    Ok(commands)
+}
+
+fn command_of(alloc: Global, value: &Value, spot: Spot) -> Result<Command, ReadFault>
+    ensures { Gives (λ c. c) result (command_read spot (view value.now)) }
+{
+    match value {
+        Value::Array(parts) => match parts.as_slice() {
+            [Value::String(word), operands @ ..] => command_named(
+                alloc,
+                word.as_str(),
+                operands,
+                spot,
+            ),
+            _ => Err(spot.fault(FaultCode::Operands)),
+        },
+        _ => Err(spot.fault(FaultCode::Operands)),
+    }
+}
+
+/// The table of commands: the word of each, and what its operands make. Their kinds are those of the
+/// command's fields.
+fn command_named(
+    alloc: Global,
+    word: &str,
+    operands: &[Value],
+    spot: Spot,
+) -> Result<Command, ReadFault>
+    ensures { Gives (λ c. c) result (form_read spot (form word.now) (items_view operands.now)) }
+{
+    match word {
+        "let" => {
+            let (to, literal) = two(alloc, operands, spot)?;
+            Ok(Command::Let { to, literal })
+        }
+        "new" => {
+            let to = one(alloc, operands, spot)?;
+            Ok(Command::New { to })
+        }
+        "symbol" => {
+            let to = one(alloc, operands, spot)?;
+            Ok(Command::Symbol { to })
+        }
+        "symbolfor" => {
+            let (to, text) = two(alloc, operands, spot)?;
+            Ok(Command::SymbolFor { to, text })
+        }
+        "copy" => {
+            let (to, from) = two(alloc, operands, spot)?;
+            Ok(Command::Copy { to, from })
+        }
+        "same" => {
+            let (to, left, right) = three(alloc, operands, spot)?;
+            Ok(Command::Same { to, left, right })
+        }
+        "say" => {
+            let from = one(alloc, operands, spot)?;
+            Ok(Command::Say { from })
+        }
+        "set" => {
+            let (object, key, from) = three(alloc, operands, spot)?;
+            Ok(Command::Set { object, key, from })
+        }
+        "get" => {
+            let (to, object, key) = three(alloc, operands, spot)?;
+            Ok(Command::Get { to, object, key })
+        }
+        "delete" => {
+            let (to, object, key) = three(alloc, operands, spot)?;
+            Ok(Command::Delete { to, object, key })
+        }
+        "keys" => {
+            let object = one(alloc, operands, spot)?;
+            Ok(Command::Keys { object })
+        }
+        "weakref" => {
+            let (to, target) = two(alloc, operands, spot)?;
+            Ok(Command::WeakRef { to, target })
+        }
+        "deref" => {
+            let (to, weakref) = two(alloc, operands, spot)?;
+            Ok(Command::Deref { to, weakref })
+        }
+        _ => Err(spot.fault(FaultCode::Operands)),
+    }
+}

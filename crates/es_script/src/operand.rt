@@ -1,0 +1,193 @@
+//! The operands of commands.
+
+ghost use Rattle.std.specs.Prelude.{◌≡◌, ◌∷◌, []};
+ghost use Rattle.serde_json.specs.View.{view, items_view, number_view};
+ghost use Rattle.serde_json.specs.Find.{as_i64};
+ghost use Rattle.es_script.specs.Table.{Kind, name, literal, text, Meaning};
+ghost use Rattle.es_script.specs.Fault.{fits};
+ghost use Rattle.es_script.specs.Grammar.{is_whole};
+ghost use Rattle.es_script.specs.Reading.{Gives, name_read, text_read, number_read, operand_read, operands_read};
+
+use crate::ReadFault;
+use crate::fault::{FaultCode, Spot};
+use es_event::Literal;
+use es_value::{Name, NameFault, Text, TextFault};
+use serde_json::{Number, Value};
+use std::alloc::Global;
+
+/// What can be an operand of a command.
+pub(crate) trait Operand: Sized + Drop {
+    ghost kind: { Kind };
+
+    ghost meaning: { Self → Meaning kind };
+
+    /// Whether a value is of the JSON kind that such an operand has.
+    fn fits(value: &Value) -> bool
+        ensures { result ≡ fits kind (view value.now) };
+
+    /// The operand that a value of its JSON kind stands for.
+    fn read(alloc: Global, value: &Value, spot: Spot) -> Result<Self, ReadFault>
+        ensures { Gives meaning result (operand_read spot kind (view value.now)) };
+}
+
+/// A variable, or a property's key.
+impl Operand for Name {
+    ghost kind = { name };
+
+    ghost meaning = { λ n. n };
+
+    fn fits(value: &Value) -> bool {
+        value.is_string()
+    }
+
+    fn read(alloc: Global, value: &Value, spot: Spot) -> Result<Name, ReadFault> {
+        match value {
+            Value::String(chars) => name_of(alloc, chars.as_str(), spot),
+            _ => Err(spot.fault(FaultCode::Operands)),
+        }
+    }
+}
+
+impl Operand for Literal {
+    ghost kind = { literal };
+
+    ghost meaning = { λ l. l };
+
+    fn fits(value: &Value) -> bool {
+        !matches!(value, Value::Array(_) | Value::Object(_))
+    }
+
+    fn read(alloc: Global, value: &Value, spot: Spot) -> Result<Literal, ReadFault> {
+        match value {
+            Value::Null => Ok(Literal::Undefined),
+            Value::Bool(b) => Ok(Literal::Boolean(*b)),
+            Value::Number(number) => number_of(number, spot),
+            Value::String(chars) => Ok(Literal::Text(text_of(alloc, chars.as_str(), spot)?)),
+            _ => Err(spot.fault(FaultCode::Operands)),
+        }
+    }
+}
+
+impl Operand for Text {
+    ghost kind = { text };
+
+    ghost meaning = { λ t. t };
+
+    fn fits(value: &Value) -> bool {
+        value.is_string()
+    }
+
+    fn read(alloc: Global, value: &Value, spot: Spot) -> Result<Text, ReadFault> {
+        match value {
+            Value::String(chars) => text_of(alloc, chars.as_str(), spot),
+            _ => Err(spot.fault(FaultCode::Operands)),
+        }
+    }
+}
+
+/// The name that is spelled so.
+pub(crate) fn name_of(alloc: Global, chars: &str, spot: Spot) -> Result<Name, ReadFault>
+    ensures { Gives (λ n. n) result (name_read spot chars.now) }
+{
+    match Name::read(alloc, chars) {
+        Ok(name) => Ok(name),
+        Err(NameFault::BadName) => Err(spot.fault(FaultCode::Name)),
+        Err(NameFault::NoMemory) => Err(ReadFault::NoMemory),
+    }
+}
+
+fn text_of(alloc: Global, chars: &str, spot: Spot) -> Result<Text, ReadFault>
+    ensures { Gives (λ t. t) result (text_read spot chars.now) }
+{
+    match Text::read(alloc, chars) {
+        Ok(text) => Ok(text),
+        Err(TextFault::BadText) => Err(spot.fault(FaultCode::Profile)),
+        Err(TextFault::NoMemory) => Err(ReadFault::NoMemory),
+    }
+}
+
+fn number_of(number: &Number, spot: Spot) -> Result<Literal, ReadFault>
+    ensures { Gives (λ l. l) result (number_read spot (as_i64 (number_view number.now))) }
+{
+    match number.as_i64() {
+        Some(number) if is_of_profile(number) => Ok(Literal::Number(number)),
+        _ => Err(spot.fault(FaultCode::Profile)),
+    }
+}
+
+/// Whether a number is within ±9007199254740991.
+fn is_of_profile(number: i64) -> bool
+    ensures { result ≡ is_whole number }
+{
+    (-9007199254740991..=9007199254740991).contains(&number)
+}
+
+/// The one operand that there is.
+pub(crate) fn one<A: Operand>(alloc: Global, operands: &[Value], spot: Spot) -> Result<A, ReadFault>
+    ensures { Gives (λ x. (A.meaning x, tt)) result
+        (operands_read spot (A.kind ∷ []) (items_view operands.now)) }
+{
+    if operands.len() != 1 {
+        return Err(spot.fault(FaultCode::Operands));
+    }
+    match operands {
+        [a] => {
+            if !A::fits(a) {
+                return Err(spot.fault(FaultCode::Operands));
+            }
+            A::read(alloc, a, spot)
+        }
+        _ => unreachable!(),
+    }
+}
+
+/// The two operands that there are.
+pub(crate) fn two<A: Operand, B: Operand>(
+    alloc: Global,
+    operands: &[Value],
+    spot: Spot,
+) -> Result<(A, B), ReadFault>
+    ensures { Gives (λ p. (A.meaning p.0, (B.meaning p.1, tt))) result
+        (operands_read spot (A.kind ∷ B.kind ∷ []) (items_view operands.now)) }
+{
+    if operands.len() != 2 {
+        return Err(spot.fault(FaultCode::Operands));
+    }
+    match operands {
+        [a, b] => {
+            if !(A::fits(a) && B::fits(b)) {
+                return Err(spot.fault(FaultCode::Operands));
+            }
+            let a = A::read(alloc, a, spot)?;
+            let b = B::read(alloc, b, spot)?;
+            Ok((a, b))
+        }
+        _ => unreachable!(),
+    }
+}
+
+/// The three operands that there are.
+pub(crate) fn three<A: Operand, B: Operand, C: Operand>(
+    alloc: Global,
+    operands: &[Value],
+    spot: Spot,
+) -> Result<(A, B, C), ReadFault>
+    ensures { Gives (λ p. (A.meaning p.0, (B.meaning p.1, (C.meaning p.2, tt)))) result
+        (operands_read spot (A.kind ∷ B.kind ∷ C.kind ∷ []) (items_view operands.now)) }
+{
+    if operands.len() != 3 {
+        return Err(spot.fault(FaultCode::Operands));
+    }
+    match operands {
+        [a, b, c] => {
+            if !(A::fits(a) && B::fits(b) && C::fits(c)) {
+                return Err(spot.fault(FaultCode::Operands));
+            }
+            let a = A::read(alloc, a, spot)?;
+            let b = B::read(alloc, b, spot)?;
+            let c = C::read(alloc, c, spot)?;
+            Ok((a, b, c))
+        }
+        _ => unreachable!(),
+    }
+}

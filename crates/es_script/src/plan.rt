@@ -1,0 +1,69 @@
+//! Whole plans.
+
+ghost use Rattle.std.specs.Prelude.{◌≡◌, ◌&&◌, nat_le, IfOk, true, is_none};
+ghost use Rattle.std.specs.List.{list_all};
+ghost use Rattle.serde_json.specs.View.{view, items_view};
+ghost use Rattle.serde_json.specs.Events.{items_len};
+ghost use Rattle.es_script.specs.Fault.{Reads};
+ghost use Rattle.es_script.specs.Reading.{Gives, plan_read, agents_checked};
+
+use crate::agent::{agents_of, check_names};
+use crate::fault::{FaultCode, fault_in};
+use crate::parts::items;
+use crate::shape::has_plan_shape;
+use crate::{Place, ReadFault};
+use es_event::{AgentPlan, Plan, Sequence};
+use serde_json::Value;
+use std::alloc::Global;
+
+/// How many agents a plan has at most.
+const MOST_AGENTS: usize = 8;
+
+/// Reads a plan from its JSON text in UTF-8.
+///
+/// It answers the plan that the text stands for, or else the first fault: no JSON, the whole shape,
+/// the version, the number of agents, their names, and then agent by agent the limits, the callbacks
+/// by rising names and the jobs, with their commands in order. It answers `NoMemory` where a growth
+/// is refused before that fault is reached.
+pub fn read_plan(alloc: Global, bytes: &[u8]) -> Result<Plan, ReadFault>
+    ensures reads { Reads bytes.now result }
+    // No job waits for a message yet.
+    ensures alone { IfOk result (λ p. list_all (λ a. list_all (λ j. is_none j.on) a.jobs) p.agents ≡ true) }
+{
+    match Value::from_slice(alloc, bytes) {
+        Ok(value) => plan_of(alloc, &value),
+        Err(error) if error.is_memory() => Err(ReadFault::NoMemory),
+        Err(_) => Err(fault_in(Place::Whole, FaultCode::NotJson)),
+    }
+}
+
+fn plan_of(alloc: Global, value: &Value) -> Result<Plan, ReadFault>
+    ensures { Gives (λ p. p) result (plan_read (view value.now)) }
+{
+    if !has_plan_shape(value) {
+        return Err(fault_in(Place::Whole, FaultCode::Shape));
+    }
+    if value.get("version").and_then(Value::as_i64) != Some(1) {
+        return Err(fault_in(Place::Whole, FaultCode::Version));
+    }
+    let agents = checked_agents(alloc, items(value.get("agents")))?;
+    Ok(Plan { agents })
+}
+
+fn checked_agents(alloc: Global, agents: &[Value]) -> Result<Sequence<AgentPlan>, ReadFault>
+    ensures { Gives (λ s. s) result (agents_checked (items_view agents.now)) }
+{
+    if !is_agent_count(agents) {
+        return Err(fault_in(Place::Whole, FaultCode::AgentCount));
+    }
+    check_names(alloc, agents)?;
+    agents_of(alloc, agents)
+}
+
+/// Whether a plan may have so many agents.
+fn is_agent_count(agents: &[Value]) -> bool
+    ensures { result
+        ≡ (nat_le 1 (items_len (items_view agents.now)) && nat_le (items_len (items_view agents.now)) 8) }
+{
+    (1..=MOST_AGENTS).contains(&agents.len())
+}

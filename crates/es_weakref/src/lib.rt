@@ -1,0 +1,9 @@
+//! The WeakRefs of an agent with their targets, and its list of values kept alive.
+#![tactic(auto)]
+
+mod among;
+#[cfg(test)]
+mod tests;
+mod weakrefs;
+
+pub use weakrefs::WeakRefs;

@@ -1,0 +1,186 @@
+#!/bin/sh
+# What the program does with words, files and pipes: its status, standard output and standard error.
+# Usage: program.sh PROGRAM. Prints each test that fails, and 'N passed, M failed' last.
+set -u
+
+program=$(readlink -f "$1")
+top=$(dirname "$(dirname "$(readlink -f "$0")")")
+room=$(mktemp -d)
+trap 'rm -rf "$room"' EXIT
+passed=0
+failed=0
+
+# expect NAME STATUS OUTPUT ERRORS: what the program that just ran should have done; $got is its
+# status, and what it wrote stands in the files out and err. OUTPUT is a file, or - for any. ERRORS is
+# the one line on standard error, empty for none and - for any text that is not empty.
+expect() {
+    why=
+    [ "$got" -eq "$2" ] || why="status $got, not $2"
+    [ "$3" = - ] || cmp -s "$room/out" "$3" || why="$why; another output"
+    case $4 in
+    "") [ ! -s "$room/err" ] || why="$why; something on standard error" ;;
+    -) [ -s "$room/err" ] || why="$why; nothing on standard error" ;;
+    *) printf '%s\n' "$4" | cmp -s - "$room/err" || why="$why; another text on standard error" ;;
+    esac
+    if [ -z "$why" ]; then
+        passed=$((passed + 1))
+    else
+        failed=$((failed + 1))
+        echo "FAILED: $1: $why"
+    fi
+}
+
+# Runs the program on these words, with the small plan on standard input.
+run() {
+    "$program" "$@" <"$room/plan.json" >"$room/out" 2>"$room/err"
+    got=$?
+}
+
+# usage NAME WORDS..: the words are none of the program's
+usage() {
+    name=$1
+    shift
+    run "$@"
+    expect "$name" 2 "$room/nothing" -
+}
+
+# help TEXT WORDS..: the words ask for help, in which this text stands
+help() {
+    text=$1
+    shift
+    run "$@"
+    grep -q -e "$text" "$room/out" || got="$got without '$text'"
+    expect "help by $*" 0 - ""
+}
+
+# refused NAME ERRORS: the file script is refused, by both commands
+refused() {
+    run run "$room/script"
+    expect "$1" 1 "$room/nothing" "$2"
+    run check "$room/script"
+    expect "$1, checked" 1 "$room/nothing" "$2"
+}
+
+printf '{"version":1,"agents":[{"name":"a","callbacks":{},"jobs":[]}]}\n' >"$room/plan.json"
+{
+    echo 'agent a'
+    echo 'end live 0 awaiting 0 unregistered 0 taken 0'
+    echo 'cluster'
+    echo 'blocks 0 released 0'
+    echo 'messages posted 0 taken 0 drained 0'
+} >"$room/report"
+echo ok >"$room/ok"
+: >"$room/nothing"
+
+# Words
+
+run
+expect "no words" 0 "$room/report" ""
+run run
+expect "run" 0 "$room/report" ""
+run run "$room/plan.json"
+expect "run of a file" 0 "$room/report" ""
+run run --turns --helpers 8 --watch 1000 "$room/plan.json"
+expect "run with every option" 0 "$room/report" ""
+run check
+expect "check" 0 "$room/ok" ""
+run check "$room/plan.json"
+expect "check of a file" 0 "$room/ok" ""
+usage "another word" fly
+usage "help as a word" help
+usage "an option without run" --turns
+usage "two dashes alone" --
+usage "two files" run a b
+usage "no helpers" run --helpers 0
+usage "nine helpers" run --helpers 9
+usage "a watch of 1001" run --watch 1001
+usage "a watch below 0" run --watch -1
+usage "a watch that is no number" run --watch often
+usage "an option of run beside check" check --turns
+usage "a word that is no text" run "$(printf '\377')"
+help check --help
+help --helpers run --help
+help FILE check --help
+
+# Files and pipes
+
+run run "$room/missing"
+expect "a file that is not there" 4 "$room/nothing" "cannot read"
+run check "$room"
+expect "a folder" 4 "$room/nothing" "cannot read"
+"$program" check <&- >"$room/out" 2>"$room/err"
+got=$?
+expect "closed standard input" 4 "$room/nothing" "cannot read"
+: >"$room/out"
+"$program" run "$room/plan.json" >&- 2>"$room/err"
+got=$?
+expect "closed standard output" 4 "$room/nothing" "cannot write"
+"$program" run "$room/plan.json" >/dev/full 2>"$room/err"
+got=$?
+expect "a full disk" 4 - "cannot write"
+"$program" --help >/dev/full 2>"$room/err"
+got=$?
+expect "help on a full disk" 4 - "cannot write"
+{
+    sleep 0.3
+    "$program" run "$room/plan.json" 2>"$room/err"
+    echo $? >"$room/status"
+} | true
+got=$(cat "$room/status")
+expect "a pipe that nobody reads" 4 - "cannot write"
+{
+    head -c 20 "$room/plan.json"
+    sleep 0.2
+    tail -c +21 "$room/plan.json"
+} | "$program" 2>"$room/err" | cat >"$room/out"
+got=0
+expect "a slow pipe" 0 "$room/report" ""
+(cd "$room" && "$top/clusterrun" run plan.json) >"$room/out" 2>"$room/err"
+got=$?
+expect "the script at the top, from another folder" 0 "$room/report" ""
+
+# Scripts
+
+: >"$room/script"
+refused "no bytes" "refused S1"
+printf '{"version":1,"agents":[' >"$room/script"
+refused "a script that is cut short" "refused S1"
+{
+    cat "$room/plan.json"
+    printf x
+} >"$room/script"
+refused "a byte after the plan" "refused S1"
+printf '{"version":1,"agents":[{"name":"\377","callbacks":{},"jobs":[]}]}' >"$room/script"
+refused "bytes that are no UTF-8" "refused S1"
+printf '%0127d' 0 | sed 's/0/[/g' >"$room/deep"
+printf '%0127d' 0 | sed 's/0/]/g' >>"$room/deep"
+cp "$room/deep" "$room/script"
+refused "127 levels" "refused S2"
+{
+    printf '['
+    cat "$room/deep"
+    printf ']'
+} >"$room/script"
+refused "128 levels" "refused S1"
+printf '{"version":1,"agents":[],"x":0}' >"$room/script"
+refused "a key that a plan has not" "refused S2"
+
+# A plan of many pieces, whole and without its last bracket
+
+python3 "$top/tests/million.py" 20 1000 >"$room/large.json"
+run check "$room/large.json"
+expect "a large plan" 0 "$room/ok" ""
+head -c -2 "$room/large.json" >"$room/script"
+refused "a large plan without its last byte" "refused S1"
+
+# The examples
+
+for example in "$top"/examples/*.json; do
+    run run "$example"
+    expect "$(basename "$example")" 0 "${example%.json}.report" ""
+    run check "$example"
+    expect "$(basename "$example"), checked" 0 "$room/ok" ""
+done
+
+echo "$passed passed, $failed failed"
+[ "$failed" -eq 0 ]

@@ -1,0 +1,267 @@
+"""The rules once more, independently of the program: what a plan's text is refused with, and what its run reports.
+
+Used by random_plans.py alone. It knows the commands that are built so far.
+"""
+
+import json
+import re
+
+NAME = re.compile(r"[A-Za-z_][A-Za-z0-9_]{0,31}\Z")
+LARGEST = 9007199254740991
+
+# the operands of each command: n a name, l a literal, t a text
+OPERANDS = {
+    "let": "nl", "new": "n", "symbol": "n", "symbolfor": "nt", "copy": "nn", "same": "nnn", "say": "n",
+    "set": "nnn", "get": "nnn", "delete": "nnn", "keys": "n", "weakref": "nn", "deref": "nn",
+}
+
+
+class Refused(Exception):
+    """The plan is refused: the code's number, then agent, callback or job, and command."""
+
+    def __init__(self, code, agent=None, part=None, command=0):
+        words = [f"refused S{code}"]
+        if agent is not None:
+            words.append(f"agent {agent}")
+        if part is not None:
+            words.append(f"{part[0]} {part[1]}")
+        if command:
+            words.append(f"command {command}")
+        super().__init__(" ".join(words))
+
+
+class Number:
+    """A JSON number as it is written: 1.0 is no whole number, and neither is -0."""
+
+    def __init__(self, text):
+        self.text = text
+
+    def whole(self):
+        if re.fullmatch(r"-?\d+", self.text) and self.text != "-0":
+            value = int(self.text)
+            if -(2**63) <= value < 2**63:
+                return value
+        return None
+
+
+def is_text(text):
+    data = text.encode("utf-8", "surrogatepass")
+    return len(data) <= 256 and all(0x20 <= b <= 0x7E and b not in b'"\\' for b in data)
+
+
+def read_json(data):
+    try:
+        text = data.decode("utf-8")
+        if text.startswith("\ufeff"):
+            raise ValueError
+        return json.loads(text, parse_int=Number, parse_float=Number, parse_constant=reject, strict=True)
+    except (ValueError, RecursionError):
+        raise Refused(1) from None
+
+
+def reject(_):
+    raise ValueError
+
+
+def has_keys(value, *keys):
+    return isinstance(value, dict) and set(value) == set(keys)
+
+
+def is_run(value):
+    return isinstance(value, list) and all(isinstance(c, list) and c and isinstance(c[0], str) for c in value)
+
+
+def is_job(value):
+    return has_keys(value, "run") and is_run(value["run"])
+
+
+def is_agent(value):
+    return (
+        has_keys(value, "name", "callbacks", "jobs")
+        and isinstance(value["name"], str)
+        and isinstance(value["callbacks"], dict)
+        and all(is_run(run) for run in value["callbacks"].values())
+        and isinstance(value["jobs"], list)
+        and all(is_job(job) for job in value["jobs"])
+    )
+
+
+def is_plan(value):
+    return (
+        has_keys(value, "version", "agents")
+        and isinstance(value["version"], Number)
+        and isinstance(value["agents"], list)
+        and all(is_agent(agent) for agent in value["agents"])
+    )
+
+
+def check_command(command, where, number):
+    kinds = OPERANDS.get(command[0])
+    operands = command[1:]
+    if kinds is None or len(kinds) != len(operands):
+        raise Refused(7, *where, number)
+    for kind, operand in zip(kinds, operands):
+        if isinstance(operand, (list, dict)) or (kind != "l" and not isinstance(operand, str)):
+            raise Refused(7, *where, number)
+    for kind, operand in zip(kinds, operands):
+        if kind == "n" and not NAME.match(operand):
+            raise Refused(5, *where, number)
+        if kind != "n" and isinstance(operand, str) and not is_text(operand):
+            raise Refused(8, *where, number)
+        if isinstance(operand, Number) and (operand.whole() is None or abs(operand.whole()) > LARGEST):
+            raise Refused(8, *where, number)
+
+
+def check_run(run, where):
+    if len(run) > 10000:
+        raise Refused(10, *where)
+    for number, command in enumerate(run, 1):
+        check_command(command, where, number)
+
+
+def read_plan(data):
+    plan = read_json(data)
+    if not is_plan(plan):
+        raise Refused(2)
+    if plan["version"].whole() != 1:
+        raise Refused(3)
+    agents = plan["agents"]
+    if not 1 <= len(agents) <= 8:
+        raise Refused(4)
+    names = set()
+    for number, agent in enumerate(agents):
+        if not NAME.match(agent["name"]) or agent["name"] in names:
+            raise Refused(5, number)
+        names.add(agent["name"])
+    for number, agent in enumerate(agents):
+        if len(agent["callbacks"]) > 1000 or len(agent["jobs"]) > 1000:
+            raise Refused(10, number)
+        for k, name in enumerate(sorted(agent["callbacks"], key=str.encode), 1):
+            if not NAME.match(name):
+                raise Refused(5, number, ("callback", k))
+            check_run(agent["callbacks"][name], (number, ("callback", k)))
+        for j, job in enumerate(agent["jobs"], 1):
+            check_run(job["run"], (number, ("job", j)))
+    return plan
+
+
+class TypeRefused(Exception):
+    """An agent refuses a command."""
+
+
+class Agent:
+    """One agent: variables, objects with their properties, and WeakRefs with their targets."""
+
+    def __init__(self):
+        self.variables, self.made, self.properties, self.targets = {}, 0, {}, {}
+
+    def value(self, name):
+        return self.variables.get(name, ("undefined",))
+
+    def identity(self):
+        if self.made >= 1000000:
+            raise TypeRefused("limit: values")
+        self.made += 1
+        return self.made
+
+    def new_object(self):
+        number = self.identity()
+        self.properties[number] = {}
+        return ("object", number)
+
+    def object(self, name):
+        value = self.value(name)
+        if value[0] != "object":
+            raise TypeRefused("TypeError: not an object")
+        return self.properties[value[1]]
+
+    def do(self, word, args):
+        """Does a command; gives the line that it reports, if any."""
+        if word == "let":
+            self.variables[args[0]] = literal(args[1])
+        elif word == "new":
+            self.variables[args[0]] = self.new_object()
+        elif word == "symbol":
+            self.variables[args[0]] = ("symbol", self.identity())
+        elif word == "symbolfor":
+            self.variables[args[0]] = ("registered", args[1])
+        elif word == "copy":
+            self.variables[args[0]] = self.value(args[1])
+        elif word == "same":
+            self.variables[args[0]] = ("boolean", self.value(args[1]) == self.value(args[2]))
+        elif word == "say":
+            return "say " + printed(self.value(args[0]))
+        elif word == "set":
+            self.object(args[0])[args[1]] = self.value(args[2])
+        elif word == "get":
+            self.variables[args[0]] = self.object(args[1]).get(args[2], ("undefined",))
+        elif word == "delete":
+            self.object(args[1]).pop(args[2], None)
+            self.variables[args[0]] = ("boolean", True)
+        elif word == "keys":
+            return " ".join(["keys", *self.object(args[0])])
+        elif word == "weakref":
+            target = self.value(args[1])
+            if target[0] != "object":
+                raise TypeRefused("TypeError: cannot be held weakly")
+            weakref = self.new_object()
+            self.targets[weakref[1]] = target
+            self.variables[args[0]] = weakref
+        elif word == "deref":
+            weakref = self.value(args[1])
+            if weakref[0] != "object" or weakref[1] not in self.targets:
+                raise TypeRefused("TypeError: not a WeakRef")
+            self.variables[args[0]] = self.targets[weakref[1]]
+        return None
+
+
+def literal(value):
+    if value is None:
+        return ("undefined",)
+    if isinstance(value, bool):
+        return ("boolean", value)
+    if isinstance(value, Number):
+        return ("number", value.whole())
+    return ("text", value)
+
+
+def printed(value):
+    kind = value[0]
+    if kind == "undefined":
+        return "undefined"
+    if kind == "boolean":
+        return "true" if value[1] else "false"
+    if kind == "number":
+        return str(value[1])
+    if kind == "text":
+        return f'"{value[1]}"'
+    if kind == "registered":
+        return f'symbolfor "{value[1]}"'
+    return f"{kind} {value[1]}"
+
+
+def report(plan):
+    lines = []
+    for agent in plan["agents"]:
+        lines.append(f"agent {agent['name']}")
+        core = Agent()
+        for job in agent["jobs"]:
+            for command in job["run"]:
+                try:
+                    line = core.do(command[0], command[1:])
+                except TypeRefused as refused:
+                    lines.append(f"error {refused}")
+                    break
+                if line is not None:
+                    lines.append(line)
+        lines.append("end live 0 awaiting 0 unregistered 0 taken 0")
+    lines += ["cluster", "blocks 0 released 0", "messages posted 0 taken 0 drained 0"]
+    return "\n".join(lines) + "\n"
+
+
+def answer(data):
+    """The status, what is written, and the line on standard error."""
+    try:
+        return 0, report(read_plan(data)), ""
+    except Refused as refused:
+        return 1, "", f"{refused}\n"
