@@ -1,3 +1,4 @@
+#!/usr/bin/env python3
 """Random plans, whole and spoiled, through the program and through rules.py: each answer must be the same.
 
 Usage: random_plans.py PROGRAM COUNT SEED. Prints each plan that differs, and `N passed, M failed` last.

@@ -18,7 +18,9 @@ use Rattle.es_event.specs.Jobs.{Receivers, receivers}
 use Rattle.es_event.specs.Variables.{var}
 use Rattle.es_event.specs.Properties.{prop, keys}
 use Rattle.es_event.specs.WeakRefs.{kept}
+use Rattle.es_event.specs.Legal.{LegalBy}
 use Rattle.es_event.specs.Order.{stand, inside}
+use Rattle.es_event.specs.Follows.{Follows}
 use Rattle.es_event.specs.Runs.{IsWholeRun}
 use Rattle.es_event.specs.Report.{line}
 use Rattle.es_event.proofs.Examples.{IsUnlawful, IsOutOfPlace}
@@ -353,6 +355,16 @@ closed_twice p = p
 -- any event comes after the last
 after_the_end : (e : Event) → IsOutOfPlace Deref.plan Deref.closed e
 after_the_end e p = p
+
+-- The past
+
+-- an event further back reads a wrong value
+unlawful_past : LegalBy [] (receivers Deref.plan.jobs) (JobEnded ∷ Did Deref.say_b (Object 2 ∷ []) Nothing ∷ Deref.derefed) → ⊥
+unlawful_past l = cc
+
+-- a job further back was begun twice
+past_out_of_place : Follows [] Deref.plan (Did Deref.new_a [] (Gives (Object 1)) ∷ JobBegun 1 ∷ Deref.begun) → ⊥
+past_out_of_place f = f.1.0
 
 -- a history that is not closed is whole
 not_closed : IsWholeRun Deref.plan Deref.ended_again → ⊥

@@ -16,3 +16,6 @@ pub use list::Sequence;
 pub use literal::Literal;
 pub use outcome::Outcome;
 pub use plan::{AgentPlan, Callback, Job, Plan};
+
+#[cfg(test)]
+mod tests;

@@ -1,0 +1,48 @@
+use crate::{Command, Literal, Reads, Sequence};
+use es_value::{Name, Text, Value, same_value};
+use std::test::Fail;
+
+#[test]
+fn lists_keep_their_items_in_order(rt: HostRuntime) -> Result<(), Fail> {
+    let mut list = Sequence::new(rt.alloc());
+    list.push(3)?;
+    list.push(1)?;
+    assert_eq!(rt; list.as_slice(), [3, 1].as_slice());
+    let again = Sequence::from_vec(list.into_vec());
+    assert_eq!(rt; again.as_slice(), [3, 1].as_slice());
+    Ok(())
+}
+
+#[test]
+fn literals_stand_for_values(rt: HostRuntime) -> Result<(), Fail> {
+    let alloc = rt.alloc();
+    let text = Literal::Text(Text::read(alloc, "k")?);
+    let value = text.copy()?.value()?;
+    assert!(rt; same_value(&value, &Value::Text(Text::read(alloc, "k")?)));
+    let number = Literal::Number(-1).copy()?.value()?;
+    assert!(rt; same_value(&number, &Value::Number(-1)));
+    let nothing = Literal::Undefined.copy()?.value()?;
+    assert!(rt; same_value(&nothing, &Value::Undefined));
+    Ok(())
+}
+
+#[test]
+fn a_copied_command_reads_and_assigns_the_same(rt: HostRuntime) -> Result<(), Fail> {
+    let alloc = rt.alloc();
+    let object = Name::read(alloc, "o")?;
+    let key = Name::read(alloc, "k")?;
+    let from = Name::read(alloc, "x")?;
+    let set = Command::Set { object, key, from }.copy()?;
+    assert!(rt; matches!(set.reads(), Reads::Two(a, b) if *a == object && *b == from));
+    assert!(rt; set.assigns().is_none());
+    assert!(rt; !set.makes());
+    let weakref = Command::WeakRef {
+        to: from,
+        target: object,
+    };
+    let weakref = weakref.copy()?;
+    assert!(rt; matches!(weakref.reads(), Reads::One(a) if *a == object));
+    assert!(rt; weakref.assigns().is_some_and(|to| *to == from));
+    assert!(rt; weakref.makes());
+    Ok(())
+}
