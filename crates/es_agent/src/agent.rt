@@ -1,7 +1,7 @@
 ghost use Rattle.std.specs.Prelude.{◌≡◌, ℕ, ◌+◌, ◌≤◌, ◌<◌, ◌++◌, ◌∷◌, [], true, Some, None, Ok, Err, reverse, nat_lt, slice_get, vec_len, vec_capacity, IfOk, OnOk, OnErr, if◌then◌else◌};
 ghost use Rattle.std.specs.Option.{option_copied, option_map};
 ghost use Rattle.es_event.specs.Commands.{reads, first};
-ghost use Rattle.es_event.specs.Identities.{made};
+ghost use Rattle.es_event.specs.Identities.{gone, is_in, made};
 ghost use Rattle.es_event.specs.Jobs.{receivers};
 ghost use Rattle.es_event.specs.Variables.{var};
 ghost use Rattle.es_event.specs.Properties.{prop, keys as keys_said};
@@ -94,9 +94,10 @@ impl AgentCore {
         self.events.as_slice()
     }
 
-    /// KeptAlive, in order of keeping (ECMA-262, AddToKeptObjects).
+    /// KeptAlive, in order of keeping (ECMA-262, AddToKeptObjects). Nothing in it is emptied.
     pub fn kept(&self) -> &[Id]
-        ensures { reverse result.now ≡ kept self.now.history }
+        ensures said { reverse result.now ≡ kept self.now.history }
+        ensures there { (i : ℕ) → is_in (kept self.now.history) i ≡ true → is_in (gone self.now.history) i ≡ true → ⊥ }
     {
         self.tables.kept()
     }

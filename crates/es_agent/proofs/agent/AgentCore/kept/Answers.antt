@@ -1,0 +1,7 @@
+use Rattle.std.proofs.Common.{[]}
+use Rattle.es_event.proofs.Gone.{kept_not_gone}
+use Rattle.es_agent.proofs.agent.AgentCore.kept.Goals as goal
+
+pub returns-clause-there : goal.returns-clause-there
+returns-clause-there c i =
+    rw (← c.self.view_is) (kept_not_gone c.self.inside.plan _ i ([], c.self.invariant.0.legal, c.self.invariant.0.follows))
