@@ -5,84 +5,72 @@ use es_event::{AgentPlan, Answer, Command, Event, Job, Literal, Sequence};
 use es_value::{Name, Value, write_value};
 use std::alloc::Global;
 use std::io::Write;
+use std::process::Abort;
 use std::test::Fail;
 
-fn name(alloc: Global, text: &str) -> Result<Name, Fail> {
-    Ok(Name::read(alloc, text)?)
+fn name<R: Abort + AllocGlobal>(rt: &R, text: &str) -> Name {
+    Name::read(rt.alloc(), text).expect(rt, "a name")
 }
 
-fn new_object(alloc: Global, to: &str) -> Result<Command, Fail> {
-    let to = name(alloc, to)?;
-    Ok(Command::New { to })
-}
-
-fn number(alloc: Global, to: &str, number: i64) -> Result<Command, Fail> {
-    let to = name(alloc, to)?;
-    let literal = Literal::Number(number);
-    Ok(Command::Let { to, literal })
-}
-
-fn weakref(alloc: Global, to: &str, target: &str) -> Result<Command, Fail> {
-    let to = name(alloc, to)?;
-    let target = name(alloc, target)?;
-    Ok(Command::WeakRef { to, target })
-}
-
-fn deref(alloc: Global, to: &str, weakref: &str) -> Result<Command, Fail> {
-    let to = name(alloc, to)?;
-    let weakref = name(alloc, weakref)?;
-    Ok(Command::Deref { to, weakref })
-}
-
-fn set(alloc: Global, object: &str, key: &str, from: &str) -> Result<Command, Fail> {
-    let object = name(alloc, object)?;
-    let key = name(alloc, key)?;
-    let from = name(alloc, from)?;
-    Ok(Command::Set { object, key, from })
-}
-
-fn get(alloc: Global, to: &str, object: &str, key: &str) -> Result<Command, Fail> {
-    let to = name(alloc, to)?;
-    let object = name(alloc, object)?;
-    let key = name(alloc, key)?;
-    Ok(Command::Get { to, object, key })
-}
-
-fn delete(alloc: Global, to: &str, object: &str, key: &str) -> Result<Command, Fail> {
-    let to = name(alloc, to)?;
-    let object = name(alloc, object)?;
-    let key = name(alloc, key)?;
-    Ok(Command::Delete { to, object, key })
-}
-
-fn say(alloc: Global, from: &str) -> Result<Command, Fail> {
-    let from = name(alloc, from)?;
-    Ok(Command::Say { from })
-}
-
-fn keys(alloc: Global, object: &str) -> Result<Command, Fail> {
-    let object = name(alloc, object)?;
-    Ok(Command::Keys { object })
-}
-
-fn job(run: Vec<Command>) -> Job
-    ensures { result.on ≡ None }
-{
-    Job {
-        on: None,
-        run: Sequence::from_vec(run),
+/// The command of these words: its name, and then its operands.
+fn command<R: Abort + AllocGlobal>(rt: &R, words: &[&str]) -> Command {
+    match words {
+        ["new", to] => Command::New { to: name(rt, to) },
+        ["one", to] => Command::Let {
+            to: name(rt, to),
+            literal: Literal::Number(1),
+        },
+        ["say", from] => Command::Say {
+            from: name(rt, from),
+        },
+        ["set", object, key, from] => Command::Set {
+            object: name(rt, object),
+            key: name(rt, key),
+            from: name(rt, from),
+        },
+        ["get", to, object, key] => Command::Get {
+            to: name(rt, to),
+            object: name(rt, object),
+            key: name(rt, key),
+        },
+        ["delete", to, object, key] => Command::Delete {
+            to: name(rt, to),
+            object: name(rt, object),
+            key: name(rt, key),
+        },
+        ["keys", object] => Command::Keys {
+            object: name(rt, object),
+        },
+        ["weakref", to, target] => Command::WeakRef {
+            to: name(rt, to),
+            target: name(rt, target),
+        },
+        ["deref", to, weakref] => Command::Deref {
+            to: name(rt, to),
+            weakref: name(rt, weakref),
+        },
+        _ => panic!(rt; "no such command"),
     }
 }
 
-fn plan(alloc: Global, jobs: Vec<Job>) -> Result<AgentPlan, Fail>
-    ensures { IfOk result (λ p. p.jobs ≡ jobs.items) }
+fn job<R: Abort + AllocGlobal>(rt: &R, alloc: Global, commands: &[&[&str]]) -> Result<Job, Fail>
+    ensures { IfOk result (λ j. j.on ≡ None) }
 {
-    let name = name(alloc, "a")?;
-    Ok(AgentPlan {
-        name,
+    let mut run = Sequence::new(alloc);
+    for words in commands {
+        run.push(command(rt, words))?;
+    }
+    Ok(Job { on: None, run })
+}
+
+fn plan<R: Abort + AllocGlobal>(rt: &R, alloc: Global, jobs: Vec<Job>) -> AgentPlan
+    ensures { result.jobs ≡ jobs.items }
+{
+    AgentPlan {
+        name: name(rt, "a"),
         callbacks: Sequence::new(alloc),
         jobs: Sequence::from_vec(jobs),
-    })
+    }
 }
 
 /// What the events say, one part each, as a report would.
@@ -138,7 +126,7 @@ fn run_whole(core: &mut AgentCore) -> Result<(), Fail> {
 #[test]
 fn closes_at_once_without_jobs(rt: HostRuntime) -> Result<(), Fail> {
     let alloc = rt.alloc();
-    let plan = plan(alloc, Vec::new(alloc))?;
+    let plan = plan(&rt, alloc, Vec::new(alloc));
     let mut core = AgentCore::new(alloc, plan, 1, 2)?;
     assert_eq!(rt; core.number(), 1);
     assert!(rt; core.next() == Need::Close);
@@ -152,20 +140,21 @@ fn closes_at_once_without_jobs(rt: HostRuntime) -> Result<(), Fail> {
 #[test]
 fn keeps_targets_until_the_end_of_the_job(rt: HostRuntime) -> Result<(), Fail> {
     let alloc = rt.alloc();
-    let first = vec![in alloc; new_object(alloc, "a")?, weakref(alloc, "w", "a")?]?;
-    let second = vec![in alloc; deref(alloc, "c", "w")?, say(alloc, "c")?, say(alloc, "d")?]?;
-    let plan = plan(alloc, vec![in alloc; job(first), job(second)]?)?;
+    let first = job(&rt, alloc, &[&["new", "a"], &["weakref", "w", "a"]])?;
+    let second = job(
+        &rt,
+        alloc,
+        &[&["deref", "c", "w"], &["say", "c"], &["say", "d"]],
+    )?;
+    let plan = plan(&rt, alloc, vec![in alloc; first, second]?);
     let mut core = AgentCore::new(alloc, plan, 0, 1)?;
-    let mut kept = Vec::new(alloc);
-    for _ in 0..100 {
-        if core.next() != Need::Local {
-            break;
-        }
-        core.perform()?;
-        kept.push(core.kept().len())?;
-    }
     // begun, made, kept by the WeakRef, cleared; begun, kept by the deref until the second end
-    assert_eq!(rt; kept.as_slice(), [0, 0, 1, 0, 0, 1, 1, 1, 0].as_slice());
+    for count in [0, 0, 1, 0, 0, 1, 1, 1, 0] {
+        if core.next() == Need::Local {
+            core.perform()?;
+        }
+        assert_eq!(rt; core.kept().len(), count);
+    }
     let said = said(alloc, core.history())?;
     assert_eq!(rt; said.as_slice(), b"object 1;undefined;".as_slice());
     Ok(())
@@ -174,16 +163,15 @@ fn keeps_targets_until_the_end_of_the_job(rt: HostRuntime) -> Result<(), Fail> {
 #[test]
 fn a_refusal_ends_its_job_and_changes_nothing_else(rt: HostRuntime) -> Result<(), Fail> {
     let alloc = rt.alloc();
-    let first = vec![in alloc;
-        number(alloc, "x", 1)?,
-        set(alloc, "x", "p", "x")?,
-        say(alloc, "x")?,
-    ]?;
-    let second = vec![in alloc; weakref(alloc, "w", "x")?]?;
-    let third = vec![in alloc; deref(alloc, "y", "x")?]?;
-    let fourth = vec![in alloc; say(alloc, "x")?, say(alloc, "w")?, say(alloc, "y")?]?;
-    let jobs = vec![in alloc; job(first), job(second), job(third), job(fourth)]?;
-    let plan = plan(alloc, jobs)?;
+    let first = job(
+        &rt,
+        alloc,
+        &[&["one", "x"], &["set", "x", "p", "x"], &["say", "x"]],
+    )?;
+    let second = job(&rt, alloc, &[&["weakref", "w", "x"], &["say", "x"]])?;
+    let third = job(&rt, alloc, &[&["deref", "y", "x"]])?;
+    let fourth = job(&rt, alloc, &[&["say", "x"], &["say", "w"], &["say", "y"]])?;
+    let plan = plan(&rt, alloc, vec![in alloc; first, second, third, fourth]?);
     let mut core = AgentCore::new(alloc, plan, 0, 1)?;
     run_whole(&mut core)?;
     let said = said(alloc, core.history())?;
@@ -192,23 +180,26 @@ fn a_refusal_ends_its_job_and_changes_nothing_else(rt: HostRuntime) -> Result<()
     Ok(())
 }
 
+static KEYS: [&[&str]; 12] = [
+    &["new", "o"],
+    &["one", "x"],
+    &["set", "o", "b", "x"],
+    &["set", "o", "a", "x"],
+    &["set", "o", "b", "o"],
+    &["keys", "o"],
+    &["get", "y", "o", "b"],
+    &["say", "y"],
+    &["delete", "d", "o", "b"],
+    &["set", "o", "b", "x"],
+    &["keys", "o"],
+    &["say", "d"],
+];
+
 #[test]
 fn keys_stand_in_order_of_creation(rt: HostRuntime) -> Result<(), Fail> {
     let alloc = rt.alloc();
-    let mut run = Vec::new(alloc);
-    run.push(new_object(alloc, "o")?)?;
-    run.push(number(alloc, "x", 1)?)?;
-    run.push(set(alloc, "o", "b", "x")?)?;
-    run.push(set(alloc, "o", "a", "x")?)?;
-    run.push(set(alloc, "o", "b", "o")?)?;
-    run.push(keys(alloc, "o")?)?;
-    run.push(get(alloc, "y", "o", "b")?)?;
-    run.push(say(alloc, "y")?)?;
-    run.push(delete(alloc, "d", "o", "b")?)?;
-    run.push(set(alloc, "o", "b", "x")?)?;
-    run.push(keys(alloc, "o")?)?;
-    run.push(say(alloc, "d")?)?;
-    let plan = plan(alloc, vec![in alloc; job(run)]?)?;
+    let job = job(&rt, alloc, &KEYS)?;
+    let plan = plan(&rt, alloc, vec![in alloc; job]?);
     let mut core = AgentCore::new(alloc, plan, 0, 1)?;
     run_whole(&mut core)?;
     let said = said(alloc, core.history())?;
