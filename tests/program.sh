@@ -135,9 +135,11 @@ expect "a pipe that nobody reads" 4 - "cannot write"
 } | "$program" 2>"$room/err" | cat >"$room/out"
 got=0
 expect "a slow pipe" 0 "$room/report" ""
-(cd "$room" && "$top/clusterrun" run plan.json) >"$room/out" 2>"$room/err"
-got=$?
-expect "the script at the top, from another folder" 0 "$room/report" ""
+if [ "$program" = "$top/crates/clusterrun/out/clusterrun" ]; then
+    (cd "$room" && "$top/clusterrun" run plan.json) >"$room/out" 2>"$room/err"
+    got=$?
+    expect "the script at the top, from another folder" 0 "$room/report" ""
+fi
 
 # Scripts
 
