@@ -61,6 +61,30 @@ refused() {
     expect "$1, checked" 1 "$room/nothing" "$2"
 }
 
+# job COMMAND..: these commands as one job of a plan; each is given in words, and null is the only literal
+job() {
+    printf '%s\n' "$@" | sed 's/ /","/g; s/.*/["&"]/; s/"null"/null/g' | paste -s -d , | sed 's/.*/{"run":[&]}/'
+}
+
+# plan JOB..: the file script becomes a plan of one agent with these jobs
+plan() {
+    printf '%s\n' "$@" | paste -s -d , |
+        sed 's/.*/{"version":1,"agents":[{"name":"a","callbacks":{},"jobs":[&]}]}/' >"$room/script"
+}
+
+# reported NAME LINE..: the agent of the file script says these lines
+reported() {
+    name=$1
+    shift
+    {
+        echo 'agent a'
+        printf '%s\n' "$@"
+        tail -n +2 "$room/report"
+    } >"$room/wanted"
+    run run "$room/script"
+    expect "$name" 0 "$room/wanted" ""
+}
+
 printf '{"version":1,"agents":[{"name":"a","callbacks":{},"jobs":[]}]}\n' >"$room/plan.json"
 {
     echo 'agent a'
@@ -166,6 +190,26 @@ refused "127 levels" "refused S2"
 refused "128 levels" "refused S1"
 printf '{"version":1,"agents":[],"x":0}' >"$room/script"
 refused "a key that a plan has not" "refused S2"
+printf '{"version":1,"agents":[{"name":"a","callbacks":{"cb":[["collect"]]},"jobs":[]}]}' >"$room/script"
+refused "a collection in a callback" "refused S9 agent 0 callback 1 command 1"
+printf '{"version":1,"agents":[{"name":"a","callbacks":{"cb":[["collect","x"]]},"jobs":[]}]}' >"$room/script"
+refused "collect with an operand in a callback" "refused S7 agent 0 callback 1 command 1"
+plan "$(job "collect x")"
+refused "collect with an operand" "refused S7 agent 0 job 1 command 1"
+
+# Collections
+
+kept=$(job "new a" "weakref w a" "let a null" collect "deref b w" "say b")
+plan "$kept"
+reported "a target that a job keeps alive" "emptied 0" "say object 1"
+plan "$kept" "$(job "let b null" collect "deref b w" "say b")"
+reported "a target that no job keeps alive any more" "emptied 0" "say object 1" "emptied 1" "say undefined"
+plan "$(job "new t" "new s" "set t p s" "weakref u t" "weakref v s" "let t null" "let s null")" \
+    "$(job collect "deref x u" "deref y v" "say x" "say y")"
+reported "a target that leads to another" "emptied 2" "say undefined" "say undefined"
+plan "$(job "new a" "new b" "set a p b" "set b p a" "weakref w a" "let a null" "let b null" collect)" \
+    "$(job collect "deref x w" "say x")"
+reported "a target in a cycle" "emptied 0" "emptied 2" "say undefined"
 
 # A plan of many pieces, whole and without its last bracket
 

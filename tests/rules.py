@@ -13,6 +13,7 @@ LARGEST = 9007199254740991
 OPERANDS = {
     "let": "nl", "new": "n", "symbol": "n", "symbolfor": "nt", "copy": "nn", "same": "nnn", "say": "n",
     "set": "nnn", "get": "nnn", "delete": "nnn", "keys": "n", "weakref": "nn", "deref": "nn",
+    "collect": "",
 }
 
 
@@ -103,6 +104,8 @@ def check_command(command, where, number):
     for kind, operand in zip(kinds, operands):
         if isinstance(operand, (list, dict)) or (kind != "l" and not isinstance(operand, str)):
             raise Refused(7, *where, number)
+    if command[0] == "collect" and where[1][0] == "callback":
+        raise Refused(9, *where, number)
     for kind, operand in zip(kinds, operands):
         if kind == "n" and not NAME.match(operand):
             raise Refused(5, *where, number)
@@ -150,10 +153,12 @@ class TypeRefused(Exception):
 
 
 class Agent:
-    """One agent: variables, objects with their properties, and WeakRefs with their targets."""
+    """One agent: variables, objects with their properties, WeakRefs with their targets, what the running job
+    keeps alive, and the numbers of all that was emptied."""
 
     def __init__(self):
         self.variables, self.made, self.properties, self.targets = {}, 0, {}, {}
+        self.kept, self.gone = [], set()
 
     def value(self, name):
         return self.variables.get(name, ("undefined",))
@@ -174,6 +179,49 @@ class Agent:
         if value[0] != "object":
             raise TypeRefused("TypeError: not an object")
         return self.properties[value[1]]
+
+    def new_weakref(self, target):
+        if target[0] != "object":
+            raise TypeRefused("TypeError: cannot be held weakly")
+        weakref = self.new_object()
+        self.targets[weakref[1]] = target
+        self.kept.append(target)
+        return weakref
+
+    def target(self, weakref):
+        if weakref[0] != "object" or weakref[1] not in self.targets:
+            raise TypeRefused("TypeError: not a WeakRef")
+        target = self.targets[weakref[1]]
+        if target[1] in self.gone:
+            return ("undefined",)
+        self.kept.append(target)
+        return target
+
+    def reached(self):
+        """The numbers of all that variables and what is kept alive lead to; a WeakRef does not lead to its target."""
+        ahead, reached = [*self.variables.values(), *self.kept], set()
+        while ahead:
+            value = ahead.pop()
+            if value[0] in ("object", "symbol") and value[1] not in reached:
+                reached.add(value[1])
+                ahead += self.properties.get(value[1], {}).values()
+        return reached
+
+    def collect(self):
+        dead = set(range(1, self.made + 1)) - self.gone - self.reached()
+        self.gone |= dead
+        return len(dead)
+
+    def job(self, commands):
+        """The lines of a job. It ends with its first refusal, and keeps nothing alive from then on."""
+        try:
+            for command in commands:
+                line = self.do(command[0], command[1:])
+                if line is not None:
+                    yield line
+        except TypeRefused as refused:
+            yield f"error {refused}"
+        self.kept = []
 
     def do(self, word, args):
         """Does a command; gives the line that it reports, if any."""
@@ -201,17 +249,11 @@ class Agent:
         elif word == "keys":
             return " ".join(["keys", *self.object(args[0])])
         elif word == "weakref":
-            target = self.value(args[1])
-            if target[0] != "object":
-                raise TypeRefused("TypeError: cannot be held weakly")
-            weakref = self.new_object()
-            self.targets[weakref[1]] = target
-            self.variables[args[0]] = weakref
+            self.variables[args[0]] = self.new_weakref(self.value(args[1]))
         elif word == "deref":
-            weakref = self.value(args[1])
-            if weakref[0] != "object" or weakref[1] not in self.targets:
-                raise TypeRefused("TypeError: not a WeakRef")
-            self.variables[args[0]] = self.targets[weakref[1]]
+            self.variables[args[0]] = self.target(self.value(args[1]))
+        elif word == "collect":
+            return f"emptied {self.collect()}"
         return None
 
 
@@ -246,14 +288,7 @@ def report(plan):
         lines.append(f"agent {agent['name']}")
         core = Agent()
         for job in agent["jobs"]:
-            for command in job["run"]:
-                try:
-                    line = core.do(command[0], command[1:])
-                except TypeRefused as refused:
-                    lines.append(f"error {refused}")
-                    break
-                if line is not None:
-                    lines.append(line)
+            lines += core.job(job["run"])
         lines.append("end live 0 awaiting 0 unregistered 0 taken 0")
     lines += ["cluster", "blocks 0 released 0", "messages posted 0 taken 0 drained 0"]
     return "\n".join(lines) + "\n"

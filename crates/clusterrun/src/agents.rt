@@ -1,13 +1,14 @@
 //! The agents of a plan, run one after the other.
 
-ghost use Rattle.std.specs.Prelude.{◌≡◌, reverse, IfOk, OnOk, true, map};
+ghost use Rattle.std.specs.Prelude.{◌≡◌, reverse, IfOk, OnOk, OnErr, true, map};
 ghost use Rattle.es_event.specs.Order.{stand, ended};
 ghost use Rattle.es_event.specs.Runs.{IsWholeRun, IsOutcome};
-ghost use Rattle.es_agent.specs.Book.{is_built};
+ghost use Rattle.es_agent.specs.Book.{is_built, need, EmptiesDead};
 ghost use Rattle.clusterrun.specs.Engine.{has_no_message_job};
 
 use es_agent::{AgentCore, Need};
 use es_event::{AgentPlan, Event, Outcome, Plan, Sequence};
+use es_mark::mark;
 use es_value::NoMemory;
 use std::alloc::Global;
 
@@ -40,12 +41,12 @@ fn run_agent(
     ensures { IfOk result (λ h. IsWholeRun plan (reverse h)) }
 {
     let mut core = AgentCore::new(alloc, plan, number, agents)?;
-    run_to_end(&mut core)?;
+    run_to_end(alloc, &mut core)?;
     Ok(core.into_history())
 }
 
 /// Takes an agent's steps until it has closed.
-fn run_to_end(core: &mut AgentCore) -> Result<(), NoMemory>
+fn run_to_end(alloc: Global, core: &mut AgentCore) -> Result<(), NoMemory>
     requires { is_built core.old.plan ≡ true }
     ensures plan { core.new.plan ≡ core.old.plan }
     ensures ended { OnOk result (stand core.new.history ≡ ended) }
@@ -53,8 +54,19 @@ fn run_to_end(core: &mut AgentCore) -> Result<(), NoMemory>
     loop {
         match core.next() {
             Need::Local => core.perform()?,
+            Need::Collect => collect(alloc, core)?,
             Need::Close => core.close(),
             Need::Ended => return Ok(()),
         }
     }
+}
+
+/// Marks what the agent reaches, and empties all else.
+fn collect(alloc: Global, core: &mut AgentCore) -> Result<(), NoMemory>
+    requires { need core.old ≡ Need.Collect }
+    ensures ok { OnOk result (EmptiesDead core.old core.new) }
+    ensures err { OnErr result (core.new ≡ core.old) }
+{
+    let marks = mark(alloc, core)?;
+    core.collect(&marks)
 }

@@ -1,15 +1,18 @@
 -- An agent as callers see it: its plan and its history.
-use Rattle.std.specs.Prelude.{ℕ, ◌≡◌, Bool, [], ◌∷◌, is_none}
+use Rattle.std.specs.Prelude.{ℕ, ◌≡◌, Bool, List, [], ◌∷◌, is_none, if◌then◌else◌}
 use Rattle.std.specs.List.{list_all}
 use Rattle.es_event.specs.declared.event.Event.{Event}
+use Rattle.es_event.specs.declared.event.Event.TheVariants.{Emptied}
 use Rattle.es_event.specs.declared.plan.AgentPlan.{AgentPlan}
+use Rattle.es_event.specs.Commands.{collects}
 use Rattle.es_event.specs.History.{History}
 use Rattle.es_event.specs.Jobs.{receivers}
 use Rattle.es_event.specs.Legal.{Lawful}
+use Rattle.es_event.specs.Reach.{AreDead}
 use Rattle.es_event.specs.Order.{Due, begin, receive, run, end_job, close, nothing, due}
 use Rattle.es_event.specs.Follows.{Permits}
 use Rattle.es_agent.specs.declared.need.Need.{Need}
-use Rattle.es_agent.specs.declared.need.Need.TheVariants.{Local, Close, Ended}
+use Rattle.es_agent.specs.declared.need.Need.TheVariants.{Local, Collect, Close, Ended}
 
 pub record Book : Type 0 where
   pub plan : AgentPlan
@@ -28,7 +31,7 @@ is_built plan = list_all (λ j. is_none j.on) plan.jobs
 abbrev pub need_of : Due → Need
 need_of (begin n) = Local
 need_of (receive s) = Ended
-need_of (run c) = Local
+need_of (run c) = if collects c then Collect else Local
 need_of end_job = Local
 need_of close = Close
 need_of nothing = Ended
@@ -49,3 +52,7 @@ Appends old e new = new ≡ record old { history = e ∷ old.history }
 -- one event was appended, the next by the rules and the plan
 abbrev pub AppendsNext : Book → Book → Type 0
 AppendsNext old new = (e : Event) × IsNext old e × Appends old e new
+
+-- all that was dead was emptied in one event, and nothing else changed
+abbrev pub EmptiesDead : Book → Book → Type 0
+EmptiesDead old new = (ids : List ℕ) × AreDead (receivers old.plan.jobs) old.history ids × IsNext old (Emptied ids) × Appends old (Emptied ids) new

@@ -1,18 +1,20 @@
 -- What the tables of an agent say, and that they say what its history says.
-use Rattle.std.specs.Prelude.{ℕ, ◌≡◌, List, Option, unwrap_or, is_some, reverse}
+use Rattle.std.specs.Prelude.{ℕ, ◌≡◌, ◌<◌, ◌&&◌, not, Bool, true, false, List, Option, Some, None, unwrap_or, is_some, length, reverse, if◌then◌else◌}
 use Rattle.std.specs.Map.{lookup}
-use Rattle.std.specs.Option.{option_map}
+use Rattle.std.specs.Option.{option_map, option_and_then}
 use Rattle.std.specs.Str.{bytes_eq}
 use Rattle.es_value.specs.declared.value.Value.{Value}
 use Rattle.es_value.specs.declared.value.Value.TheVariants.{Undefined, Object}
-use Rattle.es_props.specs.Heap.{Store, has, property, keys}
-use Rattle.es_weakref.specs.WeakRefs.{Table, target}
+use Rattle.es_value.specs.Values.{identity}
+use Rattle.es_props.specs.Heap.{Store, object, has, property, keys}
+use Rattle.es_weakref.specs.WeakRefs.{Table, target, unless_among}
 use Rattle.es_event.specs.History.{History}
-use Rattle.es_event.specs.Identities.{made, kind}
+use Rattle.es_event.specs.Identities.{is_in, made, is_gone, kind}
 use Rattle.es_event.specs.Jobs.{Receivers}
 use Rattle.es_event.specs.Variables.{var}
 use Rattle.es_event.specs.Properties.{prop, keys as keys_said}
-use Rattle.es_event.specs.WeakRefs.{first_target, kept}
+use Rattle.es_event.specs.WeakRefs.{target as target_said, kept}
+use Rattle.es_agent.specs.Kinds.{Tags, standing, stands_under}
 
 -- the variables that were assigned, and for how many more there is room
 pub record Bindings : Type 0 where
@@ -28,7 +30,7 @@ pub record State : Type 0 where
   pub variables : Bindings
   pub heap : Store
   pub weakrefs : Table
-  pub made : ℕ
+  pub kinds : Tags
 
 -- the target of w, as a value
 abbrev pub aimed : Table → ℕ → Option Value
@@ -46,14 +48,24 @@ pub record SameState (s t : State) : Type 0 where
   pub heap : SameHeap s.heap t.heap
   pub targets : (w : ℕ) → target t.weakrefs w ≡ target s.weakrefs w
   pub kept : t.weakrefs.kept ≡ s.weakrefs.kept
-  pub made : t.made ≡ s.made
+  pub kinds : t.kinds.all ≡ s.kinds.all
 
--- the tables say what the history says
+-- the tables after these identities were emptied: nothing is left of them, and WeakRefs to them have no target
+pub record Emptying (s : State) (ids : List ℕ) (t : State) : Type 0 where
+  pub variables : (x : List ℕ) → bound t.variables x ≡ bound s.variables x
+  pub objects : (o : ℕ) → object t.heap o ≡ (if is_in ids o then None else object s.heap o)
+  pub targets : (w : ℕ) → target t.weakrefs w ≡ (if is_in ids w then None else option_and_then (unless_among ids) (target s.weakrefs w))
+  pub kept : t.weakrefs.kept ≡ s.weakrefs.kept
+  pub kinds : (i : ℕ) → 0 < i → standing t.kinds.all i ≡ (if is_in ids i then None else standing s.kinds.all i)
+  pub made : length t.kinds.all ≡ length s.kinds.all
+
+-- the tables say what the history says, of what is not emptied; and nothing is left of what is
 pub record Says (into : Receivers) (h : History) (s : State) : Type 0 where
   pub variables : (x : List ℕ) → bound s.variables x ≡ var into h x
-  pub properties : (o : ℕ) (k : List ℕ) → property s.heap o k ≡ prop h o k
-  pub keys : (o : ℕ) → keys s.heap o ≡ keys_said h o
-  pub objects : (o : ℕ) → has s.heap o ≡ is_some (kind h o)
-  pub targets : (w : ℕ) → aimed s.weakrefs w ≡ first_target h w
+  pub objects : (o : ℕ) → has s.heap o ≡ (is_some (kind h o) && not (is_gone h o))
+  pub properties : (o : ℕ) (k : List ℕ) → is_gone h o ≡ false → property s.heap o k ≡ prop h o k
+  pub keys : (o : ℕ) → is_gone h o ≡ false → keys s.heap o ≡ keys_said h o
+  pub targets : (w : ℕ) → is_gone h w ≡ false → aimed s.weakrefs w ≡ target_said h w
   pub kept : reverse s.weakrefs.kept ≡ kept h
-  pub made : s.made ≡ made h
+  pub kinds : (i : ℕ) → 0 < i → standing s.kinds.all i ≡ stands_under h i
+  pub made : length s.kinds.all ≡ made h

@@ -48,7 +48,7 @@ impl Cursor {
                 job,
                 place: Place::Inside(0),
             },
-            Event::Did { .. } => Cursor {
+            Event::Did { .. } | Event::Emptied { .. } => Cursor {
                 job,
                 place: self.place.after_command(commands(plan, job).len()),
             },
@@ -64,7 +64,6 @@ impl Cursor {
                 job,
                 place: Place::Ended,
             },
-            Event::Emptied { .. } => *self,
         }
     }
 }

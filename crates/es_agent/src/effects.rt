@@ -1,13 +1,14 @@
-ghost use Rattle.std.specs.Prelude.{◌≡◌, ℕ, IfOk, if◌then◌else◌};
+ghost use Rattle.std.specs.Prelude.{◌≡◌, ℕ, IfOk};
 ghost use Rattle.std.specs.Option.{option_to_list};
 ghost use Rattle.es_event.specs.History.{History};
-ghost use Rattle.es_event.specs.Identities.{makes_at};
 ghost use Rattle.es_event.specs.Jobs.{Receivers};
 ghost use Rattle.es_event.specs.Variables.{assigned};
 ghost use Rattle.es_event.specs.Properties.{put};
 ghost use Rattle.es_event.specs.WeakRefs.{ends_job, keeps};
 ghost use Rattle.es_agent.specs.Effects.{AreEffects, object_born, points, with_option};
+ghost use Rattle.es_agent.specs.Kinds.{tag_made_at};
 
+use crate::kinds::Kind;
 use es_event::{Answer, Command, Event};
 use es_value::{Id, Name, NoMemory, Value};
 
@@ -26,8 +27,8 @@ pub struct Effects {
     pub kept: Option<Id>,
     /// Whether KeptAlive is emptied.
     pub clears: bool,
-    /// Whether an identity is made.
-    pub makes: bool,
+    /// What is made under the next identity.
+    pub makes: Option<Kind>,
 }
 
 /// The effects of an event.
@@ -41,7 +42,7 @@ pub fn effects_of(event: &Event) -> Result<Effects, NoMemory>
         points: pointed_by(event),
         kept: kept_by(event),
         clears: matches!(event, Event::JobEnded),
-        makes: makes_identity(event),
+        makes: made_by(event),
     })
 }
 
@@ -132,12 +133,17 @@ fn kept_by(event: &Event) -> Option<Id>
     }
 }
 
-fn makes_identity(event: &Event) -> bool
-    ensures { (if result then 1 else 0) ≡ makes_at event.now }
+fn made_by(event: &Event) -> Option<Kind>
+    ensures { result ≡ tag_made_at event.now }
 {
     match event {
-        Event::Did { command, .. } => command.makes(),
-        _ => false,
+        Event::Did { command, .. } => match command {
+            Command::New { .. } => Some(Kind::Ordinary),
+            Command::Symbol { .. } => Some(Kind::Symbol),
+            Command::WeakRef { .. } => Some(Kind::WeakRef),
+            _ => None,
+        },
+        _ => None,
     }
 }
 

@@ -1,14 +1,20 @@
-ghost use Rattle.std.specs.Prelude.{◌≡◌, ◌<◌, ◌+◌, ◌^◌, ◌==◌, ◌||◌, ◌++◌, [], ℕ, List, None, Some, Bool, true, false, is_some, unwrap_or, reverse, IfOk, OnOk, OnErr, if◌then◌else◌};
+ghost use Rattle.std.specs.Prelude.{◌≡◌, ◌<◌, ◌+◌, ◌^◌, ◌==◌, ◌||◌, ◌&&◌, ◌++◌, [], ℕ, List, None, Some, Bool, true, false, not, is_some, unwrap_or, length, reverse, IfOk, OnOk, OnErr, if◌then◌else◌};
+ghost use Rattle.std.specs.List.{filter, range_with_len};
 ghost use Rattle.std.specs.Option.{option_copied, option_map, option_map_or, option_to_list};
 ghost use Rattle.es_event.specs.History.{at_key};
 ghost use Rattle.es_event.specs.Properties.{same_key, keys_after};
-ghost use Rattle.es_props.specs.Heap.{has, property, keys};
+ghost use Rattle.es_props.specs.Heap.{has, property, keys, HasProperties};
 ghost use Rattle.es_weakref.specs.WeakRefs.{target as target_in};
 ghost use Rattle.es_agent.specs.Effects.{Applied, CanApply, with_option};
-ghost use Rattle.es_agent.specs.Tables.{bound, SameHeap, SameState};
+ghost use Rattle.es_mark.specs.Marks.{is_marked};
+ghost use Rattle.es_agent.specs.Kinds.{standing};
+ghost use Rattle.es_agent.specs.Graph.{Adds, HasHeld};
+ghost use Rattle.es_agent.specs.Tables.{bound, SameHeap, SameState, Emptying};
 
 use crate::effects::Effects;
+use crate::kinds::{Kind, Kinds};
 use crate::variables::Variables;
+use es_mark::Marks;
 use es_props::Heap;
 use es_value::{Id, Name, NoMemory, Value};
 use es_weakref::WeakRefs;
@@ -21,7 +27,7 @@ pub struct Tables {
     variables: Variables,
     heap: Heap,
     weakrefs: WeakRefs,
-    made: u32,
+    kinds: Kinds,
 }
 
 impl Model for Tables {
@@ -29,7 +35,7 @@ impl Model for Tables {
 
     ghost Value = { State };
 
-    ghost view = { λ t. record { variables = t.variables; heap = t.heap; weakrefs = t.weakrefs; made = t.made } };
+    ghost view = { λ t. record { variables = t.variables; heap = t.heap; weakrefs = t.weakrefs; kinds = t.kinds } };
 }
 
 impl Tables {
@@ -39,13 +45,13 @@ impl Tables {
         ensures heap { result.heap ≡ [] }
         ensures targets { result.weakrefs.targets ≡ [] }
         ensures kept { result.weakrefs.kept ≡ [] }
-        ensures made { result.made ≡ 0 }
+        ensures kinds { result.kinds.all ≡ [] }
     {
         Tables {
             variables: Variables::new(alloc),
             heap: Heap::new(alloc),
             weakrefs: WeakRefs::new(alloc),
-            made: 0,
+            kinds: Kinds::new(alloc),
         }
     }
 
@@ -70,6 +76,21 @@ impl Tables {
         self.heap.keys(object)
     }
 
+    /// Adds what variables hold and what is kept to `found`.
+    pub fn add_roots(&self, found: &mut Vec<Id>) -> Result<(), NoMemory>
+        ensures { OnOk result (Adds (HasHeld self.now) found.old.items found.new.items) }
+    {
+        self.variables.add_identities(found)?;
+        add_all(self.weakrefs.kept(), found)
+    }
+
+    /// Adds what the object's properties hold to `found`.
+    pub fn add_edges(&self, object: Id, found: &mut Vec<Id>) -> Result<(), NoMemory>
+        ensures { OnOk result (Adds (HasProperties self.now.heap object) found.old.items found.new.items) }
+    {
+        self.heap.edges(object, found)
+    }
+
     /// The target of a WeakRef.
     pub fn target(&self, weakref: Id) -> Option<Id>
         ensures { result ≡ target_in self.now.weakrefs weakref }
@@ -85,16 +106,41 @@ impl Tables {
     }
 
     /// How many identities were made.
-    pub fn made(&self) -> u32
-        ensures { result ≡ self.now.made }
+    pub fn made(&self) -> usize
+        ensures { result ≡ length self.now.kinds.all }
     {
-        self.made
+        self.kinds.made()
+    }
+
+    /// What stands under an identity.
+    pub fn kind(&self, id: Id) -> Option<Kind>
+        ensures stands { result ≡ standing self.now.kinds.all id }
+        ensures positive { 0 < id }
+    {
+        self.kinds.of(id)
+    }
+
+    /// The identities under which something stands and that are not marked, by rising number.
+    pub fn unmarked(&self, alloc: Global, marks: &Marks) -> Result<Vec<Id>, NoMemory>
+        requires { length self.now.kinds.all < 1000001 }
+        ensures { IfOk result (λ ids. ids.items ≡ filter (λ i. is_some (standing self.now.kinds.all i) && not (is_marked marks.now i)) (range_with_len 1 (length self.now.kinds.all))) }
+    {
+        self.kinds.unmarked(alloc, marks)
+    }
+
+    /// Empties these identities: their objects go with all properties, and every WeakRef to one of
+    /// them loses its target (ECMA-262, Execution). It takes no memory.
+    pub fn empty(&mut self, ids: &[Id])
+        ensures { Emptying self.old ids.now self.new }
+    {
+        self.heap.remove(ids);
+        self.weakrefs.empty(ids);
+        self.kinds.empty(ids);
     }
 
     /// Applies the effects of an event; where there is no memory, the tables say what they said.
     pub fn apply(&mut self, effects: Effects) -> Result<(), NoMemory>
         requires can { CanApply self.old effects }
-        requires few { self.old.made < 1000001 }
         ensures ok { OnOk result (Applied self.old effects self.new) }
         ensures err { OnErr result (SameState self.old self.new) }
     {
@@ -112,21 +158,31 @@ impl Tables {
         self.variables.assign(assigned);
         aim(&mut self.weakrefs, points);
         keep(&mut self.weakrefs, kept, clears);
-        self.made = count(self.made, makes);
+        self.kinds.add(makes);
         Ok(())
     }
 
-    /// Makes room for one more variable, WeakRef and kept value.
+    /// Makes room for one more variable, WeakRef, kept value and identity.
     fn reserve(&mut self) -> Result<(), NoMemory>
         ensures same { SameState self.old self.new }
         ensures heap { self.new.heap ≡ self.old.heap }
         ensures variables { OnOk result (0 < self.new.variables.room) }
         ensures targets { OnOk result (0 < self.new.weakrefs.target_room) }
         ensures kept { OnOk result (0 < self.new.weakrefs.kept_room) }
+        ensures kinds { OnOk result (0 < self.new.kinds.room) }
     {
         self.variables.reserve()?;
+        self.kinds.reserve()?;
         self.weakrefs.reserve()
     }
+}
+
+/// Adds these identities to `found`.
+fn add_all(ids: &[Id], found: &mut Vec<Id>) -> Result<(), NoMemory>
+    ensures { OnOk result (found.new.items ≡ found.old.items ++ ids.now) }
+{
+    found.extend_from_slice(ids)?;
+    Ok(())
 }
 
 /// Writes a property or makes an object: the one step of an event that can fail.
@@ -195,11 +251,4 @@ fn keep(weakrefs: &mut WeakRefs, kept: Option<Id>, clears: bool)
     if let Some(id) = kept {
         let _ = weakrefs.keep(id);
     }
-}
-
-fn count(made: u32, makes: bool) -> u32
-    requires { made < 1000001 }
-    ensures { result ≡ (if makes then 1 else 0) + made }
-{
-    if makes { made + 1 } else { made }
 }

@@ -1,7 +1,9 @@
 ghost use Rattle.std.specs.Prelude.{◌≡◌, None, IfOk};
+ghost use Rattle.es_agent.specs.Book.{need};
 
 use crate::{AgentCore, Need};
 use es_event::{AgentPlan, Answer, Command, Event, Job, Literal, Sequence};
+use es_mark::mark;
 use es_value::{Name, Value, write_value};
 use std::alloc::Global;
 use std::io::Write;
@@ -49,6 +51,8 @@ fn command<R: Abort + AllocGlobal>(rt: &R, words: &[&str]) -> Command {
             to: name(rt, to),
             weakref: name(rt, weakref),
         },
+        ["symbol", to] => Command::Symbol { to: name(rt, to) },
+        ["collect"] => Command::Collect,
         _ => panic!(rt; "no such command"),
     }
 }
@@ -94,6 +98,7 @@ fn say_event(event: &Event, text: &mut Vec<u8>) -> Result<(), Fail> {
             ..
         } => say_keys(keys.as_slice(), text),
         Event::Refused { code } => Ok(write!(text, "{code:?};")?),
+        Event::Emptied { ids } => Ok(write!(text, "emptied {};", ids.as_slice().len())?),
         _ => Ok(()),
     }
 }
@@ -112,10 +117,18 @@ fn say_keys(keys: &[Name], text: &mut Vec<u8>) -> Result<(), Fail> {
     Ok(text.push(b';')?)
 }
 
-fn run_whole(core: &mut AgentCore) -> Result<(), Fail> {
+fn collect(alloc: Global, core: &mut AgentCore) -> Result<(), Fail>
+    requires { need core.old ≡ Need.Collect }
+{
+    let marks = mark(alloc, core)?;
+    Ok(core.collect(&marks)?)
+}
+
+fn run_whole(alloc: Global, core: &mut AgentCore) -> Result<(), Fail> {
     for _ in 0..1000 {
         match core.next() {
             Need::Local => core.perform()?,
+            Need::Collect => collect(alloc, core)?,
             Need::Close => core.close(),
             Need::Ended => return Ok(()),
         }
@@ -173,7 +186,7 @@ fn a_refusal_ends_its_job_and_changes_nothing_else(rt: HostRuntime) -> Result<()
     let fourth = job(&rt, alloc, &[&["say", "x"], &["say", "w"], &["say", "y"]])?;
     let plan = plan(&rt, alloc, vec![in alloc; first, second, third, fourth]?);
     let mut core = AgentCore::new(alloc, plan, 0, 1)?;
-    run_whole(&mut core)?;
+    run_whole(alloc, &mut core)?;
     let said = said(alloc, core.history())?;
     let want = b"NotAnObject;NotHeldWeakly;NotAWeakRef;1;undefined;undefined;";
     assert_eq!(rt; said.as_slice(), want.as_slice());
@@ -201,8 +214,127 @@ fn keys_stand_in_order_of_creation(rt: HostRuntime) -> Result<(), Fail> {
     let job = job(&rt, alloc, &KEYS)?;
     let plan = plan(&rt, alloc, vec![in alloc; job]?);
     let mut core = AgentCore::new(alloc, plan, 0, 1)?;
-    run_whole(&mut core)?;
+    run_whole(alloc, &mut core)?;
     let said = said(alloc, core.history())?;
     assert_eq!(rt; said.as_slice(), b"ba;object 1;ab;true;".as_slice());
+    Ok(())
+}
+
+/// What an agent says that runs these jobs.
+fn said_by<R: Abort + AllocGlobal>(
+    rt: &R,
+    first: &[&[&str]],
+    second: &[&[&str]],
+) -> Result<Vec<u8>, Fail> {
+    let alloc = rt.alloc();
+    let first = job(rt, alloc, first)?;
+    let second = job(rt, alloc, second)?;
+    let plan = plan(rt, alloc, vec![in alloc; first, second]?);
+    let mut core = AgentCore::new(alloc, plan, 0, 1)?;
+    run_whole(alloc, &mut core)?;
+    said(alloc, core.history())
+}
+
+#[test]
+fn a_target_stays_while_it_is_kept_and_then_goes(rt: HostRuntime) -> Result<(), Fail> {
+    let said = said_by(
+        &rt,
+        &[
+            &["new", "a"],
+            &["weakref", "w", "a"],
+            &["one", "a"],
+            &["collect"],
+            &["deref", "b", "w"],
+            &["say", "b"],
+        ],
+        &[
+            &["one", "b"],
+            &["collect"],
+            &["deref", "b", "w"],
+            &["say", "b"],
+            &["new", "c"],
+            &["say", "c"],
+        ],
+    )?;
+    let want = b"emptied 0;object 1;emptied 1;undefined;object 3;";
+    assert_eq!(rt; said.as_slice(), want.as_slice());
+    Ok(())
+}
+
+#[test]
+fn what_reaches_the_dead_is_dead_with_it(rt: HostRuntime) -> Result<(), Fail> {
+    let said = said_by(
+        &rt,
+        &[
+            &["new", "t"],
+            &["new", "s"],
+            &["set", "t", "p", "s"],
+            &["weakref", "u", "t"],
+            &["weakref", "v", "s"],
+            &["one", "t"],
+            &["one", "s"],
+        ],
+        &[
+            &["collect"],
+            &["deref", "x", "u"],
+            &["deref", "y", "v"],
+            &["say", "x"],
+            &["say", "y"],
+        ],
+    )?;
+    assert_eq!(rt; said.as_slice(), b"emptied 2;undefined;undefined;".as_slice());
+    Ok(())
+}
+
+#[test]
+fn a_cycle_goes_as_a_whole_and_a_symbol_counts(rt: HostRuntime) -> Result<(), Fail> {
+    let said = said_by(
+        &rt,
+        &[
+            &["new", "a"],
+            &["new", "b"],
+            &["set", "a", "p", "b"],
+            &["set", "b", "p", "a"],
+            &["weakref", "w", "a"],
+            &["symbol", "s"],
+            &["one", "b"],
+            &["collect"],
+        ],
+        &[
+            &["one", "a"],
+            &["one", "s"],
+            &["collect"],
+            &["collect"],
+            &["deref", "x", "w"],
+            &["say", "x"],
+        ],
+    )?;
+    assert_eq!(rt; said.as_slice(), b"emptied 0;emptied 3;emptied 0;undefined;".as_slice());
+    Ok(())
+}
+
+#[test]
+fn what_a_property_holds_survives_its_variable(rt: HostRuntime) -> Result<(), Fail> {
+    let said = said_by(
+        &rt,
+        &[
+            &["new", "o"],
+            &["new", "p"],
+            &["set", "o", "k", "p"],
+            &["one", "p"],
+            &["weakref", "w", "o"],
+        ],
+        &[
+            &["collect"],
+            &["get", "p", "o", "k"],
+            &["say", "p"],
+            &["keys", "o"],
+            &["delete", "d", "o", "k"],
+            &["one", "p"],
+            &["collect"],
+            &["keys", "o"],
+        ],
+    )?;
+    assert_eq!(rt; said.as_slice(), b"emptied 0;object 2;k;emptied 1;;".as_slice());
     Ok(())
 }

@@ -2,9 +2,10 @@ ghost use Rattle.std.specs.Prelude.{◌≡◌, ◌<◌, List, ℕ, [], Some, IfO
 ghost use Rattle.std.specs.HashMap.{Updates, spare};
 ghost use Rattle.std.specs.Str.{bytes_eq};
 ghost use Rattle.es_event.specs.History.{at_key};
+ghost use Rattle.es_agent.specs.Graph.{Adds, HasBound};
 ghost use Rattle.es_agent.specs.Tables.{bound};
 
-use es_value::{Name, NoMemory, Value};
+use es_value::{Id, Name, NoMemory, Value};
 use std::alloc::Global;
 use std::collections::HashMap;
 use std::hash::Hash;
@@ -43,6 +44,18 @@ impl Variables {
             Some(value) => value.copy(),
             None => Ok(Value::Undefined),
         }
+    }
+
+    /// Adds the identities of what variables hold to `found`.
+    pub fn add_identities(&self, found: &mut Vec<Id>) -> Result<(), NoMemory>
+        ensures { OnOk result (Adds (HasBound self.now) found.old.items found.new.items) }
+    {
+        for (_, value) in &self.values {
+            if let Some(id) = value.identity() {
+                found.push(id)?;
+            }
+        }
+        Ok(())
     }
 
     /// Makes room for one more.

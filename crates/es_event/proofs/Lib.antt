@@ -7,9 +7,10 @@ pub mod Births
 pub mod Targets
 pub mod Born
 pub mod Objects
-pub mod Gone
+pub mod Keeping
 pub mod Safe
 pub mod Dead
+pub mod Alive
 pub mod Examples
 pub mod ExampleDeref
 pub mod ExampleProperties

@@ -39,7 +39,7 @@ safe_unless into h s dead i out here =
       | inr t ↦ inr (λ p l. false≢true (sym t ∙ there_from h i here p l))
     ]
 
-dead_not_safe : (into : Receivers) (h : History) (s : List ℕ) → AreDead into h s → (i : ℕ) → is_in s i ≡ true → IsSafe into h i → ⊥
+pub dead_not_safe : (into : Receivers) (h : History) (s : List ℕ) → AreDead into h s → (i : ℕ) → is_in s i ≡ true → IsSafe into h i → ⊥
 dead_not_safe into h s dead i e (inl r) = (dead.only i e).unreached r
 dead_not_safe into h s dead i e (inr l) =
     let made_here = (and_parts (nat_lt 0 i && nat_le i (made h)) (not (is_gone h i)) (dead.only i e).there).0 in
@@ -66,7 +66,7 @@ same_var into other (e ∷ h) x =
     ap (λ p. unwrap_or (at_key bytes_eq x p) (var other h x)) (same_assigned into other h e)
     ∙ ap (unwrap_or (at_key bytes_eq x (assigned into h e))) (same_var into other h x)
 
-safe_property : (over : Table) (into other : Receivers) (h : History) → LegalBy over other h → (o : ℕ) (k : List ℕ) (v : Value) (i : ℕ) → IsSafe into h o → prop h o k ≡ Some v → identity v ≡ Some i → IsSafe into h i
+pub safe_property : (over : Table) (into other : Receivers) (h : History) → LegalBy over other h → (o : ℕ) (k : List ℕ) (v : Value) (i : ℕ) → IsSafe into h o → prop h o k ≡ Some v → identity v ≡ Some i → IsSafe into h i
 safe_property over into other h legal o k v i (inl r) e f = inl (λ m closed. closed.properties o k v i (r m closed) e f)
 safe_property over into other h legal o k v i (inr l) e f =
     let w = object_within over other h legal o (prop_owner over other h legal o k v e) in absurd (l w.0 w.1)

@@ -2,7 +2,7 @@
 use Rattle.std.specs.Prelude.{ℕ, ◌-◌, List, [], ◌∷◌, drop, Option, Some, None, slice_get}
 use Rattle.std.specs.Option.{option_map, option_map_or}
 use Rattle.es_event.specs.declared.event.Event.{Event}
-use Rattle.es_event.specs.declared.event.Event.TheVariants.{JobBegun, Did, Refused, JobEnded, Closed}
+use Rattle.es_event.specs.declared.event.Event.TheVariants.{JobBegun, Did, Refused, Emptied, JobEnded, Closed}
 use Rattle.es_event.specs.declared.command.Command.{Command}
 use Rattle.es_event.specs.declared.plan.AgentPlan.{AgentPlan}
 use Rattle.es_event.specs.History.{History, latest}
@@ -38,6 +38,7 @@ left plan [] = []
 left plan (JobBegun j ∷ earlier) = job_commands plan j
 left plan (Did c vs r ∷ earlier) = drop 1 (left plan earlier)
 left plan (Refused code ∷ earlier) = []
+left plan (Emptied ids ∷ earlier) = drop 1 (left plan earlier)
 left plan (JobEnded ∷ earlier) = []
 left plan (e ∷ earlier) = left plan earlier
 

@@ -9,7 +9,7 @@ use Rattle.es_event.specs.declared.event.Refusal.TheVariants.{NotAnObject, NotAW
 use Rattle.es_event.specs.declared.event.Answer.{Answer}
 use Rattle.es_event.specs.declared.event.Answer.TheVariants.{Nothing, Gives, Listed}
 use Rattle.es_event.specs.declared.command.Command.{Command}
-use Rattle.es_event.specs.declared.command.Command.TheVariants.{Let, New, Symbol, SymbolFor, Copy, Same, Say, Set, Get, Delete, Keys, WeakRef, Deref}
+use Rattle.es_event.specs.declared.command.Command.TheVariants.{Let, New, Symbol, SymbolFor, Copy, Same, Say, Set, Get, Delete, Keys, WeakRef, Deref, Collect}
 use Rattle.es_event.specs.Literals.{value_of}
 use Rattle.es_event.specs.Commands.{first, second, Kind, weakref_to}
 use Rattle.es_event.specs.History.{History}
@@ -67,6 +67,7 @@ tests over h (Delete to o k) vs = of_object vs ∷ []
 tests over h (Keys o) vs = of_object vs ∷ []
 tests over h (WeakRef to y) vs = of_held_weakly (first vs) ∷ room h ∷ []
 tests over h (Deref to w) vs = of_weakref h vs ∷ []
+tests over h Collect vs = []
 
 abbrev pub first_refusal : List Test → Option Refusal
 first_refusal [] = None
@@ -102,6 +103,7 @@ result over h (Delete to o k) vs = Gives (Boolean true)
 result over h (Keys o) vs = Listed (keys_of h (first vs))
 result over h (WeakRef to y) vs = Gives (Object (made h + 1))
 result over h (Deref to w) vs = or_undefined (target_of h (first vs))
+result over h Collect vs = Nothing
 
 abbrev pub refuse_or : Option Refusal → Answer → Result Answer Refusal
 refuse_or None a = Ok a

@@ -35,6 +35,8 @@ pub enum Command {
     WeakRef { to: Name, target: Name },
     /// `deref X W`: assigns the target of a WeakRef (ECMA-262, WeakRef.prototype.deref ( )).
     Deref { to: Name, weakref: Name },
+    /// `collect`: empties all that is unreachable (ECMA-262, Execution).
+    Collect,
 }
 
 impl Command {
@@ -87,6 +89,7 @@ impl Command {
                 to: *to,
                 weakref: *weakref,
             }),
+            Command::Collect => Ok(Command::Collect),
         }
     }
 
@@ -98,7 +101,8 @@ impl Command {
             Command::Let { .. }
             | Command::New { .. }
             | Command::Symbol { .. }
-            | Command::SymbolFor { .. } => Reads::Nothing,
+            | Command::SymbolFor { .. }
+            | Command::Collect => Reads::Nothing,
             Command::Copy { from, .. } | Command::Say { from } => Reads::One(from),
             Command::Get { object, .. }
             | Command::Delete { object, .. }
@@ -125,7 +129,10 @@ impl Command {
             | Command::Delete { to, .. }
             | Command::WeakRef { to, .. }
             | Command::Deref { to, .. } => Some(to),
-            Command::Say { .. } | Command::Set { .. } | Command::Keys { .. } => None,
+            Command::Say { .. }
+            | Command::Set { .. }
+            | Command::Keys { .. }
+            | Command::Collect => None,
         }
     }
 

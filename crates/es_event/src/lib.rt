@@ -11,7 +11,9 @@ mod plan;
 
 pub use command::{Command, Reads};
 pub use event::{Answer, Event, Refusal};
-pub use laws::{nothing_dead_is_live, nothing_kept_is_gone};
+pub use laws::{
+    nothing_dead_is_live, nothing_emptied_was_live, nothing_kept_is_gone, nothing_reached_is_gone,
+};
 pub use list::Sequence;
 pub use literal::Literal;
 pub use outcome::Outcome;

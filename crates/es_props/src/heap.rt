@@ -1,5 +1,7 @@
 ghost use Rattle.std.specs.Prelude.{◌≡◌, ℕ, [], ◌++◌, List, IfOk, OnOk, OnErr, IsTrue, Some, None, false, if◌then◌else◌, is_some};
+ghost use Rattle.std.specs.List.{IsDistinct};
 ghost use Rattle.std.specs.Option.{option_copied, option_map, option_map_or};
+ghost use Rattle.std.specs.Str.{bytes_eq};
 ghost use Rattle.es_props.specs.Heap.{object, has, property, keys, edges, is_among, with_property, without_property, Changes, Unchanged};
 
 use crate::properties;
@@ -92,11 +94,13 @@ impl Heap {
         }
     }
 
-    /// Adds the identities that the object's values have to `found`, in order.
+    /// Adds the identities that the object's values have to `found`, in order: one for each key whose
+    /// value has one, as no key stands twice.
     #[tactic(auto, using(crate::proofs::Objects::object_of))]
     pub fn edges(&self, id: Id, found: &mut Vec<Id>) -> Result<(), NoMemory>
         ensures ok { OnOk result (found.new.items ≡ found.old.items ++ edges self.now id) }
         ensures err { OnErr result (found.new.items ≡ found.old.items) }
+        ensures distinct { OnOk result (IsDistinct bytes_eq (keys self.now id)) }
     {
         match self.objects.get(&id) {
             Some(properties) => properties::add_identities(properties, found),

@@ -1,7 +1,8 @@
 //! The properties of one object.
 ghost use Rattle.std.specs.Prelude.{◌≡◌, ◌++◌, IfOk, OnOk, OnErr, is_some};
-ghost use Rattle.std.specs.List.{flat_map};
+ghost use Rattle.std.specs.List.{IsDistinct, flat_map};
 ghost use Rattle.std.specs.Option.{option_to_list};
+ghost use Rattle.std.specs.Str.{bytes_eq};
 ghost use Rattle.es_value.specs.Values.{identity};
 ghost use Rattle.es_props.specs.Heap.{value_at, keys_of, with_property, without_property};
 
@@ -47,6 +48,7 @@ pub(crate) fn add_identities(
 ) -> Result<(), NoMemory>
     ensures ok { OnOk result (found.new.items ≡ found.old.items ++ flat_map (λ p. option_to_list (identity p.1)) properties.now.entries) }
     ensures err { OnErr result (found.new.items ≡ found.old.items) }
+    ensures distinct { OnOk result (IsDistinct bytes_eq (keys_of properties.now.entries)) }
 {
     found.reserve(properties.len())?;
     for (_, value) in properties {

@@ -3,10 +3,10 @@
 ghost use Rattle.std.specs.Prelude.{◌≡◌};
 ghost use Rattle.serde_json.specs.View.{view, items_view};
 ghost use Rattle.es_script.specs.Table.{form};
-ghost use Rattle.es_script.specs.Reading.{Gives, form_read, command_read, commands_read, run_read};
+ghost use Rattle.es_script.specs.Reading.{Gives, outside_read, form_read, command_read, commands_read, run_read};
 
 use crate::fault::{FaultCode, Spot, fault_in};
-use crate::operand::{one, three, two};
+use crate::operand::{none, one, three, two};
 use crate::parts::has_at_most;
 use crate::{Place, ReadFault};
 use es_event::{Command, Sequence};
@@ -125,6 +125,21 @@ fn command_named(
             let (to, weakref) = two(alloc, operands, spot)?;
             Ok(Command::Deref { to, weakref })
         }
+        "collect" => {
+            none(operands, spot)?;
+            outside_callbacks(spot)?;
+            Ok(Command::Collect)
+        }
         _ => Err(spot.fault(FaultCode::Operands)),
+    }
+}
+
+/// The fault of a command that no callback may have, where the spot is in one.
+fn outside_callbacks(spot: Spot) -> Result<(), ReadFault>
+    ensures { Gives (λ _. tt) result (outside_read spot) }
+{
+    match spot.place {
+        Place::Callback(_, _) => Err(spot.fault(FaultCode::Collection)),
+        _ => Ok(()),
     }
 }

@@ -122,6 +122,16 @@ fn is_of_profile(number: i64) -> bool
     (-9007199254740991..=9007199254740991).contains(&number)
 }
 
+/// Nothing, where there is no operand.
+pub(crate) fn none(operands: &[Value], spot: Spot) -> Result<(), ReadFault>
+    ensures { Gives (λ _. tt) result (operands_read spot [] (items_view operands.now)) }
+{
+    if !operands.is_empty() {
+        return Err(spot.fault(FaultCode::Operands));
+    }
+    Ok(())
+}
+
 /// The one operand that there is.
 pub(crate) fn one<A: Operand>(alloc: Global, operands: &[Value], spot: Spot) -> Result<A, ReadFault>
     ensures { Gives (λ x. (A.meaning x, tt)) result

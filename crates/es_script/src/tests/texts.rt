@@ -462,7 +462,111 @@ pub const AGENTS: &[(&str, &str)] = &[
     ),
     (
         "{\"name\":\"a\",\"callbacks\":{\"c\":[[\"collect\"]]},\"jobs\":[]}",
+        "refused S9 agent 0 callback 1 command 1",
+    ),
+    (
+        "{\"name\":\"a\",\"callbacks\":{\"c\":[[\"c\\u006fllect\"]]},\"jobs\":[]}",
+        "refused S9 agent 0 callback 1 command 1",
+    ),
+    (
+        "{\"name\":\"a\",\"callbacks\":{\"a\":[[\"new\",\"x\"]],\"b\":[[\"new\",\"x\"],[\"collect\"]]},\"jobs\":[]}",
+        "refused S9 agent 0 callback 2 command 2",
+    ),
+    (
+        "{\"name\":\"a\",\"callbacks\":{\"b\":[[\"collect\"]],\"a\":[[\"new\",\"x\"],[\"collect\"]]},\"jobs\":[]}",
+        "refused S9 agent 0 callback 1 command 2",
+    ),
+    (
+        "{\"name\":\"a\",\"callbacks\":{\"c\":[[\"collect\"],[\"collect\"]]},\"jobs\":[]}",
+        "refused S9 agent 0 callback 1 command 1",
+    ),
+    (
+        "{\"name\":\"a\",\"callbacks\":{\"c\":[[\"collect\",\"x\"]]},\"jobs\":[]}",
         "refused S7 agent 0 callback 1 command 1",
+    ),
+    (
+        "{\"name\":\"a\",\"callbacks\":{\"c\":[[\"collect\",1]]},\"jobs\":[]}",
+        "refused S7 agent 0 callback 1 command 1",
+    ),
+    (
+        "{\"name\":\"a\",\"callbacks\":{\"c\":[[\"collect\",null]]},\"jobs\":[]}",
+        "refused S7 agent 0 callback 1 command 1",
+    ),
+    (
+        "{\"name\":\"a\",\"callbacks\":{\"c\":[[\"collect\",\"1\"]]},\"jobs\":[]}",
+        "refused S7 agent 0 callback 1 command 1",
+    ),
+    (
+        "{\"name\":\"a\",\"callbacks\":{\"c\":[[\"collect\",\"x\"],[\"collect\"]]},\"jobs\":[]}",
+        "refused S7 agent 0 callback 1 command 1",
+    ),
+    (
+        "{\"name\":\"a\",\"callbacks\":{\"c\":[[\"Collect\"]]},\"jobs\":[]}",
+        "refused S7 agent 0 callback 1 command 1",
+    ),
+    (
+        "{\"name\":\"a\",\"callbacks\":{\"c\":[[\"collectlater\"]]},\"jobs\":[]}",
+        "refused S7 agent 0 callback 1 command 1",
+    ),
+    (
+        "{\"name\":\"a\",\"callbacks\":{\"c\":[[\"collect\"],[\"new\",\"1\"]]},\"jobs\":[]}",
+        "refused S9 agent 0 callback 1 command 1",
+    ),
+    (
+        "{\"name\":\"a\",\"callbacks\":{\"c\":[[\"collect\"],[\"x\"]]},\"jobs\":[]}",
+        "refused S9 agent 0 callback 1 command 1",
+    ),
+    (
+        "{\"name\":\"a\",\"callbacks\":{\"c\":[[\"collect\"],[\"let\",\"x\",1.5]]},\"jobs\":[]}",
+        "refused S9 agent 0 callback 1 command 1",
+    ),
+    (
+        "{\"name\":\"a\",\"callbacks\":{\"c\":[[\"new\",\"1\"],[\"collect\"]]},\"jobs\":[]}",
+        "refused S5 agent 0 callback 1 command 1",
+    ),
+    (
+        "{\"name\":\"a\",\"callbacks\":{\"c\":[[\"x\"],[\"collect\"]]},\"jobs\":[]}",
+        "refused S7 agent 0 callback 1 command 1",
+    ),
+    (
+        "{\"name\":\"a\",\"callbacks\":{\"c\":[[\"let\",\"x\",1.5],[\"collect\"]]},\"jobs\":[]}",
+        "refused S8 agent 0 callback 1 command 1",
+    ),
+    (
+        "{\"name\":\"a\",\"callbacks\":{\"1\":[[\"collect\"]]},\"jobs\":[]}",
+        "refused S5 agent 0 callback 1",
+    ),
+    (
+        "{\"name\":\"a\",\"callbacks\":{\"c\":[[\"collect\"]],\"d-\":[]},\"jobs\":[]}",
+        "refused S9 agent 0 callback 1 command 1",
+    ),
+    (
+        "{\"name\":\"a\",\"callbacks\":{\"-d\":[],\"c\":[[\"collect\"]]},\"jobs\":[]}",
+        "refused S5 agent 0 callback 1",
+    ),
+    (
+        "{\"name\":\"a\",\"callbacks\":{\"c\":[[\"collect\"]]},\"jobs\":[{\"run\":[[\"x\"]]}]}",
+        "refused S9 agent 0 callback 1 command 1",
+    ),
+    (
+        "{\"name\":\"a\",\"callbacks\":{\"c\":[[\"collect\"]]},\"jobs\":[{\"run\":[[\"collect\"]]}]}",
+        "refused S9 agent 0 callback 1 command 1",
+    ),
+    (
+        "{\"name\":\"a\",\"callbacks\":{\"c\":[]},\"jobs\":[{\"run\":[[\"collect\"]]}]}",
+        "ok",
+    ),
+    (
+        "{\"name\":\"a\",\"callbacks\":{\"c\":[[\"collect\"]]},\"jobs\":[]},{\"name\":\"1\",\"callbacks\":{},\"jobs\":[]}",
+        "refused S5 agent 1",
+    ),
+    (
+        "{\"name\":\"a\",\"callbacks\":{},\"jobs\":[{\"run\":[[\"x\"]]}]},{\"name\":\"b\",\"callbacks\":{\"c\":[[\"collect\"]]},\"jobs\":[]}",
+        "refused S7 agent 0 job 1 command 1",
+    ),
+    (
+        "{\"name\":\"a\",\"callbacks\":{},\"jobs\":[{\"run\":[[\"collect\"]]}]},{\"name\":\"b\",\"callbacks\":{\"c\":[[\"collect\"]]},\"jobs\":[]}",
+        "refused S9 agent 1 callback 1 command 1",
     ),
 ];
 
@@ -496,7 +600,10 @@ pub const COMMANDS: &[(&str, &str)] = &[
     ("[\"keys\",\"o\"]", "ok"),
     ("[\"weakref\",\"x\",\"y\"]", "ok"),
     ("[\"deref\",\"x\",\"w\"]", "ok"),
+    ("[\"collect\"]", "ok"),
+    ("[\"c\\u006fllect\"]", "ok"),
     ("[\"new\",\"x\"],[\"new\",\"x\"]", "ok"),
+    ("[\"collect\"],[\"new\",\"x\"],[\"collect\"]", "ok"),
     ("", "ok"),
     (
         "[\"let\",\"x\",9007199254740992]",
@@ -659,7 +766,22 @@ pub const COMMANDS: &[(&str, &str)] = &[
     ("[\"lets\",\"x\",1]", "refused S7 agent 0 job 1 command 1"),
     ("[\"le\",\"x\",1]", "refused S7 agent 0 job 1 command 1"),
     ("[\"let \",\"x\",1]", "refused S7 agent 0 job 1 command 1"),
-    ("[\"collect\"]", "refused S7 agent 0 job 1 command 1"),
+    ("[\"collect\",\"x\"]", "refused S7 agent 0 job 1 command 1"),
+    ("[\"collect\",1]", "refused S7 agent 0 job 1 command 1"),
+    ("[\"collect\",null]", "refused S7 agent 0 job 1 command 1"),
+    ("[\"collect\",[]]", "refused S7 agent 0 job 1 command 1"),
+    ("[\"collect\",\"1\"]", "refused S7 agent 0 job 1 command 1"),
+    (
+        "[\"collect\"],[\"collect\",\"x\"]",
+        "refused S7 agent 0 job 1 command 2",
+    ),
+    (
+        "[\"collect\"],[\"new\",\"1\"]",
+        "refused S5 agent 0 job 1 command 2",
+    ),
+    ("[\"Collect\"]", "refused S7 agent 0 job 1 command 1"),
+    ("[\"collec\"]", "refused S7 agent 0 job 1 command 1"),
+    ("[\"collect \"]", "refused S7 agent 0 job 1 command 1"),
     ("[\"collectlater\"]", "refused S7 agent 0 job 1 command 1"),
     (
         "[\"post\",\"b\",\"x\"]",
@@ -770,6 +892,48 @@ pub const LONG: &[(&str, &str, usize, &str, &str)] = &[
         10000,
         "]},\"jobs\":[]}]}",
         "refused S10 agent 0 callback 1",
+    ),
+    (
+        "{\"version\":1,\"agents\":[{\"name\":\"a\",\"callbacks\":{\"c\":[[\"collect\"]",
+        ",[\"new\",\"x\"]",
+        9999,
+        "]},\"jobs\":[]}]}",
+        "refused S9 agent 0 callback 1 command 1",
+    ),
+    (
+        "{\"version\":1,\"agents\":[{\"name\":\"a\",\"callbacks\":{\"c\":[[\"collect\"]",
+        ",[\"new\",\"x\"]",
+        10000,
+        "]},\"jobs\":[]}]}",
+        "refused S10 agent 0 callback 1",
+    ),
+    (
+        "{\"version\":1,\"agents\":[{\"name\":\"a\",\"callbacks\":{\"c\":[[\"new\",\"x\"]",
+        ",[\"new\",\"x\"]",
+        9998,
+        ",[\"collect\"]]},\"jobs\":[]}]}",
+        "refused S9 agent 0 callback 1 command 10000",
+    ),
+    (
+        "{\"version\":1,\"agents\":[{\"name\":\"a\",\"callbacks\":{\"c\":[[\"collect\"]],\"d\":[[\"new\",\"x\"]",
+        ",[\"new\",\"x\"]",
+        10000,
+        "]},\"jobs\":[]}]}",
+        "refused S9 agent 0 callback 1 command 1",
+    ),
+    (
+        "{\"version\":1,\"agents\":[{\"name\":\"a\",\"callbacks\":{\"c\":[[\"collect\"]]},\"jobs\":[{\"run\":[]}",
+        ",{\"run\":[]}",
+        1000,
+        "]}]}",
+        "refused S10 agent 0",
+    ),
+    (
+        "{\"version\":1,\"agents\":[{\"name\":\"a\",\"callbacks\":{},\"jobs\":[{\"run\":[[\"collect\"]",
+        ",[\"collect\"]",
+        9999,
+        "]}]}]}",
+        "ok",
     ),
     (
         "{\"version\":1,\"agents\":[{\"name\":\"a\",\"callbacks\":{\"1\":[[\"new\",\"x\"]",

@@ -1,15 +1,12 @@
 use Rattle.std.proofs.Common.{[], ◌∷◌, arith}
 use Rattle.std.proofs.lemmas.List.{reverse-append}
-use Rattle.es_agent.proofs.Steps.{ties_after, ties_same, few, can_record}
+use Rattle.es_agent.proofs.Steps.{ties_after, ties_same, can_record}
 use Rattle.es_agent.proofs.agent.AgentCore.record.Goals as goal
 
-pub apply-requires-clause-can : goal.apply-requires-clause-can
-apply-requires-clause-can c =
+pub apply-requires : goal.apply-requires
+apply-requires c =
     let next = rw (← c.self.view_is) at c.requires.next in
-    can_record _ _ _ _ _ c.self.invariant.0 next c.requires.effects
-
-pub apply-requires-clause-few : goal.apply-requires-clause-few
-apply-requires-clause-few c = few _ _ _ _ c.self.invariant.0
+    record { can = can_record _ _ _ _ _ c.self.invariant.0 next c.requires.effects }
 
 pub invariant_of-self-in-Err-apply : goal.invariant_of-self-in-Err-apply
 invariant_of-self-in-Err-apply c =
@@ -18,8 +15,9 @@ invariant_of-self-in-Err-apply c =
 
 pub invariant_of-self-2 : goal.invariant_of-self-2
 invariant_of-self-2 c =
+    let asked = rw (← c.self.view_is) at c.requires.need in
     let next = rw (← c.self.view_is) at c.requires.next in
     rw (c.push_reserved.ensures.items, reverse-append c.reserve.new.events.items (c.args.step.event ∷ []), c.reserve.ensures.items) (
-      ties_after _ _ _ _ _ _ _ c.self.invariant.0 next c.requires.effects c.in_default-apply.ensures.ok (c.after-self-inside.ensures _ c.self.invariant.0.stands next.permitted),
+      ties_after _ _ _ _ _ _ _ c.self.invariant.0 asked next c.requires.effects c.in_default-apply.ensures.ok (c.after-self-inside.ensures _ c.self.invariant.0.stands next.permitted),
       λ open'. omega (arith, c.in_default.ensures.room),
     )

@@ -1,0 +1,4 @@
+pub mod Drawn
+pub mod Graph
+pub mod Growth
+pub mod Marks
