@@ -22,5 +22,6 @@ pub mod ExampleCluster
 pub mod Steps
 pub mod Deciding
 pub mod ExampleReach
+pub mod ExampleCollect
 pub mod ExampleLive
 pub mod ExampleNeighbours
