@@ -53,6 +53,8 @@ each_growth() {
 
 each_growth run "$tests/../examples/properties.json"
 each_growth run "$tests/../examples/kept.json" --turns --helpers 2
+each_growth run "$tests/../examples/reaches.json"
+each_growth run "$tests/../examples/cycle.json"
 each_growth check "$tests/../examples/refusals.json"
 
 echo "$passed passed, $failed failed"

@@ -219,6 +219,21 @@ expect "a large plan" 0 "$room/ok" ""
 head -c -2 "$room/large.json" >"$room/script"
 refused "a large plan without its last byte" "refused S1"
 
+# Heaps of many objects, collected twice: all held by one, and each held by the next
+
+emptied_of() {
+    printf 'agent a\nemptied 0\nemptied %s\nend live 0 awaiting 0 unregistered 0 taken 0\ncluster\nblocks 0 released 0\nmessages posted 0 taken 0 drained 0\n' "$1"
+}
+
+python3 "$top/tests/heaps.py" wide 20000 >"$room/heap.json"
+emptied_of 20001 >"$room/wanted"
+run run "$room/heap.json"
+expect "a wide heap" 0 "$room/wanted" ""
+python3 "$top/tests/heaps.py" list 500 >"$room/heap.json"
+emptied_of 500 >"$room/wanted"
+run run "$room/heap.json"
+expect "a long list" 0 "$room/wanted" ""
+
 # The examples
 
 for example in "$top"/examples/*.json; do

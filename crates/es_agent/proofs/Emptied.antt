@@ -2,9 +2,7 @@
 use Rattle.std.proofs.Common.{◌≡◌, ℕ, ◌+◌, ◌<◌, ◌==◌, ◌||◌, ◌&&◌, not, Bool, true, false, cond, nat_lt, nat_le, sym, ◌∙◌, ap, refl, subst, arith, List, [], ◌∷◌, ◌++◌, length, Option, Some, None, if◌then◌else◌, reverse}
 use Rattle.std.specs.Prelude.{is_some}
 use Rattle.std.specs.Option.{option_map, option_map_or, option_and_then}
-use Rattle.std.proofs.lemmas.Bool.{or_parts}
 use Rattle.std.proofs.lemmas.Bool.Decides.{nat_tests}
-use Rattle.std.proofs.lemmas.List.Folds.{list_any-append}
 use Rattle.es_value.specs.declared.value.Value.{Value}
 use Rattle.es_value.specs.declared.value.Value.TheVariants.{Object}
 use Rattle.es_props.specs.Heap.{Properties, object, has, property, keys, keys_of, value_at}
@@ -15,15 +13,10 @@ use Rattle.es_event.specs.History.{History}
 use Rattle.es_event.specs.Identities.{identity, made, gone, is_gone, is_in, has_identity_in, kind}
 use Rattle.es_event.specs.Jobs.{Receivers}
 use Rattle.es_event.specs.WeakRefs.{first_target, unless_gone}
+use Rattle.es_event.proofs.Lists.{in_both, out_of_both}
 use Rattle.es_agent.specs.declared.kinds.Kind.{Kind as Tag}
 use Rattle.es_agent.specs.Kinds.{tag_of}
 use Rattle.es_agent.specs.Tables.{State, Says, Emptying}
-
-in_both : (ids : List ℕ) (h : History) (i : ℕ) → is_gone (Emptied ids ∷ h) i ≡ (is_in ids i || is_gone h i)
-in_both ids h i = list_any-append (λ j. j == i) ids (gone h)
-
-out_of_both : (ids : List ℕ) (h : History) (i : ℕ) → is_gone (Emptied ids ∷ h) i ≡ false → (is_in ids i ≡ false) × (is_gone h i ≡ false)
-out_of_both ids h i e = or_parts (is_in ids i) (is_gone h i) (sym (in_both ids h i) ∙ e)
 
 -- an object is there unless it is among these
 left_of : (b s g : Bool) (o : Option Properties) → is_some o ≡ (s && not g) → is_some (cond b None o) ≡ (s && not (b || g))
@@ -42,7 +35,7 @@ aimed_still ids gone s (Some v) e = at_value (identity v) (has_identity_in gone 
     there None g is e = ap (λ o. option_map_or (is_in (ids ++ gone)) o false) is ∙ sym (e ∙ ap (λ o. option_map_or (is_in gone) o false) is)
     there (Some i) g is e =
         ap (λ o. option_map_or (is_in (ids ++ gone)) o false) is
-        ∙ list_any-append (λ j. j == i) ids gone
+        ∙ in_both ids gone i
         ∙ ap (λ b. is_in ids i || b) (sym (e ∙ ap (λ o. option_map_or (is_in gone) o false) is))
 
     or_true : (b : Bool) → (b || true) ≡ true
@@ -79,18 +72,18 @@ says_emptied into h s t ids says new = record {
   variables = λ x. new.variables x ∙ says.variables x;
   objects = λ o.
       ap is_some (new.objects o) ∙ left_of (is_in ids o) (is_some (kind h o)) (is_gone h o) (object s.heap o) (says.objects o)
-      ∙ ap (λ g. is_some (kind h o) && not g) (sym (in_both ids h o));
-  properties = λ o k here. let out = out_of_both ids h o here in
+      ∙ ap (λ g. is_some (kind h o) && not g) (sym (in_both ids (gone h) o));
+  properties = λ o k here. let out = out_of_both ids (gone h) o here in
       ap (option_and_then (λ ps. value_at ps k)) (new.objects o ∙ ap (λ b. cond b None (object s.heap o)) out.0) ∙ says.properties o k out.1;
-  keys = λ o here. let out = out_of_both ids h o here in
+  keys = λ o here. let out = out_of_both ids (gone h) o here in
       ap (λ ps. option_map_or keys_of ps []) (new.objects o ∙ ap (λ b. cond b None (object s.heap o)) out.0) ∙ says.keys o out.1;
-  targets = λ w here. let out = out_of_both ids h w here in
+  targets = λ w here. let out = out_of_both ids (gone h) w here in
       ap (option_map Object) (new.targets w ∙ ap (λ b. cond b None (option_and_then (unless_among ids) (target s.weakrefs w))) out.0)
       ∙ aimed_still ids (gone h) (target s.weakrefs w) (first_target h w) (says.targets w out.1);
   kept = ap (λ k. reverse k) new.kept ∙ says.kept;
   kinds = λ i positive. new.kinds i positive
       ∙ ap (λ o. if is_in ids i then None else o) (says.kinds i positive)
       ∙ under_emptied (is_in ids i) (is_gone h i) i (made h) (kind h i)
-      ∙ ap (λ g. if (nat_lt 0 i && nat_le i (0 + made h)) && not g then Some (tag_of (kind h i)) else None) (sym (in_both ids h i));
+      ∙ ap (λ g. if (nat_lt 0 i && nat_le i (0 + made h)) && not g then Some (tag_of (kind h i)) else None) (sym (in_both ids (gone h) i));
   made = let same : length t.kinds.all ≡ made h = new.made ∙ says.made in omega (arith, same);
 }

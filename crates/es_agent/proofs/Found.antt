@@ -30,7 +30,7 @@ use Rattle.es_agent.specs.Book.{Book}
 use Rattle.es_agent.specs.Graph.{HasRoots, HasEdges, Adds, HasBound, HasHeld}
 use Rattle.es_agent.specs.Kinds.{standing, tag_of, stands_under, is_weakref_tag}
 use Rattle.es_agent.specs.Tables.{State, Bindings, Says, bound}
-use Rattle.es_agent.proofs.Reached.{there_from}
+use Rattle.es_agent.proofs.Reached.{here_of, is_within}
 
 -- Lists
 
@@ -155,23 +155,20 @@ finds_roots over b s old new legal says adds =
 
 -- Edges
 
-not_both : (a g : Bool) → (a && not g) ≡ true → (a ≡ true) × (g ≡ false)
-not_both true false e = (refl, refl)
-not_both true true e = cc
-not_both false g e = cc
+both_of : (a g : Bool) → (a && not g) ≡ true → (a ≡ true) × (g ≡ false)
+both_of true false e = (refl, refl)
+both_of true true e = cc
+both_of false g e = cc
 
 -- what has a property is there
 owner_there : (over : Table) (into : Receivers) (h : History) (s : State) → LegalBy over into h → Says into h s → (o : ℕ) (k : List ℕ) (v : Value) → property s.heap o k ≡ Some v → is_there h o ≡ true
 owner_there over into h s legal says o k v e =
-    let parts = not_both (is_some (kind h o)) (is_gone h o) (sym (says.objects o) ∙ has_property (object s.heap o) e) in
-    there_from h o (object_within over into h legal o parts.0) parts.1
+    let parts = both_of (is_some (kind h o)) (is_gone h o) (sym (says.objects o) ∙ has_property (object s.heap o) e) in
+    is_within h o (object_within over into h legal o parts.0) parts.1
   where
     has_property : (ps : Option Properties) → option_and_then (λ ps. value_at ps k) ps ≡ Some v → is_some ps ≡ true
     has_property None e = cc
     has_property (Some ps) e = refl
-
-here_of : (h : History) (o : ℕ) → is_there h o ≡ true → is_gone h o ≡ false
-here_of h o there = (not_both (nat_lt 0 o && nat_le o (made h)) (is_gone h o) there).1
 
 pub finds_edges : (over : Table) (b : Book) (s : State) (o : ℕ) (old new : List ℕ) → LegalBy over (receivers b.plan.jobs) b.history → Says (receivers b.plan.jobs) b.history s
     → Adds (HasProperties s.heap o) old new → Finds (made b.history) (HasEdges b o) old new
@@ -207,4 +204,4 @@ weakref_stands over into h s legal says o positive here = ap is_weakref_tag (say
     at_there : (b : Bool) → is_there h o ≡ b → (k : Option Kind) → kind h o ≡ k → is_weakref_tag (cond b (Some (tag_of k)) None) ≡ is_weakref k
     at_there true there k is = tag_tells k
     at_there false there None is = refl
-    at_there false there (Some k) is = absurd (false≢true (sym there ∙ there_from h o (object_within over into h legal o (ap is_some is)) here))
+    at_there false there (Some k) is = absurd (false≢true (sym there ∙ is_within h o (object_within over into h legal o (ap is_some is)) here))

@@ -26,7 +26,7 @@ use Rattle.es_event.specs.Rules.{result, first_refusal, tests, room}
 use Rattle.es_event.specs.Legal.{Lawful, LegalBy}
 use Rattle.es_event.proofs.Accepted.{accepted, first_holds}
 use Rattle.es_event.proofs.Alive.{Stays, Alive, next_alive}
-use Rattle.es_event.proofs.Births.{birth}
+use Rattle.es_event.proofs.Births.{birth, born_some}
 use Rattle.es_event.proofs.Holds.{first_of}
 use Rattle.es_event.proofs.Targets.{held_weakly_object}
 use Rattle.es_agent.specs.declared.effects.Effects.{Effects}
@@ -41,10 +41,6 @@ pub same_gone : (h : History) (e : Event) (i : ℕ) → empties e ≡ [] → is_
 same_gone h e i none = ap (λ ids. is_in (ids ++ gone h) i) none
 
 -- Objects
-
-born_some : (e : Event) (q : ℕ × Option Kind) → born e ≡ Some q → is_some q.1 ≡ true
-born_some (Did c vs r) q e = ap is_some (birth c vs r q e).1
-born_some _ q e = cc
 
 there : (b : Option (ℕ × Option Kind)) (before : Option Kind) (g : Bool) (o : ℕ) → ((q : ℕ × Option Kind) → b ≡ Some q → (is_some q.1 ≡ true) × (q.0 ≡ o → g ≡ false))
     → (option_map_or (λ i. i == o) (option_map (λ b. b.0) b) false || (is_some before && not g)) ≡ (is_some (unwrap_or (at_key (λ i j. i == j) o b) before) && not g)

@@ -31,26 +31,10 @@ use Rattle.es_event.proofs.Accepted.{is_result}
 use Rattle.es_event.proofs.Dead.{in_set, not_live}
 use Rattle.es_event.proofs.Holds.{Holds, holds_after, holds_did, first_of, at_object, gives_held}
 use Rattle.es_event.proofs.Keeping.{kept_by, kept_either}
+use Rattle.es_event.proofs.Lists.{all_in, in_neither, out_of_both}
 use Rattle.es_event.proofs.Safe.{IsSafe, safe_unless, dead_not_safe, safe_property}
 use Rattle.es_event.proofs.Source.{IsDeref, IsFresh, source, fresh_number}
 use Rattle.es_event.proofs.Targets.{target_from}
-
--- Lists of identities
-
-all_at : (p : ℕ → Bool) (ids : List ℕ) (i : ℕ) → list_all p ids ≡ true → is_in ids i ≡ true → p i ≡ true
-all_at p [] i all e = cc
-all_at p (j ∷ ids) i all e =
-    let parts = and_parts (p j) (list_all p ids) all in
-    elim (or_cases (j == i) (is_in ids i) e) [
-      | inl s ↦ subst (λ k. p k ≡ true) (eqb-true j i s) parts.0
-      | inr r ↦ all_at p ids i parts.1 r
-    ]
-
-in_neither : (ids jds : List ℕ) (i : ℕ) → is_in ids i ≡ false → is_in jds i ≡ false → is_in (ids ++ jds) i ≡ false
-in_neither ids jds i e f = list_any-append (λ j. j == i) ids jds ∙ ap (λ b. b || is_in jds i) e ∙ f
-
-out_of_both : (ids jds : List ℕ) (i : ℕ) → is_in (ids ++ jds) i ≡ false → (is_in ids i ≡ false) × (is_in jds i ≡ false)
-out_of_both ids jds i e = or_parts (is_in ids i) (is_in jds i) (sym (list_any-append (λ j. j == i) ids jds) ∙ e)
 
 -- What is emptied was made
 
@@ -63,7 +47,7 @@ pub gone_made : (over : Table) (into : Receivers) (h : History) → LegalBy over
 gone_made over into [] l i e = cc
 gone_made over into (Emptied ids ∷ h) l i e =
     let within : (0 < i) × (i ≤ made h) = elim (or_cases (is_in ids i) (is_gone h i) (sym (list_any-append (λ j. j == i) ids (gone h)) ∙ e)) [
-      | inl a ↦ there_parts h i (all_at (is_there h) ids i l.0.0 a)
+      | inl a ↦ there_parts h i (all_in (is_there h) ids l.0.0 i a)
       | inr b ↦ gone_made over into h l.1 i b
     ] in (within.0, omega (arith, within.1))
 gone_made over into (x ∷ h) l i e = let within = gone_made over into h l.1 i e in (within.0, omega (arith, within.1))

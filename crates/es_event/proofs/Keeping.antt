@@ -20,13 +20,10 @@ use Rattle.es_event.specs.Legal.{LegalBy}
 use Rattle.es_event.proofs.Accepted.{is_result}
 use Rattle.es_event.proofs.Born.{IsMade}
 use Rattle.es_event.proofs.Holds.{first_of, at_object}
+use Rattle.es_event.proofs.Lists.{in_option}
 use Rattle.es_event.proofs.Objects.{held_made, made_within}
 use Rattle.es_event.proofs.Source.{IsDeref, gives}
 use Rattle.es_event.proofs.Targets.{target_from}
-
-in_option : (o : Option ℕ) (i : ℕ) → is_in (option_to_list o) i ≡ true → o ≡ Some i
-in_option None i e = cc
-in_option (Some j) i e = elim (or_cases (j == i) false e) [ inl s ↦ ap Some (eqb-true j i s) | inr r ↦ absurd (false≢true r) ]
 
 -- the target that a WeakRef is made with, or the value that a deref gave
 pub kept_by : (X : ℕ → Type 0) (c : Command) (vs : List Value) (r : Answer) → ((i : ℕ) → identity (first vs) ≡ Some i → X i) → (IsDeref c → (v : Value) → r ≡ Gives v → (i : ℕ) → identity v ≡ Some i → X i)

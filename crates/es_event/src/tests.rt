@@ -44,5 +44,9 @@ fn a_copied_command_reads_and_assigns_the_same(rt: HostRuntime) -> Result<(), Fa
     assert!(rt; matches!(weakref.reads(), Reads::One(a) if *a == object));
     assert!(rt; weakref.assigns().is_some_and(|to| *to == from));
     assert!(rt; weakref.makes());
+    let collect = Command::Collect.copy()?;
+    assert!(rt; matches!(collect.reads(), Reads::Nothing));
+    assert!(rt; collect.assigns().is_none());
+    assert!(rt; !collect.makes());
     Ok(())
 }
