@@ -1,11 +1,11 @@
 -- What an agent's tables find is what its graph asks for.
-use Rattle.std.proofs.Common.{◌≡◌, ℕ, ◌+◌, ◌<◌, ◌≤◌, ◌==◌, ◌&&◌, ◌||◌, not, Bool, true, false, cond, nat_lt, nat_le, sym, ◌∙◌, ap, refl, subst, List, [], ◌∷◌, ◌++◌, Option, Some, None, inl, inr, reverse}
+use Rattle.std.proofs.Common.{◌≡◌, ℕ, ◌<◌, ◌≤◌, ◌==◌, ◌&&◌, ◌||◌, not, Bool, true, false, cond, nat_lt, nat_le, sym, ◌∙◌, ap, refl, subst, List, [], ◌∷◌, ◌++◌, Option, Some, None, inl, inr, reverse}
 use Rattle.std.specs.Prelude.{unwrap_or, is_some}
-use Rattle.std.specs.List.{AllByRecursion, IsDistinct, list_any}
+use Rattle.std.specs.List.{AllByRecursion, IsDistinct}
 use Rattle.std.specs.Map.{lookup}
 use Rattle.std.specs.Option.{option_and_then}
 use Rattle.std.specs.Str.{bytes_eq}
-use Rattle.std.proofs.lemmas.Bool.{cases_Bool, ltb-true, leb-true, lt-ltb, le-leb, and_parts, and_from, eqb-true, eq-eqb, or_cases, or_left, or_right, false≢true}
+use Rattle.std.proofs.lemmas.Bool.{ltb-true, leb-true, lt-ltb, le-leb, and_parts, and_from, eqb-true, eq-eqb, or_cases, or_left, or_right, false≢true}
 use Rattle.std.proofs.lemmas.List.{reverse-append}
 use Rattle.std.proofs.lemmas.List.Folds.{list_any-append}
 use Rattle.es_value.specs.declared.value.Value.{Value}
@@ -18,18 +18,15 @@ use Rattle.es_event.specs.Commands.{Kind, ordinary, weakref_to}
 use Rattle.es_event.specs.History.{History}
 use Rattle.es_event.specs.Identities.{identity, made, is_gone, is_there, is_in, kind}
 use Rattle.es_event.specs.Jobs.{Receivers, receivers}
-use Rattle.es_event.specs.Properties.{prop}
 use Rattle.es_event.specs.Rules.{Table, is_weakref}
-use Rattle.es_event.specs.WeakRefs.{kept}
 use Rattle.es_event.specs.Legal.{LegalBy}
 use Rattle.es_event.proofs.Keeping.{kept_within}
 use Rattle.es_event.proofs.Objects.{object_within, var_within, prop_within}
 use Rattle.es_mark.specs.Graph.{IsNumbered, HasAll, Finds}
-use Rattle.es_agent.specs.declared.kinds.Kind.{Kind as Tag}
 use Rattle.es_agent.specs.Book.{Book}
 use Rattle.es_agent.specs.Graph.{HasRoots, HasEdges, Adds, HasBound, HasHeld}
-use Rattle.es_agent.specs.Kinds.{standing, tag_of, stands_under, is_weakref_tag}
-use Rattle.es_agent.specs.Tables.{State, Bindings, Says, bound}
+use Rattle.es_agent.specs.Kinds.{standing, tag_of, is_weakref_tag}
+use Rattle.es_agent.specs.Tables.{State, Bindings, Says}
 use Rattle.es_agent.proofs.Reached.{here_of, is_within}
 
 -- Lists
@@ -175,10 +172,10 @@ pub finds_edges : (over : Table) (b : Book) (s : State) (o : ℕ) (old new : Lis
 finds_edges over b s o old new legal says adds =
     let into = receivers b.plan.jobs in
     let properties_of : (t : ℕ → Bool) → HasEdges b o t → HasProperties s.heap o t = λ t has k v i e is.
-      let there = owner_there over into b.history s legal says o k v e in
-      has there k v i (sym (says.properties o k (here_of b.history o there)) ∙ e) is in
+    let there = owner_there over into b.history s legal says o k v e in
+    has there k v i (sym (says.properties o k (here_of b.history o there)) ∙ e) is in
     let edges_of : (t : ℕ → Bool) → HasProperties s.heap o t → HasEdges b o t = λ t has there k v i e is.
-      has k v i (says.properties o k (here_of b.history o there) ∙ e) is in
+    has k v i (says.properties o k (here_of b.history o there) ∙ e) is in
     record {
       ids = adds.ids;
       added = adds.added;

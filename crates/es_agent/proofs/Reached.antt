@@ -1,8 +1,8 @@
 -- The marks of an agent's graph are exactly what the definitions reach.
-use Rattle.std.proofs.Common.{◌≡◌, ℕ, ◌+◌, ◌<◌, ◌≤◌, ◌==◌, ◌&&◌, not, Bool, true, false, nat_lt, nat_le, sym, ◌∙◌, ap, refl, List, [], Some}
+use Rattle.std.proofs.Common.{◌≡◌, ℕ, ◌<◌, ◌≤◌, ◌&&◌, not, Bool, true, false, nat_lt, nat_le, refl, List}
 use Rattle.es_event.specs.History.{History}
 use Rattle.es_event.specs.Identities.{made, is_gone, is_there}
-use Rattle.es_event.specs.Jobs.{Receivers, receivers}
+use Rattle.es_event.specs.Jobs.{receivers}
 use Rattle.es_event.specs.Rules.{Table}
 use Rattle.es_event.specs.Legal.{LegalBy}
 use Rattle.es_event.specs.Reach.{Closed, IsReached}

@@ -1,15 +1,15 @@
 -- What stands and is not marked, by rising identity, is all that is dead.
-use Rattle.std.proofs.Common.{◌≡◌, ℕ, zero, suc, ◌+◌, ◌<◌, ◌≤◌, ◌==◌, ◌&&◌, ◌||◌, not, Bool, true, false, cond, nat_lt, nat_le, sym, ◌∙◌, ap, refl, subst, arith, List, [], ◌∷◌, ◌++◌, length, Option, Some, None, inl, inr, if◌then◌else◌, filter}
+use Rattle.std.proofs.Common.{◌≡◌, ℕ, zero, suc, ◌+◌, ◌<◌, ◌≤◌, ◌==◌, ◌&&◌, ◌||◌, not, Bool, true, false, nat_lt, nat_le, sym, ◌∙◌, ap, refl, subst, arith, List, [], ◌∷◌, ◌++◌, length, Option, Some, None, inl, inr, if◌then◌else◌, filter}
 use Rattle.std.specs.Prelude.{is_some}
-use Rattle.std.specs.List.{list_any, list_all, range_with_len}
-use Rattle.std.proofs.lemmas.Bool.{cases_Bool, eqb-true, ltb-true, leb-true, lt-ltb, false≢true, and_parts, and_from}
+use Rattle.std.specs.List.{list_all, range_with_len}
+use Rattle.std.proofs.lemmas.Bool.{cases_Bool, ltb-true, leb-true, lt-ltb, false≢true, and_parts, and_from}
 use Rattle.std.proofs.lemmas.Bool.Decides.{nat_tests}
 use Rattle.es_event.specs.History.{History}
 use Rattle.es_event.specs.Identities.{is_in, is_gone, is_there, made, kind}
-use Rattle.es_event.specs.Jobs.{Receivers, receivers}
+use Rattle.es_event.specs.Jobs.{receivers}
 use Rattle.es_event.specs.Rules.{Table}
 use Rattle.es_event.specs.Legal.{LegalBy, is_rising}
-use Rattle.es_event.specs.Reach.{IsReached, IsDead, AreDead}
+use Rattle.es_event.specs.Reach.{AreDead}
 use Rattle.es_event.proofs.Alive.{Stays, stays_along}
 use Rattle.es_mark.specs.Marks.{is_marked}
 use Rattle.es_agent.specs.declared.kinds.Kind.{Kind as Tag}
@@ -122,7 +122,7 @@ left_are h tags marks n count says = record {
       let here = ap is_some (says i (in_range (made h) i true range)) ∙ stands h i ∙ there in
       passing_in (is_left tags marks) 1 n i
       ∙ and_from (nat_le 1 i && nat_lt i (1 + n)) (is_left tags marks i) (ap (λ m. nat_le 1 i && nat_lt i (1 + m)) count ∙ range)
-        (and_from (is_some (standing tags i)) (not (is_marked marks i)) here (ap not unmarked));
+      (and_from (is_some (standing tags i)) (not (is_marked marks i)) here (ap not unmarked));
 }
 
 left_there : (h : History) (marks : List Bool) (ids : List ℕ) → AreLeft h marks ids → list_all (is_there h) ids ≡ true

@@ -1,11 +1,10 @@
 -- What the tables of an agent say, and that they say what its history says.
-use Rattle.std.specs.Prelude.{ℕ, ◌≡◌, ◌<◌, ◌&&◌, not, Bool, true, false, List, Option, Some, None, unwrap_or, is_some, length, reverse, if◌then◌else◌}
+use Rattle.std.specs.Prelude.{ℕ, ◌≡◌, ◌<◌, ◌&&◌, not, false, List, Option, None, unwrap_or, is_some, length, reverse, if◌then◌else◌}
 use Rattle.std.specs.Map.{lookup}
 use Rattle.std.specs.Option.{option_map, option_and_then}
 use Rattle.std.specs.Str.{bytes_eq}
 use Rattle.es_value.specs.declared.value.Value.{Value}
 use Rattle.es_value.specs.declared.value.Value.TheVariants.{Undefined, Object}
-use Rattle.es_value.specs.Values.{identity}
 use Rattle.es_props.specs.Heap.{Store, object, has, property, keys}
 use Rattle.es_weakref.specs.WeakRefs.{Table, target, unless_among}
 use Rattle.es_event.specs.History.{History}

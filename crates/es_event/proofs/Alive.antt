@@ -1,26 +1,21 @@
 -- In a run nothing is emptied that is reached: what variables, KeptAlive and properties of what is there hold.
-use Rattle.std.proofs.Common.{◌≡◌, ℕ, ◌+◌, ◌<◌, ◌≤◌, ◌==◌, ◌&&◌, ◌||◌, not, Bool, true, false, sym, ◌∙◌, ap, refl, subst, arith, List, [], ◌∷◌, ◌++◌, Option, Some, None, inl, inr}
+use Rattle.std.proofs.Common.{◌≡◌, ℕ, ◌+◌, ◌<◌, ◌≤◌, ◌==◌, ◌&&◌, not, Bool, true, false, sym, ◌∙◌, ap, refl, subst, arith, List, [], ◌∷◌, ◌++◌, Option, Some, None, inl, inr}
 use Rattle.std.specs.Prelude.{nat_lt, nat_le}
-use Rattle.std.specs.List.{list_all, list_any}
-use Rattle.std.specs.Option.{option_map_or, option_to_list}
-use Rattle.std.proofs.lemmas.Bool.{cases_Bool, eqb-true, false≢true, ltb-true, leb-true, and_parts, or_cases, or_parts}
+use Rattle.std.specs.Option.{option_map_or}
+use Rattle.std.proofs.lemmas.Bool.{cases_Bool, false≢true, ltb-true, leb-true, and_parts, or_cases}
 use Rattle.std.proofs.lemmas.List.Folds.{list_any-append}
 use Rattle.es_value.specs.declared.value.Value.{Value}
-use Rattle.es_value.specs.declared.value.Value.TheVariants.{Object}
 use Rattle.es_event.specs.declared.event.Answer.{Answer}
-use Rattle.es_event.specs.declared.event.Answer.TheVariants.{Nothing, Gives, Listed}
-use Rattle.es_event.specs.declared.event.Event.{Event}
+use Rattle.es_event.specs.declared.event.Answer.TheVariants.{Gives}
 use Rattle.es_event.specs.declared.event.Event.TheVariants.{Did, Emptied, JobEnded}
 use Rattle.es_event.specs.declared.command.Command.{Command}
-use Rattle.es_event.specs.declared.command.Command.TheVariants.{WeakRef, Deref}
 use Rattle.es_event.specs.declared.plan.AgentPlan.{AgentPlan}
 use Rattle.es_event.specs.Commands.{first, reads}
 use Rattle.es_event.specs.History.{History}
 use Rattle.es_event.specs.Identities.{identity, is_in, has_identity_in, made, gone, is_gone, is_there}
 use Rattle.es_event.specs.Jobs.{Receivers, receivers}
-use Rattle.es_event.specs.Properties.{prop}
-use Rattle.es_event.specs.WeakRefs.{kept, keeps, first_target, target}
-use Rattle.es_event.specs.Rules.{Table, target_of}
+use Rattle.es_event.specs.WeakRefs.{kept, first_target, target}
+use Rattle.es_event.specs.Rules.{Table}
 use Rattle.es_event.specs.Legal.{Lawful, LegalBy}
 use Rattle.es_event.specs.Reach.{IsReached, AreDead}
 use Rattle.es_event.specs.Live.{Honest}
@@ -33,7 +28,7 @@ use Rattle.es_event.proofs.Holds.{Holds, holds_after, holds_did, first_of, at_ob
 use Rattle.es_event.proofs.Keeping.{kept_by, kept_either}
 use Rattle.es_event.proofs.Lists.{all_in, in_neither, out_of_both}
 use Rattle.es_event.proofs.Safe.{IsSafe, safe_unless, dead_not_safe, safe_property}
-use Rattle.es_event.proofs.Source.{IsDeref, IsFresh, source, fresh_number}
+use Rattle.es_event.proofs.Source.{source, fresh_number}
 use Rattle.es_event.proofs.Targets.{target_from}
 
 -- What is emptied was made
@@ -117,8 +112,8 @@ stays_emptied over into h ids legal dead stays = record {
     properties = λ o k v a e.
         let out = out_of_both ids (gone h) o a in
         at_identity (ids ++ gone h) (identity v) (λ i is. in_neither ids (gone h) i
-            (safe_stays into h ids dead i (safe_property over into into h legal o k v i (safe_unless into h ids dead o out.0 out.1) e is))
-            (alive_at h v i (stays.held.properties o k v out.1 e) is));
+        (safe_stays into h ids dead i (safe_property over into into h legal o k v i (safe_unless into h ids dead o out.0 out.1) e is))
+        (alive_at h v i (stays.held.properties o k v out.1 e) is));
   };
   kept = λ i e. in_neither ids (gone h) i (reached_stays into h ids dead i (λ m closed. closed.kept i e)) (stays.kept i e);
 }

@@ -101,10 +101,10 @@ reported_kept = refl
 
 abbrev pub plan_reaches : AgentPlan
 plan_reaches = plan_of (
-  (new (codes "t") ∷ new (codes "s") ∷ Set (codes "t") (codes "p") (codes "s") ∷ WeakRef (codes "u") (codes "t") ∷ forget (codes "t") ∷ forget (codes "s") ∷ [])
-  ∷ (Collect ∷ Deref (codes "x") (codes "u") ∷ [])
-  ∷ []
-)
+    (new (codes "t") ∷ new (codes "s") ∷ Set (codes "t") (codes "p") (codes "s") ∷ WeakRef (codes "u") (codes "t") ∷ forget (codes "t") ∷ forget (codes "s") ∷ [])
+    ∷ (Collect ∷ Deref (codes "x") (codes "u") ∷ [])
+    ∷ []
+    )
 
 abbrev pub into_reaches : Receivers
 into_reaches = receivers plan_reaches.jobs
@@ -134,10 +134,10 @@ whole_reaches = ([], search rules, ((tt, (tt, (refl, ((refl, dead_both), follows
 
 abbrev pub plan_cycle : AgentPlan
 plan_cycle = plan_of (
-  (new (codes "a") ∷ new (codes "b") ∷ Set (codes "a") (codes "p") (codes "b") ∷ Set (codes "b") (codes "p") (codes "a") ∷ WeakRef (codes "w") (codes "a") ∷ forget (codes "a") ∷ forget (codes "b") ∷ Collect ∷ [])
-  ∷ (Collect ∷ [])
-  ∷ []
-)
+    (new (codes "a") ∷ new (codes "b") ∷ Set (codes "a") (codes "p") (codes "b") ∷ Set (codes "b") (codes "p") (codes "a") ∷ WeakRef (codes "w") (codes "a") ∷ forget (codes "a") ∷ forget (codes "b") ∷ Collect ∷ [])
+    ∷ (Collect ∷ [])
+    ∷ []
+    )
 
 abbrev pub into_cycle : Receivers
 into_cycle = receivers plan_cycle.jobs
