@@ -1,6 +1,6 @@
 #!/bin/sh
 # Each growth refused in turn: the run ends with 'out of memory' and nothing written, or as if nothing
-# had been refused. A library of our own stands before the C library's malloc and realloc.
+# had been refused: with the report, or with the fault of its plan. A library of our own stands before the C library's malloc and realloc.
 # Usage: growths.sh PROGRAM. Prints each test that fails, and 'N passed, M failed' last.
 set -u
 
@@ -27,12 +27,15 @@ run() {
     got=$?
 }
 
-# Tries each growth of a run on these words, which ends with status 0.
+# Tries each growth of a run on these words, which ends with this status where none is refused.
 each_growth() {
+    status=$1
+    shift
     run 0 "$@"
     cp "$room/out" "$room/wanted"
+    cp "$room/err" "$room/told"
     growths=$(cat "$room/growths")
-    if [ "$got" -ne 0 ] || [ "$growths" -lt 10 ]; then
+    if [ "$got" -ne "$status" ] || [ "$growths" -lt 10 ]; then
         failed=$((failed + 1))
         echo "FAILED: $*: status $got and $growths growths with none refused"
     fi
@@ -42,7 +45,7 @@ each_growth() {
         run "$number" "$@"
         if [ "$got" -eq 3 ] && [ ! -s "$room/out" ] && cmp -s "$room/err" "$room/complaint"; then
             passed=$((passed + 1))
-        elif [ "$got" -eq 0 ] && cmp -s "$room/out" "$room/wanted" && [ ! -s "$room/err" ]; then
+        elif [ "$got" -eq "$status" ] && cmp -s "$room/out" "$room/wanted" && cmp -s "$room/err" "$room/told"; then
             passed=$((passed + 1))
         else
             failed=$((failed + 1))
@@ -51,11 +54,17 @@ each_growth() {
     done
 }
 
-each_growth run "$tests/../examples/properties.json"
-each_growth run "$tests/../examples/kept.json" --turns --helpers 2
-each_growth run "$tests/../examples/reaches.json"
-each_growth run "$tests/../examples/cycle.json"
-each_growth check "$tests/../examples/refusals.json"
+examples=$tests/../examples
+each_growth 0 run "$examples/properties.json"
+each_growth 0 run "$examples/kept.json" --turns --helpers 2
+each_growth 0 run "$examples/reaches.json"
+each_growth 0 run "$examples/cycle.json"
+each_growth 0 run "$examples/agents.json"
+each_growth 0 check "$examples/refusals.json"
+
+# a fault in the last command of the last agent, so that all before it is read
+sed 's/\["keys", "x"\]/["keys", "1x"]/' "$examples/agents.json" >"$room/faulty.json"
+each_growth 1 run "$room/faulty.json"
 
 echo "$passed passed, $failed failed"
 [ "$failed" -eq 0 ]

@@ -156,8 +156,11 @@ expect "a pipe that nobody reads" 4 - "cannot write"
     head -c 20 "$room/plan.json"
     sleep 0.2
     tail -c +21 "$room/plan.json"
-} | "$program" 2>"$room/err" | cat >"$room/out"
-got=0
+} | {
+    "$program" 2>"$room/err"
+    echo $? >"$room/status"
+} | cat >"$room/out"
+got=$(cat "$room/status")
 expect "a slow pipe" 0 "$room/report" ""
 if [ "$program" = "$top/crates/clusterrun/out/clusterrun" ]; then
     (cd "$room" && "$top/clusterrun" run plan.json) >"$room/out" 2>"$room/err"

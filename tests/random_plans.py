@@ -14,6 +14,11 @@ import rules
 
 NAMES = ["a", "b", "c", "w", "x", "y"]
 KEYS = ["p", "q", "r"]
+# numbers and texts that JSON readers treat differently, and arrays at and past the deepest nesting
+ODD_JSON = [
+    b"1e400", b"-1e400", b"9" * 400, b"1E-400", b"1e3", b"1.0", b"-0", b'"\\ud800"', b'"\\u0061"', b'"\\u0022"',
+    *(b"[" * levels + b"]" * levels for levels in range(118, 126)),
+]
 LITERALS = [None, True, False, 0, 1, -1, 9007199254740991, -9007199254740991, "", "k", "a text"]
 
 # Lives of objects and symbols, as commands in words; capitals stand for variables. At a slash a job ends, and it may
@@ -189,6 +194,8 @@ def text(rng):
     for _ in range(rng.choice([0, 0, 0, 0, 1] if kind < 0.65 else [0, 0, 1, 1, 2])):
         value = spoil(rng, value)
     data = json.dumps(value, ensure_ascii=rng.random() < 0.5).encode()
+    if rng.random() < 0.05:
+        data = data.replace(b"null", rng.choice(ODD_JSON), 1)
     if rng.random() < 0.05:
         data = data[: rng.randint(0, len(data))]
     if rng.random() < 0.03:

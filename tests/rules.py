@@ -32,9 +32,11 @@ class Refused(Exception):
 
 
 class Number:
-    """A JSON number as it is written: 1.0 is no whole number, and neither is -0."""
+    """A JSON number as it is written, within the range of a double: 1.0 is no whole number, and neither is -0."""
 
     def __init__(self, text):
+        if float(text) in (float("inf"), float("-inf")):
+            raise ValueError
         self.text = text
 
     def whole(self):
@@ -55,13 +57,27 @@ def read_json(data):
         text = data.decode("utf-8")
         if text.startswith("\ufeff"):
             raise ValueError
-        return json.loads(text, parse_int=Number, parse_float=Number, parse_constant=reject, strict=True)
+        value = json.loads(text, parse_int=Number, parse_float=Number, parse_constant=reject, strict=True)
+        check_texts(value, 127)
+        return value
     except (ValueError, RecursionError):
         raise Refused(1) from None
 
 
 def reject(_):
     raise ValueError
+
+
+def check_texts(value, levels):
+    """No half of a surrogate pair stands alone, and arrays and objects nest no deeper than so many levels."""
+    if isinstance(value, str):
+        value.encode("utf-8")
+    elif isinstance(value, (list, dict)):
+        if levels == 0:
+            raise ValueError
+        inner = value if isinstance(value, list) else [*value.keys(), *value.values()]
+        for part in inner:
+            check_texts(part, levels - 1)
 
 
 def has_keys(value, *keys):

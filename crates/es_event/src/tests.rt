@@ -33,6 +33,7 @@ fn a_copied_command_reads_and_assigns_the_same(rt: HostRuntime) -> Result<(), Fa
     let key = Name::read(alloc, "k")?;
     let from = Name::read(alloc, "x")?;
     let set = Command::Set { object, key, from }.copy()?;
+    assert!(rt; matches!(&set, Command::Set { key: k, .. } if *k == key));
     assert!(rt; matches!(set.reads(), Reads::Two(a, b) if *a == object && *b == from));
     assert!(rt; set.assigns().is_none());
     assert!(rt; !set.makes());
@@ -44,6 +45,16 @@ fn a_copied_command_reads_and_assigns_the_same(rt: HostRuntime) -> Result<(), Fa
     assert!(rt; matches!(weakref.reads(), Reads::One(a) if *a == object));
     assert!(rt; weakref.assigns().is_some_and(|to| *to == from));
     assert!(rt; weakref.makes());
+    let text = Text::read(alloc, "t")?;
+    let literal = Command::Let {
+        to: object,
+        literal: Literal::Text(text),
+    };
+    let literal = literal.copy()?;
+    assert!(rt; literal.assigns().is_some_and(|to| *to == object));
+    assert!(rt;
+        matches!(&literal, Command::Let { literal: Literal::Text(t), .. } if t.as_str() == "t")
+    );
     let collect = Command::Collect.copy()?;
     assert!(rt; matches!(collect.reads(), Reads::Nothing));
     assert!(rt; collect.assigns().is_none());

@@ -20,7 +20,7 @@ pub(crate) fn write_agent<W: Write>(
     let name = name.as_str();
     writeln!(writer, "agent {name}")?;
     write_lines(history.as_slice(), writer)?;
-    // No program has a registration yet, so every count is 0.
+    // No agent has a registration yet, so every count is 0.
     writer.write_all(b"end live 0 awaiting 0 unregistered 0 taken 0\n")
 }
 

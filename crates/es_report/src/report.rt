@@ -37,7 +37,7 @@ fn write_agents<W: Write>(
     Ok(())
 }
 
-// No program has a block or a message yet, so every count is 0.
+// No cluster has a block or a message yet, so every count is 0.
 fn write_cluster<W: Write>(writer: &mut W) -> Result<(), io::Error>
     ensures { OnOk result (Appends (W.contents writer.old) (W.contents writer.new) cluster_text) }
 {
