@@ -23,25 +23,14 @@ use Rattle.es_event.specs.Legal.{LegalBy}
 use Rattle.es_event.proofs.Keeping.{kept_within}
 use Rattle.es_event.proofs.Objects.{object_within, var_within, prop_within}
 use Rattle.es_mark.specs.Graph.{IsNumbered, HasAll, Finds}
+use Rattle.es_mark.proofs.Growth.{all_front, all_back, all_join}
 use Rattle.es_agent.specs.Book.{Book}
 use Rattle.es_agent.specs.Graph.{HasRoots, HasEdges, Adds, HasBound, HasHeld}
 use Rattle.es_agent.specs.Kinds.{standing, tag_of, is_weakref_tag}
 use Rattle.es_agent.specs.Tables.{State, Bindings, Says}
-use Rattle.es_agent.proofs.Reached.{here_of, is_within}
+use Rattle.es_agent.proofs.Reached.{both_of, here_of, is_within}
 
 -- Lists
-
-pub all_front : (t : ℕ → Bool) (xs ys : List ℕ) → HasAll (xs ++ ys) t → HasAll xs t
-all_front t [] ys all = tt
-all_front t (x ∷ xs) ys all = (all.0, all_front t xs ys all.1)
-
-pub all_back : (t : ℕ → Bool) (xs ys : List ℕ) → HasAll (xs ++ ys) t → HasAll ys t
-all_back t [] ys all = all
-all_back t (x ∷ xs) ys all = all_back t xs ys all.1
-
-pub all_join : (t : ℕ → Bool) (xs ys : List ℕ) → HasAll xs t → HasAll ys t → HasAll (xs ++ ys) t
-all_join t [] ys front back = back
-all_join t (x ∷ xs) ys front back = (front.0, all_join t xs ys front.1 back)
 
 all_each : (t : ℕ → Bool) (xs : List ℕ) → HasAll xs t → (i : ℕ) → is_in xs i ≡ true → t i ≡ true
 all_each t [] all i e = cc
@@ -92,8 +81,8 @@ pub adds_held : (s : State) (old mid new : List ℕ) → Adds (HasBound s.variab
 adds_held s old mid new bound' added = record {
   ids = bound'.ids ++ s.weakrefs.kept;
   added = added ∙ ap (λ l. l ++ s.weakrefs.kept) bound'.added ∙ appended old bound'.ids s.weakrefs.kept;
-  only = λ t has. all_join t bound'.ids s.weakrefs.kept (bound'.only t has.0) has.1;
-  all = λ t all. (bound'.all t (all_front t bound'.ids s.weakrefs.kept all), all_back t bound'.ids s.weakrefs.kept all);
+  only = λ t has. all_join (λ i. t i ≡ true) bound'.ids s.weakrefs.kept (bound'.only t has.0) has.1;
+  all = λ t all. (bound'.all t (all_front (λ i. t i ≡ true) bound'.ids s.weakrefs.kept all), all_back (λ i. t i ≡ true) bound'.ids s.weakrefs.kept all);
 }
   where
     appended : (xs ys zs : List ℕ) → (xs ++ ys) ++ zs ≡ xs ++ (ys ++ zs)
@@ -151,11 +140,6 @@ finds_roots over b s old new legal says adds =
     }
 
 -- Edges
-
-both_of : (a g : Bool) → (a && not g) ≡ true → (a ≡ true) × (g ≡ false)
-both_of true false e = (refl, refl)
-both_of true true e = cc
-both_of false g e = cc
 
 -- what has a property is there
 owner_there : (over : Table) (into : Receivers) (h : History) (s : State) → LegalBy over into h → Says into h s → (o : ℕ) (k : List ℕ) (v : Value) → property s.heap o k ≡ Some v → is_there h o ≡ true
