@@ -1,3 +1,5 @@
+//! The agent: its calls, each of which records one event or shows what stands.
+
 ghost use Rattle.std.specs.Prelude.{◌≡◌, ℕ, ◌+◌, ◌≤◌, ◌<◌, ◌++◌, ◌∷◌, [], true, reverse, vec_len, vec_capacity, IfOk, OnOk, OnErr};
 ghost use Rattle.es_event.specs.Identities.{gone, is_in};
 ghost use Rattle.es_event.specs.Jobs.{receivers};

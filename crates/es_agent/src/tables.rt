@@ -1,3 +1,5 @@
+//! All that an agent keeps beside its history, as one value.
+
 ghost use Rattle.std.specs.Prelude.{◌≡◌, ◌<◌, ◌+◌, ◌^◌, ◌==◌, ◌||◌, ◌&&◌, ◌++◌, [], ℕ, List, None, Some, Bool, true, false, not, is_some, unwrap_or, length, reverse, IfOk, OnOk, OnErr, if◌then◌else◌};
 ghost use Rattle.std.specs.List.{filter, range_with_len};
 ghost use Rattle.std.specs.Option.{option_copied, option_map, option_map_or, option_to_list};

@@ -1,3 +1,5 @@
+//! Marking, in rounds until a round adds nothing.
+
 ghost use Rattle.std.specs.Prelude.{◌≡◌, ℕ, true, false, ◌+◌, [], length, OnOk, IfOk};
 ghost use Rattle.es_mark.specs.Graph.{IsNumbered, Finds, FindsEntries};
 ghost use Rattle.es_mark.specs.Growth.{Growth, Follows, FollowsBelow};

@@ -1,3 +1,5 @@
+//! The set that marking gives.
+
 ghost use Rattle.std.specs.Prelude.{◌≡◌};
 ghost use Rattle.es_mark.specs.Marks.{is_marked};
 
