@@ -1,7 +1,7 @@
 //! The agents of a plan, run one after the other.
 
 ghost use Rattle.std.specs.Prelude.{◌≡◌, reverse, IfOk, OnOk, OnErr, true, map};
-ghost use Rattle.es_event.specs.Order.{stand, ended};
+ghost use Rattle.es_event.specs.Order.{phase, ended};
 ghost use Rattle.es_event.specs.Runs.{IsWholeRun, IsOutcome};
 ghost use Rattle.es_agent.specs.Book.{is_built, need, EmptiesDead};
 ghost use Rattle.clusterrun.specs.Engine.{has_no_message_job};
@@ -49,7 +49,7 @@ fn run_agent(
 fn run_to_end(alloc: Global, core: &mut AgentCore) -> Result<(), NoMemory>
     requires { is_built core.old.plan ≡ true }
     ensures plan { core.new.plan ≡ core.old.plan }
-    ensures ended { OnOk result (stand core.new.history ≡ ended) }
+    ensures ended { OnOk result (phase core.new.history ≡ ended) }
 {
     loop {
         match core.next() {

@@ -6,7 +6,7 @@ ghost use Rattle.es_event.specs.Jobs.{receivers};
 ghost use Rattle.es_event.specs.WeakRefs.{kept};
 ghost use Rattle.es_event.specs.Live.{Honest};
 ghost use Rattle.es_event.specs.Runs.{IsRun};
-ghost use Rattle.es_agent.specs.Book.{Book, is_built, need, IsNext, Appends, AppendsNext, EmptiesDead};
+ghost use Rattle.es_agent.specs.Book.{Book, is_built, need, IsNext, Records, RecordsNext, EmptiesDead};
 ghost use Rattle.es_agent.specs.Effects.{AreEffects};
 ghost use Rattle.es_agent.specs.Graph.{AreReached};
 
@@ -14,7 +14,7 @@ mod decide;
 mod look_up;
 mod reach;
 
-use crate::cursor::{Cursor, Place, commands};
+use crate::cursor::{Cursor, Position, commands};
 use crate::effects::Step;
 use crate::need::Need;
 use crate::tables::Tables;
@@ -42,7 +42,7 @@ pub struct AgentCore {
 
 impl Model for AgentCore {
     ghost use Rattle.std.specs.Prelude.{◌≡◌, ◌≢◌, ◌<◌, reverse, vec_len, vec_capacity};
-    ghost use Rattle.es_event.specs.Order.{stand, ended};
+    ghost use Rattle.es_event.specs.Order.{phase, ended};
     ghost use Rattle.es_agent.specs.Book.{Book};
     ghost use Rattle.es_agent.specs.Ties.{Ties};
 
@@ -51,7 +51,7 @@ impl Model for AgentCore {
     ghost view = { λ a. record { plan = a.plan; number = a.number; agents = a.agents; history = reverse a.events.items } };
 
     ghost invariant = { λ a. Ties a.plan (reverse a.events.items) a.tables a.cursor
-        × (stand (reverse a.events.items) ≢ ended → vec_len a.events < vec_capacity a.events) };
+        × (phase (reverse a.events.items) ≢ ended → vec_len a.events < vec_capacity a.events) };
 }
 
 impl AgentCore {
@@ -110,14 +110,14 @@ impl AgentCore {
         ensures { result ≡ need self.now }
     {
         let cursor = self.cursor;
-        match cursor.place {
-            Place::Between if cursor.job > self.plan.jobs.as_slice().len() => Need::Close,
-            Place::Inside(at) => match commands(&self.plan, cursor.job).get(at) {
+        match cursor.position {
+            Position::Between if cursor.job > self.plan.jobs.as_slice().len() => Need::Close,
+            Position::Inside(at) => match commands(&self.plan, cursor.job).get(at) {
                 Some(Command::Collect) => Need::Collect,
                 _ => Need::Local,
             },
-            Place::Between | Place::Stopped => Need::Local,
-            Place::Ended => Need::Ended,
+            Position::Between | Position::Stopped => Need::Local,
+            Position::Ended => Need::Ended,
         }
     }
 
@@ -125,7 +125,7 @@ impl AgentCore {
     /// memory nothing has changed.
     pub fn perform(&mut self) -> Result<(), NoMemory>
         requires { need self.old ≡ Need.Local }
-        ensures ok { OnOk result (AppendsNext self.old self.new) }
+        ensures ok { OnOk result (RecordsNext self.old self.new) }
         ensures err { OnErr result (self.new ≡ self.old) }
     {
         let step = self.step()?;
@@ -155,9 +155,9 @@ impl AgentCore {
     /// Ends the agent; it takes no memory.
     pub fn close(&mut self)
         requires { need self.old ≡ Need.Close }
-        ensures { Appends self.old Event.Closed self.new }
+        ensures { Records self.old Event.Closed self.new }
     {
-        self.cursor.place = Place::Ended;
+        self.cursor.position = Position::Ended;
         push_reserved(&mut self.events, Event::Closed);
     }
 
@@ -175,7 +175,7 @@ impl AgentCore {
         requires need { need self.old ≡ Need.Local }
         requires next { IsNext self.old step.event }
         requires effects { AreEffects step.event step.effects }
-        ensures ok { OnOk result (Appends self.old step.event self.new) }
+        ensures ok { OnOk result (Records self.old step.event self.new) }
         ensures err { OnErr result (self.new ≡ self.old) }
     {
         let Step { event, effects } = step;

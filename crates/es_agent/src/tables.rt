@@ -9,12 +9,12 @@ ghost use Rattle.es_props.specs.Heap.{has, property, keys, HasProperties};
 ghost use Rattle.es_weakref.specs.WeakRefs.{target as target_in};
 ghost use Rattle.es_agent.specs.Effects.{Applied, CanApply, with_option};
 ghost use Rattle.es_mark.specs.Marks.{is_marked};
-ghost use Rattle.es_agent.specs.Kinds.{standing};
+ghost use Rattle.es_agent.specs.Kinds.{tag_at};
 ghost use Rattle.es_agent.specs.Graph.{Adds, HasHeld};
 ghost use Rattle.es_agent.specs.Tables.{bound, SameHeap, SameState, Emptying};
 
 use crate::effects::Effects;
-use crate::kinds::{Kind, Kinds};
+use crate::kinds::{Tag, Kinds};
 use crate::variables::Variables;
 use es_mark::Marks;
 use es_props::Heap;
@@ -115,8 +115,8 @@ impl Tables {
     }
 
     /// What stands under an identity.
-    pub fn kind(&self, id: Id) -> Option<Kind>
-        ensures stands { result ≡ standing self.now.kinds.all id }
+    pub fn kind(&self, id: Id) -> Option<Tag>
+        ensures stands { result ≡ tag_at self.now.kinds.all id }
         ensures positive { 0 < id }
     {
         self.kinds.of(id)
@@ -125,7 +125,7 @@ impl Tables {
     /// The identities under which something stands and that are not marked, by rising number.
     pub fn unmarked(&self, alloc: Global, marks: &Marks) -> Result<Vec<Id>, NoMemory>
         requires { length self.now.kinds.all < 1000001 }
-        ensures { IfOk result (λ ids. ids.items ≡ filter (λ i. is_some (standing self.now.kinds.all i) && not (is_marked marks.now i)) (range_with_len 1 (length self.now.kinds.all))) }
+        ensures { IfOk result (λ ids. ids.items ≡ filter (λ i. is_some (tag_at self.now.kinds.all i) && not (is_marked marks.now i)) (range_with_len 1 (length self.now.kinds.all))) }
     {
         self.kinds.unmarked(alloc, marks)
     }

@@ -9,10 +9,15 @@ mod literal;
 mod outcome;
 mod plan;
 
-pub use command::{Command, Reads};
+pub use command::{Command, OperandNames};
 pub use event::{Answer, Event, Refusal};
 pub use laws::{
+    Members, a_closed_set_stays_closed, a_plan_has_one_outcome, a_plan_has_one_whole_run,
+    a_refusal_changes_nothing, each_run_comes_to_its_end, keys_are_those_of_properties,
     nothing_dead_is_live, nothing_emptied_was_live, nothing_kept_is_gone, nothing_reached_is_gone,
+    nothing_that_a_closed_set_lacks_is_live, one_event_comes_next, reached_is_led_to,
+    some_event_comes_next, tests_lose_nothing, the_dead_are_one_list, the_dead_can_be_listed,
+    what_is_held_is_live,
 };
 pub use list::Sequence;
 pub use literal::Literal;

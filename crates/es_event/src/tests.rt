@@ -1,4 +1,6 @@
-use crate::{Command, Literal, Reads, Sequence};
+ghost use Rattle.std.specs.Prelude.{⊤};
+
+use crate::{Command, Literal, Members, OperandNames, Sequence, tests_lose_nothing};
 use es_value::{Name, Text, Value, same_value};
 use std::test::Fail;
 
@@ -34,7 +36,7 @@ fn a_copied_command_reads_and_assigns_the_same(rt: HostRuntime) -> Result<(), Fa
     let from = Name::read(alloc, "x")?;
     let set = Command::Set { object, key, from }.copy()?;
     assert!(rt; matches!(&set, Command::Set { key: k, .. } if *k == key));
-    assert!(rt; matches!(set.reads(), Reads::Two(a, b) if *a == object && *b == from));
+    assert!(rt; matches!(set.reads(), OperandNames::Two(a, b) if *a == object && *b == from));
     assert!(rt; set.assigns().is_none());
     assert!(rt; !set.makes());
     let weakref = Command::WeakRef {
@@ -42,7 +44,7 @@ fn a_copied_command_reads_and_assigns_the_same(rt: HostRuntime) -> Result<(), Fa
         target: object,
     };
     let weakref = weakref.copy()?;
-    assert!(rt; matches!(weakref.reads(), Reads::One(a) if *a == object));
+    assert!(rt; matches!(weakref.reads(), OperandNames::One(a) if *a == object));
     assert!(rt; weakref.assigns().is_some_and(|to| *to == from));
     assert!(rt; weakref.makes());
     let text = Text::read(alloc, "t")?;
@@ -56,8 +58,21 @@ fn a_copied_command_reads_and_assigns_the_same(rt: HostRuntime) -> Result<(), Fa
         matches!(&literal, Command::Let { literal: Literal::Text(t), .. } if t.as_str() == "t")
     );
     let collect = Command::Collect.copy()?;
-    assert!(rt; matches!(collect.reads(), Reads::Nothing));
+    assert!(rt; matches!(collect.reads(), OperandNames::Nothing));
     assert!(rt; collect.assigns().is_none());
     assert!(rt; !collect.makes());
+    Ok(())
+}
+
+/// Everything, as a set.
+struct Everything;
+
+impl Members for Everything {
+    ghost has = { λ i. ⊤ };
+}
+
+#[test]
+fn a_law_ranges_over_any_set(_rt: HostRuntime) -> Result<(), Fail> {
+    tests_lose_nothing::<Everything>();
     Ok(())
 }

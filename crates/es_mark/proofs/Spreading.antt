@@ -3,7 +3,7 @@ use Rattle.std.proofs.Common.{◌≡◌, ℕ, ◌+◌, ◌<◌, Bool, true, fals
 use Rattle.std.proofs.lemmas.Bool.{cases_Bool, ltb-true, ltb-false}
 use Rattle.std.proofs.lemmas.List.{get_or_past}
 use Rattle.es_mark.specs.Graph.{HasAll, Finds, IsClosed}
-use Rattle.es_mark.specs.Growth.{Growth, FollowsBelow}
+use Rattle.es_mark.specs.Growth.{Growth, ObeysBelow}
 use Rattle.es_mark.specs.Marks.{is_marked, IsWithin, IsLeast}
 use Rattle.es_mark.proofs.Growth.{all_mono}
 use Rattle.es_mark.proofs.Found.{found_only, found_all}
@@ -41,7 +41,7 @@ spreads roots edges entries made ids old new grew size fresh finds p all = recor
 
 -- after a round
 pub spreads_on : (roots : (ℕ → Bool) → Type 0) (edges entries : ℕ → (ℕ → Bool) → Type 0) (made n : ℕ) (old new : List Bool) (grew : Bool) → length new ≡ made + 1
-    → Spreading roots edges entries made old → Growth (FollowsBelow edges entries n) old new grew → Spreading roots edges entries made new
+    → Spreading roots edges entries made old → Growth (ObeysBelow edges entries n) old new grew → Spreading roots edges entries made new
 spreads_on roots edges entries made n old new grew size s p = record {
   size = size;
   unused = p.unused ∙ s.unused;
@@ -53,7 +53,7 @@ spreads_on roots edges entries made n old new grew size s p = record {
 
 -- after a round with nothing new
 is_closed : (roots : (ℕ → Bool) → Type 0) (edges entries : ℕ → (ℕ → Bool) → Type 0) (made : ℕ) (old new : List Bool)
-    → Spreading roots edges entries made old → Growth (FollowsBelow edges entries (length old)) old new false → IsClosed roots edges entries (is_marked old)
+    → Spreading roots edges entries made old → Growth (ObeysBelow edges entries (length old)) old new false → IsClosed roots edges entries (is_marked old)
 is_closed roots edges entries made old new s p = record {
   has_roots = s.asks (is_marked old) s.has_found;
   follows = λ i e. (p.holds refl i (is_positive old i s.unused e) (is_below old i e) e).0;
@@ -61,7 +61,7 @@ is_closed roots edges entries made old new s p = record {
 }
 
 pub is_least : (roots : (ℕ → Bool) → Type 0) (edges entries : ℕ → (ℕ → Bool) → Type 0) (made : ℕ) (old new : List Bool)
-    → Spreading roots edges entries made old → Growth (FollowsBelow edges entries (length old)) old new false → IsLeast roots edges entries new
+    → Spreading roots edges entries made old → Growth (ObeysBelow edges entries (length old)) old new false → IsLeast roots edges entries new
 is_least roots edges entries made old new s p =
     rw (p.same refl) (record {
       closed = is_closed roots edges entries made old new s p;

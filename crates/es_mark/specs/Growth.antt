@@ -9,12 +9,12 @@ unmarked (true ∷ marks) = unmarked marks
 unmarked (false ∷ marks) = 1 + unmarked marks
 
 -- the set has what the identity leads to, and the values of its entries, if it has the identity
-abbrev pub Follows : (ℕ → (ℕ → Bool) → Type 0) → (ℕ → (ℕ → Bool) → Type 0) → ℕ → (ℕ → Bool) → Type 0
-Follows edges entries i t = t i ≡ true → edges i t × entries i t
+abbrev pub Obeys : (ℕ → (ℕ → Bool) → Type 0) → (ℕ → (ℕ → Bool) → Type 0) → ℕ → (ℕ → Bool) → Type 0
+Obeys edges entries i t = t i ≡ true → edges i t × entries i t
 
 -- the same for each identity below n
-abbrev pub FollowsBelow : (ℕ → (ℕ → Bool) → Type 0) → (ℕ → (ℕ → Bool) → Type 0) → ℕ → (ℕ → Bool) → Type 0
-FollowsBelow edges entries n t = (i : ℕ) → 0 < i → i < n → Follows edges entries i t
+abbrev pub ObeysBelow : (ℕ → (ℕ → Bool) → Type 0) → (ℕ → (ℕ → Bool) → Type 0) → ℕ → (ℕ → Bool) → Type 0
+ObeysBelow edges entries n t = (i : ℕ) → 0 < i → i < n → Obeys edges entries i t
 
 -- the rule asked for all that was marked, and holds as soon as nothing new was
 pub record Growth (rule : (ℕ → Bool) → Type 0) (old new : List Bool) (grew : Bool) : Type 0 where

@@ -2,7 +2,7 @@
 
 ghost use Rattle.std.specs.Prelude.{◌≡◌, ℕ, true, false, ◌+◌, [], length, OnOk, IfOk};
 ghost use Rattle.es_mark.specs.Graph.{IsNumbered, Finds, FindsEntries};
-ghost use Rattle.es_mark.specs.Growth.{Growth, Follows, FollowsBelow};
+ghost use Rattle.es_mark.specs.Growth.{Growth, Obeys, ObeysBelow};
 ghost use Rattle.es_mark.specs.Marks.{IsLeast, is_marked};
 
 use crate::flags::{is_set, mark_all, mark_values};
@@ -50,7 +50,7 @@ fn spread<G: Graph>(graph: &G, flags: &mut [bool], found: &mut Found) -> Result<
 /// Marks what the marked identities lead to, once, and tells whether something was new.
 fn round<G: Graph>(graph: &G, flags: &mut [bool], found: &mut Found) -> Result<bool, NoMemory>
     requires { length flags.old ≡ G.made_of graph.now + 1 }
-    ensures { IfOk result (λ grew. Growth (FollowsBelow (G.has_edges graph.now) (G.has_entries graph.now) (length flags.old)) flags.old flags.new grew) }
+    ensures { IfOk result (λ grew. Growth (ObeysBelow (G.has_edges graph.now) (G.has_entries graph.now) (length flags.old)) flags.old flags.new grew) }
 {
     let mut grew = false;
     for i in 0..graph.made() {
@@ -67,7 +67,7 @@ fn follow<G: Graph>(
     found: &mut Found,
 ) -> Result<bool, NoMemory>
     requires { length flags.old ≡ G.made_of graph.now + 1 }
-    ensures { IfOk result (λ grew. Growth (Follows (G.has_edges graph.now) (G.has_entries graph.now) id) flags.old flags.new grew) }
+    ensures { IfOk result (λ grew. Growth (Obeys (G.has_edges graph.now) (G.has_entries graph.now) id) flags.old flags.new grew) }
 {
     if !is_set(flags, id) {
         return Ok(false);

@@ -1,8 +1,11 @@
+//! The objects of an agent.
+
 ghost use Rattle.std.specs.Prelude.{◌≡◌, ℕ, [], ◌++◌, List, IfOk, OnOk, OnErr, IsTrue, Some, None, false, if◌then◌else◌, is_some};
 ghost use Rattle.std.specs.List.{IsDistinct};
 ghost use Rattle.std.specs.Option.{option_copied, option_map, option_map_or};
 ghost use Rattle.std.specs.Str.{bytes_eq};
-ghost use Rattle.es_props.specs.Heap.{object, has, property, keys, edges, is_among, with_property, without_property, Changes, Unchanged};
+ghost use Rattle.es_value.specs.Ids.{is_in};
+ghost use Rattle.es_props.specs.Heap.{object, has, property, keys, edges, with_property, without_property, Changes, Unchanged};
 
 use crate::properties;
 use es_value::{Id, Name, NoMemory, Value};
@@ -119,7 +122,7 @@ impl Heap {
     /// Removes the objects of these identities with their properties, and passes over strangers.
     #[tactic(auto, using(crate::proofs::Objects::object_of))]
     pub fn remove(&mut self, ids: &[Id])
-        ensures { (p : ℕ) → object self.new p ≡ (if is_among ids.now p then None else object self.old p) }
+        ensures { (p : ℕ) → object self.new p ≡ (if is_in ids.now p then None else object self.old p) }
     {
         for id in ids {
             self.objects.remove(id);

@@ -4,7 +4,7 @@ ghost use Rattle.std.specs.Prelude.{◌≡◌, [], option_map};
 ghost use Rattle.serde_json.specs.View.{view, items_view, members_view};
 ghost use Rattle.es_script.specs.Parts.{members_in};
 ghost use Rattle.es_script.specs.Reading.{Gives, callback_read, callbacks_read, job_read, jobs_read, names_read, agent_name_read, agent_read, agents_read};
-ghost use Rattle.es_script.specs.Grammar.{is_among};
+ghost use Rattle.es_script.specs.Grammar.{is_used};
 
 use crate::command::run_of;
 use crate::fault::{FaultCode, Spot, fault_in};
@@ -48,7 +48,7 @@ fn agent_name(alloc: Global, agent: usize, value: &Value) -> Result<Name, ReadFa
 }
 
 fn is_used(names: &[Name], name: &Name) -> bool
-    ensures { result ≡ is_among name.now names.now }
+    ensures { result ≡ is_used name.now names.now }
 {
     names.contains(name)
 }

@@ -2,8 +2,8 @@
 
 ghost use Rattle.std.specs.Prelude.{◌≡◌};
 ghost use Rattle.serde_json.specs.View.{view, items_view};
-ghost use Rattle.es_script.specs.Table.{form};
-ghost use Rattle.es_script.specs.Reading.{Gives, outside_read, form_read, command_read, commands_read, run_read};
+ghost use Rattle.es_script.specs.Forms.{form};
+ghost use Rattle.es_script.specs.Reading.{Gives, outside_read, form_read, command_read, commands_read, body_read};
 
 use crate::fault::{FaultCode, Spot, fault_in};
 use crate::operand::{none, one, three, two};
@@ -22,7 +22,7 @@ pub(crate) fn run_of(
     list: &[Value],
     place: Place,
 ) -> Result<Sequence<Command>, ReadFault>
-    ensures { Gives (λ cs. cs) result (run_read place (items_view list.now)) }
+    ensures { Gives (λ cs. cs) result (body_read place (items_view list.now)) }
 {
     if !has_at_most(list, MOST_COMMANDS) {
         return Err(fault_in(place, FaultCode::Limit));

@@ -3,7 +3,7 @@
 ghost use Rattle.std.specs.Prelude.{◌≡◌, ◌∷◌, []};
 ghost use Rattle.serde_json.specs.View.{view, items_view, number_view};
 ghost use Rattle.serde_json.specs.Find.{as_i64};
-ghost use Rattle.es_script.specs.Table.{Kind, name, literal, text, Meaning};
+ghost use Rattle.es_script.specs.Forms.{OperandType, name, literal, text, Meaning};
 ghost use Rattle.es_script.specs.Fault.{fits};
 ghost use Rattle.es_script.specs.Grammar.{is_whole};
 ghost use Rattle.es_script.specs.Reading.{Gives, name_read, text_read, number_read, operand_read, operands_read};
@@ -17,7 +17,7 @@ use std::alloc::Global;
 
 /// What can be an operand of a command.
 pub(crate) trait Operand: Sized + Drop {
-    ghost kind: { Kind };
+    ghost kind: { OperandType };
 
     ghost meaning: { Self → Meaning kind };
 

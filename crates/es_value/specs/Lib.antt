@@ -1,4 +1,6 @@
+pub mod Limits
 pub mod Spelling
 pub mod Padding
 pub mod Values
+pub mod Ids
 pub mod Printed

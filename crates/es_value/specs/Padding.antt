@@ -1,4 +1,4 @@
--- A name's bytes in place: behind the name stand zeros, up to 32 bytes.
+-- Internal: a name's bytes in place. Behind the name stand zeros, up to 32 bytes.
 use Rattle.std.specs.Prelude.{ℕ, ◌≡◌, ◌≤◌, ◌-◌, IsTrue, List, ◌++◌, length, take, drop, replicate}
 use Rattle.std.proofs.Common.{sym, ◌∙◌, ap, arith}
 use Rattle.std.proofs.lemmas.List.{length-take-le, take-append-drop}

@@ -1,8 +1,11 @@
-//! The values of a script: how they are spelled, compared and printed.
+//! The values of a script: how they are spelled, compared and printed, the identities that they
+//! have, and the limits of a plan.
 #![tactic(auto)]
 
 mod error;
 mod id;
+mod id_set;
+mod limits;
 mod name;
 mod spelling;
 #[cfg(test)]
@@ -13,6 +16,11 @@ mod write;
 
 pub use error::NoMemory;
 pub use id::Id;
+pub use id_set::IdSet;
+pub use limits::{
+    LONGEST_NAME, LONGEST_PLAN, LONGEST_TEXT, MOST_AGENTS, MOST_CALLBACKS, MOST_COMMANDS,
+    MOST_IDENTITIES, MOST_JOBS,
+};
 pub use name::{Name, NameFault};
 pub use text::{Text, TextFault};
 pub use value::{Value, can_be_held_weakly, same_value};

@@ -1,3 +1,5 @@
+//! Names of variables, properties, callbacks and agents.
+
 ghost use Rattle.std.specs.Prelude.{◌≡◌, IfOk, IsTrue, ◌↔◌, ◌≢◌, true};
 ghost use Rattle.std.specs.Cmp.Rules.{comparing, hashing};
 ghost use Rattle.std.specs.Hash as fed;
@@ -10,9 +12,6 @@ use crate::spelling::spells_name;
 use std::alloc::Global;
 use std::hash::{Hash, Hasher};
 use std::marker::Model;
-
-/// How many bytes a name has at most.
-pub const LONGEST_NAME: usize = 32;
 
 /// A name of a variable, a property, a callback or an agent: a letter or `_`, then letters, digits
 /// and `_`, 1 to 32 bytes.

@@ -1,3 +1,5 @@
+//! Texts of a script.
+
 ghost use Rattle.std.specs.Prelude.{◌≡◌, ℕ, List, string_bytes, IfOk, IsTrue, ◌↔◌, ◌≢◌, true};
 ghost use Rattle.std.specs.Cmp.Rules.{comparing};
 ghost use Rattle.std.specs.Str.{bytes_eq};
@@ -8,9 +10,6 @@ use crate::NoMemory;
 use crate::spelling::spells_text;
 use std::alloc::Global;
 use std::marker::Model;
-
-/// How many bytes a text has at most.
-pub const LONGEST_TEXT: usize = 256;
 
 /// A text of a script: printable ASCII without `"` and `\`, 0 to 256 bytes.
 #[derive(Debug, Drop)]

@@ -1,10 +1,10 @@
--- WeakRefs with their targets, and KeptAlive (WeakRef Objects).
-use Rattle.std.specs.Prelude.{ℕ, ◌≡◌, Bool, ◌==◌, List, [], ◌∷◌, Option, Some, None, if◌then◌else◌}
-use Rattle.std.specs.List.{list_any}
+-- Internal: WeakRefs with their targets, and KeptAlive (WeakRef Objects), as the table shows them to the agent.
+use Rattle.std.specs.Prelude.{ℕ, ◌≡◌, ◌==◌, List, [], ◌∷◌, Option, Some, None, if◌then◌else◌}
 use Rattle.std.specs.Option.{option_and_then}
+use Rattle.es_value.specs.Ids.{is_in}
 
 -- what the table holds, and for how many more WeakRefs and kept values it has room
-pub record Table : Type 0 where
+pub record Contents : Type 0 where
   pub targets : List (ℕ × ℕ)
   pub kept : List ℕ
   pub target_room : ℕ
@@ -16,24 +16,21 @@ found [] w = None
 found (p ∷ ps) w = if p.0 == w then Some p.1 else found ps w
 
 -- the target of the WeakRef w (WeakRefDeref)
-abbrev pub target : Table → ℕ → Option ℕ
+abbrev pub target : Contents → ℕ → Option ℕ
 target t w = found t.targets w
-
-abbrev pub is_among : List ℕ → ℕ → Bool
-is_among ids i = list_any (λ j. j == i) ids
 
 -- none where it is among these
 abbrev pub unless_among : List ℕ → ℕ → Option ℕ
-unless_among ids t = if is_among ids t then None else Some t
+unless_among ids t = if is_in ids t then None else Some t
 
 -- w has this target, and every other WeakRef its own
-abbrev pub Aims : Table → ℕ → ℕ → Table → Type 0
+abbrev pub Aims : Contents → ℕ → ℕ → Contents → Type 0
 Aims old w t new = (v : ℕ) → target new v ≡ (if w == v then Some t else target old v)
 
 -- every WeakRef has the target that it had
-abbrev pub SameTargets : Table → Table → Type 0
+abbrev pub SameTargets : Contents → Contents → Type 0
 SameTargets old new = (v : ℕ) → target new v ≡ target old v
 
 -- targets that are named here are emptied, and so are WeakRefs that are themselves named (Execution)
-abbrev pub Empties : Table → List ℕ → Table → Type 0
-Empties old ids new = (v : ℕ) → target new v ≡ (if is_among ids v then None else option_and_then (unless_among ids) (target old v))
+abbrev pub Empties : Contents → List ℕ → Contents → Type 0
+Empties old ids new = (v : ℕ) → target new v ≡ (if is_in ids v then None else option_and_then (unless_among ids) (target old v))

@@ -1,7 +1,6 @@
 //! The WeakRefs of an agent with their targets, and its list of values kept alive.
 #![tactic(auto)]
 
-mod among;
 #[cfg(test)]
 mod tests;
 mod weakrefs;

@@ -1,8 +1,9 @@
+//! The table of WeakRefs, and KeptAlive.
+
 ghost use Rattle.std.specs.Prelude.{◌≡◌, ◌<◌, ◌+◌, ◌≤◌, ◌++◌, ◌∷◌, [], OnOk, OnErr, IsOk, None};
 ghost use Rattle.es_weakref.specs.WeakRefs.{target as target_of, Aims, SameTargets, Empties};
 
-use crate::among::Among;
-use es_value::{Id, NoMemory};
+use es_value::{Id, IdSet, NoMemory};
 use std::alloc::Global;
 use std::collections::HashMap;
 use std::marker::Model;
@@ -18,9 +19,9 @@ pub struct WeakRefs {
 impl Model for WeakRefs {
     ghost use Rattle.std.specs.Prelude.{◌-◌, vec_len, vec_capacity};
     ghost use Rattle.std.specs.HashMap.{spare};
-    ghost use Rattle.es_weakref.specs.WeakRefs.{Table};
+    ghost use Rattle.es_weakref.specs.WeakRefs.{Contents};
 
-    ghost Value = { Table };
+    ghost Value = { Contents };
 
     ghost view = { λ w. record {
       targets = w.targets.entries;
@@ -113,7 +114,7 @@ impl WeakRefs {
         ensures target_room { self.old.target_room ≤ self.new.target_room }
         ensures kept_room { self.new.kept_room ≡ self.old.kept_room }
     {
-        let named = Among::new(ids);
+        let named = IdSet::of(ids);
         self.targets.retain(|weakref, target| !named.has(*weakref) && !named.has(*target));
     }
 }

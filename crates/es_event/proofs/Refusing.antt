@@ -1,0 +1,28 @@
+-- A refused command changes nothing.
+use Rattle.std.proofs.Common.{◌≡◌, ℕ, true, refl, arith, ◌∷◌}
+use Rattle.es_event.specs.declared.event.Event.TheVariants.{Refused}
+use Rattle.es_event.specs.declared.event.Refusal.{Refusal}
+use Rattle.es_event.specs.History.{History}
+use Rattle.es_event.specs.Jobs.{Receivers}
+use Rattle.es_event.specs.LookBacks.{LookAlike}
+use Rattle.es_event.specs.Reach.{IsClosed}
+
+closed_before : (into : Receivers) (h : History) (code : Refusal) (m : ℕ → Type 0) → IsClosed into (Refused code ∷ h) m → IsClosed into h m
+closed_before into h code m c = record { variables = c.variables; kept = c.kept; properties = c.properties }
+
+closed_after : (into : Receivers) (h : History) (code : Refusal) (m : ℕ → Type 0) → IsClosed into h m → IsClosed into (Refused code ∷ h) m
+closed_after into h code m c = record { variables = c.variables; kept = c.kept; properties = c.properties }
+
+pub alike_refused : (into : Receivers) (h : History) (code : Refusal) → LookAlike into (Refused code ∷ h) h
+alike_refused into h code = record {
+  variables = λ x. refl;
+  properties = λ o k. refl;
+  keys = λ o. refl;
+  kept = refl;
+  gone = refl;
+  targets = λ w. refl;
+  kinds = λ o. refl;
+  made = omega arith;
+  job = omega arith;
+  reached = λ i. (λ r m c. r m (closed_after into h code (λ j. m j ≡ true) c), λ r m c. r m (closed_before into h code (λ j. m j ≡ true) c));
+}

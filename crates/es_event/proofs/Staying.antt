@@ -1,0 +1,170 @@
+-- A closed set stays closed, along every execution that is oblivious of what it lacks.
+use Rattle.std.proofs.Common.{◌≡◌, ℕ, ◌+◌, ◌≤◌, ◌==◌, not, Bool, true, false, sym, ◌∙◌, ap, refl, subst, arith, nat_lt, nat_le, List, [], ◌∷◌, ◌++◌, Some, inl, inr}
+use Rattle.std.specs.Prelude.{unwrap_or}
+use Rattle.std.specs.Option.{option_map_or}
+use Rattle.std.specs.Str.{bytes_eq}
+use Rattle.std.proofs.lemmas.Bool.{cases_Bool, and_from, and_right, or_cases, or_left, or_right, or_parts, lt-ltb, le-leb, lt-leb, false≢true}
+use Rattle.std.proofs.lemmas.List.Folds.{list_any-append}
+use Rattle.es_value.specs.declared.value.Value.{Value}
+use Rattle.es_value.specs.declared.value.Value.TheVariants.{Undefined}
+use Rattle.es_event.specs.declared.event.Answer.{Answer}
+use Rattle.es_event.specs.declared.event.Answer.TheVariants.{Gives}
+use Rattle.es_event.specs.declared.event.Event.{Event}
+use Rattle.es_event.specs.declared.event.Event.TheVariants.{Did, JobEnded}
+use Rattle.es_event.specs.declared.command.Command.{Command}
+use Rattle.es_event.specs.declared.command.Command.TheVariants.{Deref}
+use Rattle.es_event.specs.Commands.{first, reads}
+use Rattle.es_event.specs.History.{History, at_key}
+use Rattle.es_event.specs.Identities.{identity, is_in, is_gone, is_made, has_identity_in, made, empties, gone}
+use Rattle.es_event.specs.Jobs.{Receivers}
+use Rattle.es_event.specs.Variables.{var, assigned}
+use Rattle.es_event.specs.Properties.{prop}
+use Rattle.es_event.specs.WeakRefs.{kept, first_target, target}
+use Rattle.es_event.specs.Rules.{Buffers, target_of}
+use Rattle.es_event.specs.Legal.{Lawful, LegalBy, values_of}
+use Rattle.es_event.specs.Live.{refers_into, DerefOf, ObliviousOf, Oblivious}
+use Rattle.es_event.specs.Reach.{IsClosed, IsClosedBeside, with_later}
+use Rattle.es_event.proofs.Accepted.{is_result}
+use Rattle.es_event.proofs.Source.{IsDeref, source, fresh_number}
+use Rattle.es_event.proofs.Holds.{Holds, holds_after, holds_did, first_of, at_object, gives_held}
+use Rattle.es_event.proofs.Keeping.{kept_by, kept_either}
+use Rattle.es_event.proofs.Objects.{object_within, prop_owner}
+use Rattle.es_event.proofs.Targets.{target_from}
+
+-- Later histories
+
+still_there : (e : Event) (g : History) (i : ℕ) → is_gone (e ∷ g) i ≡ false → is_gone g i ≡ false
+still_there e g i f = (or_parts (is_in (empties e) i) (is_gone g i) (sym (list_any-append (λ j. j == i) (empties e) (gone g)) ∙ f)).1
+
+not_gone : (f h : History) (i : ℕ) → is_gone (f ++ h) i ≡ false → is_gone h i ≡ false
+not_gone [] h i e = e
+not_gone (x ∷ f) h i e = not_gone f h i (still_there x (f ++ h) i e)
+
+made_more : (f h : History) → made h ≤ made (f ++ h)
+made_more [] h = omega arith
+made_more (e ∷ f) h = omega (arith, made_more f h)
+
+-- What the set has
+
+-- an identity of the value is in m, or was made later
+abbrev pub Held : History → (ℕ → Bool) → Value → Type 0
+Held h m v = (i : ℕ) → identity v ≡ Some i → with_later h m i ≡ true
+
+by_set : (h : History) (m : ℕ → Bool) (i : ℕ) → m i ≡ true → with_later h m i ≡ true
+by_set h m i e = or_left (m i) (not (is_made h i)) e
+
+by_number : (h : History) (m : ℕ → Bool) (i : ℕ) → is_made h i ≡ false → with_later h m i ≡ true
+by_number h m i e = or_right (m i) (not (is_made h i)) (ap not e)
+
+made_later : (h g : History) (m : ℕ → Bool) (i : ℕ) → made h ≤ made g → i ≡ made g + 1 → with_later h m i ≡ true
+made_later h g m i l e = by_number h m i (and_right (nat_lt 0 i) (nat_le i (made h)) (lt-leb i (made h) (omega arith)))
+
+pub in_set : (s : List ℕ) (v : Value) (i : ℕ) → has_identity_in s v ≡ false → identity v ≡ Some i → is_in s i ≡ false
+in_set s v i e f = sym (ap (λ o. option_map_or (is_in s) o false) f) ∙ e
+
+-- what is neither in s nor emptied
+not_out : (into : Receivers) (h : History) (s : List ℕ) (m : ℕ → Bool) → IsClosedBeside s into h m → (i : ℕ) → is_in s i ≡ false → is_gone h i ≡ false → with_later h m i ≡ true
+not_out into h s m all i out here =
+    elim (cases_Bool (is_made h i)) [
+      | inl e ↦ by_set h m i (all.others i (and_from (is_made h i) (not (is_gone h i)) e (ap not here)) out)
+      | inr e ↦ by_number h m i e
+    ]
+
+-- At the end of h
+
+same_assigned : (into other : Receivers) (h : History) (e : Event) → assigned other h e ≡ assigned into h e
+same_assigned into other h (Did c vs r) = refl
+same_assigned into other h _ = refl
+
+same_var : (into other : Receivers) (h : History) (x : List ℕ) → var other h x ≡ var into h x
+same_var into other [] x = refl
+same_var into other (e ∷ h) x =
+    ap (λ p. unwrap_or (at_key bytes_eq x p) (var other h x)) (same_assigned into other h e)
+    ∙ ap (unwrap_or (at_key bytes_eq x (assigned into h e))) (same_var into other h x)
+
+was_made : (over : Buffers) (other : Receivers) (h : History) → LegalBy over other h → (o : ℕ) (k : List ℕ) (v : Value) → prop h o k ≡ Some v → is_made h o ≡ true
+was_made over other h l o k v e =
+    let w = object_within over other h l o (prop_owner over other h l o k v e) in
+    and_from (nat_lt 0 o) (nat_le o (made h)) (lt-ltb 0 o w.0) (le-leb o (made h) w.1)
+
+held_at : (over : Buffers) (into other : Receivers) (h : History) (s : List ℕ) (m : ℕ → Bool) → IsClosedBeside s into h m → LegalBy over other h → Holds (Held h m) other h
+held_at over into other h s m all l = record {
+  plain = λ v e i f. cc;
+  variables = λ x i e. by_set h m i (all.closed.variables x i (ap identity (sym (same_var into other h x)) ∙ e));
+  properties = λ o k v held e i f.
+      elim (or_cases (m o) (not (is_made h o)) (held o refl)) [
+        | inl a ↦ by_set h m i (all.closed.properties o k v i a e f)
+        | inr b ↦ absurd (false≢true (sym (ap not (was_made over other h l o k v e)) ∙ b))
+      ];
+}
+
+-- What a command reads and gives
+
+pub record Gave (P : Value → Type 0) (into : Receivers) (g : History) (c : Command) (vs : List Value) (r : Answer) : Type 0 where
+  pub values : vs ≡ values_of into g (reads c)
+  pub answer : (v : Value) → r ≡ Gives v → P v
+
+-- a target outside s that is not emptied
+held_target : (into : Receivers) (h : History) (s : List ℕ) (m : ℕ → Bool) → IsClosedBeside s into h m → (f : History) (a v : Value)
+    → refers_into s (f ++ h) a ≡ false → target_of (f ++ h) a ≡ Some v → Held h m v
+held_target into h s m all f a v outside e = at_object (Held h m v) (target (f ++ h)) a v (λ w at aims i is.
+    let from = target_from (gone (f ++ h)) (first_target (f ++ h) w) v aims in
+    let out : has_identity_in s v ≡ false = sym (ap (refers_into s (f ++ h)) at ∙ ap (λ o. option_map_or (has_identity_in s) o false) from.0) ∙ outside in
+    not_out into h s m all i (in_set s v i out is) (not_gone f h i (in_set (gone (f ++ h)) v i from.1 is))) e
+
+gave_lawful : (over : Buffers) (into other : Receivers) (h : History) (s : List ℕ) (m : ℕ → Bool) → IsClosedBeside s into h m → (f : History) (c : Command) (vs : List Value) (r : Answer)
+    → Holds (Held h m) other (f ++ h) → (IsDeref c → refers_into s (f ++ h) (first vs) ≡ false) → Lawful over other (f ++ h) (Did c vs r) → Gave (Held h m) other (f ++ h) c vs r
+gave_lawful over into other h s m all f c vs r holds outside l = record {
+  values = l.0;
+  answer = λ v e. gives_held (Held h m) other (f ++ h) c vs v holds l.0
+      (λ n i is. made_later h (f ++ h) m i (made_more f h) (fresh_number (f ++ h) c vs v i n is))
+      (λ d aims. held_target into h s m all f (first vs) v (outside d) aims)
+      (source over (f ++ h) c vs v (is_result over (f ++ h) c vs r l.1 ∙ e));
+}
+
+undefined_held : (P : Value → Type 0) (r : Answer) (v : Value) → P Undefined → r ≡ Gives Undefined → r ≡ Gives v → P v
+undefined_held P r v p e f = let same : Undefined ≡ v = cc in subst P same p
+
+gave_deref : (over : Buffers) (into other : Receivers) (h : History) (s : List ℕ) (m : ℕ → Bool) → IsClosedBeside s into h m → (f : History) (to w : List ℕ) (vs : List Value) (r : Answer) (b : Bool)
+    → Holds (Held h m) other (f ++ h) → refers_into s (f ++ h) (first vs) ≡ b → DerefOf b over other (f ++ h) (Deref to w) vs r → Gave (Held h m) other (f ++ h) (Deref to w) vs r
+gave_deref over into other h s m all f to w vs r true holds e l = record { values = l.0; answer = λ v g. undefined_held (Held h m) r v (holds.plain Undefined refl) l.1 g }
+gave_deref over into other h s m all f to w vs r false holds e l = gave_lawful over into other h s m all f (Deref to w) vs r holds (λ d. e) l
+
+pub gave : (over : Buffers) (into other : Receivers) (h : History) (s : List ℕ) (m : ℕ → Bool) → IsClosedBeside s into h m → (f : History) (c : Command) (vs : List Value) (r : Answer)
+    → Holds (Held h m) other (f ++ h) → ObliviousOf s over other (f ++ h) (Did c vs r) → Gave (Held h m) other (f ++ h) c vs r
+gave over into other h s m all f (Deref to w) vs r holds l = gave_deref over into other h s m all f to w vs r _ holds refl l
+gave over into other h s m all f c vs r holds l = gave_lawful over into other h s m all f c vs r holds (λ d. absurd d) l
+
+-- Every execution that is oblivious of s holds and keeps what the set has
+
+pub holds_along : (over : Buffers) (into other : Receivers) (h : History) (s : List ℕ) (m : ℕ → Bool) → IsClosedBeside s into h m → (f : History) → Oblivious s over other h f → Holds (Held h m) other (f ++ h)
+holds_along over into other h s m all [] o = held_at over into other h s m all o
+holds_along over into other h s m all (Did c vs r ∷ f) o =
+    let before = holds_along over into other h s m all f o.1 in
+    let given = gave over into other h s m all f c vs r before o.0 in
+    holds_did (Held h m) other (f ++ h) c vs r before given.values given.answer
+holds_along over into other h s m all (e ∷ f) o =
+    holds_after (Held h m) other (f ++ h) e (holds_along over into other h s m all f o.1) (λ q t. cc) (λ q w t at. cc)
+
+keeps_along : (over : Buffers) (into other : Receivers) (h : History) (s : List ℕ) (m : ℕ → Bool) → IsClosedBeside s into h m → (f : History) → Oblivious s over other h f
+    → (i : ℕ) → is_in (kept (f ++ h)) i ≡ true → with_later h m i ≡ true
+keeps_along over into other h s m all [] o i e = by_set h m i (all.closed.kept i e)
+keeps_along over into other h s m all (Did c vs r ∷ f) o i e =
+    let before = holds_along over into other h s m all f o.1 in
+    let given = gave over into other h s m all f c vs r before o.0 in
+    let read : Held h m (first vs) = subst (Held h m) (ap first (sym given.values)) (first_of (Held h m) other (f ++ h) (reads c) before) in
+    kept_either (with_later h m i ≡ true) c vs r (f ++ h) i
+    (λ a. kept_by (λ j. with_later h m j ≡ true) c vs r read (λ d v g. given.answer v g) i a)
+    (λ b. keeps_along over into other h s m all f o.1 i b) e
+keeps_along over into other h s m all (JobEnded ∷ f) o i e = cc
+keeps_along over into other h s m all (x ∷ f) o i e = keeps_along over into other h s m all f o.1 i e
+
+pub stays_closed : (over : Buffers) (into other : Receivers) (h : History) (s : List ℕ) (m : ℕ → Bool) → IsClosedBeside s into h m → (f : History) → Oblivious s over other h f
+    → IsClosed other (f ++ h) (λ j. with_later h m j ≡ true)
+stays_closed over into other h s m all f o =
+    let holds = holds_along over into other h s m all f o in
+    record {
+      variables = λ x i e. holds.variables x i e;
+      kept = keeps_along over into other h s m all f o;
+      properties = λ p k v i has e is. holds.properties p k v (λ j at. let same : p ≡ j = cc in subst (λ j. with_later h m j ≡ true) same has) e i is;
+    }

@@ -1,8 +1,0 @@
-use Rattle.std.proofs.lemmas.Bool.{MatchBool-at_true}
-use Rattle.std.proofs.lemmas.List.Sorted.{non_decreasing_from_is_sorted}
-use Rattle.es_weakref.proofs.among.Among.new.Goals as goal
-
-pub invariant_of-result : goal.invariant_of-result
-invariant_of-result c = record {
-  in_order = λ t. MatchBool-at_true _ _ t (non_decreasing_from_is_sorted _ _ c.is_sorted.ensures.cases);
-}
