@@ -1,24 +1,27 @@
 //! The agent: its calls, each of which records one event or shows what stands.
 
-ghost use Rattle.std.specs.Prelude.{◌≡◌, ℕ, ◌+◌, ◌≤◌, ◌<◌, ◌++◌, ◌∷◌, [], true, reverse, vec_len, vec_capacity, IfOk, OnOk, OnErr};
+ghost use Rattle.std.specs.Prelude.{◌≡◌, ℕ, [], true, reverse, IfOk, OnOk, OnErr};
 ghost use Rattle.es_event.specs.Identities.{gone, is_in};
 ghost use Rattle.es_event.specs.Jobs.{receivers};
 ghost use Rattle.es_event.specs.WeakRefs.{kept};
 ghost use Rattle.es_event.specs.Live.{Honest};
+ghost use Rattle.es_event.specs.Order.{due};
 ghost use Rattle.es_event.specs.Runs.{IsRun};
 ghost use Rattle.es_agent.specs.Book.{Book, is_built, need, IsNext, Records, RecordsNext, EmptiesDead};
+ghost use Rattle.es_agent.specs.Due.{shown};
 ghost use Rattle.es_agent.specs.Effects.{AreEffects};
-ghost use Rattle.es_agent.specs.Graph.{AreReached};
+ghost use Rattle.es_agent.specs.Graph.{AreMarksOf};
 
 mod decide;
 mod look_up;
 mod reach;
 
-use crate::cursor::{Cursor, Position, commands};
+use crate::cursor::{Cursor, Position};
+use crate::due::Due;
 use crate::effects::Step;
 use crate::need::Need;
 use crate::tables::Tables;
-use es_event::{AgentPlan, Command, Event, Sequence};
+use es_event::{AgentPlan, Event, Log, Sequence};
 use es_mark::Marks;
 use es_value::{Id, NoMemory};
 use std::alloc::Global;
@@ -35,23 +38,23 @@ pub struct AgentCore {
     number: usize,
     agents: usize,
     alloc: Global,
-    events: Vec<Event>,
+    events: Log<Event>,
     tables: Tables,
     cursor: Cursor,
 }
 
 impl Model for AgentCore {
-    ghost use Rattle.std.specs.Prelude.{◌≡◌, ◌≢◌, ◌<◌, reverse, vec_len, vec_capacity};
+    ghost use Rattle.std.specs.Prelude.{◌≢◌, ◌<◌};
     ghost use Rattle.es_event.specs.Order.{phase, ended};
     ghost use Rattle.es_agent.specs.Book.{Book};
     ghost use Rattle.es_agent.specs.Ties.{Ties};
 
     ghost Value = { Book };
 
-    ghost view = { λ a. record { plan = a.plan; number = a.number; agents = a.agents; history = reverse a.events.items } };
+    ghost view = { λ a. record { plan = a.plan; number = a.number; agents = a.agents; history = a.events.events } };
 
-    ghost invariant = { λ a. Ties a.plan (reverse a.events.items) a.tables a.cursor
-        × (phase (reverse a.events.items) ≢ ended → vec_len a.events < vec_capacity a.events) };
+    // there is room for the closing event, until it stands
+    ghost invariant = { λ a. Ties a.plan a.events.events a.tables a.cursor × (phase a.events.events ≢ ended → 0 < a.events.room) };
 }
 
 impl AgentCore {
@@ -65,7 +68,7 @@ impl AgentCore {
         requires { is_built plan ≡ true }
         ensures { IfOk result (λ a. a ≡ record { plan = plan; number = number; agents = agents; history = [] }) }
     {
-        let mut events = Vec::new(alloc);
+        let mut events = Log::new(alloc);
         match events.reserve(1) {
             Ok(()) => Ok(AgentCore {
                 plan,
@@ -76,7 +79,7 @@ impl AgentCore {
                 tables: Tables::new(alloc),
                 cursor: Cursor::START,
             }),
-            Err(error) => Err(error.into()),
+            Err(error) => Err(error),
         }
     }
 
@@ -109,16 +112,7 @@ impl AgentCore {
     pub fn next(&self) -> Need
         ensures { result ≡ need self.now }
     {
-        let cursor = self.cursor;
-        match cursor.position {
-            Position::Between if cursor.job > self.plan.jobs.as_slice().len() => Need::Close,
-            Position::Inside(at) => match commands(&self.plan, cursor.job).get(at) {
-                Some(Command::Collect) => Need::Collect,
-                _ => Need::Local,
-            },
-            Position::Between | Position::Stopped => Need::Local,
-            Position::Ended => Need::Ended,
-        }
+        self.due().need()
     }
 
     /// Takes the next step that asks nobody else, and records its one event; where there is no
@@ -137,18 +131,18 @@ impl AgentCore {
     /// there is no memory nothing has changed.
     pub fn collect(&mut self, marks: &Marks) -> Result<(), NoMemory>
         requires due { need self.old ≡ Need.Collect }
-        requires marks { AreReached self.old marks.now }
+        requires marks { AreMarksOf self.old marks.now }
         ensures ok { OnOk result (EmptiesDead self.old self.new) }
         ensures err { OnErr result (self.new ≡ self.old) }
     {
         let ids = self.dead(marks)?;
-        reserve(&mut self.events)?;
+        self.events.reserve(2)?;
         self.tables.empty(ids.as_slice());
         let event = Event::Emptied {
             ids: Sequence::from_vec(ids),
         };
         self.cursor = self.cursor.after(&event, &self.plan);
-        push_reserved(&mut self.events, event);
+        self.events.append(event);
         Ok(())
     }
 
@@ -158,7 +152,7 @@ impl AgentCore {
         ensures { Records self.old Event.Closed self.new }
     {
         self.cursor.position = Position::Ended;
-        push_reserved(&mut self.events, Event::Closed);
+        self.events.append(Event::Closed);
     }
 
     /// Gives up the agent for its events, the oldest first; it takes no memory.
@@ -167,7 +161,14 @@ impl AgentCore {
         ensures run { IsRun self.plan self.history }
         ensures honest { Honest (receivers self.plan.jobs) self.history }
     {
-        Sequence::from_vec(self.events)
+        self.events.into_sequence()
+    }
+
+    /// What comes next by its plan.
+    fn due(&self) -> Due<'_>
+        ensures { shown result ≡ due self.now.plan self.now.history }
+    {
+        self.cursor.due(&self.plan)
     }
 
     /// Makes every growth that the step needs, then records it: nothing after the growths can fail.
@@ -179,35 +180,14 @@ impl AgentCore {
         ensures err { OnErr result (self.new ≡ self.old) }
     {
         let Step { event, effects } = step;
-        if let Err(error) = reserve(&mut self.events) {
+        if let Err(error) = self.events.reserve(2) {
             return Err(error);
         }
         if let Err(error) = self.tables.apply(effects) {
             return Err(error);
         }
         self.cursor = self.cursor.after(&event, &self.plan);
-        push_reserved(&mut self.events, event);
+        self.events.append(event);
         Ok(())
     }
-}
-
-/// Makes room for one more event, and for the closing one after it.
-fn reserve(events: &mut Vec<Event>) -> Result<(), NoMemory>
-    ensures items { events.new.items ≡ events.old.items }
-    ensures len { vec_len events.new ≡ vec_len events.old }
-    ensures capacity { vec_capacity events.old ≤ vec_capacity events.new }
-    ensures room { OnOk result (vec_len events.new + 2 ≤ vec_capacity events.new) }
-{
-    events.reserve(2)?;
-    Ok(())
-}
-
-/// Adds an event where there is room for it.
-fn push_reserved(events: &mut Vec<Event>, event: Event)
-    requires { vec_len events.old < vec_capacity events.old }
-    ensures items { events.new.items ≡ events.old.items ++ event ∷ [] }
-    ensures len { vec_len events.new ≡ vec_len events.old + 1 }
-    ensures capacity { vec_capacity events.old ≤ vec_capacity events.new }
-{
-    let _ = events.push(event);
 }

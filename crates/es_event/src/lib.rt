@@ -4,10 +4,12 @@
 mod command;
 mod event;
 mod laws;
-mod list;
 mod literal;
+mod log;
+mod operands;
 mod outcome;
 mod plan;
+mod sequence;
 
 pub use command::{Command, OperandNames};
 pub use event::{Answer, Event, Refusal};
@@ -19,10 +21,12 @@ pub use laws::{
     some_event_comes_next, tests_lose_nothing, the_dead_are_one_list, the_dead_can_be_listed,
     what_is_held_is_live,
 };
-pub use list::Sequence;
 pub use literal::Literal;
+pub use log::Log;
+pub use operands::Operands;
 pub use outcome::Outcome;
 pub use plan::{AgentPlan, Callback, Job, Plan};
+pub use sequence::Sequence;
 
 #[cfg(test)]
 mod tests;

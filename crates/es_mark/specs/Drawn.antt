@@ -1,4 +1,4 @@
--- The tests' graph: lists of links and entries, of which only what was made counts.
+-- Internal: the tests' graph: lists of links and entries, of which only what was made counts.
 use Rattle.std.specs.Prelude.{ℕ, ◌==◌, ◌&&◌, Bool, List, map, nat_lt, nat_le}
 use Rattle.std.specs.List.{filter}
 use Rattle.es_value.specs.declared.value.Value.{Value}

@@ -1,4 +1,4 @@
--- A step of marking: what a rule asks for gets marked, and nothing else.
+-- Internal: a step of marking: what a rule asks for gets marked, and nothing else.
 use Rattle.std.specs.Prelude.{ℕ, ◌≡◌, ◌+◌, ◌≤◌, ◌<◌, Bool, true, false, List, [], ◌∷◌}
 use Rattle.es_mark.specs.Marks.{is_marked, IsWithin}
 

@@ -18,7 +18,7 @@ struct Found {
 }
 
 /// The least set that has the roots, what each of its members leads to, and the value of each
-/// WeakMap entry whose key and whose map it has (ECMA-262, WeakMap Objects; Liveness).
+/// WeakMap entry whose key and whose map it has (ECMA-262, WeakMap Objects).
 ///
 /// It fails where there is no memory for the marks or for an answer of the graph.
 pub fn mark<G: Graph>(alloc: Global, graph: &G) -> Result<Marks, NoMemory>

@@ -1,3 +1,5 @@
+//! Graphs that are drawn, marked.
+
 ghost use Rattle.std.specs.Prelude.{◌≡◌, OnOk};
 ghost use Rattle.es_mark.specs.Drawn.{has_made, targets, entries_of};
 ghost use Rattle.es_mark.specs.Graph.{HasAll, HasValues, Finds};

@@ -1,0 +1,118 @@
+-- To believe: what is said of the definitions as a whole. Each is the contract of a function of its name that does
+-- nothing, so it is proved; none of them adds to what the definitions mean.
+use Rattle.std.specs.Prelude.{ℕ, ◌≡◌, ◌↔◌, Bool, true, false, List, ◌∷◌, ◌++◌, is_some, is_none}
+use Rattle.std.specs.List.{list_all}
+use Rattle.es_value.specs.declared.value.Value.{Value}
+use Rattle.es_event.specs.declared.event.Event.{Event}
+use Rattle.es_event.specs.declared.event.Event.TheVariants.{Refused}
+use Rattle.es_event.specs.declared.event.Refusal.{Refusal}
+use Rattle.es_event.specs.declared.outcome.Outcome.{Outcome}
+use Rattle.es_event.specs.declared.plan.AgentPlan.{AgentPlan}
+use Rattle.es_event.specs.declared.plan.Plan.{Plan}
+use Rattle.es_event.specs.History.{History}
+use Rattle.es_event.specs.Identities.{is_in, is_made, has_identity_in, gone}
+use Rattle.es_event.specs.Jobs.{Receivers, receivers}
+use Rattle.es_event.specs.LookBacks.{LookAlike}
+use Rattle.es_event.specs.Properties.{prop, keys, has_key}
+use Rattle.es_event.specs.WeakRefs.{kept}
+use Rattle.es_event.specs.Rules.{Buffers}
+use Rattle.es_event.specs.Legal.{is_rising, LegalBy}
+use Rattle.es_event.specs.Reach.{IsClosed, IsReached, LedTo, IsHeld, AreDead, IsClosedBeside, with_later}
+use Rattle.es_event.specs.Live.{AgreeAlong, Oblivious, Live, Honest}
+use Rattle.es_event.specs.Order.{receive, nothing, due}
+use Rattle.es_event.specs.Follows.{Follows}
+use Rattle.es_event.specs.Runs.{ComesNext, IsRun, IsWholeRunOver, IsOutcome}
+
+-- Runs
+
+-- Of two events that may come next, over the same buffers, each is the other. Once words of shared blocks are read
+-- it will say: but for the word.
+abbrev pub OneEventComesNext : Type 0
+OneEventComesNext = (over : Buffers) (plan : AgentPlan) (h : History) (e f : Event) → ComesNext over plan h e → ComesNext over plan h f → e ≡ f
+
+-- No history is stuck: where something is due, and it is no message, an event may come next. Once buffers are made it
+-- will say: over a table that has the same rows for what was made so far.
+abbrev pub SomeEventComesNext : Type 0
+SomeEventComesNext = (over : Buffers) (plan : AgentPlan) (h : History) → (due plan h ≡ nothing → ⊥) → ((sender : ℕ) → due plan h ≡ receive sender → ⊥) → (e : Event) × ComesNext over plan h e
+
+-- Each run so far of a plan in which no job waits for a message comes to its end. It will change as the last did.
+abbrev pub EachRunComesToItsEnd : Type 0
+EachRunComesToItsEnd =
+    (over : Buffers) (plan : AgentPlan) (h : History) → list_all (λ j. is_none j.on) plan.jobs ≡ true → LegalBy over (receivers plan.jobs) h → Follows over plan h
+    → (f : History) × IsWholeRunOver over plan (f ++ h)
+
+-- An agent's plan has one whole run, over the same buffers.
+abbrev pub APlanHasOneWholeRun : Type 0
+APlanHasOneWholeRun = (over : Buffers) (plan : AgentPlan) (g h : History) → IsWholeRunOver over plan g → IsWholeRunOver over plan h → g ≡ h
+
+-- A plan has one outcome, and so one report. Once a command tells whether two buffers are over one block, outcomes
+-- will carry the tables of their buffers.
+abbrev pub APlanHasOneOutcome : Type 0
+APlanHasOneOutcome = (plan : Plan) (a b : Outcome) → IsOutcome plan a → IsOutcome plan b → a ≡ b
+
+-- Look-backs
+
+-- A refused command changes nothing that the rules look back at, but for how far the agent is in its plan.
+abbrev pub ARefusalChangesNothing : Type 0
+ARefusalChangesNothing = (into : Receivers) (h : History) (code : Refusal) → LookAlike into (Refused code ∷ h) h
+
+-- A key is listed exactly where the object has a property of it.
+abbrev pub KeysAreThoseOfProperties : Type 0
+KeysAreThoseOfProperties = (h : History) (o : ℕ) (k : List ℕ) → has_key (keys h o) k ≡ is_some (prop h o k)
+
+-- What is reached, and what is dead
+
+-- What every closed set has, of those that a test decides, is what a chain of steps leads to.
+abbrev pub ReachedIsLedTo : Type 0
+ReachedIsLedTo = (into : Receivers) (h : History) (i : ℕ) → IsReached into h i ↔ LedTo into h i
+
+-- And every closed set has it, also one that no test decides: sets as tests lose nothing.
+abbrev pub TestsLoseNothing : (ℕ → Type 0) → Type 0
+TestsLoseNothing m = (into : Receivers) (h : History) (i : ℕ) → IsClosed into h m → IsReached into h i → m i
+
+-- All that is dead can be listed, by rising identity.
+abbrev pub TheDeadCanBeListed : Type 0
+TheDeadCanBeListed = (into : Receivers) (h : History) → (s : List ℕ) × AreDead into h s × (is_rising s ≡ true)
+
+-- There is one such list.
+abbrev pub TheDeadAreOneList : Type 0
+TheDeadAreOneList = (into : Receivers) (h : History) (s t : List ℕ) → AreDead into h s → AreDead into h t → is_rising s ≡ true → is_rising t ≡ true → s ≡ t
+
+-- Liveness
+
+-- A closed set that has all that is there outside s stays closed, with what is made later, through every execution
+-- that is oblivious of s, whatever is emptied on the way.
+abbrev pub AClosedSetStaysClosed : Type 0
+AClosedSetStaysClosed =
+    (over : Buffers) (into other : Receivers) (h : History) (s : List ℕ) (m : ℕ → Bool) → IsClosedBeside s into h m → AgreeAlong h into other
+    → (f : History) → Oblivious s over other h f → IsClosed other (f ++ h) (λ i. with_later h m i ≡ true)
+
+-- So what such a set lacks is not live: a collector may empty any s whose rest is closed, not only all that is dead.
+abbrev pub NothingThatAClosedSetLacksIsLive : Type 0
+NothingThatAClosedSetLacksIsLive =
+    (into : Receivers) (h : History) (s : List ℕ) (m : ℕ → Bool) → IsClosedBeside s into h m → ((i : ℕ) → is_in s i ≡ true → (is_made h i ≡ true) × (m i ≡ false))
+    → Live into h s → ⊥
+
+-- What is dead is not live: no execution that is oblivious of all that is dead observes a member of it, whatever is
+-- emptied on the way.
+abbrev pub NothingDeadIsLive : Type 0
+NothingDeadIsLive = (into : Receivers) (h : History) (s : List ℕ) → AreDead into h s → Live into h s → ⊥
+
+-- What a variable holds is live, and what a property holds of an object that is held so: a set with a member of these
+-- is observed by some execution that is oblivious of it.
+abbrev pub WhatIsHeldIsLive : Type 0
+WhatIsHeldIsLive = (over : Buffers) (into : Receivers) (h : History) (s : List ℕ) (v : Value) → LegalBy over into h → IsHeld into h v → has_identity_in s v ≡ true → Live into h s
+
+-- Emptying, in any run of a plan so far
+
+-- Nothing in KeptAlive is emptied.
+abbrev pub NothingKeptIsGone : Type 0
+NothingKeptIsGone = (plan : AgentPlan) (h : History) (i : ℕ) → IsRun plan h → is_in (kept h) i ≡ true → is_in (gone h) i ≡ true → ⊥
+
+-- Nothing that is reached is emptied: nothing that a variable, KeptAlive or a property of something reached holds.
+abbrev pub NothingReachedIsGone : Type 0
+NothingReachedIsGone = (plan : AgentPlan) (h : History) (i : ℕ) → IsRun plan h → IsReached (receivers plan.jobs) h i → is_in (gone h) i ≡ true → ⊥
+
+-- Every set that was emptied was not live then.
+abbrev pub NothingEmptiedWasLive : Type 0
+NothingEmptiedWasLive = (plan : AgentPlan) (h : History) → IsRun plan h → Honest (receivers plan.jobs) h
