@@ -1,6 +1,6 @@
 //! The agent: its calls, each of which records one event or shows what stands.
 
-ghost use Rattle.std.specs.Prelude.{◌≡◌, ℕ, [], true, reverse, IfOk, OnOk, OnErr};
+ghost use Rattle.std.specs.Prelude.{◌≡◌, ◌≤◌, ℕ, [], true, reverse, IfOk, OnOk, OnErr};
 ghost use Rattle.es_event.specs.Identities.{gone, is_in};
 ghost use Rattle.es_event.specs.Jobs.{receivers};
 ghost use Rattle.es_event.specs.WeakRefs.{kept};
@@ -9,7 +9,9 @@ ghost use Rattle.es_event.specs.Order.{due};
 ghost use Rattle.es_event.specs.Runs.{IsRun};
 ghost use Rattle.es_agent.specs.Book.{Book, is_built, need, IsNext, Records, RecordsNext, EmptiesDead};
 ghost use Rattle.es_agent.specs.Due.{shown};
-ghost use Rattle.es_agent.specs.Effects.{AreEffects};
+ghost use Rattle.es_tables.specs.Effects.{AreEffects};
+ghost use Rattle.es_tables.specs.Ready.{CanApply, IsReady};
+ghost use Rattle.es_tables.specs.Tables.{SameState};
 ghost use Rattle.es_agent.specs.Graph.{AreMarksOf};
 
 mod decide;
@@ -18,11 +20,11 @@ mod reach;
 
 use crate::cursor::{Cursor, Position};
 use crate::due::Due;
-use crate::effects::Step;
 use crate::need::Need;
-use crate::tables::Tables;
+use crate::step::Step;
 use es_event::{AgentPlan, Event, Log, Sequence};
 use es_mark::Marks;
+use es_tables::{Effects, Tables};
 use es_value::{Id, NoMemory};
 use std::alloc::Global;
 use std::marker::Model;
@@ -179,15 +181,29 @@ impl AgentCore {
         ensures ok { OnOk result (Records self.old step.event self.new) }
         ensures err { OnErr result (self.new ≡ self.old) }
     {
+        if let Err(error) = grow(&mut self.events, &mut self.tables, &step.effects) {
+            drop(step);
+            return Err(error);
+        }
         let Step { event, effects } = step;
-        if let Err(error) = self.events.reserve(2) {
-            return Err(error);
-        }
-        if let Err(error) = self.tables.apply(effects) {
-            return Err(error);
-        }
+        self.tables.apply(effects);
         self.cursor = self.cursor.after(&event, &self.plan);
         self.events.append(event);
         Ok(())
     }
+}
+
+/// Makes every growth that a step needs: room for its event and for the closing one after it, and
+/// room in the tables.
+fn grow(events: &mut Log<Event>, tables: &mut Tables, effects: &Effects) -> Result<(), NoMemory>
+    requires { CanApply tables.old effects.now }
+    ensures events { events.new.events ≡ events.old.events }
+    ensures kept { events.old.room ≤ events.new.room }
+    ensures same { SameState tables.old tables.new }
+    ensures can { CanApply tables.new effects.now }
+    ensures room { OnOk result (2 ≤ events.new.room) }
+    ensures ready { OnOk result (IsReady tables.new effects.now) }
+{
+    events.reserve(2)?;
+    tables.reserve(effects)
 }

@@ -1,4 +1,4 @@
--- A plan has one completion: no rule asks the table of buffer objects yet, so the runs over two tables are the same.
+-- A plan has one outcome: no rule asks the table of buffer objects yet, so the runs over two tables are the same.
 use Rattle.std.proofs.Common.{◌≡◌, sym, ◌∙◌, ap, refl, List, [], ◌∷◌, reverse}
 use Rattle.std.proofs.lemmas.List.{reverse-reverse}
 use Rattle.es_value.specs.declared.value.Value.{Value}

@@ -1,27 +1,58 @@
-//! The properties of one object.
-ghost use Rattle.std.specs.Prelude.{◌≡◌, ◌++◌, IfOk, OnOk, OnErr, is_some};
+//! The properties of an object that has many: a table by their keys.
+ghost use Rattle.std.specs.Prelude.{◌≡◌, ◌<◌, ◌≤◌, ◌++◌, ◌+◌, [], IfOk, OnOk, OnErr, is_some};
 ghost use Rattle.std.specs.List.{IsDistinct, flat_map};
 ghost use Rattle.std.specs.Option.{option_to_list};
 ghost use Rattle.std.specs.Str.{bytes_eq};
 ghost use Rattle.es_value.specs.Values.{identity};
+ghost use Rattle.indexmap.specs.IndexMap.{insert_entry, spare};
 ghost use Rattle.es_props.specs.Heap.{value_at, keys_of, with_property, without_property};
 
+use crate::few::Few;
 use es_value::{Id, Name, NoMemory, Value};
 use indexmap::IndexMap;
 use std::alloc::Global;
+use std::hash::Hash;
 
-/// Sets a property: a key that is there keeps its place, and a new one goes last.
-#[tactic(auto, using(crate::proofs::Tables::with_property_is_insert))]
-pub(crate) fn put(
-    properties: &mut IndexMap<Name, Value>,
-    key: Name,
-    value: Value,
-) -> Result<(), NoMemory>
-    ensures ok { OnOk result (properties.new.entries ≡ with_property properties.old.entries key value) }
-    ensures err { OnErr result (properties.new.entries ≡ properties.old.entries) }
+/// A table of these properties, with room for one more.
+pub(crate) fn table_of(few: &Few, alloc: Global) -> Result<Box<IndexMap<Name, Value>>, NoMemory>
+    ensures same { IfOk result (λ t. t.value.entries ≡ few.now.entries) }
+    ensures room { IfOk result (λ t. 0 < spare t.value) }
 {
-    properties.insert(key, value)?;
+    let entries = few.entries();
+    let mut table = IndexMap::with_capacity(alloc, entries.len() + 1)?;
+    for (key, value) in entries {
+        insert_reserved(&mut table, *key, value.copy()?);
+    }
+    let boxed = Box::new(alloc, table)?;
+    Ok(boxed)
+}
+
+/// Makes room for one more property.
+pub(crate) fn reserve(properties: &mut IndexMap<Name, Value>) -> Result<(), NoMemory>
+    ensures same { properties.new.entries ≡ properties.old.entries }
+    ensures more { spare properties.old ≤ spare properties.new }
+    ensures room { OnOk result (0 < spare properties.new) }
+{
+    properties.reserve(1)?;
     Ok(())
+}
+
+/// Sets a property, where there is room for one more: a key that is there keeps its place, and a new
+/// one goes last.
+#[tactic(auto, using(crate::proofs::Tables::with_property_is_insert))]
+pub(crate) fn put(properties: &mut IndexMap<Name, Value>, key: Name, value: Value)
+    requires { 0 < spare properties.old }
+    ensures { properties.new.entries ≡ with_property properties.old.entries key value }
+{
+    insert_reserved(properties, key, value);
+}
+
+fn insert_reserved<K: Eq + Hash + Drop, V: Drop>(map: &mut IndexMap<K, V>, key: K, value: V)
+    requires { 0 < spare map.old }
+    ensures entries { map.new.entries ≡ insert_entry K.eq map.old.entries key value }
+    ensures room { spare map.old ≤ spare map.new + 1 }
+{
+    let _ = map.insert(key, value);
 }
 
 /// Takes a property out, and leaves the others in their order; whether it was there.
@@ -29,6 +60,7 @@ pub(crate) fn put(
 pub(crate) fn take_out(properties: &mut IndexMap<Name, Value>, key: &Name) -> bool
     ensures was_there { result ≡ is_some (value_at properties.old.entries key.now) }
     ensures after { properties.new.entries ≡ without_property properties.old.entries key.now }
+    ensures room { spare properties.old ≤ spare properties.new }
 {
     properties.shift_remove(key).is_some()
 }

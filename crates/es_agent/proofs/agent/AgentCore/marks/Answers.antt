@@ -1,6 +1,6 @@
 use Rattle.std.proofs.Common.{[]}
 use Rattle.es_agent.specs.Book.{Book}
-use Rattle.es_agent.proofs.Outcomes.{if_map}
+use Rattle.es_tables.proofs.Outcomes.{if_map}
 use Rattle.es_agent.proofs.Reached.{marks_reached}
 use Rattle.es_agent.proofs.agent.AgentCore.marks.Goals as goal
 

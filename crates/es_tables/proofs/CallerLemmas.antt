@@ -1,0 +1,47 @@
+-- What a caller cites: that the tables say what a history says, at first, after growths, and after each event.
+use Rattle.std.proofs.Common.{◌≡◌, ℕ, ◌<◌, ap, ◌∙◌, length, reverse, arith, [], Option, None}
+use Rattle.std.proofs.lemmas.Bool.Decides.{nat_tests}
+use Rattle.std.specs.Prelude.{unwrap_or}
+use Rattle.std.specs.Map.{lookup}
+use Rattle.std.specs.Option.{option_map}
+use Rattle.std.specs.Str.{bytes_eq}
+use Rattle.es_value.specs.declared.value.Value.TheVariants.{Undefined, Object}
+use Rattle.es_event.specs.History.{History}
+use Rattle.es_event.specs.Jobs.{Receivers}
+use Rattle.es_props.specs.Heap.{has, property, keys}
+use Rattle.es_weakref.specs.WeakRefs.{found}
+use Rattle.es_tables.specs.Tables.{State, IsNew, SameState, Says}
+use Rattle.es_tables.specs.Tags.{tag_at, tag_said}
+use Rattle.es_tables.specs.declared.tags.Tag.{Tag}
+pub use Rattle.es_tables.proofs.Applying.{can_apply}
+pub use Rattle.es_tables.proofs.Emptied.{says_emptied}
+pub use Rattle.es_tables.proofs.Recorded.{says_after}
+
+none_made : (i : ℕ) → 0 < i → ◌≡◌ {A = Option Tag} None (tag_said [] i)
+none_made i positive = grind (arith, nat_tests, positive)
+
+-- new tables say what a history without events says
+pub says_new : (into : Receivers) (s : State) → IsNew s → Says into [] s
+says_new into s new = record {
+  variables = λ x. ap (λ es. unwrap_or (lookup (bytes_eq x) es) Undefined) new.variables;
+  objects = λ o. ap (λ t. has t o) new.heap;
+  properties = λ o k here. ap (λ t. property t o k) new.heap;
+  keys = λ o here. ap (λ t. keys t o) new.heap;
+  targets = λ w here. ap (λ ts. option_map Object (found ts w)) new.targets;
+  kept = ap (λ k. reverse k) new.kept;
+  tags = λ i positive. ap (λ ts. tag_at ts i) new.tags ∙ none_made i positive;
+  made = ap (λ ts. length ts) new.tags;
+}
+
+-- tables that say the same say what a history says
+pub says_same : (into : Receivers) (h : History) (s t : State) → SameState s t → Says into h s → Says into h t
+says_same into h s t same says = record {
+  variables = λ x. same.variables x ∙ says.variables x;
+  objects = λ o. same.heap.objects o ∙ says.objects o;
+  properties = λ o k here. same.heap.properties o k ∙ says.properties o k here;
+  keys = λ o here. same.heap.keys o ∙ says.keys o here;
+  targets = λ w here. ap (option_map Object) (same.targets w) ∙ says.targets w here;
+  kept = ap (λ k. reverse k) same.kept ∙ says.kept;
+  tags = λ i positive. ap (λ ts. tag_at ts i) same.tags ∙ says.tags i positive;
+  made = ap (λ ts. length ts) same.tags ∙ says.made;
+}

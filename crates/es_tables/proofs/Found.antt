@@ -1,0 +1,55 @@
+-- What the tables add to a list is what is asked for.
+use Rattle.std.proofs.Common.{◌≡◌, ℕ, Bool, true, sym, ◌∙◌, ap, refl, List, [], ◌∷◌, ◌++◌, Option, Some, None}
+use Rattle.std.specs.Prelude.{unwrap_or}
+use Rattle.std.specs.List.{IsDistinct}
+use Rattle.std.specs.Map.{lookup}
+use Rattle.std.specs.Str.{bytes_eq}
+use Rattle.es_value.specs.declared.value.Value.{Value}
+use Rattle.es_value.specs.declared.value.Value.TheVariants.{Undefined}
+use Rattle.es_value.specs.Values.{identity}
+use Rattle.es_props.specs.Heap.{Store, keys, keys_of, edges, value_at, HasProperties}
+use Rattle.es_props.proofs.CallerLemmas.{edges-from_properties, properties-from_edges}
+use Rattle.es_props.proofs.Held.{identities, HasFound, found_of_all, all_of_found}
+use Rattle.es_props.proofs.Tables.{value_at_is_lookup}
+use Rattle.es_mark.proofs.Growth.{all_front, all_back, all_join}
+use Rattle.es_tables.specs.Found.{Adds, HasBound, HasHeld}
+use Rattle.es_tables.specs.Tables.{State, Bindings}
+
+-- what stands in the entries is what is bound
+entries_bound : (b : Bindings) (t : ℕ → Bool) → HasFound b.entries t → HasBound b t
+entries_bound b t found x i e = at_value (lookup (bytes_eq x) b.entries) (value_at_is_lookup b.entries x) e
+  where
+    at_value : (o : Option Value) → value_at b.entries x ≡ o → identity (unwrap_or o Undefined) ≡ Some i → t i ≡ true
+    at_value None is e = cc
+    at_value (Some v) is e = found x v i is e
+
+bound_entries : (b : Bindings) (t : ℕ → Bool) → HasBound b t → HasFound b.entries t
+bound_entries b t has k v i e is = has k i (ap (λ o. identity (unwrap_or o Undefined)) (sym (value_at_is_lookup b.entries k) ∙ e) ∙ is)
+
+pub adds_bound : (b : Bindings) (old new : List ℕ) → IsDistinct bytes_eq (keys_of b.entries) → new ≡ old ++ identities b.entries → Adds (HasBound b) old new
+adds_bound b old new distinct added = record {
+  ids = identities b.entries;
+  added = added;
+  only = λ t has. all_of_found t b.entries distinct (bound_entries b t has);
+  all = λ t all. entries_bound b t (found_of_all t b.entries all);
+}
+
+pub adds_held : (s : State) (old mid new : List ℕ) → Adds (HasBound s.variables) old mid → new ≡ mid ++ s.weakrefs.kept → Adds (HasHeld s) old new
+adds_held s old mid new bound' added = record {
+  ids = bound'.ids ++ s.weakrefs.kept;
+  added = added ∙ ap (λ l. l ++ s.weakrefs.kept) bound'.added ∙ appended old bound'.ids s.weakrefs.kept;
+  only = λ t has. all_join (λ i. t i ≡ true) bound'.ids s.weakrefs.kept (bound'.only t has.0) has.1;
+  all = λ t all. (bound'.all t (all_front (λ i. t i ≡ true) bound'.ids s.weakrefs.kept all), all_back (λ i. t i ≡ true) bound'.ids s.weakrefs.kept all);
+}
+  where
+    appended : (xs ys zs : List ℕ) → (xs ++ ys) ++ zs ≡ xs ++ (ys ++ zs)
+    appended [] ys zs = refl
+    appended (x ∷ xs) ys zs = ap (λ l. x ∷ l) (appended xs ys zs)
+
+pub adds_edges : (s : Store) (o : ℕ) (old new : List ℕ) → new ≡ old ++ edges s o → IsDistinct bytes_eq (keys s o) → Adds (HasProperties s o) old new
+adds_edges s o old new added distinct = record {
+  ids = edges s o;
+  added = added;
+  only = λ t has. edges-from_properties s o t distinct has;
+  all = λ t all. properties-from_edges s o t all;
+}

@@ -1,0 +1,9 @@
+pub mod Applying
+pub mod CallerLemmas
+pub mod Emptied
+pub mod Found
+pub mod Fresh
+pub mod Outcomes
+pub mod Passing
+pub mod Recorded
+pub mod Tagging

@@ -1,0 +1,64 @@
+-- Internal: what an event does to the tables.
+use Rattle.std.specs.Prelude.{ℕ, ◌≡◌, ◌==◌, ◌||◌, ◌++◌, false, List, [], map, Option, Some, None, unwrap_or, reverse, if◌then◌else◌}
+use Rattle.std.specs.Option.{option_map, option_map_or, option_to_list}
+use Rattle.std.specs.Str.{bytes_eq}
+use Rattle.es_value.specs.declared.value.Value.{Value}
+use Rattle.es_value.specs.declared.value.Value.TheVariants.{Object}
+use Rattle.es_event.specs.declared.event.Answer.{Answer}
+use Rattle.es_event.specs.declared.event.Answer.TheVariants.{Gives}
+use Rattle.es_event.specs.declared.event.Event.{Event}
+use Rattle.es_event.specs.declared.event.Event.TheVariants.{JobBegun, Did, Refused, Emptied, JobEnded, Closed}
+use Rattle.es_event.specs.declared.command.Command.{Command}
+use Rattle.es_event.specs.declared.command.Command.TheVariants.{WeakRef}
+use Rattle.es_event.specs.Commands.{first}
+use Rattle.es_event.specs.History.{History, at_key}
+use Rattle.es_event.specs.Identities.{born, object_of}
+use Rattle.es_event.specs.Jobs.{Receivers}
+use Rattle.es_event.specs.Variables.{assigned}
+use Rattle.es_event.specs.Properties.{put, same_key, keys_after}
+use Rattle.es_event.specs.WeakRefs.{ends_job, keeps}
+use Rattle.es_props.specs.Heap.{has, property, keys}
+use Rattle.es_weakref.specs.WeakRefs.{target}
+use Rattle.es_tables.specs.declared.effects.Effects.{Effects}
+use Rattle.es_tables.specs.Tags.{tag_made_at}
+use Rattle.es_tables.specs.Tables.{State, bound}
+
+-- the object that the event makes
+abbrev pub object_born : Event → Option ℕ
+object_born e = option_map (λ b. b.0) (born e)
+
+-- the WeakRef that the command makes, with its target where that is an object; no other makes one
+abbrev pub points_by : Command → List Value → Answer → Option (ℕ × Option ℕ)
+points_by (WeakRef to y) vs (Gives (Object w)) = option_map (λ t. (w, Some t)) (object_of (first vs))
+points_by _ vs r = None
+
+-- the WeakRef that the event makes, with its target
+abbrev pub points : Event → Option (ℕ × Option ℕ)
+points (JobBegun j) = None
+points (Did c vs r) = points_by c vs r
+points (Refused code) = None
+points (Emptied ids) = None
+points JobEnded = None
+points Closed = None
+
+abbrev pub with_option : Option (ℕ × ℕ) → Option (ℕ × Option ℕ)
+with_option p = option_map (λ p. (p.0, Some p.1)) p
+
+pub record AreEffects (event : Event) (e : Effects) : Type 0 where
+  pub assigned : (into : Receivers) (h : History) → e.assigned ≡ assigned into h event
+  pub put : e.put ≡ put event
+  pub born : e.born ≡ object_born event
+  pub points : with_option e.points ≡ points event
+  pub kept : option_to_list e.kept ≡ keeps event
+  pub clears : e.clears ≡ ends_job event
+  pub makes : e.makes ≡ tag_made_at event
+
+-- the tables after the effects
+pub record Applied (s : State) (e : Effects) (t : State) : Type 0 where
+  pub variables : (x : List ℕ) → bound t.variables x ≡ unwrap_or (at_key bytes_eq x e.assigned) (bound s.variables x)
+  pub properties : (o : ℕ) (k : List ℕ) → property t.heap o k ≡ unwrap_or (at_key same_key (o, k) e.put) (property s.heap o k)
+  pub keys : (o : ℕ) → keys t.heap o ≡ keys_after o e.put (keys s.heap o)
+  pub objects : (o : ℕ) → has t.heap o ≡ (option_map_or (λ b. b == o) e.born false || has s.heap o)
+  pub targets : (w : ℕ) → target t.weakrefs w ≡ unwrap_or (at_key (λ i j. i == j) w (with_option e.points)) (target s.weakrefs w)
+  pub kept : reverse t.weakrefs.kept ≡ (if e.clears then [] else option_to_list e.kept ++ reverse s.weakrefs.kept)
+  pub tags : t.tags.all ≡ s.tags.all ++ map Some (option_to_list e.makes)

@@ -1,0 +1,5 @@
+pub mod Tags
+pub mod Tables
+pub mod Effects
+pub mod Ready
+pub mod Found

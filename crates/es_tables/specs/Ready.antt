@@ -1,0 +1,35 @@
+-- Internal: when an event can be applied to the tables, and when there is room for it.
+use Rattle.std.specs.Prelude.{ℕ, ◌≡◌, ◌<◌, nat_lt, nat_le, length, Bool, true, false, List, Option, is_some}
+use Rattle.std.specs.Option.{option_map_or}
+use Rattle.es_value.specs.declared.value.Value.{Value}
+use Rattle.es_props.specs.Heap.{has, room_at}
+use Rattle.es_weakref.specs.WeakRefs.{target}
+use Rattle.es_tables.specs.declared.effects.Effects.{Effects}
+use Rattle.es_tables.specs.Tables.{State}
+
+-- what is put is an object's, and what is born is not there yet
+pub record CanApply (s : State) (e : Effects) : Type 0 where
+  pub put : option_map_or (λ p. has s.heap p.0.0) e.put true ≡ true
+  pub born : option_map_or (has s.heap) e.born false ≡ false
+  pub points : option_map_or (λ p. is_some (target s.weakrefs p.0)) e.points false ≡ false
+
+-- object o has room for what is set; a delete needs none
+abbrev pub has_room_at : List ℕ → ℕ → Option Value → Bool
+has_room_at rooms o v = option_map_or (λ v. nat_lt 0 (room_at rooms o)) v true
+
+-- there is room for what is put
+abbrev pub has_room : List ℕ → Option ((ℕ × List ℕ) × Option Value) → Bool
+has_room rooms put = option_map_or (λ p. has_room_at rooms p.0.0 p.1) put true
+
+-- there is a place for what is born
+abbrev pub has_place : List ℕ → Option ℕ → Bool
+has_place rooms born = option_map_or (λ o. nat_le o (length rooms)) born true
+
+-- there is room for all that the effects add
+pub record IsReady (s : State) (e : Effects) : Type 0 where
+  pub variables : 0 < s.variables.room
+  pub put : has_room s.rooms e.put ≡ true
+  pub born : has_place s.rooms e.born ≡ true
+  pub targets : 0 < s.weakrefs.target_room
+  pub kept : 0 < s.weakrefs.kept_room
+  pub tags : 0 < s.tags.room

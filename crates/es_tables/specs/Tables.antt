@@ -1,0 +1,80 @@
+-- Internal: what the tables of an agent say, and that they say what its history says.
+use Rattle.std.specs.Prelude.{ℕ, ◌≡◌, ◌<◌, ◌&&◌, not, false, List, [], Option, None, unwrap_or, is_some, length, reverse, if◌then◌else◌}
+use Rattle.std.specs.Map.{lookup}
+use Rattle.std.specs.Option.{option_map, option_and_then}
+use Rattle.std.specs.Str.{bytes_eq}
+use Rattle.es_value.specs.declared.value.Value.{Value}
+use Rattle.es_value.specs.declared.value.Value.TheVariants.{Undefined, Object}
+use Rattle.es_props.specs.Heap.{Store, object, has, property, keys}
+use Rattle.es_weakref.specs.WeakRefs.{Contents, target, unless_among}
+use Rattle.es_event.specs.History.{History}
+use Rattle.es_event.specs.Identities.{is_in, made, is_gone, kind}
+use Rattle.es_event.specs.Jobs.{Receivers}
+use Rattle.es_event.specs.Variables.{var}
+use Rattle.es_event.specs.Properties.{prop, keys as keys_said}
+use Rattle.es_event.specs.WeakRefs.{target as target_said, kept}
+use Rattle.es_tables.specs.Tags.{TagList, tag_at, tag_said}
+
+-- the variables that were assigned, and for how many more there is room
+pub record Bindings : Type 0 where
+  pub entries : List (List ℕ × Value)
+  pub room : ℕ
+
+-- the value of x
+abbrev pub bound : Bindings → List ℕ → Value
+bound b x = unwrap_or (lookup (bytes_eq x) b.entries) Undefined
+
+-- all tables of an agent
+pub record State : Type 0 where
+  pub variables : Bindings
+  pub heap : Store
+  -- for how many more properties each object has room
+  pub rooms : List ℕ
+  pub weakrefs : Contents
+  pub tags : TagList
+
+-- nothing assigned, nothing made
+pub record IsNew (s : State) : Type 0 where
+  pub variables : s.variables.entries ≡ []
+  pub heap : s.heap ≡ []
+  pub targets : s.weakrefs.targets ≡ []
+  pub kept : s.weakrefs.kept ≡ []
+  pub tags : s.tags.all ≡ []
+
+-- the target of w, as a value
+abbrev pub aimed : Contents → ℕ → Option Value
+aimed t w = option_map Object (target t w)
+
+-- the heaps say the same
+pub record SameHeap (s t : Store) : Type 0 where
+  pub properties : (o : ℕ) (k : List ℕ) → property t o k ≡ property s o k
+  pub keys : (o : ℕ) → keys t o ≡ keys s o
+  pub objects : (o : ℕ) → has t o ≡ has s o
+
+-- the tables say the same
+pub record SameState (s t : State) : Type 0 where
+  pub variables : (x : List ℕ) → bound t.variables x ≡ bound s.variables x
+  pub heap : SameHeap s.heap t.heap
+  pub targets : (w : ℕ) → target t.weakrefs w ≡ target s.weakrefs w
+  pub kept : t.weakrefs.kept ≡ s.weakrefs.kept
+  pub tags : t.tags.all ≡ s.tags.all
+
+-- the tables after these identities were emptied: nothing is left of them, and WeakRefs to them have no target
+pub record Emptying (s : State) (ids : List ℕ) (t : State) : Type 0 where
+  pub variables : (x : List ℕ) → bound t.variables x ≡ bound s.variables x
+  pub objects : (o : ℕ) → object t.heap o ≡ (if is_in ids o then None else object s.heap o)
+  pub targets : (w : ℕ) → target t.weakrefs w ≡ (if is_in ids w then None else option_and_then (unless_among ids) (target s.weakrefs w))
+  pub kept : t.weakrefs.kept ≡ s.weakrefs.kept
+  pub tags : (i : ℕ) → 0 < i → tag_at t.tags.all i ≡ (if is_in ids i then None else tag_at s.tags.all i)
+  pub made : length t.tags.all ≡ length s.tags.all
+
+-- the tables say what the history says, of what is not emptied; of what is, no object and no tag is left
+pub record Says (into : Receivers) (h : History) (s : State) : Type 0 where
+  pub variables : (x : List ℕ) → bound s.variables x ≡ var into h x
+  pub objects : (o : ℕ) → has s.heap o ≡ (is_some (kind h o) && not (is_gone h o))
+  pub properties : (o : ℕ) (k : List ℕ) → is_gone h o ≡ false → property s.heap o k ≡ prop h o k
+  pub keys : (o : ℕ) → is_gone h o ≡ false → keys s.heap o ≡ keys_said h o
+  pub targets : (w : ℕ) → is_gone h w ≡ false → aimed s.weakrefs w ≡ target_said h w
+  pub kept : reverse s.weakrefs.kept ≡ kept h
+  pub tags : (i : ℕ) → 0 < i → tag_at s.tags.all i ≡ tag_said h i
+  pub made : length s.tags.all ≡ made h

@@ -1,0 +1,50 @@
+-- Internal: what each identity is, its tag: a symbol, or an object of some kind.
+use Rattle.std.specs.Prelude.{ℕ, ◌-◌, Bool, true, false, List, Option, Some, None, slice_index_or, if◌then◌else◌}
+use Rattle.es_event.specs.declared.command.Command.{Command}
+use Rattle.es_event.specs.declared.command.Command.TheVariants.{New, Symbol, WeakRef}
+use Rattle.es_event.specs.declared.event.Event.{Event}
+use Rattle.es_event.specs.declared.event.Event.TheVariants.{JobBegun, Did, Refused, Emptied, JobEnded, Closed}
+use Rattle.es_event.specs.Commands.{Kind, ordinary, weakref_to}
+use Rattle.es_event.specs.History.{History}
+use Rattle.es_event.specs.Identities.{kind, is_there}
+use Rattle.es_tables.specs.declared.tags.Tag.{Tag}
+use Rattle.es_tables.specs.declared.tags.Tag.TheVariants.{Symbol as SymbolTag, Ordinary, WeakRef as WeakRefTag}
+
+-- the tags of identities, of which the first is numbered 1, and for how many more there is room
+pub record TagList : Type 0 where
+  pub all : List (Option Tag)
+  pub room : ℕ
+
+-- the tag of identity i, none where it was not made or is emptied
+abbrev pub tag_at : List (Option Tag) → ℕ → Option Tag
+tag_at tags i = slice_index_or tags (i - 1) None
+
+-- the tag of what is of this kind; what is of no kind is a symbol
+abbrev pub tag_of : Option Kind → Tag
+tag_of None = SymbolTag
+tag_of (Some ordinary) = Ordinary
+tag_of (Some (weakref_to v)) = WeakRefTag
+
+abbrev pub is_weakref_tag : Option Tag → Bool
+is_weakref_tag (Some WeakRefTag) = true
+is_weakref_tag _ = false
+
+-- the tag of identity i by the history, none where it was not made or is emptied
+abbrev pub tag_said : History → ℕ → Option Tag
+tag_said h i = if is_there h i then Some (tag_of (kind h i)) else None
+
+-- the tag of what the command makes; no other makes anything
+abbrev pub tag_made : Command → Option Tag
+tag_made (New to) = Some Ordinary
+tag_made (Symbol to) = Some SymbolTag
+tag_made (WeakRef to y) = Some WeakRefTag
+tag_made _ = None
+
+-- the tag of what the event makes
+abbrev pub tag_made_at : Event → Option Tag
+tag_made_at (JobBegun j) = None
+tag_made_at (Did c vs r) = tag_made c
+tag_made_at (Refused code) = None
+tag_made_at (Emptied ids) = None
+tag_made_at JobEnded = None
+tag_made_at Closed = None

@@ -1,0 +1,92 @@
+//! The changes that an event makes to the heap and to the WeakRefs, where there is room.
+
+ghost use Rattle.std.specs.Prelude.{◌≡◌, ◌<◌, ◌==◌, ◌||◌, ◌++◌, [], ℕ, List, Some, true, false, is_some, unwrap_or, reverse, if◌then◌else◌};
+ghost use Rattle.std.specs.Option.{option_map_or, option_to_list};
+ghost use Rattle.es_event.specs.History.{at_key};
+ghost use Rattle.es_event.specs.Properties.{same_key, keys_after};
+ghost use Rattle.es_props.specs.Heap.{has, property, keys, KeepsRoom};
+ghost use Rattle.es_weakref.specs.WeakRefs.{target as target_of};
+ghost use Rattle.es_tables.specs.Effects.{with_option};
+ghost use Rattle.es_tables.specs.Ready.{has_room, has_room_at, has_place};
+
+use es_props::Heap;
+use es_value::{Id, Name, Value};
+use es_weakref::WeakRefs;
+
+/// Makes an object, where one is made, and then writes a property, where one is written.
+pub(crate) fn change_heap(
+    heap: &mut Heap,
+    put: Option<((Id, Name), Option<Value>)>,
+    born: Option<Id>,
+)
+    requires put { option_map_or (λ p. has heap.old.all p.0.0) put true ≡ true }
+    requires room { has_room heap.old.rooms put ≡ true }
+    requires born { option_map_or (has heap.old.all) born false ≡ false }
+    requires place { has_place heap.old.rooms born ≡ true }
+    ensures properties { (o : ℕ) (k : List ℕ) → property heap.new.all o k ≡ unwrap_or (at_key same_key (o, k) put) (property heap.old.all o k) }
+    ensures keys { (o : ℕ) → keys heap.new.all o ≡ keys_after o put (keys heap.old.all o) }
+    ensures objects { (o : ℕ) → has heap.new.all o ≡ (option_map_or (λ b. b == o) born false || has heap.old.all o) }
+{
+    make(heap, born);
+    if let Some(((object, key), value)) = put {
+        write(heap, object, key, value);
+    }
+}
+
+/// Makes an object, where one is made.
+fn make(heap: &mut Heap, born: Option<Id>)
+    requires born { option_map_or (has heap.old.all) born false ≡ false }
+    requires place { has_place heap.old.rooms born ≡ true }
+    ensures properties { (o : ℕ) (k : List ℕ) → property heap.new.all o k ≡ property heap.old.all o k }
+    ensures keys { (o : ℕ) → keys heap.new.all o ≡ keys heap.old.all o }
+    ensures objects { (o : ℕ) → has heap.new.all o ≡ (option_map_or (λ b. b == o) born false || has heap.old.all o) }
+    ensures rooms { KeepsRoom heap.old.rooms heap.new.rooms }
+{
+    if let Some(object) = born {
+        heap.make(object);
+    }
+}
+
+/// Sets a property, or deletes it where there is no value.
+fn write(heap: &mut Heap, object: Id, key: Name, value: Option<Value>)
+    requires there { has heap.old.all object ≡ true }
+    requires room { has_room_at heap.old.rooms object value ≡ true }
+    ensures properties { (o : ℕ) (k : List ℕ) → property heap.new.all o k ≡ (if same_key (object, key) (o, k) then value else property heap.old.all o k) }
+    ensures keys { (o : ℕ) → keys heap.new.all o ≡ keys_after o (Some ((object, key), value)) (keys heap.old.all o) }
+    ensures objects { (o : ℕ) → has heap.new.all o ≡ has heap.old.all o }
+{
+    match value {
+        Some(value) => heap.set(object, &key, value),
+        None => {
+            heap.delete(object, &key);
+        }
+    }
+}
+
+/// Adds a WeakRef, where one is made.
+pub(crate) fn aim(weakrefs: &mut WeakRefs, points: Option<(Id, Id)>)
+    requires room { 0 < weakrefs.old.target_room }
+    requires fresh { option_map_or (λ p. is_some (target_of weakrefs.old p.0)) points false ≡ false }
+    ensures targets { (w : ℕ) → target_of weakrefs.new w ≡ unwrap_or (at_key (λ i j. i == j) w (with_option points)) (target_of weakrefs.old w) }
+    ensures kept { weakrefs.new.kept ≡ weakrefs.old.kept }
+    ensures kept_room { weakrefs.new.kept_room ≡ weakrefs.old.kept_room }
+{
+    if let Some((weakref, target)) = points {
+        let _ = weakrefs.make(weakref, target);
+    }
+}
+
+/// Empties KeptAlive, or adds to it what is kept.
+pub(crate) fn keep(weakrefs: &mut WeakRefs, kept: Option<Id>, clears: bool)
+    requires { 0 < weakrefs.old.kept_room }
+    ensures kept { reverse weakrefs.new.kept ≡ (if clears then [] else option_to_list kept ++ reverse weakrefs.old.kept) }
+    ensures targets { (w : ℕ) → target_of weakrefs.new w ≡ target_of weakrefs.old w }
+{
+    if clears {
+        weakrefs.clear_kept();
+        return;
+    }
+    if let Some(id) = kept {
+        let _ = weakrefs.keep(id);
+    }
+}

@@ -1,0 +1,248 @@
+//! What an event does to the tables, read off the event.
+
+ghost use Rattle.std.specs.Prelude.{◌≡◌, ℕ, IfOk};
+ghost use Rattle.std.specs.Option.{option_to_list};
+ghost use Rattle.es_event.specs.Commands.{assigns};
+ghost use Rattle.es_event.specs.History.{History};
+ghost use Rattle.es_event.specs.Jobs.{Receivers};
+ghost use Rattle.es_event.specs.Variables.{assigned, gives_to};
+ghost use Rattle.es_event.specs.Properties.{put, put_by};
+ghost use Rattle.es_event.specs.WeakRefs.{ends_job, keeps, keeps_by, identity_given};
+ghost use Rattle.es_tables.specs.Effects.{AreEffects, object_born, points, points_by, with_option};
+ghost use Rattle.es_tables.specs.Tags.{tag_made, tag_made_at};
+
+use crate::tags::Tag;
+use es_event::{Answer, Command, Event};
+use es_value::{Id, Name, NoMemory, Value};
+
+/// What an event does to the tables, computed from the event by the accessors of the definitions.
+#[derive(Drop)]
+pub struct Effects {
+    /// The variable that is assigned, with its value.
+    pub assigned: Option<(Name, Value)>,
+    /// The object and the key that are written, with the new value, none for a delete.
+    pub put: Option<((Id, Name), Option<Value>)>,
+    /// The object that is made.
+    pub born: Option<Id>,
+    /// The WeakRef that is made, with its target.
+    pub points: Option<(Id, Id)>,
+    /// The identity that is added to KeptAlive.
+    pub kept: Option<Id>,
+    /// Whether KeptAlive is emptied.
+    pub clears: bool,
+    /// The tag of what is made under the next identity.
+    pub makes: Option<Tag>,
+}
+
+/// The effects of an event; it takes memory for the texts that are assigned or put.
+pub fn effects_of(event: &Event) -> Result<Effects, NoMemory>
+    ensures { IfOk result (AreEffects event.now) }
+{
+    Ok(Effects {
+        assigned: assigned_at(event)?,
+        put: put_at(event)?,
+        born: born_at(event),
+        points: points_at(event),
+        kept: kept_at(event),
+        clears: ends_job(event),
+        makes: tag_made_at(event),
+    })
+}
+
+fn assigned_at(event: &Event) -> Result<Option<(Name, Value)>, NoMemory>
+    ensures { IfOk result (λ r. (into : Receivers) (h : History) → r ≡ assigned into h event.now) }
+{
+    match event {
+        Event::JobBegun { .. } => Ok(None),
+        Event::Did {
+            command,
+            answer,
+            ..
+        } => given_by(command, answer),
+        Event::Refused { .. } => Ok(None),
+        Event::Emptied { .. } => Ok(None),
+        Event::JobEnded => Ok(None),
+        Event::Closed => Ok(None),
+    }
+}
+
+/// The variable that a command's answer goes to, with the value.
+fn given_by(command: &Command, answer: &Answer) -> Result<Option<(Name, Value)>, NoMemory>
+    ensures { IfOk result (λ r. r ≡ gives_to (assigns command.now) answer.now) }
+{
+    match answer {
+        Answer::Nothing => Ok(None),
+        Answer::Gives(value) => match command.assigns() {
+            Some(name) => Ok(Some((*name, value.copy()?))),
+            None => Ok(None),
+        },
+        Answer::Listed(_) => Ok(None),
+    }
+}
+
+fn put_at(event: &Event) -> Result<Option<((Id, Name), Option<Value>)>, NoMemory>
+    ensures { IfOk result (λ r. r ≡ put event.now) }
+{
+    match event {
+        Event::JobBegun { .. } => Ok(None),
+        Event::Did {
+            command,
+            values,
+            ..
+        } => put_by(command, values.as_slice()),
+        Event::Refused { .. } => Ok(None),
+        Event::Emptied { .. } => Ok(None),
+        Event::JobEnded => Ok(None),
+        Event::Closed => Ok(None),
+    }
+}
+
+fn put_by(
+    command: &Command,
+    values: &[Value],
+) -> Result<Option<((Id, Name), Option<Value>)>, NoMemory>
+    ensures { IfOk result (λ r. r ≡ put_by command.now values.now) }
+{
+    match (command, values) {
+        (Command::Set { key, .. }, [Value::Object(object), value]) => {
+            Ok(Some(((*object, *key), Some(value.copy()?))))
+        }
+        (Command::Delete { key, .. }, [Value::Object(object)]) => {
+            Ok(Some(((*object, *key), None)))
+        }
+        // no other command writes a property
+        _ => Ok(None),
+    }
+}
+
+fn born_at(event: &Event) -> Option<Id>
+    ensures { result ≡ object_born event.now }
+{
+    match event {
+        Event::JobBegun { .. } => None,
+        Event::Did {
+            command,
+            answer,
+            ..
+        } => match (command, answer) {
+            (Command::New { .. } | Command::WeakRef { .. }, Answer::Gives(Value::Object(object))) =>
+                Some(*object),
+            // no other command makes an object
+            _ => None,
+        },
+        Event::Refused { .. } => None,
+        Event::Emptied { .. } => None,
+        Event::JobEnded => None,
+        Event::Closed => None,
+    }
+}
+
+fn points_at(event: &Event) -> Option<(Id, Id)>
+    ensures { with_option result ≡ points event.now }
+{
+    match event {
+        Event::JobBegun { .. } => None,
+        Event::Did {
+            command,
+            values,
+            answer,
+        } => points_by(command, values.as_slice(), answer),
+        Event::Refused { .. } => None,
+        Event::Emptied { .. } => None,
+        Event::JobEnded => None,
+        Event::Closed => None,
+    }
+}
+
+fn points_by(command: &Command, values: &[Value], answer: &Answer) -> Option<(Id, Id)>
+    ensures { with_option result ≡ points_by command.now values.now answer.now }
+{
+    match (command, answer) {
+        (Command::WeakRef { .. }, Answer::Gives(Value::Object(weakref))) => match values.first() {
+            Some(Value::Object(target)) => Some((*weakref, *target)),
+            _ => None,
+        },
+        // no other command makes a WeakRef
+        _ => None,
+    }
+}
+
+fn kept_at(event: &Event) -> Option<Id>
+    ensures { option_to_list result ≡ keeps event.now }
+{
+    match event {
+        Event::JobBegun { .. } => None,
+        Event::Did {
+            command,
+            values,
+            answer,
+        } => kept_by(command, values.as_slice(), answer),
+        Event::Refused { .. } => None,
+        Event::Emptied { .. } => None,
+        Event::JobEnded => None,
+        Event::Closed => None,
+    }
+}
+
+fn kept_by(command: &Command, values: &[Value], answer: &Answer) -> Option<Id>
+    ensures { option_to_list result ≡ keeps_by command.now values.now answer.now }
+{
+    match command {
+        Command::WeakRef { .. } => match values.first() {
+            Some(value) => value.identity(),
+            None => None,
+        },
+        Command::Deref { .. } => identity_given(answer),
+        // no other command keeps anything
+        _ => None,
+    }
+}
+
+/// The identity of the value that was given, if it has one.
+fn identity_given(answer: &Answer) -> Option<Id>
+    ensures { option_to_list result ≡ identity_given answer.now }
+{
+    match answer {
+        Answer::Nothing => None,
+        Answer::Gives(value) => value.identity(),
+        Answer::Listed(_) => None,
+    }
+}
+
+fn ends_job(event: &Event) -> bool
+    ensures { result ≡ ends_job event.now }
+{
+    match event {
+        Event::JobBegun { .. } => false,
+        Event::Did { .. } => false,
+        Event::Refused { .. } => false,
+        Event::Emptied { .. } => false,
+        Event::JobEnded => true,
+        Event::Closed => false,
+    }
+}
+
+fn tag_made_at(event: &Event) -> Option<Tag>
+    ensures { result ≡ tag_made_at event.now }
+{
+    match event {
+        Event::JobBegun { .. } => None,
+        Event::Did { command, .. } => tag_made(command),
+        Event::Refused { .. } => None,
+        Event::Emptied { .. } => None,
+        Event::JobEnded => None,
+        Event::Closed => None,
+    }
+}
+
+fn tag_made(command: &Command) -> Option<Tag>
+    ensures { result ≡ tag_made command.now }
+{
+    match command {
+        Command::New { .. } => Some(Tag::Ordinary),
+        Command::Symbol { .. } => Some(Tag::Symbol),
+        Command::WeakRef { .. } => Some(Tag::WeakRef),
+        // no other command makes anything
+        _ => None,
+    }
+}

@@ -1,0 +1,16 @@
+//! The tables of one agent as one value: its variables, its objects, its WeakRefs with KeptAlive, and
+//! what each identity is, with what they say of a history.
+#![tactic(auto)]
+
+mod changes;
+mod effects;
+mod growths;
+mod tables;
+mod tags;
+#[cfg(test)]
+mod tests;
+mod variables;
+
+pub use effects::{Effects, effects_of};
+pub use tables::Tables;
+pub use tags::Tag;

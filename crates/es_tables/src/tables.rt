@@ -1,0 +1,188 @@
+//! All that an agent keeps beside its history, as one value.
+
+ghost use Rattle.std.specs.Prelude.{◌≡◌, ◌<◌, ◌&&◌, ◌++◌, ℕ, not, is_some, length, IfOk, OnOk};
+ghost use Rattle.std.specs.List.{filter, range_with_len};
+ghost use Rattle.std.specs.Option.{option_copied};
+ghost use Rattle.es_mark.specs.Marks.{is_marked};
+ghost use Rattle.es_props.specs.Heap.{property, keys, HasProperties};
+ghost use Rattle.es_weakref.specs.WeakRefs.{target as target_of};
+ghost use Rattle.es_tables.specs.Effects.{Applied};
+ghost use Rattle.es_tables.specs.Found.{Adds, HasHeld};
+ghost use Rattle.es_tables.specs.Ready.{CanApply, IsReady};
+ghost use Rattle.es_tables.specs.Tables.{bound, IsNew, SameState, Emptying};
+ghost use Rattle.es_tables.specs.Tags.{tag_at};
+
+use crate::changes::{aim, change_heap, keep};
+use crate::effects::Effects;
+use crate::growths::reserve_heap;
+use crate::tags::{Tag, Tags};
+use crate::variables::Variables;
+use es_mark::Marks;
+use es_props::Heap;
+use es_value::{Id, Name, NoMemory, Value};
+use es_weakref::WeakRefs;
+use std::alloc::Global;
+use std::marker::Model;
+
+/// All that an agent keeps beside its history: its variables, its objects with their properties, its
+/// WeakRefs with their targets and KeptAlive, and what each identity is (ECMA-262, Agents). An event
+/// is applied in two steps: `reserve` makes every growth, and `apply` can't fail.
+#[derive(Drop)]
+pub struct Tables {
+    variables: Variables,
+    heap: Heap,
+    weakrefs: WeakRefs,
+    tags: Tags,
+}
+
+impl Model for Tables {
+    ghost use Rattle.es_tables.specs.Tables.{State};
+
+    ghost Value = { State };
+
+    ghost view = { λ t. record { variables = t.variables; heap = t.heap.all; rooms = t.heap.rooms; weakrefs = t.weakrefs; tags = t.tags } };
+}
+
+impl Tables {
+    /// Nothing assigned, nothing made; it takes no memory.
+    pub fn new(alloc: Global) -> Tables
+        ensures { IsNew result }
+    {
+        Tables {
+            variables: Variables::new(alloc),
+            heap: Heap::new(alloc),
+            weakrefs: WeakRefs::new(alloc),
+            tags: Tags::new(alloc),
+        }
+    }
+
+    /// The variable's value, copied: undefined until one is assigned.
+    pub fn variable(&self, name: &Name) -> Result<Value, NoMemory>
+        ensures { IfOk result (λ v. v ≡ bound self.now.variables name.now) }
+    {
+        self.variables.value(name)
+    }
+
+    /// The value under a key of an object, if the object has it (OrdinaryGet).
+    pub fn property(&self, object: Id, key: &Name) -> Option<&Value>
+        ensures { option_copied result ≡ property self.now.heap object key.now }
+    {
+        self.heap.get(object, key)
+    }
+
+    /// The keys of an object, in order of creation (OrdinaryOwnPropertyKeys).
+    pub fn keys(&self, object: Id) -> Result<Vec<Name>, NoMemory>
+        ensures { IfOk result (λ ks. ks.items ≡ keys self.now.heap object) }
+    {
+        self.heap.keys(object)
+    }
+
+    /// Adds the identities of what variables hold and of what is kept to `found` (ECMA-262, Liveness);
+    /// where there is no memory, nothing is said of `found`.
+    pub fn add_roots(&self, found: &mut Vec<Id>) -> Result<(), NoMemory>
+        ensures { OnOk result (Adds (HasHeld self.now) found.old.items found.new.items) }
+    {
+        self.variables.add_identities(found)?;
+        add_all(self.weakrefs.kept(), found)
+    }
+
+    /// Adds the identities of what an object's properties hold to `found` (ECMA-262, Liveness); where
+    /// there is no memory, nothing is said of `found`.
+    pub fn add_edges(&self, object: Id, found: &mut Vec<Id>) -> Result<(), NoMemory>
+        ensures { OnOk result (Adds (HasProperties self.now.heap object) found.old.items found.new.items) }
+    {
+        self.heap.edges(object, found)
+    }
+
+    /// The target of a WeakRef, if it has not been emptied (WeakRefDeref).
+    pub fn target(&self, weakref: Id) -> Option<Id>
+        ensures { result ≡ target_of self.now.weakrefs weakref }
+    {
+        self.weakrefs.target(weakref)
+    }
+
+    /// KeptAlive, in order of keeping (ECMA-262, AddToKeptObjects).
+    pub fn kept(&self) -> &[Id]
+        ensures { result.now ≡ self.now.weakrefs.kept }
+    {
+        self.weakrefs.kept()
+    }
+
+    /// How many identities were made, emptied ones too.
+    pub fn made(&self) -> usize
+        ensures { result ≡ length self.now.tags.all }
+    {
+        self.tags.made()
+    }
+
+    /// What an identity is, none where it was not made or is emptied.
+    pub fn tag(&self, id: Id) -> Option<Tag>
+        ensures tag { result ≡ tag_at self.now.tags.all id }
+        ensures positive { 0 < id }
+    {
+        self.tags.of(id)
+    }
+
+    /// The identities that have a tag and are not marked, by rising number; at most a million were
+    /// made, so that each is counted.
+    pub fn unmarked(&self, alloc: Global, marks: &Marks) -> Result<Vec<Id>, NoMemory>
+        requires { length self.now.tags.all < 1000001 }
+        ensures { IfOk result (λ ids. ids.items ≡ filter (λ i. is_some (tag_at self.now.tags.all i) && not (is_marked marks.now i)) (range_with_len 1 (length self.now.tags.all))) }
+    {
+        self.tags.unmarked(alloc, marks)
+    }
+
+    /// Empties these identities: their objects go with all properties, and every WeakRef to one of
+    /// them loses its target (ECMA-262, Execution). It takes no memory.
+    pub fn empty(&mut self, ids: &[Id])
+        ensures { Emptying self.old ids.now self.new }
+    {
+        self.heap.remove(ids);
+        self.weakrefs.empty(ids);
+        self.tags.empty(ids);
+    }
+
+    /// Makes every growth that the effects need, so that `apply` of them is granted; the tables say
+    /// what they said.
+    pub fn reserve(&mut self, effects: &Effects) -> Result<(), NoMemory>
+        requires { CanApply self.old effects.now }
+        ensures same { SameState self.old self.new }
+        ensures can { CanApply self.new effects.now }
+        ensures ready { OnOk result (IsReady self.new effects.now) }
+    {
+        self.variables.reserve()?;
+        self.tags.reserve()?;
+        self.weakrefs.reserve()?;
+        reserve_heap(&mut self.heap, effects)
+    }
+
+    /// Applies the effects of an event, for which there is room; it takes no memory.
+    pub fn apply(&mut self, effects: Effects)
+        requires can { CanApply self.old effects }
+        requires ready { IsReady self.old effects }
+        ensures { Applied self.old effects self.new }
+    {
+        let Effects {
+            assigned,
+            put,
+            born,
+            points,
+            kept,
+            clears,
+            makes,
+        } = effects;
+        change_heap(&mut self.heap, put, born);
+        self.variables.assign(assigned);
+        aim(&mut self.weakrefs, points);
+        keep(&mut self.weakrefs, kept, clears);
+        self.tags.add(makes);
+    }
+}
+
+/// Adds these identities to `found`.
+fn add_all(ids: &[Id], found: &mut Vec<Id>) -> Result<(), NoMemory>
+    ensures { OnOk result (found.new.items ≡ found.old.items ++ ids.now) }
+{
+    found.extend_from_slice(ids)?;
+    Ok(())
+}
