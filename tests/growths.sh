@@ -66,5 +66,30 @@ each_growth 0 check "$examples/refusals.json"
 sed 's/\["keys", "x"\]/["keys", "1x"]/' "$examples/agents.json" >"$room/faulty.json"
 each_growth 1 run "$room/faulty.json"
 
+# `check` takes no step of the plan: it makes as many growths for a plan that ends its job at once, by a
+# command that is refused, as for one that goes on with 50 objects. A run makes fewer for the former.
+commands=$(yes '["new","o"]' | head -n 50 | paste -s -d ,)
+for first in get same; do
+    printf '{"version":1,"agents":[{"name":"a","callbacks":{},"jobs":[{"run":[["%s","x","x","x"],%s]}]}]}\n' \
+        "$first" "$commands" >"$room/$first.json"
+    for word in check run; do
+        run 0 "$word" "$room/$first.json"
+        cp "$room/growths" "$room/growths_$word"_"$first"
+        if [ "$got" -eq 0 ]; then
+            passed=$((passed + 1))
+        else
+            failed=$((failed + 1))
+            echo "FAILED: $word of a plan that begins with $first: status $got"
+        fi
+    done
+done
+if cmp -s "$room/growths_check_get" "$room/growths_check_same" &&
+    [ "$(cat "$room/growths_run_get")" -lt "$(cat "$room/growths_run_same")" ]; then
+    passed=$((passed + 1))
+else
+    failed=$((failed + 1))
+    echo "FAILED: check makes growths that depend on the run: $(cat "$room"/growths_*_* | paste -s -d ' ')"
+fi
+
 echo "$passed passed, $failed failed"
 [ "$failed" -eq 0 ]

@@ -53,8 +53,8 @@ help() {
     expect "help by $*" 0 - ""
 }
 
-# refused NAME ERRORS: the file script is refused, by both commands
-refused() {
+# faulty NAME ERRORS: the plan in the file script has this fault, by both commands
+faulty() {
     run run "$room/script"
     expect "$1" 1 "$room/nothing" "$2"
     run check "$room/script"
@@ -171,34 +171,34 @@ fi
 # Scripts
 
 : >"$room/script"
-refused "no bytes" "refused S1"
+faulty "no bytes" "refused S1"
 printf '{"version":1,"agents":[' >"$room/script"
-refused "a script that is cut short" "refused S1"
+faulty "a script that is cut short" "refused S1"
 {
     cat "$room/plan.json"
     printf x
 } >"$room/script"
-refused "a byte after the plan" "refused S1"
+faulty "a byte after the plan" "refused S1"
 printf '{"version":1,"agents":[{"name":"\377","callbacks":{},"jobs":[]}]}' >"$room/script"
-refused "bytes that are no UTF-8" "refused S1"
+faulty "bytes that are no UTF-8" "refused S1"
 printf '%0127d' 0 | sed 's/0/[/g' >"$room/deep"
 printf '%0127d' 0 | sed 's/0/]/g' >>"$room/deep"
 cp "$room/deep" "$room/script"
-refused "127 levels" "refused S2"
+faulty "127 levels" "refused S2"
 {
     printf '['
     cat "$room/deep"
     printf ']'
 } >"$room/script"
-refused "128 levels" "refused S1"
+faulty "128 levels" "refused S1"
 printf '{"version":1,"agents":[],"x":0}' >"$room/script"
-refused "a key that a plan has not" "refused S2"
+faulty "a key that a plan has not" "refused S2"
 printf '{"version":1,"agents":[{"name":"a","callbacks":{"cb":[["collect"]]},"jobs":[]}]}' >"$room/script"
-refused "a collection in a callback" "refused S9 agent 0 callback 1 command 1"
+faulty "a collection in a callback" "refused S9 agent 0 callback 1 command 1"
 printf '{"version":1,"agents":[{"name":"a","callbacks":{"cb":[["collect","x"]]},"jobs":[]}]}' >"$room/script"
-refused "collect with an operand in a callback" "refused S7 agent 0 callback 1 command 1"
+faulty "collect with an operand in a callback" "refused S7 agent 0 callback 1 command 1"
 plan "$(job "collect x")"
-refused "collect with an operand" "refused S7 agent 0 job 1 command 1"
+faulty "collect with an operand" "refused S7 agent 0 job 1 command 1"
 
 # Collections
 
@@ -216,11 +216,67 @@ reported "a target in a cycle" "emptied 0" "emptied 2" "say undefined"
 
 # A plan of many pieces, whole and without its last bracket
 
-python3 "$top/tests/million.py" 20 1000 >"$room/large.json"
+python3 "$top/bench/plans.py" check 20 >"$room/large.json"
 run check "$room/large.json"
 expect "a large plan" 0 "$room/ok" ""
 head -c -2 "$room/large.json" >"$room/script"
-refused "a large plan without its last byte" "refused S1"
+faulty "a large plan without its last byte" "refused S1"
+
+# Eight agents, the most that a plan has: each with a heap, variables and a KeptAlive of its own, in the
+# order of the plan
+
+for name in h g f e d c b a; do
+    printf '{"name":"%s","callbacks":{},"jobs":[' "$name"
+    job "new o" "say o" "weakref w o" "let o null" "let n $name" collect "say n" | tr -d '\n'
+    printf ',{"run":[["collect"],["deref","o","w"],["say","o"],["set","o","k","n"],["say","n"]]}]}\n'
+done | paste -s -d , | sed 's/.*/{"version":1,"agents":[&]}/' >"$room/script"
+{
+    for name in h g f e d c b a; do
+        printf 'agent %s\nsay object 1\nemptied 0\nsay "%s"\n' "$name" "$name"
+        printf 'emptied 1\nsay undefined\nerror TypeError: not an object\n'
+        echo 'end live 0 awaiting 0 unregistered 0 taken 0'
+    done
+    tail -n 3 "$room/report"
+} >"$room/wanted"
+run run "$room/script"
+expect "eight agents" 0 "$room/wanted" ""
+run check "$room/script"
+expect "eight agents, checked" 0 "$room/ok" ""
+
+# Plans of many commands
+
+# many COUNT COMMAND: so many jobs of 10,000 times this command
+many() {
+    run=$(yes "$2" | head -n 10000 | paste -s -d ,)
+    left=$1
+    while [ "$left" -gt 0 ]; do
+        printf '{"run":[%s]}\n' "$run"
+        left=$((left - 1))
+    done
+}
+
+# joined: the file script becomes a plan of one agent with the jobs on standard input
+joined() {
+    paste -s -d , | sed 's/.*/{"version":1,"agents":[{"name":"a","callbacks":{},"jobs":[&]}]}/' >"$room/script"
+}
+
+{
+    many 7 '["copy","b","a"]'
+    job "let c last" "say c"
+} | joined
+[ "$(wc -c <"$room/script")" -gt 1000000 ] || echo "FAILED: the long plan is short"
+reported "a plan of more than a million bytes" 'say "last"'
+{
+    many 100 '["new","x"]'
+    job "say x" "new y" "say y"
+} | joined
+reported "an object past the last identity" "say object 1000000" "error limit: values"
+{
+    many 99 '["new","x"]'
+    yes '["new","x"]' | head -n 9999 | paste -s -d , | sed 's/.*/{"run":[&]}/'
+    job "say x" "new y" "say y" "say y"
+} | joined
+reported "the last identity" "say object 999999" "say object 1000000" "say object 1000000"
 
 # Heaps of many objects, collected twice: all held by one, and each held by the next
 
@@ -228,11 +284,11 @@ emptied_of() {
     printf 'agent a\nemptied 0\nemptied %s\nend live 0 awaiting 0 unregistered 0 taken 0\ncluster\nblocks 0 released 0\nmessages posted 0 taken 0 drained 0\n' "$1"
 }
 
-python3 "$top/tests/heaps.py" wide 20000 >"$room/heap.json"
+python3 "$top/bench/plans.py" wide 20000 >"$room/heap.json"
 emptied_of 20001 >"$room/wanted"
 run run "$room/heap.json"
 expect "a wide heap" 0 "$room/wanted" ""
-python3 "$top/tests/heaps.py" list 500 >"$room/heap.json"
+python3 "$top/bench/plans.py" list 500 >"$room/heap.json"
 emptied_of 500 >"$room/wanted"
 run run "$room/heap.json"
 expect "a long list" 0 "$room/wanted" ""

@@ -7,7 +7,8 @@ ghost use Rattle.es_event.specs.WeakRefs.{kept};
 ghost use Rattle.es_event.specs.Live.{Honest};
 ghost use Rattle.es_event.specs.Order.{due};
 ghost use Rattle.es_event.specs.Runs.{IsRun};
-ghost use Rattle.es_agent.specs.Book.{Book, is_built, need, IsNext, Records, RecordsNext, EmptiesDead};
+ghost use Rattle.es_agent.specs.Book.{Book, need, IsNext, Records, RecordsNext, EmptiesDead};
+ghost use Rattle.es_event.specs.Jobs.{waits_for_nobody};
 ghost use Rattle.es_agent.specs.Due.{shown};
 ghost use Rattle.es_tables.specs.Effects.{AreEffects};
 ghost use Rattle.es_tables.specs.Ready.{CanApply, IsReady};
@@ -67,7 +68,7 @@ impl AgentCore {
         number: usize,
         agents: usize,
     ) -> Result<AgentCore, NoMemory>
-        requires { is_built plan ≡ true }
+        requires { waits_for_nobody plan ≡ true }
         ensures { IfOk result (λ a. a ≡ record { plan = plan; number = number; agents = agents; history = [] }) }
     {
         let mut events = Log::new(alloc);

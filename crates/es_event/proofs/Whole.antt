@@ -13,7 +13,7 @@ use Rattle.es_event.specs.declared.command.Command.{Command}
 use Rattle.es_event.specs.declared.plan.AgentPlan.{AgentPlan}
 use Rattle.es_event.specs.declared.plan.Job.{Job}
 use Rattle.es_event.specs.History.{History}
-use Rattle.es_event.specs.Jobs.{Receivers, receivers, job}
+use Rattle.es_event.specs.Jobs.{Receivers, receivers, job, waits_for_nobody}
 use Rattle.es_event.specs.Rules.{Buffers}
 use Rattle.es_event.specs.Legal.{LegalBy}
 use Rattle.es_event.specs.Order.{Phase, between, inside, stopped, ended, phase_after, phase, left, job_commands, receive, run, nothing, due_inside, due_job, due_at}
@@ -115,7 +115,7 @@ less over plan h e n = at_less over (receivers plan.jobs) plan h e (phase h) n.1
 
 -- no job waits for a message
 abbrev pub WaitsForNone : AgentPlan → Type 0
-WaitsForNone plan = list_all (λ j. is_none j.on) plan.jobs ≡ true
+WaitsForNone plan = waits_for_nobody plan ≡ true
 
 no_wait : (jobs : List Job) (i : ℕ) (j : Job) → list_all (λ j. is_none j.on) jobs ≡ true → slice_get jobs i ≡ Some j → is_none j.on ≡ true
 no_wait [] i j all e = cc

@@ -1,7 +1,6 @@
 -- To believe: what is said of the definitions as a whole. Each is the contract of a function of its name that does
 -- nothing, so it is proved; none of them adds to what the definitions mean.
-use Rattle.std.specs.Prelude.{ℕ, ◌≡◌, ◌↔◌, Bool, true, false, List, ◌∷◌, ◌++◌, is_some, is_none}
-use Rattle.std.specs.List.{list_all}
+use Rattle.std.specs.Prelude.{ℕ, ◌≡◌, ◌↔◌, Bool, true, false, List, ◌∷◌, ◌++◌, is_some}
 use Rattle.es_value.specs.declared.value.Value.{Value}
 use Rattle.es_event.specs.declared.event.Event.{Event}
 use Rattle.es_event.specs.declared.event.Event.TheVariants.{Refused}
@@ -11,7 +10,7 @@ use Rattle.es_event.specs.declared.plan.AgentPlan.{AgentPlan}
 use Rattle.es_event.specs.declared.plan.Plan.{Plan}
 use Rattle.es_event.specs.History.{History}
 use Rattle.es_event.specs.Identities.{is_in, is_made, has_identity_in, gone}
-use Rattle.es_event.specs.Jobs.{Receivers, receivers}
+use Rattle.es_event.specs.Jobs.{Receivers, receivers, waits_for_nobody}
 use Rattle.es_event.specs.LookBacks.{LookAlike}
 use Rattle.es_event.specs.Properties.{prop, keys, has_key}
 use Rattle.es_event.specs.WeakRefs.{kept}
@@ -38,7 +37,7 @@ SomeEventComesNext = (over : Buffers) (plan : AgentPlan) (h : History) → (due 
 -- Each run so far of a plan in which no job waits for a message comes to its end. It will change as the last did.
 abbrev pub EachRunComesToItsEnd : Type 0
 EachRunComesToItsEnd =
-    (over : Buffers) (plan : AgentPlan) (h : History) → list_all (λ j. is_none j.on) plan.jobs ≡ true → LegalBy over (receivers plan.jobs) h → Follows over plan h
+    (over : Buffers) (plan : AgentPlan) (h : History) → waits_for_nobody plan ≡ true → LegalBy over (receivers plan.jobs) h → Follows over plan h
     → (f : History) × IsWholeRunOver over plan (f ++ h)
 
 -- An agent's plan has one whole run, over the same buffers.

@@ -1,6 +1,10 @@
+pub mod Bits
 pub mod CallerLemmas
+pub mod Chaining
 pub mod Drawing
-pub mod Found
-pub mod Growth
-pub mod Spreading
-pub mod Steps
+pub mod Following
+pub mod Listed
+pub mod Lists
+pub mod Queues
+pub mod Stepping
+pub mod Whole

@@ -1,4 +1,9 @@
+pub mod Bits
+pub mod Chained
 pub mod Drawn
 pub mod Graph
-pub mod Growth
+pub mod Listed
+pub mod Made
 pub mod Marks
+pub mod Steps
+pub mod Waiting

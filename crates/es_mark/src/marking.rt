@@ -1,11 +1,13 @@
-//! Marking, in rounds until a round adds nothing.
+//! Marking by a work list: each marked identity is followed once.
 
-ghost use Rattle.std.specs.Prelude.{◌≡◌, ℕ, true, false, ◌+◌, [], length, OnOk, IfOk};
-ghost use Rattle.es_mark.specs.Graph.{IsNumbered, Finds, FindsEntries};
-ghost use Rattle.es_mark.specs.Growth.{Growth, Obeys, ObeysBelow};
+ghost use Rattle.std.specs.Prelude.{◌≡◌, ◌<◌, ◌∷◌, ℕ, true, [], length, nat_lt, OnOk, IfOk};
+ghost use Rattle.std.specs.List.{AllByRecursion};
+ghost use Rattle.es_mark.specs.Graph.{HasValue, HasValues, IsNumbered, Finds, FindsEntries};
 ghost use Rattle.es_mark.specs.Marks.{IsLeast, is_marked};
+ghost use Rattle.es_mark.specs.Steps.{IsStep, IsReady, IsFollowed};
 
-use crate::flags::{is_set, mark_all, mark_values};
+use crate::reached::Reached;
+use crate::waiting::Waiting;
 use crate::{Graph, Marks};
 use es_value::{Id, NoMemory, Value};
 use std::alloc::Global;
@@ -20,90 +22,86 @@ struct Found {
 /// The least set that has the roots, what each of its members leads to, and the value of each
 /// WeakMap entry whose key and whose map it has (ECMA-262, WeakMap Objects).
 ///
+/// Each identity that it has is followed once, so the graph is asked for its edges and for its
+/// entries at most once.
+///
 /// It fails where there is no memory for the marks or for an answer of the graph.
 pub fn mark<G: Graph>(alloc: Global, graph: &G) -> Result<Marks, NoMemory>
     ensures least { IfOk result (λ m. IsLeast (G.has_roots graph.now) (G.has_edges graph.now) (G.has_entries graph.now) m) }
     ensures made { IfOk result (λ m. (i : ℕ) → is_marked m i ≡ true → IsNumbered (G.made_of graph.now) i) }
 {
-    let mut flags = vec![in alloc; false; graph.made() as usize + 1]?;
+    let mut reached = Reached::new(alloc, graph.made())?;
+    let mut waiting = Waiting::new(alloc);
     let mut found = Found {
         ids: Vec::new(alloc),
         entries: Vec::new(alloc),
     };
-    spread(graph, &mut flags, &mut found)?;
-    Ok(Marks::of(flags))
-}
-
-/// Marks the roots, and then, in rounds, all that they lead to.
-fn spread<G: Graph>(graph: &G, flags: &mut [bool], found: &mut Found) -> Result<(), NoMemory>
-    requires size { length flags.old ≡ G.made_of graph.now + 1 }
-    requires fresh { (i : ℕ) → is_marked flags.old i ≡ false }
-    ensures least { OnOk result (IsLeast (G.has_roots graph.now) (G.has_edges graph.now) (G.has_entries graph.now) flags.new) }
-    ensures made { OnOk result ((i : ℕ) → is_marked flags.new i ≡ true → IsNumbered (G.made_of graph.now) i) }
-{
     find_roots(graph, &mut found.ids)?;
-    mark_all(flags, found.ids.as_slice());
-    'rounds: while round(graph, flags, found)? {}
-    Ok(())
-}
-
-/// Marks what the marked identities lead to, once, and tells whether something was new.
-fn round<G: Graph>(graph: &G, flags: &mut [bool], found: &mut Found) -> Result<bool, NoMemory>
-    requires { length flags.old ≡ G.made_of graph.now + 1 }
-    ensures { IfOk result (λ grew. Growth (ObeysBelow (G.has_edges graph.now) (G.has_entries graph.now) (length flags.old)) flags.old flags.new grew) }
-{
-    let mut grew = false;
-    for i in 0..graph.made() {
-        grew |= follow(graph, Id::of(i + 1), flags, found)?;
+    reached.add_all(found.ids.as_slice())?;
+    let mut followed = 0;
+    'queue: while followed < reached.order.len() {
+        let id = reached.order[followed];
+        followed += 1;
+        follow(graph, id, &mut reached, &mut waiting, &mut found)?;
     }
-    Ok(grew)
+    Ok(reached.marks)
 }
 
-/// Marks what the identity leads to, if it is marked, and tells whether something was new.
+/// Marks what the identity leads to, the value of each entry with it as the key whose map is
+/// marked, and what waited for it.
 fn follow<G: Graph>(
     graph: &G,
     id: Id,
-    flags: &mut [bool],
+    reached: &mut Reached,
+    waiting: &mut Waiting,
     found: &mut Found,
-) -> Result<bool, NoMemory>
-    requires { length flags.old ≡ G.made_of graph.now + 1 }
-    ensures { IfOk result (λ grew. Growth (Obeys (G.has_edges graph.now) (G.has_entries graph.now) id) flags.old flags.new grew) }
+) -> Result<(), NoMemory>
+    requires ready { IsReady (G.made_of graph.now) reached.old.marks reached.old.order.items waiting.old }
+    requires marked { is_marked reached.old.marks id ≡ true }
+    ensures followed { OnOk result (IsFollowed (G.made_of graph.now) (G.has_edges graph.now) (G.has_entries graph.now) id reached.old.order.items waiting.old reached.new.order.items waiting.new) }
+    ensures room { OnOk result (length reached.new.marks ≡ length reached.old.marks) }
 {
-    if !is_set(flags, id) {
-        return Ok(false);
+    find_edges(graph, id, &mut found.ids)?;
+    reached.add_all(found.ids.as_slice())?;
+    find_entries(graph, id, &mut found.entries)?;
+    enter_all(found.entries.as_slice(), reached, waiting)?;
+    reached.add_all(waiting.at(id))
+}
+
+/// Marks the value of each entry whose map is marked, and lets the others wait for their maps if
+/// they are not marked yet.
+fn enter_all(
+    entries: &[(Id, Value)],
+    reached: &mut Reached,
+    waiting: &mut Waiting,
+) -> Result<(), NoMemory>
+    requires { AllByRecursion (λ e. HasValue (λ i. nat_lt i (length reached.old.marks)) e.1) entries.now }
+    ensures step { OnOk result (IsStep (HasValues entries.now) reached.old.order.items waiting.old reached.new.order.items waiting.new) }
+    ensures room { OnOk result (length reached.new.marks ≡ length reached.old.marks) }
+{
+    for entry in entries {
+        enter(entry, reached, waiting)?;
     }
-    let by_edge = mark_edges(graph, id, flags, &mut found.ids)?;
-    let by_entry = mark_entries(graph, id, flags, &mut found.entries)?;
-    Ok(by_edge | by_entry)
+    Ok(())
 }
 
-/// Marks what the identity leads to, and tells whether something was new.
-fn mark_edges<G: Graph>(
-    graph: &G,
-    id: Id,
-    flags: &mut [bool],
-    found: &mut Vec<Id>,
-) -> Result<bool, NoMemory>
-    requires { length flags.old ≡ G.made_of graph.now + 1 }
-    ensures { IfOk result (λ grew. Growth (G.has_edges graph.now id) flags.old flags.new grew) }
+/// Marks the value of the entry if its map is marked, and lets it wait for the map otherwise. A
+/// value that is marked already need not wait.
+fn enter(entry: &(Id, Value), reached: &mut Reached, waiting: &mut Waiting) -> Result<(), NoMemory>
+    requires { HasValue (λ i. nat_lt i (length reached.old.marks)) entry.now.1 }
+    ensures step { OnOk result (IsStep (HasValues (entry.now ∷ [])) reached.old.order.items waiting.old reached.new.order.items waiting.new) }
+    ensures room { OnOk result (length reached.new.marks ≡ length reached.old.marks) }
 {
-    find_edges(graph, id, found)?;
-    Ok(mark_all(flags, found.as_slice()))
-}
-
-/// Marks the value of each entry that has the identity as its key and whose map is marked, and
-/// tells whether one was new.
-fn mark_entries<G: Graph>(
-    graph: &G,
-    id: Id,
-    flags: &mut [bool],
-    found: &mut Vec<(Id, Value)>,
-) -> Result<bool, NoMemory>
-    requires { length flags.old ≡ G.made_of graph.now + 1 }
-    ensures { IfOk result (λ grew. Growth (G.has_entries graph.now id) flags.old flags.new grew) }
-{
-    find_entries(graph, id, found)?;
-    Ok(mark_values(flags, found.as_slice()))
+    let Some(id) = entry.1.identity() else {
+        return Ok(());
+    };
+    if reached.marks.has(entry.0) {
+        return reached.add(id);
+    }
+    if reached.marks.has(id) {
+        return Ok(());
+    }
+    waiting.add(entry.0, id)
 }
 
 /// Puts the roots into `found`, in place of what it had.

@@ -1,6 +1,6 @@
 //! The properties of an object that has few.
 
-ghost use Rattle.std.specs.Prelude.{◌≡◌, ◌<◌, ◌≤◌, ◌++◌, ◌∷◌, ℕ, [], true, None, length, set, remove, slice_index_or, vec_len, vec_capacity, nat_lt, IfOk, OnOk, OnErr, IfSome, IfNone, is_some};
+ghost use Rattle.std.specs.Prelude.{◌≡◌, ◌<◌, ◌≤◌, ◌++◌, ◌∷◌, [], true, None, set, remove, slice_index_or, vec_len, vec_capacity, nat_lt, IfOk, OnOk, OnErr, IfSome, IfNone, is_some};
 ghost use Rattle.std.specs.List.{IsDistinct, flat_map};
 ghost use Rattle.std.specs.Option.{option_copied, option_to_list};
 ghost use Rattle.std.specs.Str.{bytes_eq};

@@ -2,7 +2,7 @@
 
 ghost use Rattle.std.specs.Prelude.{◌≡◌, ℕ, length, ◌<◌, ◌≤◌, [], ◌++◌, List, IfOk, OnOk, OnErr, IsTrue, Some, None, true, false, if◌then◌else◌, is_some};
 ghost use Rattle.std.specs.List.{IsDistinct};
-ghost use Rattle.std.specs.Option.{option_copied, option_map, option_map_or};
+ghost use Rattle.std.specs.Option.{option_copied, option_map};
 ghost use Rattle.std.specs.Str.{bytes_eq};
 ghost use Rattle.es_value.specs.Ids.{is_in};
 ghost use Rattle.es_props.specs.Heap.{object, has, property, keys, edges, with_property, without_property, Changes, Unchanged, KeepsRoom, KeepsRoomBut, room_at};

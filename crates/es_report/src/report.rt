@@ -1,3 +1,5 @@
+//! Whole reports.
+
 ghost use Rattle.std.specs.Prelude.{OnOk};
 ghost use Rattle.std.specs.Io.KnownBytes.{Appends};
 ghost use Rattle.es_event.specs.Report.{agents_text, cluster_text, report};

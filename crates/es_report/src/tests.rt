@@ -1,3 +1,5 @@
+//! Reports written by hand for histories of each kind of event, and a writer that fails once.
+
 use crate::write_report;
 use es_event::{Answer, Command, Event, Outcome, Refusal, Sequence};
 use es_value::{Id, Name, Text, Value};

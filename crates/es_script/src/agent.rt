@@ -12,15 +12,9 @@ use crate::operand::name_of;
 use crate::parts::{has_at_most, has_at_most_members, items, text};
 use crate::{Place, ReadFault};
 use es_event::{AgentPlan, Callback, Job, Sequence};
-use es_value::Name;
+use es_value::{MOST_CALLBACKS, MOST_JOBS, Name};
 use serde_json::{Map, Value};
 use std::alloc::Global;
-
-/// How many callbacks an agent has at most.
-const MOST_CALLBACKS: usize = 1000;
-
-/// How many jobs an agent has at most.
-const MOST_JOBS: usize = 1000;
 
 /// Whether each agent has a name, and one that no earlier agent has.
 pub(crate) fn check_names(alloc: Global, agents: &[Value]) -> Result<(), ReadFault>

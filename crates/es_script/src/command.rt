@@ -10,11 +10,9 @@ use crate::operand::{none, one, three, two};
 use crate::parts::has_at_most;
 use crate::{Place, ReadFault};
 use es_event::{Command, Sequence};
+use es_value::MOST_COMMANDS;
 use serde_json::Value;
 use std::alloc::Global;
-
-/// How many commands a callback or a job has at most.
-const MOST_COMMANDS: usize = 10000;
 
 /// The commands of a callback or a job.
 pub(crate) fn run_of(

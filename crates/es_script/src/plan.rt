@@ -1,9 +1,11 @@
 //! Whole plans.
 
-ghost use Rattle.std.specs.Prelude.{◌≡◌, ◌&&◌, nat_le, IfOk, true, is_none};
+ghost use Rattle.std.specs.Prelude.{◌≡◌, ◌&&◌, nat_le, IfOk, true};
 ghost use Rattle.std.specs.List.{list_all};
 ghost use Rattle.serde_json.specs.View.{view, items_view};
 ghost use Rattle.serde_json.specs.Events.{items_len};
+ghost use Rattle.es_value.specs.Limits.{most_agents};
+ghost use Rattle.es_event.specs.Jobs.{waits_for_nobody};
 ghost use Rattle.es_script.specs.Fault.{Reads};
 ghost use Rattle.es_script.specs.Reading.{Gives, plan_read, agents_checked};
 
@@ -13,22 +15,20 @@ use crate::parts::items;
 use crate::shape::has_plan_shape;
 use crate::{Place, ReadFault};
 use es_event::{AgentPlan, Plan, Sequence};
+use es_value::MOST_AGENTS;
 use serde_json::Value;
 use std::alloc::Global;
-
-/// How many agents a plan has at most.
-const MOST_AGENTS: usize = 8;
 
 /// Reads a plan from its JSON text in UTF-8.
 ///
 /// It answers the plan that the text stands for, or else the first fault: no JSON, the whole shape,
 /// the version, the number of agents, their names, and then agent by agent the limits, the callbacks
-/// by rising names and the jobs, with their commands in order. It answers `NoMemory` where a growth
-/// is refused before that fault is reached.
+/// by rising names and the jobs, with their commands in order. It answers `NoMemory` where memory
+/// ends before that fault is reached.
 pub fn read_plan(alloc: Global, bytes: &[u8]) -> Result<Plan, ReadFault>
     ensures reads { Reads bytes.now result }
     // No job waits for a message yet.
-    ensures alone { IfOk result (λ p. list_all (λ a. list_all (λ j. is_none j.on) a.jobs) p.agents ≡ true) }
+    ensures alone { IfOk result (λ p. list_all waits_for_nobody p.agents ≡ true) }
 {
     match Value::from_slice(alloc, bytes) {
         Ok(value) => plan_of(alloc, &value),
@@ -63,7 +63,7 @@ fn checked_agents(alloc: Global, agents: &[Value]) -> Result<Sequence<AgentPlan>
 /// Whether a plan may have so many agents.
 fn is_agent_count(agents: &[Value]) -> bool
     ensures { result
-        ≡ (nat_le 1 (items_len (items_view agents.now)) && nat_le (items_len (items_view agents.now)) 8) }
+        ≡ (nat_le 1 (items_len (items_view agents.now)) && nat_le (items_len (items_view agents.now)) most_agents) }
 {
     (1..=MOST_AGENTS).contains(&agents.len())
 }

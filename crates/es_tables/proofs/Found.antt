@@ -11,7 +11,7 @@ use Rattle.es_props.specs.Heap.{Store, keys, keys_of, edges, value_at, HasProper
 use Rattle.es_props.proofs.CallerLemmas.{edges-from_properties, properties-from_edges}
 use Rattle.es_props.proofs.Held.{identities, HasFound, found_of_all, all_of_found}
 use Rattle.es_props.proofs.Tables.{value_at_is_lookup}
-use Rattle.es_mark.proofs.Growth.{all_front, all_back, all_join}
+use Rattle.es_mark.proofs.Lists.{all_front, all_back, all_join}
 use Rattle.es_tables.specs.Found.{Adds, HasBound, HasHeld}
 use Rattle.es_tables.specs.Tables.{State, Bindings}
 

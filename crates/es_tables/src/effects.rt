@@ -1,6 +1,6 @@
 //! What an event does to the tables, read off the event.
 
-ghost use Rattle.std.specs.Prelude.{◌≡◌, ℕ, IfOk};
+ghost use Rattle.std.specs.Prelude.{◌≡◌, IfOk};
 ghost use Rattle.std.specs.Option.{option_to_list};
 ghost use Rattle.es_event.specs.Commands.{assigns};
 ghost use Rattle.es_event.specs.History.{History};

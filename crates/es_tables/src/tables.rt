@@ -1,8 +1,9 @@
 //! All that an agent keeps beside its history, as one value.
 
-ghost use Rattle.std.specs.Prelude.{◌≡◌, ◌<◌, ◌&&◌, ◌++◌, ℕ, not, is_some, length, IfOk, OnOk};
+ghost use Rattle.std.specs.Prelude.{◌≡◌, ◌<◌, ◌≤◌, ◌&&◌, ◌++◌, not, is_some, length, IfOk, OnOk};
 ghost use Rattle.std.specs.List.{filter, range_with_len};
 ghost use Rattle.std.specs.Option.{option_copied};
+ghost use Rattle.es_value.specs.Limits.{most_identities};
 ghost use Rattle.es_mark.specs.Marks.{is_marked};
 ghost use Rattle.es_props.specs.Heap.{property, keys, HasProperties};
 ghost use Rattle.es_weakref.specs.WeakRefs.{target as target_of};
@@ -126,7 +127,7 @@ impl Tables {
     /// The identities that have a tag and are not marked, by rising number; at most a million were
     /// made, so that each is counted.
     pub fn unmarked(&self, alloc: Global, marks: &Marks) -> Result<Vec<Id>, NoMemory>
-        requires { length self.now.tags.all < 1000001 }
+        requires { length self.now.tags.all ≤ most_identities }
         ensures { IfOk result (λ ids. ids.items ≡ filter (λ i. is_some (tag_at self.now.tags.all i) && not (is_marked marks.now i)) (range_with_len 1 (length self.now.tags.all))) }
     {
         self.tags.unmarked(alloc, marks)

@@ -1,8 +1,9 @@
 //! What each identity is, its tag, and what is left unmarked.
 
-ghost use Rattle.std.specs.Prelude.{◌≡◌, ◌<◌, ◌+◌, ◌++◌, ◌∷◌, ◌&&◌, ℕ, [], None, Some, IfOk, OnOk, not, is_some, length, map, if◌then◌else◌};
+ghost use Rattle.std.specs.Prelude.{◌≡◌, ◌<◌, ◌≤◌, ◌+◌, ◌++◌, ◌∷◌, ◌&&◌, ℕ, [], None, Some, IfOk, OnOk, not, is_some, length, map, if◌then◌else◌};
 ghost use Rattle.std.specs.List.{filter, range_with_len};
 ghost use Rattle.std.specs.Option.{option_to_list};
+ghost use Rattle.es_value.specs.Limits.{most_identities};
 ghost use Rattle.es_event.specs.Identities.{is_in};
 ghost use Rattle.es_mark.specs.Marks.{is_marked};
 ghost use Rattle.es_tables.specs.Tags.{tag_at};
@@ -100,7 +101,7 @@ impl Tags {
     /// The identities that have a tag and are not marked, by rising number. Up to a million are made,
     /// so that each has a number.
     pub(crate) fn unmarked(&self, alloc: Global, marks: &Marks) -> Result<Vec<Id>, NoMemory>
-        requires { length self.now.all < 1000001 }
+        requires { length self.now.all ≤ most_identities }
         ensures { IfOk result (λ ids. ids.items ≡ filter (λ i. is_some (tag_at self.now.all i) && not (is_marked marks.now i)) (range_with_len 1 (length self.now.all))) }
     {
         let mut ids = Vec::new(alloc);

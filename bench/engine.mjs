@@ -1,0 +1,117 @@
+// Runs a plan on this JavaScript engine's own objects, WeakRefs and full collections, and prints the report, but for
+// the lines `emptied N`, since no engine tells how many values a collection took. Each job is a task of its own, so that
+// what a job keeps alive can go after it. The plan must be one without a fault: of faults only the words are looked at.
+// Usage: node --expose-gc engine.mjs run|check FILE
+import { readFileSync } from "node:fs";
+
+class Refused extends Error {}
+class Thing {
+  #number;
+  constructor(number) { this.#number = number; }
+  static numberOf(thing) { return thing.#number; }
+}
+class Agent {
+  vars = new Map();
+  made = 0;
+  numbers = new Map(); // of WeakRefs and symbols, which are few
+  out = [];
+
+  number(value) {
+    this.numbers.set(value, ++this.made);
+    return value;
+  }
+  show(value) {
+    switch (typeof value) {
+      case "string": return JSON.stringify(value);
+      case "symbol": {
+        const key = Symbol.keyFor(value);
+        return key === undefined ? `symbol ${this.numbers.get(value)}` : `symbolfor "${key}"`;
+      }
+      case "object": return `object ${value instanceof Thing ? Thing.numberOf(value) : this.numbers.get(value)}`;
+      default: return String(value);
+    }
+  }
+  object(name) {
+    const value = this.vars.get(name);
+    if (typeof value !== "object") throw new Refused("TypeError: not an object");
+    return value;
+  }
+  room() {
+    if (this.made >= 1000000) throw new Refused("limit: values");
+  }
+  perform(c) {
+    const { vars } = this;
+    switch (c[0]) {
+      case "let": vars.set(c[1], c[2] === null ? undefined : c[2]); break;
+      case "new": this.room(); vars.set(c[1], new Thing(++this.made)); break;
+      case "symbol": this.room(); vars.set(c[1], this.number(Symbol())); break;
+      case "symbolfor": vars.set(c[1], Symbol.for(c[2])); break;
+      case "copy": vars.set(c[1], vars.get(c[2])); break;
+      case "same": vars.set(c[1], Object.is(vars.get(c[2]), vars.get(c[3]))); break;
+      case "say": this.out.push(`say ${this.show(vars.get(c[1]))}`); break;
+      case "set": {
+        const at = this.object(c[1]), value = vars.get(c[3]);
+        // A name such as `constructor` or `__proto__`, which the object inherits, must become its own.
+        if (c[2] in at && !Object.hasOwn(at, c[2])) {
+          Object.defineProperty(at, c[2], { value, writable: true, enumerable: true, configurable: true });
+        } else {
+          at[c[2]] = value;
+        }
+        break;
+      }
+      case "get": {
+        const at = this.object(c[2]);
+        vars.set(c[1], Object.hasOwn(at, c[3]) ? at[c[3]] : undefined);
+        break;
+      }
+      case "delete": vars.set(c[1], Reflect.deleteProperty(this.object(c[2]), c[3])); break;
+      case "keys": this.out.push(["keys", ...Object.keys(this.object(c[1]))].join(" ")); break;
+      case "weakref": {
+        const target = vars.get(c[2]);
+        if (typeof target !== "object") throw new Refused("TypeError: cannot be held weakly");
+        this.room();
+        vars.set(c[1], this.number(new WeakRef(target)));
+        break;
+      }
+      case "deref": {
+        const ref = vars.get(c[2]);
+        if (!(ref instanceof WeakRef)) throw new Refused("TypeError: not a WeakRef");
+        vars.set(c[1], WeakRef.prototype.deref.call(ref));
+        break;
+      }
+      case "collect": gc(); break;
+    }
+  }
+  run(job) {
+    try {
+      for (const command of job) this.perform(command);
+    } catch (e) {
+      if (!(e instanceof Refused)) throw e;
+      this.out.push(`error ${e.message}`);
+    }
+  }
+}
+const operands = {
+  let: 2, new: 1, symbol: 1, symbolfor: 2, copy: 2, same: 3, say: 1, set: 3, get: 3, delete: 3, keys: 1, weakref: 2,
+  deref: 2, collect: 0,
+};
+const task = () => new Promise((go) => setImmediate(go));
+
+const plan = JSON.parse(readFileSync(process.argv[3], "utf8"));
+const lines = [];
+if (process.argv[2] === "check") {
+  const right = ([word, ...rest]) => operands[word] === rest.length;
+  const all = plan.agents.every((agent) => agent.jobs.every((job) => job.run.every(right)));
+  lines.push(all ? "ok" : "refused");
+} else {
+  for (const { name, jobs } of plan.agents) {
+    const agent = new Agent();
+    for (const { run } of jobs) {
+      await task();
+      agent.run(run);
+    }
+    lines.push(`agent ${name}`, ...agent.out, "end live 0 awaiting 0 unregistered 0 taken 0");
+  }
+  lines.push("cluster", "blocks 0 released 0", "messages posted 0 taken 0 drained 0");
+}
+process.stdout.write(lines.join("\n") + "\n");

@@ -1,0 +1,113 @@
+#!/usr/bin/env python3
+"""Prints a plan for measuring, always the same one for the same words.
+
+Usage: plans.py NAME [NUMBER]. Each plan has one agent. NAME is one of
+  start     nothing to do
+  commands  NUMBER commands let, set, get and copy over 8 objects (1,000,000)
+  new       NUMBER objects, none of them held for long (900,000)
+  held      NUMBER objects, each held by the one made after it, and the last by a variable (900,000)
+  wide      one object that holds NUMBER others; a collection while they are held, and one after (100,000)
+  list      as held, with a collection while the list is held, and one after (300,000)
+  check     NUMBER jobs of 2,670 commands over few variables, every tenth a `say` (1,000, which are 50 MB)
+With wide the collections empty 0 and NUMBER + 1, with list 0 and NUMBER.
+"""
+
+import json
+import sys
+
+LONGEST = 10000  # the most commands that a job has
+
+
+def commands(count):
+    """Each object gets and gives the same two properties over and over."""
+    yield [["new", f"o{number}"] for number in range(8)]
+    straight = []
+    for number in range(8, count):
+        at = f"o{number // 4 % 8}"
+        straight.append(
+            [
+                ["let", "x", number],
+                ["set", at, f"p{number % 2}", "x"],
+                ["get", "y", at, f"p{number % 2}"],
+                ["copy", "z", "y"],
+            ][number % 4]
+        )
+    yield from jobs([[command] for command in straight])
+
+
+def new(count):
+    yield from jobs([[["new", "n"]]] * count)
+
+
+def held(count):
+    yield from jobs([[["new", "n"], ["set", "n", "next", "prev"], ["copy", "prev", "n"]]] * count)
+
+
+def wide(count):
+    yield [["new", "r"]]
+    yield from jobs([[["new", "o"], ["set", "r", f"k{number}", "o"]] for number in range(1, count + 1)])
+    yield two_collections("r", "o")
+
+
+def linked(count):
+    yield from held(count)
+    yield two_collections("n", "prev")
+
+
+def mixed(count):
+    """Sets and gets properties of one object; every tenth command says a value. None is refused."""
+    length = 2670
+    for job in range(count):
+        yield [["new", "o"] if job == 0 else ["copy", "y", "x"]] + [
+            [
+                ["let", "x", job * length + number],
+                ["copy", "y", "x"],
+                ["set", "o", f"p{number % 7}", "y"],
+                ["get", "z", "o", f"p{number % 7}"],
+                ["let", "t", f"text {number}"],
+                ["set", "o", "t", "t"],
+                ["copy", "u", "o"],
+                ["get", "v", "u", "t"],
+                ["copy", "w", "v"],
+                ["say", "z"],
+            ][number % 10]
+            for number in range(1, length)
+        ]
+
+
+def jobs(pieces):
+    """Jobs of as many pieces as one job has room for; all pieces are as long as the first."""
+    size = LONGEST // len(pieces[0]) if pieces else 1
+    for first in range(0, len(pieces), size):
+        yield [command for piece in pieces[first : first + size] for command in piece]
+
+
+def two_collections(*names):
+    return [["collect"], *(["let", name, None] for name in names), ["collect"]]
+
+
+PLANS = {
+    "start": (lambda _: [], 0),
+    "commands": (commands, 1000000),
+    "new": (new, 900000),
+    "held": (held, 900000),
+    "wide": (wide, 100000),
+    "list": (linked, 300000),
+    "check": (mixed, 1000),
+}
+
+
+def main():
+    if len(sys.argv) not in (2, 3) or sys.argv[1] not in PLANS:
+        sys.exit(__doc__)
+    runs, usual = PLANS[sys.argv[1]]
+    count = int(sys.argv[2]) if len(sys.argv) == 3 else usual
+    # Job by job, since a plan as one value takes much memory.
+    text = json.JSONEncoder(separators=(",", ":")).encode
+    sys.stdout.write('{"version":1,"agents":[{"name":"a","callbacks":{},"jobs":[')
+    for number, run in enumerate(runs(count)):
+        sys.stdout.write("," * (number > 0) + text({"run": run}))
+    sys.stdout.write("]}]}\n")
+
+
+main()

@@ -1,0 +1,115 @@
+#!/usr/bin/env python3
+"""Times the built program on the plans of plans.py, and beside it, where there is node, an interpreter of the same plans.
+
+Usage: run.py [--times N] [--limit SECONDS] [NAME[=NUMBER] ..]. Without names all plans are run, without N three times
+each, the two in turn, and each run has 60 seconds. Prints a table: the median time by the clock and of all processors
+(which other load changes less), the highest peak memory, and the program's numbers as multiples of the interpreter's.
+Reports that differ, but for `emptied N`, are told below it. It needs GNU time as `/usr/bin/time`.
+"""
+
+import argparse
+import os
+import shutil
+import signal
+import statistics
+import subprocess
+import sys
+import tempfile
+import time
+
+HERE = os.path.dirname(os.path.abspath(__file__))
+PROGRAM = os.path.join(os.path.dirname(HERE), "crates", "clusterrun", "out", "clusterrun")
+ENGINE = ["node", "--expose-gc", os.path.join(HERE, "engine.mjs")]
+NAMES = ["start", "commands", "new", "held", "wide", "list", "check"]
+
+
+class Row:
+    """What was measured of one program on one plan."""
+
+    def __init__(self):
+        self.seconds = []
+        self.worked = []  # the seconds of all its processors together
+        self.peak = 0.0
+        self.fault = None
+
+    def cells(self):
+        if self.fault:
+            return [self.fault, "", ""]
+        return [f"{statistics.median(self.seconds):.2f}", f"{statistics.median(self.worked):.2f}", f"{self.peak:.0f}"]
+
+
+def measure(row, words, room, limit):
+    """Runs the words once, adds what it took to the row, and returns what was written."""
+    said, taken = os.path.join(room, "said"), os.path.join(room, "taken")
+    with open(said, "wb") as out:
+        started = time.monotonic()
+        # A group of its own, so that the limit ends the program and not only the timer above it.
+        timed = ["/usr/bin/time", "-q", "-o", taken, "-f", "%M %U %S", *words]
+        ran = subprocess.Popen(timed, stdout=out, stderr=subprocess.PIPE, start_new_session=True)
+        try:
+            complaint = ran.communicate(timeout=limit)[1].decode().strip()
+        except subprocess.TimeoutExpired:
+            os.killpg(ran.pid, signal.SIGKILL)
+            ran.communicate()
+            row.fault = f"over {limit:g}"
+            return None
+        seconds = time.monotonic() - started
+    if ran.returncode != 0:
+        row.fault = f"status {ran.returncode}"
+        print(f"{' '.join(words)}: {complaint[-300:]}", file=sys.stderr)
+        return None
+    row.seconds.append(seconds)
+    with open(taken, encoding="utf-8") as numbers:
+        peak, user, system = (float(word) for word in numbers.read().split()[-3:])
+    row.worked.append(user + system)
+    row.peak = max(row.peak, peak / 1000)
+    with open(said, encoding="utf-8") as out:
+        return [line for line in out if not line.startswith("emptied ")]
+
+
+def ratio(ours, theirs):
+    return f"{ours / theirs:.2f}" if theirs else ""
+
+
+def main():
+    words = argparse.ArgumentParser(description=__doc__, formatter_class=argparse.RawDescriptionHelpFormatter)
+    words.add_argument("names", nargs="*", metavar="NAME[=NUMBER]")
+    words.add_argument("--times", type=int, default=3)
+    words.add_argument("--limit", type=float, default=60)
+    given = words.parse_args()
+    if not os.path.isfile(PROGRAM):
+        sys.exit("the program is not built: run ./clusterrun first")
+    if not os.path.isfile("/usr/bin/time"):
+        sys.exit("/usr/bin/time is missing: install GNU time")
+    has_node = shutil.which("node") is not None
+    print("| Plan | MB | clusterrun, s | CPU, s | peak, MB | node, s | CPU, s | peak, MB | time, ratio | memory, ratio |")
+    print("|" + "---|" * 10, flush=True)
+    differing = []
+    for name in given.names or NAMES:
+        what, _, number = name.partition("=")
+        verb = "check" if what == "check" else "run"
+        with tempfile.TemporaryDirectory() as room:
+            plan = os.path.join(room, "plan.json")
+            with open(plan, "wb") as file:
+                made = [sys.executable, os.path.join(HERE, "plans.py"), what, *[number] * bool(number)]
+                subprocess.run(made, stdout=file, check=True)
+            ours, theirs = Row(), Row()
+            for _ in range(given.times):
+                reports = []
+                for row, tool in [(ours, [PROGRAM]), (theirs, ENGINE)][: 1 + has_node]:
+                    if not row.fault:
+                        reports.append(measure(row, [*tool, verb, plan], room, given.limit))
+                if len(reports) == 2 and None not in reports and reports[0] != reports[1] and name not in differing:
+                    differing.append(name)
+            both = not ours.fault and not theirs.fault and has_node
+            cells = [f"`{name}`", f"{os.path.getsize(plan) / 1e6:.1f}", *ours.cells()]
+            cells += theirs.cells() if has_node else ["", "", ""]
+            cells.append(ratio(statistics.median(ours.seconds), statistics.median(theirs.seconds)) if both else "")
+            cells.append(ratio(ours.peak, theirs.peak) if both else "")
+            print("| " + " | ".join(cells) + " |", flush=True)
+    for name in differing:
+        print(f"the reports of {name} differ")
+    sys.exit(1 if differing else 0)
+
+
+main()

@@ -1,0 +1,81 @@
+-- To believe: the command line. Which words stand for which argument of it is clap's to say.
+use Rattle.std.specs.Prelude.{ℕ, ◌≡◌, ◌<◌, ◌^◌, min, max, Bool, true, false, pos, List, Option, Some, None, codes}
+use Rattle.std.specs.Str.{bytes_eq}
+use Rattle.std.specs.Str.Parse.{IsNumeral, digits_value, without_leading_plus}
+use Rattle.clap.specs.Words.{App, Row, Rule, Text, first_of, new_app, new_rule, one_of, with_rule, with_subcommand}
+use Rattle.clap.specs.Simple.{on_top}
+use Rattle.clap.specs.declared.builder.command.Command.{Command}
+use Rattle.clap.specs.declared.builder.command.Command.TheViews.{out-Command}
+use Rattle.clap.specs.declared.builder.action.ArgAction.TheVariants.{Set, SetTrue}
+use Rattle.clap.specs.declared.builder.value_parser.ValueParser.TheVariants.{Signed}
+use Rattle.es_engine.specs.declared.options.Options.{Options}
+
+-- Its arguments
+
+abbrev pub file_rule : Rule
+file_rule = record (new_rule (codes "FILE")) { action = Some Set }
+
+abbrev pub turns_rule : Rule
+turns_rule = record (new_rule (codes "turns")) { long = Some (codes "turns"); action = Some SetTrue }
+
+-- an option with a number in these bounds
+abbrev pub number_rule : List ℕ → ℕ → ℕ → Rule
+number_rule id least most = record (new_rule id) {
+  long = Some id;
+  action = Some Set;
+  value_names = 1;
+  parser = Some (Signed (pos least) (pos most));
+}
+
+abbrev pub run_line : App
+run_line =
+    with_rule (with_rule (with_rule (with_rule (new_app (codes "run")) file_rule) turns_rule) (number_rule (codes "helpers") 1 8)) (number_rule (codes "watch") 0 1000)
+
+abbrev pub check_line : App
+check_line = with_rule (new_app (codes "check")) file_rule
+
+abbrev pub top_line : App
+top_line = on_top (λ s. record s { disable_help_subcommand = true; subcommand_required = true }) (new_app (codes "clusterrun"))
+
+-- `clusterrun run` and `clusterrun check`
+abbrev pub command_line : App
+command_line = with_subcommand (with_subcommand top_line run_line.top) check_line.top
+
+-- it has no argument that its subcommands have too
+abbrev pub IsLocal : Command → Type 0
+IsLocal c = (out-Command c).has_globals ≡ false
+
+-- What is asked for
+
+-- the flag is set where its text is true
+pub record IsFlag (text : Option Text) (b : Bool) : Type 0 where
+  pub absent : text ≡ None → b ≡ false
+  pub set : text ≡ Some (codes "true") → b ≡ true
+  pub unset : text ≡ Some (codes "false") → b ≡ false
+
+-- the number that the text spells, if it fits so many bits, kept within bounds; or else the usual one
+pub record IsNumber (bits least most usual : ℕ) (text : Option Text) (n : ℕ) : Type 0 where
+  pub absent : text ≡ None → n ≡ usual
+  pub given : (t : Text) → text ≡ Some t → IsNumeral 10 (without_leading_plus t) → digits_value 10 (without_leading_plus t) < 2 ^ bits
+      → n ≡ min most (max least (digits_value 10 (without_leading_plus t)))
+
+-- the options of `run`, by the text that is found under each name
+pub record AsksRun (text : Text → Option Text) (o : Options) : Type 0 where
+  pub check : o.check ≡ false
+  pub turns : IsFlag (text (codes "turns")) o.turns
+  pub helpers : IsNumber 8 1 8 1 (text (codes "helpers")) o.helpers
+  pub watch : IsNumber 16 0 1000 0 (text (codes "watch")) o.watch
+
+abbrev pub AsksOptions : Bool → List Row → Options → Type 0
+AsksOptions true rows o = o ≡ record { check = true; turns = false; helpers = 1; watch = 0 }
+AsksOptions false rows o = AsksRun (λ id. one_of id rows) o
+
+-- the command of this name, with what was found for its arguments, asks for these options and this file
+pub record Asks (name : Text) (rows : List Row) (o : Options) (file : Option Text) : Type 0 where
+  pub options : AsksOptions (bytes_eq name (codes "check")) rows o
+  pub file_is : file ≡ first_of (codes "FILE") rows
+
+-- no command asks for a plain run
+abbrev pub IsAsked : Option (Text × List Row) → Options → Option Text → Type 0
+IsAsked None o file = (o ≡ record { check = false; turns = false; helpers = 1; watch = 0 }) × (file ≡ None)
+IsAsked (Some found) o file = Asks found.0 found.1 o file

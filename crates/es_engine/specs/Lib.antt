@@ -1,0 +1,4 @@
+pub mod Faults
+pub mod Agents
+pub mod Engine
+pub mod Laws

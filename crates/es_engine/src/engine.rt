@@ -1,0 +1,57 @@
+//! A run: the bytes of a plan in, and its report out.
+
+ghost use Rattle.std.specs.Prelude.{◌≡◌, ◌≢◌, IfOk, IfErr, OnOk, OnErr, true};
+ghost use Rattle.es_engine.specs.Engine.{has_no_message_job, Answers, IsAnswerFault, ReadsPlan, RunsTo};
+
+use crate::agents::run_plan;
+use crate::input::read_all;
+use crate::options::Options;
+use crate::run_fault::RunFault;
+use es_event::Plan;
+use es_report::write_report;
+use es_script::read_plan;
+use std::alloc::Global;
+use std::io::{Read, Write};
+
+/// Reads a plan to the reader's end, runs it, or only checks it, and writes the answer. Gives the
+/// number of audits of the shared blocks, which is 0 until they are built.
+///
+/// The report is written only after the run has ended well. On every fault but `Write` nothing is
+/// written.
+pub fn run<H: AllocGlobal, R: Read, W: Write>(
+    rt: &H,
+    reader: &mut R,
+    writer: &mut W,
+    options: Options,
+) -> Result<u32, RunFault>
+    ensures runs { RunsTo options.check (R.remaining reader.old) (R.remaining reader.new) (W.contents writer.old) (W.contents writer.new) result }
+    ensures unwritten { IfErr result (λ e. e ≢ RunFault.Write → writer.new ≡ writer.old) }
+{
+    let plan = plan_from(rt.alloc(), reader)?;
+    answer(rt.alloc(), plan, options.check, writer)?;
+    Ok(0)
+}
+
+/// The plan that the reader's bytes stand for.
+fn plan_from<R: Read>(alloc: Global, reader: &mut R) -> Result<Plan, RunFault>
+    ensures reads { ReadsPlan (R.remaining reader.old) (R.remaining reader.new) result }
+    ensures built { IfOk result (λ p. has_no_message_job p ≡ true) }
+{
+    let bytes = read_all(alloc, reader)?;
+    let plan = read_plan(alloc, bytes.as_slice())?;
+    Ok(plan)
+}
+
+/// Writes what there is to say of a plan.
+fn answer<W: Write>(alloc: Global, plan: Plan, check: bool, writer: &mut W) -> Result<(), RunFault>
+    requires { has_no_message_job plan ≡ true }
+    ensures answers { OnOk result (Answers check plan (W.contents writer.old) (W.contents writer.new)) }
+    ensures fault { IfErr result IsAnswerFault }
+    ensures unwritten { IfErr result (λ e. e ≢ RunFault.Write → writer.new ≡ writer.old) }
+{
+    if check {
+        return writer.write_all(b"ok\n").map_err(|_| RunFault::Write);
+    }
+    let outcome = run_plan(alloc, plan)?;
+    write_report(&outcome, writer).map_err(|_| RunFault::Write)
+}

@@ -1,0 +1,8 @@
+//! What is said of answers as a whole: the contract of a function that does nothing.
+
+ghost use Rattle.es_engine.specs.Laws.{APlanHasOneAnswer};
+
+/// A plan has one answer: where a run ends well, what it wrote is the one report of its plan.
+pub fn a_plan_has_one_answer()
+    ensures { APlanHasOneAnswer }
+{}

@@ -1,0 +1,16 @@
+//! The engine: a plan's bytes from a reader, the run of its agents, and the report to a writer.
+#![tactic(auto)]
+
+mod agents;
+mod engine;
+mod input;
+mod laws;
+mod options;
+mod run_fault;
+#[cfg(test)]
+mod tests;
+
+pub use engine::run;
+pub use laws::a_plan_has_one_answer;
+pub use options::Options;
+pub use run_fault::RunFault;

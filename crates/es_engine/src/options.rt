@@ -1,0 +1,32 @@
+//! What a run is asked for.
+
+/// What a run is asked for, but for the reader and the writer.
+#[derive(Clone, Copy, Debug, PartialEq, Eq)]
+pub struct Options {
+    /// Only read the plan, and say that it is one.
+    pub check: bool,
+    /// Move the agents in turns, in one thread; no effect yet.
+    pub turns: bool,
+    /// How many helpers mark, 1 to 8; no effect yet.
+    pub helpers: u8,
+    /// How many audits of the shared blocks are made beside the agents, at most 1000; no effect yet.
+    pub watch: u16,
+}
+
+impl Options {
+    /// A run, with no other option.
+    pub const RUN: Options = Options {
+        check: false,
+        turns: false,
+        helpers: 1,
+        watch: 0,
+    };
+
+    /// Only a check of the plan.
+    pub const CHECK: Options = Options {
+        check: true,
+        turns: false,
+        helpers: 1,
+        watch: 0,
+    };
+}

@@ -1,0 +1,47 @@
+//! Why a run did not end well.
+
+use es_script::{ReadFault, ScriptFault};
+use es_value::NoMemory;
+use thiserror::Error;
+
+/// Why a run did not end well. As an error it has a word or two, without the fault's place.
+#[derive(Clone, Copy, Debug, PartialEq, Eq, Error)]
+pub enum RunFault {
+    /// The plan has a fault.
+    #[error("faulty plan")]
+    Script(ScriptFault),
+    /// There was no memory.
+    #[error("no memory")]
+    NoMemory,
+    /// The reader failed, or gave more bytes than a plan has at most.
+    #[error("failed reading")]
+    Read,
+    /// The writer failed.
+    #[error("failed writing")]
+    Write,
+}
+
+impl From<NoMemory> for RunFault {
+    ghost use Rattle.std.specs.Prelude.{◌≡◌};
+    ghost use Rattle.es_engine.specs.declared.run_fault.RunFault.TheVariants.{NoMemory};
+
+    ghost from_gives = { λ _ e. e ≡ NoMemory };
+
+    fn from(_: NoMemory) -> Self {
+        RunFault::NoMemory
+    }
+}
+
+impl From<ReadFault> for RunFault {
+    ghost use Rattle.std.specs.Prelude.{◌≡◌};
+    ghost use Rattle.es_engine.specs.Faults.{run_fault};
+
+    ghost from_gives = { λ f e. e ≡ run_fault f };
+
+    fn from(fault: ReadFault) -> Self {
+        match fault {
+            ReadFault::Script(fault) => RunFault::Script(fault),
+            ReadFault::NoMemory => RunFault::NoMemory,
+        }
+    }
+}
