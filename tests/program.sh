@@ -125,6 +125,8 @@ usage "a word that is no text" run "$(printf '\377')"
 help check --help
 help --helpers run --help
 help FILE check --help
+help "clusterrun run \[FILE\]" --help
+help "clusterrun 0.1.0" --version
 
 # Files and pipes
 

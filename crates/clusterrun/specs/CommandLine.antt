@@ -35,7 +35,7 @@ abbrev pub check_line : App
 check_line = with_rule (new_app (codes "check")) file_rule
 
 abbrev pub top_line : App
-top_line = on_top (λ s. record s { disable_help_subcommand = true; subcommand_required = true }) (new_app (codes "clusterrun"))
+top_line = on_top (λ s. record s { disable_help_subcommand = true; subcommand_required = true; has_version = true }) (new_app (codes "clusterrun"))
 
 -- `clusterrun run` and `clusterrun check`
 abbrev pub command_line : App

@@ -1,6 +1,8 @@
+//! Lists, literals, commands, operands and logs, and a law at a set.
+
 ghost use Rattle.std.specs.Prelude.{⊤};
 
-use crate::{Command, Literal, Members, OperandNames, Sequence, tests_lose_nothing};
+use crate::{Command, Literal, Log, Members, OperandNames, Operands, Sequence, tests_lose_nothing};
 use es_value::{Name, Text, Value, same_value};
 use std::test::Fail;
 
@@ -12,6 +14,51 @@ fn lists_keep_their_items_in_order(rt: HostRuntime) -> Result<(), Fail> {
     assert_eq!(rt; list.as_slice(), [3, 1].as_slice());
     let again = Sequence::from_vec(list.into_vec());
     assert_eq!(rt; again.as_slice(), [3, 1].as_slice());
+    Ok(())
+}
+
+#[test]
+fn a_log_with_room_takes_what_happens_last(rt: HostRuntime) -> Result<(), Fail> {
+    let mut log = Log::new(rt.alloc());
+    log.reserve(2)?;
+    log.append(3);
+    log.append(1);
+    assert_eq!(rt; log.as_slice(), [3, 1].as_slice());
+    let events = log.into_sequence();
+    assert_eq!(rt; events.as_slice(), [3, 1].as_slice());
+    Ok(())
+}
+
+fn number(value: &Value) -> Option<i64> {
+    match value {
+        Value::Number(number) => Some(*number),
+        _ => None,
+    }
+}
+
+#[test]
+fn operands_are_had_by_name(rt: HostRuntime) -> Result<(), Fail> {
+    let alloc = rt.alloc();
+    assert!(rt; Operands::of_none().as_slice().is_empty());
+    assert_eq!(rt; number(Operands::of_one(Value::Number(1)).one()), Some(1));
+    let two = Operands::of_two(Value::Number(1), Value::Number(2));
+    let (first, second) = two.two();
+    assert_eq!(rt; (number(first), number(second)), (Some(1), Some(2)));
+    let mut values = Sequence::new(alloc);
+    values.push(Value::Number(1))?;
+    values.push(Value::Number(2))?;
+    values.push(Value::Number(3))?;
+    let three = Operands::of_sequence(values);
+    let (_, second, third) = three.three();
+    assert_eq!(rt; (number(second), number(third)), (Some(2), Some(3)));
+    let mut values = Sequence::new(alloc);
+    values.push(Value::Number(1))?;
+    values.push(Value::Undefined)?;
+    values.push(Value::Undefined)?;
+    values.push(Value::Number(4))?;
+    let four = Operands::of_sequence(values);
+    let (first, _, _, fourth) = four.four();
+    assert_eq!(rt; (number(first), number(fourth)), (Some(1), Some(4)));
     Ok(())
 }
 

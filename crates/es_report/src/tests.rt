@@ -1,7 +1,7 @@
 //! Reports written by hand for histories of each kind of event, and a writer that fails once.
 
 use crate::write_report;
-use es_event::{Answer, Command, Event, Outcome, Refusal, Sequence};
+use es_event::{Answer, Command, Event, Operands, Outcome, Refusal, Sequence};
 use es_value::{Id, Name, Text, Value};
 use std::alloc::Global;
 use std::io;
@@ -174,18 +174,16 @@ fn made(alloc: Global) -> Result<Event, Fail> {
     let to = name(alloc, "x")?;
     Ok(Event::Did {
         command: Command::New { to },
-        values: Sequence::new(alloc),
+        values: Operands::of_none(),
         answer: Answer::Gives(Value::Object(Id::of(1))),
     })
 }
 
 fn said(alloc: Global, value: Value) -> Result<Event, Fail> {
-    let mut values = Sequence::new(alloc);
-    values.push(value)?;
     let from = name(alloc, "x")?;
     Ok(Event::Did {
         command: Command::Say { from },
-        values,
+        values: Operands::of_one(value),
         answer: Answer::Nothing,
     })
 }
@@ -198,7 +196,7 @@ fn listed(alloc: Global, texts: &[&str]) -> Result<Event, Fail> {
     let object = name(alloc, "o")?;
     Ok(Event::Did {
         command: Command::Keys { object },
-        values: Sequence::new(alloc),
+        values: Operands::of_none(),
         answer: Answer::Listed(keys),
     })
 }
