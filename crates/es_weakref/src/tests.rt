@@ -1,3 +1,5 @@
+//! WeakRefs and KeptAlive, through the calls of their table.
+
 use crate::WeakRefs;
 use es_value::{Id, Value};
 use std::alloc::Global;
