@@ -1,4 +1,4 @@
--- Internal: which identities a call adds to a list, by the sets that have them (Liveness).
+-- Internal: which identities a call adds to a list, by the sets that have them.
 use Rattle.std.specs.Prelude.{ℕ, ◌≡◌, Bool, true, List, ◌++◌, Some}
 use Rattle.es_value.specs.Values.{identity}
 use Rattle.es_mark.specs.Graph.{HasAll}

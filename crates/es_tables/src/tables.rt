@@ -78,7 +78,7 @@ impl Tables {
         self.heap.keys(object)
     }
 
-    /// Adds the identities of what variables hold and of what is kept to `found` (ECMA-262, Liveness);
+    /// Adds the identities of what variables hold and of what is kept to `found`;
     /// where there is no memory, nothing is said of `found`.
     pub fn add_roots(&self, found: &mut Vec<Id>) -> Result<(), NoMemory>
         ensures { OnOk result (Adds (HasHeld self.now) found.old.items found.new.items) }
@@ -87,7 +87,7 @@ impl Tables {
         add_all(self.weakrefs.kept(), found)
     }
 
-    /// Adds the identities of what an object's properties hold to `found` (ECMA-262, Liveness); where
+    /// Adds the identities of what an object's properties hold to `found`; where
     /// there is no memory, nothing is said of `found`.
     pub fn add_edges(&self, object: Id, found: &mut Vec<Id>) -> Result<(), NoMemory>
         ensures { OnOk result (Adds (HasProperties self.now.heap object) found.old.items found.new.items) }
