@@ -22,7 +22,8 @@ pub(crate) fn run_plan(alloc: Global, plan: Plan) -> Result<Outcome, NoMemory>
     let mut names = Sequence::new(alloc);
     let mut histories = Sequence::new(alloc);
     for agent in agents {
-        names.push(agent.name)?;
+        let name = agent.name.copy()?;
+        names.push(name)?;
         let number = histories.as_slice().len();
         let closed = run_agent(alloc, agent, number, count)?;
         histories.push(closed.into_history())?;

@@ -81,14 +81,19 @@ fn a_copied_command_reads_and_assigns_the_same(rt: HostRuntime) -> Result<(), Fa
     let object = Name::read(alloc, "o")?;
     let key = Name::read(alloc, "k")?;
     let from = Name::read(alloc, "x")?;
-    let set = Command::Set { object, key, from }.copy()?;
+    let set = Command::Set {
+        object: object.copy()?,
+        key: key.copy()?,
+        from: from.copy()?,
+    };
+    let set = set.copy()?;
     assert!(rt; matches!(&set, Command::Set { key: k, .. } if *k == key));
     assert!(rt; matches!(set.reads(), OperandNames::Two(a, b) if *a == object && *b == from));
     assert!(rt; set.assigns().is_none());
     assert!(rt; !set.makes());
     let weakref = Command::WeakRef {
-        to: from,
-        target: object,
+        to: from.copy()?,
+        target: object.copy()?,
     };
     let weakref = weakref.copy()?;
     assert!(rt; matches!(weakref.reads(), OperandNames::One(a) if *a == object));
@@ -96,7 +101,7 @@ fn a_copied_command_reads_and_assigns_the_same(rt: HostRuntime) -> Result<(), Fa
     assert!(rt; weakref.makes());
     let text = Text::read(alloc, "t")?;
     let literal = Command::Let {
-        to: object,
+        to: object.copy()?,
         literal: Literal::Text(text),
     };
     let literal = literal.copy()?;

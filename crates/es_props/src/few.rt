@@ -111,7 +111,7 @@ impl Few {
     {
         let mut keys = Vec::with_capacity(alloc, self.entries.len())?;
         for (key, _) in &self.entries {
-            keys.push(*key)?;
+            keys.push(key.copy()?)?;
         }
         Ok(keys)
     }

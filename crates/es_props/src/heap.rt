@@ -88,16 +88,16 @@ impl Heap {
     /// Sets a property of an object that is there and has room for one more (OrdinarySet): a key that
     /// is there keeps its place.
     #[tactic(auto, using(crate::proofs::Places::object_of, crate::proofs::Places::room_of, crate::proofs::Places::places_of))]
-    pub fn set(&mut self, id: Id, key: &Name, value: Value)
+    pub fn set(&mut self, id: Id, key: Name, value: Value)
         requires there { IsTrue (has self.old.all id) }
         requires room { 0 < room_at self.old.rooms id }
-        ensures set { Changes self.old.all id (option_map (λ ps. with_property ps key.now value) (object self.old.all id)) self.new.all }
+        ensures set { Changes self.old.all id (option_map (λ ps. with_property ps key value) (object self.old.all id)) self.new.all }
         ensures rooms { KeepsRoomBut id self.old.rooms self.new.rooms }
     {
         let Some(slot) = self.slots.get_mut(id.number() as usize - 1) else {
             unreachable!();
         };
-        slot.set(*key, value);
+        slot.set(key, value);
     }
 
     /// The value under a key of an object, if the object has it (OrdinaryGet).

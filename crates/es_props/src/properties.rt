@@ -21,7 +21,8 @@ pub(crate) fn table_of(few: &Few, alloc: Global) -> Result<Box<IndexMap<Name, Va
     let entries = few.entries();
     let mut table = IndexMap::with_capacity(alloc, entries.len() + 1)?;
     for (key, value) in entries {
-        insert_reserved(&mut table, *key, value.copy()?);
+        let value = value.copy()?;
+        insert_reserved(&mut table, key.copy()?, value);
     }
     let boxed = Box::new(alloc, table)?;
     Ok(boxed)
@@ -69,7 +70,10 @@ pub(crate) fn take_out(properties: &mut IndexMap<Name, Value>, key: &Name) -> bo
 pub(crate) fn keys(properties: &IndexMap<Name, Value>, alloc: Global) -> Result<Vec<Name>, NoMemory>
     ensures { IfOk result (λ ks. ks.items ≡ keys_of properties.now.entries) }
 {
-    let keys = properties.keys().copied().collect(alloc)?;
+    let mut keys = Vec::with_capacity(alloc, properties.len())?;
+    for (key, _) in properties {
+        keys.push(key.copy()?)?;
+    }
     Ok(keys)
 }
 

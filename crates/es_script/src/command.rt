@@ -10,13 +10,13 @@ use crate::operand::{none, one, three, two};
 use crate::parts::has_at_most;
 use crate::{Place, ReadFault};
 use es_event::{Command, Sequence};
-use es_value::MOST_COMMANDS;
+use es_value::{MOST_COMMANDS, Names};
 use serde_json::Value;
-use std::alloc::Global;
 
-/// The commands of a callback or a job.
-pub(crate) fn run_of(
-    alloc: Global,
+/// The commands of a callback, read where they stand: `Value::get_mut` says nothing of the value's other
+/// parts, so of an agent only the jobs are taken.
+pub(crate) fn callback_run(
+    names: &mut Names,
     list: &[Value],
     place: Place,
 ) -> Result<Sequence<Command>, ReadFault>
@@ -25,31 +25,68 @@ pub(crate) fn run_of(
     if !has_at_most(list, MOST_COMMANDS) {
         return Err(fault_in(place, FaultCode::Limit));
     }
-    commands_of(alloc, list, place)
+    commands_of(names, list, place)
 }
 
-fn commands_of(alloc: Global, list: &[Value], place: Place) -> Result<Sequence<Command>, ReadFault>
+fn commands_of(
+    names: &mut Names,
+    list: &[Value],
+    place: Place,
+) -> Result<Sequence<Command>, ReadFault>
     ensures { Gives (λ cs. cs) result (commands_read place 1 (items_view list.now)) }
 {
-    let mut commands = Sequence::new(alloc);
+    let mut commands = Sequence::new(names.allocator());
     for (index, value) in list.iter().enumerate() {
         let spot = Spot {
             place,
             command: index + 1,
         };
-        let command = command_of(alloc, value, spot)?;
+        let command = command_of(names, value, spot)?;
         commands.push(command)?;
     }
     Ok(commands)
 }
 
-fn command_of(alloc: Global, value: &Value, spot: Spot) -> Result<Command, ReadFault>
+/// The commands of a job, whose JSON is given up piece by piece as they are made.
+pub(crate) fn job_run(
+    names: &mut Names,
+    mut list: Vec<Value>,
+    place: Place,
+) -> Result<Sequence<Command>, ReadFault>
+    ensures { Gives (λ cs. cs) result (body_read place (items_view list.items)) }
+{
+    if !has_at_most(list.as_slice(), MOST_COMMANDS) {
+        return Err(fault_in(place, FaultCode::Limit));
+    }
+    commands_taken(names, list.as_mut_slice(), place)
+}
+
+fn commands_taken(
+    names: &mut Names,
+    list: &mut [Value],
+    place: Place,
+) -> Result<Sequence<Command>, ReadFault>
+    ensures { Gives (λ cs. cs) result (commands_read place 1 (items_view list.old)) }
+{
+    let mut commands = Sequence::new(names.allocator());
+    for (index, value) in list.iter_mut().enumerate() {
+        let spot = Spot {
+            place,
+            command: index + 1,
+        };
+        let command = command_of(names, &value.take(), spot)?;
+        commands.push(command)?;
+    }
+    Ok(commands)
+}
+
+fn command_of(names: &mut Names, value: &Value, spot: Spot) -> Result<Command, ReadFault>
     ensures { Gives (λ c. c) result (command_read spot (view value.now)) }
 {
     match value {
         Value::Array(parts) => match parts.as_slice() {
             [Value::String(word), operands @ ..] => command_named(
-                alloc,
+                names,
                 word.as_str(),
                 operands,
                 spot,
@@ -63,7 +100,7 @@ fn command_of(alloc: Global, value: &Value, spot: Spot) -> Result<Command, ReadF
 /// The table of commands: the word of each, and what its operands make. Their kinds are those of the
 /// command's fields.
 fn command_named(
-    alloc: Global,
+    names: &mut Names,
     word: &str,
     operands: &[Value],
     spot: Spot,
@@ -72,55 +109,55 @@ fn command_named(
 {
     match word {
         "let" => {
-            let (to, literal) = two(alloc, operands, spot)?;
+            let (to, literal) = two(names, operands, spot)?;
             Ok(Command::Let { to, literal })
         }
         "new" => {
-            let to = one(alloc, operands, spot)?;
+            let to = one(names, operands, spot)?;
             Ok(Command::New { to })
         }
         "symbol" => {
-            let to = one(alloc, operands, spot)?;
+            let to = one(names, operands, spot)?;
             Ok(Command::Symbol { to })
         }
         "symbolfor" => {
-            let (to, text) = two(alloc, operands, spot)?;
+            let (to, text) = two(names, operands, spot)?;
             Ok(Command::SymbolFor { to, text })
         }
         "copy" => {
-            let (to, from) = two(alloc, operands, spot)?;
+            let (to, from) = two(names, operands, spot)?;
             Ok(Command::Copy { to, from })
         }
         "same" => {
-            let (to, left, right) = three(alloc, operands, spot)?;
+            let (to, left, right) = three(names, operands, spot)?;
             Ok(Command::Same { to, left, right })
         }
         "say" => {
-            let from = one(alloc, operands, spot)?;
+            let from = one(names, operands, spot)?;
             Ok(Command::Say { from })
         }
         "set" => {
-            let (object, key, from) = three(alloc, operands, spot)?;
+            let (object, key, from) = three(names, operands, spot)?;
             Ok(Command::Set { object, key, from })
         }
         "get" => {
-            let (to, object, key) = three(alloc, operands, spot)?;
+            let (to, object, key) = three(names, operands, spot)?;
             Ok(Command::Get { to, object, key })
         }
         "delete" => {
-            let (to, object, key) = three(alloc, operands, spot)?;
+            let (to, object, key) = three(names, operands, spot)?;
             Ok(Command::Delete { to, object, key })
         }
         "keys" => {
-            let object = one(alloc, operands, spot)?;
+            let object = one(names, operands, spot)?;
             Ok(Command::Keys { object })
         }
         "weakref" => {
-            let (to, target) = two(alloc, operands, spot)?;
+            let (to, target) = two(names, operands, spot)?;
             Ok(Command::WeakRef { to, target })
         }
         "deref" => {
-            let (to, weakref) = two(alloc, operands, spot)?;
+            let (to, weakref) = two(names, operands, spot)?;
             Ok(Command::Deref { to, weakref })
         }
         "collect" => {

@@ -11,7 +11,7 @@ ghost use Rattle.es_script.specs.Reading.{Gives, name_read, text_read, number_re
 use crate::ReadFault;
 use crate::fault::{FaultCode, Spot};
 use es_event::Literal;
-use es_value::{Name, NameFault, Text, TextFault};
+use es_value::{Name, NameFault, Names, Text, TextFault};
 use serde_json::{Number, Value};
 use std::alloc::Global;
 
@@ -26,7 +26,7 @@ pub(crate) trait Operand: Sized + Drop {
         ensures { result ≡ fits kind (view value.now) };
 
     /// The operand that a value of its JSON kind stands for.
-    fn read(alloc: Global, value: &Value, spot: Spot) -> Result<Self, ReadFault>
+    fn read(names: &mut Names, value: &Value, spot: Spot) -> Result<Self, ReadFault>
         ensures { Gives meaning result (operand_read spot kind (view value.now)) };
 }
 
@@ -40,9 +40,9 @@ impl Operand for Name {
         value.is_string()
     }
 
-    fn read(alloc: Global, value: &Value, spot: Spot) -> Result<Name, ReadFault> {
+    fn read(names: &mut Names, value: &Value, spot: Spot) -> Result<Name, ReadFault> {
         match value {
-            Value::String(chars) => name_of(alloc, chars.as_str(), spot),
+            Value::String(chars) => name_of(names, chars.as_str(), spot),
             _ => Err(spot.fault(FaultCode::Operands)),
         }
     }
@@ -57,12 +57,16 @@ impl Operand for Literal {
         !matches!(value, Value::Array(_) | Value::Object(_))
     }
 
-    fn read(alloc: Global, value: &Value, spot: Spot) -> Result<Literal, ReadFault> {
+    fn read(names: &mut Names, value: &Value, spot: Spot) -> Result<Literal, ReadFault> {
         match value {
             Value::Null => Ok(Literal::Undefined),
             Value::Bool(b) => Ok(Literal::Boolean(*b)),
             Value::Number(number) => number_of(number, spot),
-            Value::String(chars) => Ok(Literal::Text(text_of(alloc, chars.as_str(), spot)?)),
+            Value::String(chars) => Ok(Literal::Text(text_of(
+                names.allocator(),
+                chars.as_str(),
+                spot,
+            )?)),
             _ => Err(spot.fault(FaultCode::Operands)),
         }
     }
@@ -77,19 +81,19 @@ impl Operand for Text {
         value.is_string()
     }
 
-    fn read(alloc: Global, value: &Value, spot: Spot) -> Result<Text, ReadFault> {
+    fn read(names: &mut Names, value: &Value, spot: Spot) -> Result<Text, ReadFault> {
         match value {
-            Value::String(chars) => text_of(alloc, chars.as_str(), spot),
+            Value::String(chars) => text_of(names.allocator(), chars.as_str(), spot),
             _ => Err(spot.fault(FaultCode::Operands)),
         }
     }
 }
 
 /// The name that is spelled so.
-pub(crate) fn name_of(alloc: Global, chars: &str, spot: Spot) -> Result<Name, ReadFault>
+pub(crate) fn name_of(names: &mut Names, chars: &str, spot: Spot) -> Result<Name, ReadFault>
     ensures { Gives (λ n. n) result (name_read spot chars.now) }
 {
-    match Name::read(alloc, chars) {
+    match names.read(chars) {
         Ok(name) => Ok(name),
         Err(NameFault::BadName) => Err(spot.fault(FaultCode::Name)),
         Err(NameFault::NoMemory) => Err(ReadFault::NoMemory),
@@ -133,7 +137,11 @@ pub(crate) fn none(operands: &[Value], spot: Spot) -> Result<(), ReadFault>
 }
 
 /// The one operand that there is.
-pub(crate) fn one<A: Operand>(alloc: Global, operands: &[Value], spot: Spot) -> Result<A, ReadFault>
+pub(crate) fn one<A: Operand>(
+    names: &mut Names,
+    operands: &[Value],
+    spot: Spot,
+) -> Result<A, ReadFault>
     ensures { Gives (λ x. (A.meaning x, tt)) result
         (operands_read spot (A.kind ∷ []) (items_view operands.now)) }
 {
@@ -145,7 +153,7 @@ pub(crate) fn one<A: Operand>(alloc: Global, operands: &[Value], spot: Spot) -> 
             if !A::fits(a) {
                 return Err(spot.fault(FaultCode::Operands));
             }
-            A::read(alloc, a, spot)
+            A::read(names, a, spot)
         }
         _ => unreachable!(),
     }
@@ -153,7 +161,7 @@ pub(crate) fn one<A: Operand>(alloc: Global, operands: &[Value], spot: Spot) -> 
 
 /// The two operands that there are.
 pub(crate) fn two<A: Operand, B: Operand>(
-    alloc: Global,
+    names: &mut Names,
     operands: &[Value],
     spot: Spot,
 ) -> Result<(A, B), ReadFault>
@@ -168,8 +176,8 @@ pub(crate) fn two<A: Operand, B: Operand>(
             if !(A::fits(a) && B::fits(b)) {
                 return Err(spot.fault(FaultCode::Operands));
             }
-            let a = A::read(alloc, a, spot)?;
-            let b = B::read(alloc, b, spot)?;
+            let a = A::read(names, a, spot)?;
+            let b = B::read(names, b, spot)?;
             Ok((a, b))
         }
         _ => unreachable!(),
@@ -178,7 +186,7 @@ pub(crate) fn two<A: Operand, B: Operand>(
 
 /// The three operands that there are.
 pub(crate) fn three<A: Operand, B: Operand, C: Operand>(
-    alloc: Global,
+    names: &mut Names,
     operands: &[Value],
     spot: Spot,
 ) -> Result<(A, B, C), ReadFault>
@@ -193,9 +201,9 @@ pub(crate) fn three<A: Operand, B: Operand, C: Operand>(
             if !(A::fits(a) && B::fits(b) && C::fits(c)) {
                 return Err(spot.fault(FaultCode::Operands));
             }
-            let a = A::read(alloc, a, spot)?;
-            let b = B::read(alloc, b, spot)?;
-            let c = C::read(alloc, c, spot)?;
+            let a = A::read(names, a, spot)?;
+            let b = B::read(names, b, spot)?;
+            let c = C::read(names, c, spot)?;
             Ok((a, b, c))
         }
         _ => unreachable!(),

@@ -11,7 +11,7 @@ ghost use Rattle.es_script.specs.Reading.{Gives, plan_read, agents_checked};
 
 use crate::agent::{agents_of, check_names};
 use crate::fault::{FaultCode, fault_in};
-use crate::parts::items;
+use crate::parts::taken_items;
 use crate::shape::has_plan_shape;
 use crate::{Place, ReadFault};
 use es_event::{AgentPlan, Plan, Sequence};
@@ -31,33 +31,34 @@ pub fn read_plan(alloc: Global, bytes: &[u8]) -> Result<Plan, ReadFault>
     ensures alone { IfOk result (λ p. list_all waits_for_nobody p.agents ≡ true) }
 {
     match Value::from_slice(alloc, bytes) {
-        Ok(value) => plan_of(alloc, &value),
+        Ok(value) => plan_of(alloc, value),
         Err(error) if error.is_memory() => Err(ReadFault::NoMemory),
         Err(_) => Err(fault_in(Place::Whole, FaultCode::NotJson)),
     }
 }
 
-fn plan_of(alloc: Global, value: &Value) -> Result<Plan, ReadFault>
-    ensures { Gives (λ p. p) result (plan_read (view value.now)) }
+fn plan_of(alloc: Global, mut value: Value) -> Result<Plan, ReadFault>
+    ensures { Gives (λ p. p) result (plan_read (view value)) }
 {
-    if !has_plan_shape(value) {
+    if !has_plan_shape(&value) {
         return Err(fault_in(Place::Whole, FaultCode::Shape));
     }
     if value.get("version").and_then(Value::as_i64) != Some(1) {
         return Err(fault_in(Place::Whole, FaultCode::Version));
     }
-    let agents = checked_agents(alloc, items(value.get("agents")))?;
+    let agents = taken_items(alloc, value.get_mut("agents"));
+    let agents = checked_agents(alloc, agents)?;
     Ok(Plan { agents })
 }
 
-fn checked_agents(alloc: Global, agents: &[Value]) -> Result<Sequence<AgentPlan>, ReadFault>
-    ensures { Gives (λ s. s) result (agents_checked (items_view agents.now)) }
+fn checked_agents(alloc: Global, mut agents: Vec<Value>) -> Result<Sequence<AgentPlan>, ReadFault>
+    ensures { Gives (λ s. s) result (agents_checked (items_view agents.items)) }
 {
-    if !is_agent_count(agents) {
+    if !is_agent_count(agents.as_slice()) {
         return Err(fault_in(Place::Whole, FaultCode::AgentCount));
     }
-    check_names(alloc, agents)?;
-    agents_of(alloc, agents)
+    check_names(alloc, agents.as_slice())?;
+    agents_of(alloc, agents.as_mut_slice())
 }
 
 /// Whether a plan may have so many agents.

@@ -56,7 +56,7 @@ fn write(heap: &mut Heap, object: Id, key: Name, value: Option<Value>)
     ensures objects { (o : ℕ) → has heap.new.all o ≡ has heap.old.all o }
 {
     match value {
-        Some(value) => heap.set(object, &key, value),
+        Some(value) => heap.set(object, key, value),
         None => {
             heap.delete(object, &key);
         }

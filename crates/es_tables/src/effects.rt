@@ -1,6 +1,6 @@
 //! What an event does to the tables, read off the event.
 
-ghost use Rattle.std.specs.Prelude.{◌≡◌, IfOk};
+ghost use Rattle.std.specs.Prelude.{◌≡◌, Some, None, IfOk};
 ghost use Rattle.std.specs.Option.{option_to_list};
 ghost use Rattle.es_event.specs.Commands.{assigns};
 ghost use Rattle.es_event.specs.History.{History};
@@ -73,11 +73,19 @@ fn given_by(command: &Command, answer: &Answer) -> Result<Option<(Name, Value)>,
     match answer {
         Answer::Nothing => Ok(None),
         Answer::Gives(value) => match command.assigns() {
-            Some(name) => Ok(Some((*name, value.copy()?))),
+            Some(name) => named(name, value),
             None => Ok(None),
         },
         Answer::Listed(_) => Ok(None),
     }
+}
+
+fn named(name: &Name, value: &Value) -> Result<Option<(Name, Value)>, NoMemory>
+    ensures { IfOk result (λ r. r ≡ Some (name.now, value.now)) }
+{
+    let value = value.copy()?;
+    let name = name.copy()?;
+    Ok(Some((name, value)))
 }
 
 fn put_at(event: &Event) -> Result<Option<((Id, Name), Option<Value>)>, NoMemory>
@@ -105,14 +113,31 @@ fn put_by(
 {
     match (command, values) {
         (Command::Set { key, .. }, [Value::Object(object), value]) => {
-            Ok(Some(((*object, *key), Some(value.copy()?))))
+            written(*object, key, value)
         }
-        (Command::Delete { key, .. }, [Value::Object(object)]) => {
-            Ok(Some(((*object, *key), None)))
-        }
+        (Command::Delete { key, .. }, [Value::Object(object)]) => { deleted(*object, key) }
         // no other command writes a property
         _ => Ok(None),
     }
+}
+
+fn written(
+    object: Id,
+    key: &Name,
+    value: &Value,
+) -> Result<Option<((Id, Name), Option<Value>)>, NoMemory>
+    ensures { IfOk result (λ r. r ≡ Some ((object, key.now), Some value.now)) }
+{
+    let value = value.copy()?;
+    let key = key.copy()?;
+    Ok(Some(((object, key), Some(value))))
+}
+
+fn deleted(object: Id, key: &Name) -> Result<Option<((Id, Name), Option<Value>)>, NoMemory>
+    ensures { IfOk result (λ r. r ≡ Some ((object, key.now), None)) }
+{
+    let key = key.copy()?;
+    Ok(Some(((object, key), None)))
 }
 
 fn born_at(event: &Event) -> Option<Id>

@@ -81,7 +81,7 @@ impl Graph for Unreached {
 fn what_is_applied_is_found(rt: HostRuntime) -> Result<(), Fail> {
     let alloc = rt.alloc();
     let x = Name::read(alloc, "x")?;
-    let tables = with_weakref(alloc, x)?;
+    let tables = with_weakref(alloc, x.copy()?)?;
     assert!(rt; matches!(tables.variable(&x)?, Value::Object(_)));
     assert_eq!(rt; tables.target(Id::of(1)), Some(Id::of(2)));
     assert_eq!(rt; tables.kept(), [Id::of(2)].as_slice());
@@ -94,8 +94,8 @@ fn what_is_applied_is_found(rt: HostRuntime) -> Result<(), Fail> {
 fn properties_are_set_and_lead_on(rt: HostRuntime) -> Result<(), Fail> {
     let alloc = rt.alloc();
     let key = Name::read(alloc, "k")?;
-    let mut tables = with_weakref(alloc, key)?;
-    set(&mut tables, key)?;
+    let mut tables = with_weakref(alloc, key.copy()?)?;
+    set(&mut tables, key.copy()?)?;
     assert!(rt; matches!(tables.property(Id::of(1), &key), Some(Value::Symbol(_))));
     assert_eq!(rt; tables.keys(Id::of(1))?.as_slice(), [key].as_slice());
     let mut found = Vec::new(alloc);
@@ -147,7 +147,10 @@ fn effects_are_those_of_the_event(rt: HostRuntime) -> Result<(), Fail> {
     let to = Name::read(alloc, "w")?;
     let one = Value::Object(Id::of(1));
     let two = Value::Object(Id::of(2));
-    let command = Command::WeakRef { to, target: to };
+    let command = Command::WeakRef {
+        to: to.copy()?,
+        target: to,
+    };
     let made = done(command, vec![in alloc; one]?, Answer::Gives(two))?;
     assert!(rt; made.put.is_none());
     assert_eq!(rt; made.born, Some(Id::of(2)));

@@ -1,6 +1,5 @@
 pub mod Limits
 pub mod Spelling
-pub mod Padding
 pub mod Values
 pub mod Ids
 pub mod Printed

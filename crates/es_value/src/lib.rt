@@ -7,6 +7,7 @@ mod id;
 mod id_set;
 mod limits;
 mod name;
+mod names;
 mod spelling;
 #[cfg(test)]
 mod tests;
@@ -22,6 +23,7 @@ pub use limits::{
     MOST_IDENTITIES, MOST_JOBS,
 };
 pub use name::{Name, NameFault};
+pub use names::Names;
 pub use text::{Text, TextFault};
 pub use value::{Value, can_be_held_weakly, same_value};
 pub use write::write_value;

@@ -12,33 +12,27 @@ use crate::spelling::spells_name;
 use std::alloc::Global;
 use std::hash::{Hash, Hasher};
 use std::marker::Model;
+use std::sync::ArcStr;
 
 /// A name of a variable, a property, a callback or an agent: a letter or `_`, then letters, digits
 /// and `_`, 1 to 32 bytes.
 ///
-/// The bytes lie in place, so that a copy takes no memory; those past the end are 0.
-#[derive(Clone, Copy, Debug)]
+/// Copies share one text, so that each takes 8 bytes and no memory of its own.
+#[derive(Debug, Drop)]
 pub struct Name {
-    bytes: [u8; 32],
-    len: u8,
+    chars: ArcStr,
 }
 
 impl Model for Name {
-    ghost use Rattle.std.specs.Prelude.{ℕ, ◌-◌, ◌++◌, List, length, take, replicate};
-    ghost use Rattle.es_value.specs.Padding.{IsPadded, length-name, name-padded};
+    ghost use Rattle.std.specs.Prelude.{ℕ, List, IsTrue};
+    ghost use Rattle.std.specs.Arc.{arc_str_bytes};
+    ghost use Rattle.es_value.specs.Spelling.{is_name};
 
     ghost Value = { List ℕ };
 
-    ghost view = { λ n. take n.len n.bytes };
+    ghost view = { λ n. arc_str_bytes n.chars };
 
-    ghost invariant = { λ n. IsPadded n.bytes n.len };
-
-    ghost inverse = { λ v. record { bytes = v ++ replicate (32 - length v) 0; len = length v } };
-
-    ghost inverse_ok = { λ a h. λ i. record {
-      bytes = name-padded a.bytes a.len h i;
-      len = length-name a.bytes a.len h i;
-    } };
+    ghost invariant = { λ n. IsTrue (is_name (arc_str_bytes n.chars)) };
 }
 
 /// Why no name was read.
@@ -46,37 +40,25 @@ impl Model for Name {
 pub enum NameFault {
     /// The text is not spelled as a name.
     BadName,
-    /// There was no memory for it. A name lies in place, so `Name::read` never answers this.
+    /// There was no memory for it.
     NoMemory,
 }
 
 impl Name {
     /// The name that is spelled like this, or `BadName` exactly where it is no name.
     ///
-    /// It takes no memory: the allocator stands here so that names and texts are read alike.
-    pub fn read(_: Global, text: &str) -> Result<Name, NameFault>
+    /// It takes memory for its text, and answers `NoMemory` where there is none.
+    pub fn read(alloc: Global, text: &str) -> Result<Name, NameFault>
         ensures ok { IfOk result (λ n. n ≡ text.now) }
         ensures only { IfOk result (λ n. IsTrue (is_name text.now)) }
         ensures bad { (result ≡ Err NameFault.BadName) ↔ (is_name text.now ≢ true) }
-        ensures in_place { result ≢ Err NameFault.NoMemory }
     {
-        let text = text.as_bytes();
-        if spells_name(text) {
-            Ok(Name::of(text))
-        } else {
-            Err(NameFault::BadName)
+        if !spells_name(text.as_bytes()) {
+            return Err(NameFault::BadName);
         }
-    }
-
-    fn of(text: &[u8]) -> Name
-        requires { IsTrue (is_name text.now) }
-        ensures { result ≡ text.now }
-    {
-        let mut bytes = [0; 32];
-        bytes[..text.len()].copy_from_slice(text);
-        Name {
-            bytes,
-            len: text.len() as u8,
+        match ArcStr::from_str(alloc, text) {
+            Ok(chars) => Ok(Name { chars }),
+            Err(_) => Err(NameFault::NoMemory),
         }
     }
 
@@ -85,26 +67,24 @@ impl Name {
         ensures same { result.now ≡ self.now }
         ensures spelled { IsTrue (is_name self.now) }
     {
-        &self.bytes[..self.len as usize]
+        self.chars.as_str().as_bytes()
     }
 
     /// Its text.
-    #[tactic(auto, using(crate::proofs::Names::name_is_utf8))]
     pub fn as_str(&self) -> &str
         ensures same { result.now ≡ self.now }
         ensures spelled { IsTrue (is_name self.now) }
     {
-        match str::from_utf8(self.as_bytes()) {
-            Ok(text) => text,
-            Err(_) => unreachable!(),
-        }
+        self.chars.as_str()
     }
 
-    /// The same name again, which takes no memory.
+    /// The same name again: it shares the text and takes no memory. An error only where a text has
+    /// more owners than can be counted.
     pub fn copy(&self) -> Result<Name, NoMemory>
-        ensures { result ≡ Ok self.now }
+        ensures { IfOk result (λ n. n ≡ self.now) }
     {
-        Ok(*self)
+        let chars = self.chars.clone()?;
+        Ok(Name { chars })
     }
 }
 

@@ -1,6 +1,6 @@
 //! Texts of a script.
 
-ghost use Rattle.std.specs.Prelude.{◌≡◌, ℕ, List, string_bytes, IfOk, IsTrue, ◌↔◌, ◌≢◌, true};
+ghost use Rattle.std.specs.Prelude.{◌≡◌, IfOk, IsTrue, ◌↔◌, ◌≢◌, true};
 ghost use Rattle.std.specs.Cmp.Rules.{comparing};
 ghost use Rattle.std.specs.Str.{bytes_eq};
 ghost use Rattle.std.proofs.Common.{rules};
@@ -10,19 +10,24 @@ use crate::NoMemory;
 use crate::spelling::spells_text;
 use std::alloc::Global;
 use std::marker::Model;
+use std::sync::ArcStr;
 
 /// A text of a script: printable ASCII without `"` and `\`, 0 to 256 bytes.
 #[derive(Debug, Drop)]
 pub struct Text {
-    chars: String,
+    chars: ArcStr,
 }
 
 impl Model for Text {
+    ghost use Rattle.std.specs.Prelude.{ℕ, List, IsTrue};
+    ghost use Rattle.std.specs.Arc.{arc_str_bytes};
+    ghost use Rattle.es_value.specs.Spelling.{is_text};
+
     ghost Value = { List ℕ };
 
-    ghost view = { λ t. string_bytes t.chars };
+    ghost view = { λ t. arc_str_bytes t.chars };
 
-    ghost invariant = { λ t. IsTrue (is_text (string_bytes t.chars)) };
+    ghost invariant = { λ t. IsTrue (is_text (arc_str_bytes t.chars)) };
 }
 
 /// Why no text was read.
@@ -46,7 +51,7 @@ impl Text {
         if !spells_text(text.as_bytes()) {
             return Err(TextFault::BadText);
         }
-        match String::from_str(alloc, text) {
+        match ArcStr::from_str(alloc, text) {
             Ok(chars) => Ok(Text { chars }),
             Err(_) => Err(TextFault::NoMemory),
         }
@@ -60,7 +65,8 @@ impl Text {
         self.chars.as_str()
     }
 
-    /// The same text again, in memory of its own; an error only where there is none.
+    /// The same text again: it shares the characters and takes no memory. An error only where they
+    /// have more owners than can be counted.
     pub fn copy(&self) -> Result<Text, NoMemory>
         ensures { IfOk result (λ t. t ≡ self.now) }
     {
