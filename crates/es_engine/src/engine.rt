@@ -5,9 +5,9 @@ ghost use Rattle.es_engine.specs.Engine.{has_no_message_job, Answers, IsAnswerFa
 
 use crate::agents::run_plan;
 use crate::input::read_all;
-use crate::options::Options;
 use crate::run_fault::RunFault;
 use es_event::Plan;
+use es_options::Options;
 use es_report::write_report;
 use es_script::read_plan;
 use std::alloc::Global;

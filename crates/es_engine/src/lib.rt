@@ -5,12 +5,10 @@ mod agents;
 mod engine;
 mod input;
 mod laws;
-mod options;
 mod run_fault;
 #[cfg(test)]
 mod tests;
 
 pub use engine::run;
 pub use laws::a_plan_has_one_answer;
-pub use options::Options;
 pub use run_fault::RunFault;

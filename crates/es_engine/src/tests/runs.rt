@@ -2,9 +2,9 @@
 
 use crate::engine::run;
 use crate::input::is_room;
-use crate::options::Options;
 use crate::run_fault::RunFault;
 use crate::tests::fakes::{Faltering, Trickle};
+use es_options::Options;
 use es_script::write_fault;
 use es_value::LONGEST_PLAN;
 use std::alloc::{AllocError, Global};

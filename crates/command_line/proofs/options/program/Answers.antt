@@ -1,7 +1,7 @@
 use Rattle.std.proofs.Common.{rules, ◌≡◌, ◌∙◌, ap, ap₂}
 use Rattle.clap.specs.Words.{App, app_of, with_subcommand}
-use Rattle.clusterrun.specs.CommandLine.{top_line}
-use Rattle.clusterrun.proofs.options.program.Goals as goal
+use Rattle.command_line.specs.CommandLine.{top_line}
+use Rattle.command_line.proofs.options.program.Goals as goal
 
 pub returns : goal.returns
 returns c =

@@ -1,7 +1,7 @@
 use Rattle.std.proofs.Common.{rules, ◌≡◌, ◌∙◌, Some, None, string_bytes, codes}
 use Rattle.clap.specs.Words.{found_of, first_value}
 use Rattle.clap.proofs.WalkLemmas.{first_value-rows}
-use Rattle.clusterrun.proofs.options.file.Goals as goal
+use Rattle.command_line.proofs.options.file.Goals as goal
 
 pub returns-in_ok-from_str-in-Some : goal.returns-in_ok-from_str-in-Some
 returns-in_ok-from_str-in-Some c =

@@ -1,6 +1,6 @@
 use Rattle.std.proofs.Common.{rules, ◌≡◌, ◌∙◌, codes, ap₂}
 use Rattle.clap.specs.Words.{app_of, new_app, with_rule}
-use Rattle.clusterrun.proofs.options.run_command.Goals as goal
+use Rattle.command_line.proofs.options.run_command.Goals as goal
 
 pub returns-clause-app : goal.returns-clause-app
 returns-clause-app c =

@@ -1,9 +1,9 @@
 use Rattle.std.proofs.Common.{◌≡◌, ◌∙◌, false, codes, sym, subst}
 use Rattle.std.specs.Str.{bytes_eq}
 use Rattle.clap.specs.Words.{found_of, rows_of}
-use Rattle.clusterrun.specs.CommandLine.{AsksOptions}
-use Rattle.clusterrun.proofs.Line.{asks_rows}
-use Rattle.clusterrun.proofs.options.asked.Goals as goal
+use Rattle.command_line.specs.CommandLine.{AsksOptions}
+use Rattle.command_line.proofs.Line.{asks_rows}
+use Rattle.command_line.proofs.options.asked.Goals as goal
 
 pub returns-clause-asks : goal.returns-clause-asks
 returns-clause-asks c =

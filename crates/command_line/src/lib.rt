@@ -1,0 +1,8 @@
+//! The words of the command line: which options and which file they ask for.
+#![tactic(auto)]
+
+mod options;
+#[cfg(test)]
+mod tests;
+
+pub use options::{not_text, options_of};

@@ -1,0 +1,6 @@
+//! What a run is asked for, however that was said.
+#![tactic(auto)]
+
+mod options;
+
+pub use options::Options;
