@@ -1,23 +1,45 @@
-// Runs a plan on this JavaScript engine's own objects, WeakRefs and full collections, and prints the report, but for
-// the lines `emptied N`, since no engine tells how many values a collection took. Each job is a task of its own, so that
-// what a job keeps alive can go after it. The plan must be one without a fault: of faults only the words are looked at.
+// Runs a plan on this JavaScript engine's own objects, WeakRefs, WeakMaps, WeakSets and full collections, and prints
+// the report, but for the lines `emptied N`, since no engine tells how many values a collection took. Each job is a task
+// of its own, so that what a job keeps alive can go after it. The plan must be one without a fault: of faults only the
+// words are looked at.
 // Usage: node --expose-gc engine.mjs run|check FILE
 import { readFileSync } from "node:fs";
 
 class Refused extends Error {}
+// Each knows its number itself, so that no table of numbers holds it.
 class Thing {
   #number;
   constructor(number) { this.#number = number; }
   static numberOf(thing) { return thing.#number; }
 }
+class Ref extends WeakRef {
+  #number;
+  constructor(number, target) { super(target); this.#number = number; }
+  static numberOf(ref) { return ref.#number; }
+}
+class Entries extends WeakMap {
+  #number;
+  constructor(number) { super(); this.#number = number; }
+  static numberOf(map) { return map.#number; }
+}
+class Members extends WeakSet {
+  #number;
+  constructor(number) { super(); this.#number = number; }
+  static numberOf(set) { return set.#number; }
+}
+const kinds = [Thing, Ref, Entries, Members];
+// As the engine has them, since an object may have properties of these names.
+const { get: mapGet, set: mapSet, has: mapHas, delete: mapDelete } = WeakMap.prototype;
+const { add: setAdd, has: setHas, delete: setDelete } = WeakSet.prototype;
 class Agent {
   vars = new Map();
   made = 0;
-  numbers = new Map(); // of WeakRefs and symbols, which are few
+  symbols = new Map(); // the number of each
   out = [];
 
-  number(value) {
-    this.numbers.set(value, ++this.made);
+  symbol() {
+    const value = Symbol();
+    this.symbols.set(value, ++this.made);
     return value;
   }
   show(value) {
@@ -25,15 +47,30 @@ class Agent {
       case "string": return JSON.stringify(value);
       case "symbol": {
         const key = Symbol.keyFor(value);
-        return key === undefined ? `symbol ${this.numbers.get(value)}` : `symbolfor "${key}"`;
+        return key === undefined ? `symbol ${this.symbols.get(value)}` : `symbolfor "${key}"`;
       }
-      case "object": return `object ${value instanceof Thing ? Thing.numberOf(value) : this.numbers.get(value)}`;
+      case "object": return `object ${kinds.find((kind) => value instanceof kind).numberOf(value)}`;
       default: return String(value);
     }
   }
   object(name) {
     const value = this.vars.get(name);
     if (typeof value !== "object") throw new Refused("TypeError: not an object");
+    return value;
+  }
+  heldWeakly(name) {
+    const value = this.vars.get(name);
+    if (typeof value !== "object") throw new Refused("TypeError: cannot be held weakly");
+    return value;
+  }
+  weakMap(name) {
+    const value = this.vars.get(name);
+    if (!(value instanceof WeakMap)) throw new Refused("TypeError: not a WeakMap");
+    return value;
+  }
+  weakSet(name) {
+    const value = this.vars.get(name);
+    if (!(value instanceof WeakSet)) throw new Refused("TypeError: not a WeakSet");
     return value;
   }
   room() {
@@ -44,7 +81,7 @@ class Agent {
     switch (c[0]) {
       case "let": vars.set(c[1], c[2] === null ? undefined : c[2]); break;
       case "new": this.room(); vars.set(c[1], new Thing(++this.made)); break;
-      case "symbol": this.room(); vars.set(c[1], this.number(Symbol())); break;
+      case "symbol": this.room(); vars.set(c[1], this.symbol()); break;
       case "symbolfor": vars.set(c[1], Symbol.for(c[2])); break;
       case "copy": vars.set(c[1], vars.get(c[2])); break;
       case "same": vars.set(c[1], Object.is(vars.get(c[2]), vars.get(c[3]))); break;
@@ -67,10 +104,9 @@ class Agent {
       case "delete": vars.set(c[1], Reflect.deleteProperty(this.object(c[2]), c[3])); break;
       case "keys": this.out.push(["keys", ...Object.keys(this.object(c[1]))].join(" ")); break;
       case "weakref": {
-        const target = vars.get(c[2]);
-        if (typeof target !== "object") throw new Refused("TypeError: cannot be held weakly");
+        const target = this.heldWeakly(c[2]);
         this.room();
-        vars.set(c[1], this.number(new WeakRef(target)));
+        vars.set(c[1], new Ref(++this.made, target));
         break;
       }
       case "deref": {
@@ -79,6 +115,23 @@ class Agent {
         vars.set(c[1], WeakRef.prototype.deref.call(ref));
         break;
       }
+      case "weakmap": this.room(); vars.set(c[1], new Entries(++this.made)); break;
+      case "wmset": {
+        const map = this.weakMap(c[1]);
+        mapSet.call(map, this.heldWeakly(c[2]), vars.get(c[3]));
+        break;
+      }
+      case "wmget": vars.set(c[1], mapGet.call(this.weakMap(c[2]), vars.get(c[3]))); break;
+      case "wmhas": vars.set(c[1], mapHas.call(this.weakMap(c[2]), vars.get(c[3]))); break;
+      case "wmdelete": vars.set(c[1], mapDelete.call(this.weakMap(c[2]), vars.get(c[3]))); break;
+      case "weakset": this.room(); vars.set(c[1], new Members(++this.made)); break;
+      case "wsadd": {
+        const set = this.weakSet(c[1]);
+        setAdd.call(set, this.heldWeakly(c[2]));
+        break;
+      }
+      case "wshas": vars.set(c[1], setHas.call(this.weakSet(c[2]), vars.get(c[3]))); break;
+      case "wsdelete": vars.set(c[1], setDelete.call(this.weakSet(c[2]), vars.get(c[3]))); break;
       case "collect": gc(); break;
     }
   }
@@ -93,7 +146,8 @@ class Agent {
 }
 const operands = {
   let: 2, new: 1, symbol: 1, symbolfor: 2, copy: 2, same: 3, say: 1, set: 3, get: 3, delete: 3, keys: 1, weakref: 2,
-  deref: 2, collect: 0,
+  deref: 2, weakmap: 1, wmset: 3, wmget: 3, wmhas: 3, wmdelete: 3, weakset: 1, wsadd: 2, wshas: 3, wsdelete: 3,
+  collect: 0,
 };
 const task = () => new Promise((go) => setImmediate(go));
 

@@ -8,11 +8,22 @@ Usage: plans.py NAME [NUMBER]. Each plan has one agent. NAME is one of
   held      NUMBER objects, each held by the one made after it, and the last by a variable (900,000)
   wide      one object that holds NUMBER others; a collection while they are held, and one after (100,000)
   list      as held, with a collection while the list is held, and one after (300,000)
+  entries-forward, entries-reversed, entries-shuffled
+            one WeakMap with NUMBER entries, in which each key's value is the next key; a collection while the WeakMap
+            and the first key are held, and one after; the entries are set from the first key on, from the last key
+            back, or in an order as if at random (300,000)
+  maps      NUMBER WeakMaps with an entry each, all of them and their keys held by properties; a collection while they
+            are, and one after (150,000)
+  nested    NUMBER WeakMaps with an entry each, whose value is the next WeakMap; a collection while the first WeakMap
+            and all keys are held, and one after (150,000)
   check     NUMBER jobs of 2,670 commands over few variables, every tenth a `say` (1,000, which are 50 MB)
-With wide the collections empty 0 and NUMBER + 1, with list 0 and NUMBER.
+With wide the collections empty 0 and NUMBER + 1, with list 0 and NUMBER, with entries-* 1 (what held the keys while the
+entries were set) and NUMBER + 2, with maps 0 and three times NUMBER, with nested 0 and twice NUMBER. Where there are
+entries, the value to which most of them lead is asked for after each collection, by a WeakRef.
 """
 
 import json
+import random
 import sys
 
 LONGEST = 10000  # the most commands that a job has
@@ -54,6 +65,53 @@ def linked(count):
     yield two_collections("n", "prev")
 
 
+def entries(order):
+    """The keys are made and held first, so that the order in which the entries are set is all that differs."""
+
+    def runs(count):
+        numbers = list(range(count))
+        if order == "reversed":
+            numbers.reverse()
+        elif order == "shuffled":
+            random.Random(1).shuffle(numbers)
+        yield [["weakmap", "m"], ["new", "r"]]
+        yield from jobs([[["new", "o"], ["set", "r", f"k{number}", "o"]] for number in range(count + 1)])
+        yield from jobs(
+            [
+                [["get", "a", "r", f"k{number}"], ["get", "b", "r", f"k{number + 1}"], ["wmset", "m", "a", "b"]]
+                for number in numbers
+            ]
+        )
+        yield [["get", "a", "r", "k0"], ["weakref", "w", "o"], *forgotten("b", "o", "r")]
+        yield from collections_watched("m", "a")
+
+    return runs
+
+
+def maps(count):
+    """Each WeakMap holds its key and the WeakMap before it by properties, and its entry's value by nothing else."""
+    piece = [
+        ["weakmap", "m"], ["new", "k"], ["new", "v"], ["wmset", "m", "k", "v"],
+        ["set", "m", "key", "k"], ["set", "m", "next", "prev"], ["copy", "prev", "m"],
+    ]
+    yield [*piece, ["weakref", "w", "v"]]
+    yield from jobs([piece] * (count - 1))
+    yield forgotten("k", "v", "m")
+    yield from collections_watched("prev")
+
+
+def nested(count):
+    """The WeakMaps are made from the innermost out; each key holds the one made before it by a property."""
+    piece = [
+        ["weakmap", "m"], ["new", "k"], ["wmset", "m", "k", "inner"],
+        ["set", "k", "next", "keys"], ["copy", "inner", "m"], ["copy", "keys", "k"],
+    ]
+    yield [*piece, ["weakref", "w", "m"]]
+    yield from jobs([piece] * (count - 1))
+    yield forgotten("k", "inner")
+    yield from collections_watched("m", "keys")
+
+
 def mixed(count):
     """Sets and gets properties of one object; every tenth command says a value. None is refused."""
     length = 2670
@@ -82,8 +140,19 @@ def jobs(pieces):
         yield [command for piece in pieces[first : first + size] for command in piece]
 
 
+def forgotten(*names):
+    return [["let", name, None] for name in names]
+
+
 def two_collections(*names):
-    return [["collect"], *(["let", name, None] for name in names), ["collect"]]
+    return [["collect"], *forgotten(*names), ["collect"]]
+
+
+def collections_watched(*names):
+    """The two in jobs of their own, so that asking for the target of w keeps nothing alive."""
+    asked = [["collect"], ["deref", "x", "w"], ["say", "x"]]
+    yield asked
+    yield [*forgotten("x", *names), *asked]
 
 
 PLANS = {
@@ -93,6 +162,11 @@ PLANS = {
     "held": (held, 900000),
     "wide": (wide, 100000),
     "list": (linked, 300000),
+    "entries-forward": (entries("forward"), 300000),
+    "entries-reversed": (entries("reversed"), 300000),
+    "entries-shuffled": (entries("shuffled"), 300000),
+    "maps": (maps, 150000),
+    "nested": (nested, 150000),
     "check": (mixed, 1000),
 }
 

@@ -1,13 +1,18 @@
 #!/usr/bin/env python3
 """Times the built program on the plans of plans.py, and beside it, where there is node, an interpreter of the same plans.
 
-Usage: run.py [--times N] [--limit SECONDS] [NAME[=NUMBER] ..]. Without names all plans are run, without N three times
-each, the two in turn, and each run has 60 seconds. Prints a table: the median time by the clock and of all processors
-(which other load changes less), the highest peak memory, and the program's numbers as multiples of the interpreter's.
-Reports that differ, but for `emptied N`, are told below it. It needs GNU time as `/usr/bin/time`.
+Usage: run.py [--times N] [--limit SECONDS] [NAME[=NUMBER] ..]
+       run.py [--times N] [--limit SECONDS] --growth NAME ..
+Without names all plans are run, without N three times each, the two in turn, and each run has 60 seconds. Prints a
+table: the median time by the clock and of all processors (which other load changes less), the highest peak memory, and
+the program's numbers as multiples of the interpreter's. With --growth each plan is run at 10,000, 30,000, 100,000 and
+300,000 in place of its usual number, and a line below it has the exponents between the first and the last: with 1 a
+time grows as the number, with 2 as its square; a constant part, such as node's start, lowers them. Reports that differ,
+but for `emptied N`, are told below the table. It needs GNU time as `/usr/bin/time`.
 """
 
 import argparse
+import math
 import os
 import shutil
 import signal
@@ -20,7 +25,11 @@ import time
 HERE = os.path.dirname(os.path.abspath(__file__))
 PROGRAM = os.path.join(os.path.dirname(HERE), "crates", "clusterrun", "out", "clusterrun")
 ENGINE = ["node", "--expose-gc", os.path.join(HERE, "engine.mjs")]
-NAMES = ["start", "commands", "new", "held", "wide", "list", "check"]
+NAMES = [
+    "start", "commands", "new", "held", "wide", "list", "entries-forward", "entries-reversed", "entries-shuffled",
+    "maps", "nested", "check",
+]
+SIZES = [10000, 30000, 100000, 300000]
 
 
 class Row:
@@ -71,12 +80,52 @@ def ratio(ours, theirs):
     return f"{ours / theirs:.2f}" if theirs else ""
 
 
+def compare(name, times, limit, has_node):
+    """Runs a plan with both, and prints its line of the table. Gives both rows, and whether the reports were the same."""
+    what, _, number = name.partition("=")
+    verb = "check" if what == "check" else "run"
+    same = True
+    with tempfile.TemporaryDirectory() as room:
+        plan = os.path.join(room, "plan.json")
+        with open(plan, "wb") as file:
+            made = [sys.executable, os.path.join(HERE, "plans.py"), what, *[number] * bool(number)]
+            subprocess.run(made, stdout=file, check=True)
+        ours, theirs = Row(), Row()
+        for _ in range(times):
+            reports = []
+            for row, tool in [(ours, [PROGRAM]), (theirs, ENGINE)][: 1 + has_node]:
+                if not row.fault:
+                    reports.append(measure(row, [*tool, verb, plan], room, limit))
+            if len(reports) == 2 and None not in reports and reports[0] != reports[1]:
+                same = False
+        both = not ours.fault and not theirs.fault and has_node
+        cells = [f"`{name}`", f"{os.path.getsize(plan) / 1e6:.1f}", *ours.cells()]
+        cells += theirs.cells() if has_node else ["", "", ""]
+        cells.append(ratio(statistics.median(ours.seconds), statistics.median(theirs.seconds)) if both else "")
+        cells.append(ratio(ours.peak, theirs.peak) if both else "")
+        print("| " + " | ".join(cells) + " |", flush=True)
+    return ours, theirs, same
+
+
+def exponents(first, last):
+    """Those of the time by the clock and of all processors, where both sizes were run to the end."""
+    if first.fault or last.fault or not first.seconds:
+        return ["", ""]
+    steps = math.log(SIZES[-1] / SIZES[0])
+    pairs = [(first.seconds, last.seconds), (first.worked, last.worked)]
+    medians = [(statistics.median(least), statistics.median(largest)) for least, largest in pairs]
+    return [f"{math.log(largest / least) / steps:.2f}" if least and largest else "" for least, largest in medians]
+
+
 def main():
     words = argparse.ArgumentParser(description=__doc__, formatter_class=argparse.RawDescriptionHelpFormatter)
     words.add_argument("names", nargs="*", metavar="NAME[=NUMBER]")
     words.add_argument("--times", type=int, default=3)
     words.add_argument("--limit", type=float, default=60)
+    words.add_argument("--growth", action="store_true")
     given = words.parse_args()
+    if given.growth and (not given.names or any("=" in name or name == "check" for name in given.names)):
+        words.error("--growth takes names of plans, without numbers, and not check, which would have too many jobs")
     if not os.path.isfile(PROGRAM):
         sys.exit("the program is not built: run ./clusterrun first")
     if not os.path.isfile("/usr/bin/time"):
@@ -86,27 +135,15 @@ def main():
     print("|" + "---|" * 10, flush=True)
     differing = []
     for name in given.names or NAMES:
-        what, _, number = name.partition("=")
-        verb = "check" if what == "check" else "run"
-        with tempfile.TemporaryDirectory() as room:
-            plan = os.path.join(room, "plan.json")
-            with open(plan, "wb") as file:
-                made = [sys.executable, os.path.join(HERE, "plans.py"), what, *[number] * bool(number)]
-                subprocess.run(made, stdout=file, check=True)
-            ours, theirs = Row(), Row()
-            for _ in range(given.times):
-                reports = []
-                for row, tool in [(ours, [PROGRAM]), (theirs, ENGINE)][: 1 + has_node]:
-                    if not row.fault:
-                        reports.append(measure(row, [*tool, verb, plan], room, given.limit))
-                if len(reports) == 2 and None not in reports and reports[0] != reports[1] and name not in differing:
-                    differing.append(name)
-            both = not ours.fault and not theirs.fault and has_node
-            cells = [f"`{name}`", f"{os.path.getsize(plan) / 1e6:.1f}", *ours.cells()]
-            cells += theirs.cells() if has_node else ["", "", ""]
-            cells.append(ratio(statistics.median(ours.seconds), statistics.median(theirs.seconds)) if both else "")
-            cells.append(ratio(ours.peak, theirs.peak) if both else "")
-            print("| " + " | ".join(cells) + " |", flush=True)
+        rows = []
+        for sized in [f"{name}={size}" for size in SIZES] if given.growth else [name]:
+            ours, theirs, same = compare(sized, given.times, given.limit, has_node)
+            rows.append((ours, theirs))
+            if not same and sized not in differing:
+                differing.append(sized)
+        if given.growth:
+            cells = [cell for first, last in zip(rows[0], rows[-1]) for cell in (*exponents(first, last), "")]
+            print("| " + " | ".join([f"`{name}`, exponents", "", *cells, "", ""]) + " |", flush=True)
     for name in differing:
         print(f"the reports of {name} differ")
     sys.exit(1 if differing else 0)

@@ -27,6 +27,17 @@ function object(v) {
   if (!isObject(v)) throw new Refused("TypeError: not an object");
   return v;
 }
+function made(Kind, v) {
+  if (!(v instanceof Kind)) throw new Refused(`TypeError: not a ${Kind.name}`);
+  return v;
+}
+// Symbols can't be held weakly yet, whatever this engine does.
+function heldWeakly(v) {
+  if (!isObject(v)) throw new Refused("TypeError: cannot be held weakly");
+  return v;
+}
+// A method as the engine has it, since an object may have a property of its name.
+const call = (Kind, name, at, ...values) => Kind.prototype[name].apply(at, values);
 const read = (a, x) => a.vars[x];
 const does = {
   let(a, x, l) { a.vars[x] = l === null ? undefined : l; },
@@ -44,13 +55,18 @@ const does = {
   delete(a, x, o, k) { a.vars[x] = Reflect.deleteProperty(object(read(a, o)), k); },
   keys(a, o) { a.out.push(["keys", ...Object.keys(object(read(a, o)))].join(" ")); },
   weakref(a, x, y) {
-    if (!isObject(read(a, y))) throw new Refused("TypeError: cannot be held weakly");
-    a.vars[x] = number(a, new WeakRef(read(a, y)));
+    a.vars[x] = number(a, new WeakRef(heldWeakly(read(a, y))));
   },
-  deref(a, x, w) {
-    if (!(read(a, w) instanceof WeakRef)) throw new Refused("TypeError: not a WeakRef");
-    a.vars[x] = WeakRef.prototype.deref.call(read(a, w));
-  },
+  deref(a, x, w) { a.vars[x] = call(WeakRef, "deref", made(WeakRef, read(a, w))); },
+  weakmap(a, x) { a.vars[x] = number(a, new WeakMap()); },
+  wmset(a, m, y, z) { call(WeakMap, "set", made(WeakMap, read(a, m)), heldWeakly(read(a, y)), read(a, z)); },
+  wmget(a, x, m, y) { a.vars[x] = call(WeakMap, "get", made(WeakMap, read(a, m)), read(a, y)); },
+  wmhas(a, x, m, y) { a.vars[x] = call(WeakMap, "has", made(WeakMap, read(a, m)), read(a, y)); },
+  wmdelete(a, x, m, y) { a.vars[x] = call(WeakMap, "delete", made(WeakMap, read(a, m)), read(a, y)); },
+  weakset(a, x) { a.vars[x] = number(a, new WeakSet()); },
+  wsadd(a, s, y) { call(WeakSet, "add", made(WeakSet, read(a, s)), heldWeakly(read(a, y))); },
+  wshas(a, x, s, y) { a.vars[x] = call(WeakSet, "has", made(WeakSet, read(a, s)), read(a, y)); },
+  wsdelete(a, x, s, y) { a.vars[x] = call(WeakSet, "delete", made(WeakSet, read(a, s)), read(a, y)); },
   collect() { gc(); },
 };
 function runJob(a, run) {

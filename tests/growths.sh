@@ -59,8 +59,27 @@ each_growth 0 run "$examples/properties.json"
 each_growth 0 run "$examples/kept.json" --turns --helpers 2
 each_growth 0 run "$examples/reaches.json"
 each_growth 0 run "$examples/cycle.json"
+each_growth 0 run "$examples/ephemerons.json"
+each_growth 0 run "$examples/entries.json"
+each_growth 0 run "$examples/members.json"
 each_growth 0 run "$examples/agents.json"
 each_growth 0 check "$examples/refusals.json"
+
+# a chain of entries, a key of several WeakMaps that is a member of several WeakSets, and each of the nine
+# commands on them; a collection while only the chain's first key leads to the rest, and one after
+link='["weakmap","m"],["wmset","m","k","m"],["wmset","m","m","k"],["weakset","s"],["wsadd","s","k"],["wsadd","s","m"]'
+link=$link',["new","v"],["set","v","m","m"],["set","v","s","s"],["wmset","n","l","v"],["copy","l","v"]'
+forget='["let","l",null],["let","v",null],["let","m",null],["let","s",null]'
+{
+    printf '{"version":1,"agents":[{"name":"a","callbacks":{},"jobs":[{"run":['
+    printf '["new","k"],["new","l"],["copy","f","l"],["weakmap","n"],'
+    yes "$link" | head -n 9 | paste -s -d ,
+    printf ',%s,["collect"],["wmget","v","n","f"],["get","m","v","m"],["get","s","v","s"],' "$forget"
+    printf '["wmhas","x","m","k"],["say","x"],["wmdelete","x","m","k"],["say","x"],'
+    printf '["wshas","x","s","k"],["say","x"],["wsdelete","x","s","k"],["say","x"],'
+    printf '%s,["let","f",null],["let","k",null],["collect"]]}]}]}\n' "$forget"
+} >"$room/tables.json"
+each_growth 0 run "$room/tables.json"
 
 # a fault in the last command of the last agent, so that all before it is read
 sed 's/\["keys", "x"\]/["keys", "1x"]/' "$examples/agents.json" >"$room/faulty.json"

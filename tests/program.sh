@@ -271,8 +271,13 @@ reported "a plan of more than a million bytes" 'say "last"'
 {
     many 100 '["new","x"]'
     job "say x" "new y" "say y"
+    job "weakmap y" "say y"
+    job "weakset y" "say y"
+    job "weakref y x" "say y"
+    job "weakref y y" "say y"
 } | joined
-reported "an object past the last identity" "say object 1000000" "error limit: values"
+reported "an object past the last identity" "say object 1000000" "error limit: values" "error limit: values" \
+    "error limit: values" "error limit: values" "error TypeError: cannot be held weakly"
 {
     many 99 '["new","x"]'
     yes '["new","x"]' | head -n 9999 | paste -s -d , | sed 's/.*/{"run":[&]}/'

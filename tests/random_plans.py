@@ -2,6 +2,10 @@
 """Random plans, whole and spoiled, through the program and through rules.py: each answer must be the same.
 
 Usage: random_plans.py PROGRAM COUNT SEED. Prints each plan that differs, and `N passed, M failed` last.
+
+The plans are of four kinds: of lives that were written by hand, mixed (`lives`); of commands that mostly suit what the
+variables hold at that point, WeakMaps and WeakSets before all (`tables`); of any commands (`any_jobs`); and with faults
+(`doubtful_plan`).
 """
 
 import copy
@@ -13,7 +17,22 @@ import sys
 import rules
 
 NAMES = ["a", "b", "c", "w", "x", "y"]
+# where `tables` has most of its WeakMaps, WeakSets and WeakRefs, and assigns little else
+PLACES = {"weakmap": ["m", "n"], "weakset": ["s"], "weakref": ["u", "v"]}
 KEYS = ["p", "q", "r"]
+# what the operands of each command are for: x is assigned, k a property's key, l a literal, t a text, and the others
+# are read: v as any value, o as an object, h as what can be held weakly, w as a WeakRef, m as a WeakMap, s as a WeakSet
+USES = {
+    "let": "xl", "new": "x", "symbol": "x", "symbolfor": "xt", "copy": "xv", "same": "xvv", "say": "v",
+    "set": "okv", "get": "xok", "delete": "xok", "keys": "o", "weakref": "xh", "deref": "xw",
+    "weakmap": "x", "wmset": "mhv", "wmget": "xmh", "wmhas": "xmh", "wmdelete": "xmh",
+    "weakset": "x", "wsadd": "sh", "wshas": "xsh", "wsdelete": "xsh",
+    "collect": "",
+}
+assert USES.keys() == rules.OPERANDS.keys()
+ASKING = ["wmhas", "wmdelete", "wshas", "wsdelete"]
+ANSWERING = ["same", "delete", *ASKING]  # what assigns true or false
+WEAK_TABLES = ["weakmap", "wmset", "wmget", "wmhas", "wmdelete", "weakset", "wsadd", "wshas", "wsdelete"]
 # numbers and texts that JSON readers treat differently, and arrays at and past the deepest nesting
 ODD_JSON = [
     b"1e400", b"-1e400", b"9" * 400, b"1E-400", b"1e3", b"1.0", b"-0", b'"\\ud800"', b'"\\u0061"', b'"\\u0022"',
@@ -21,8 +40,8 @@ ODD_JSON = [
 ]
 LITERALS = [None, True, False, 0, 1, -1, 9007199254740991, -9007199254740991, "", "k", "a text"]
 
-# Lives of objects and symbols, as commands in words; capitals stand for variables. At a slash a job ends, and it may
-# end between any two commands.
+# Lives of values, as commands in words; capitals stand for variables. At a slash a job ends, and it may end between any
+# two commands.
 LIVES = [
     # a target that goes, or stays to the end of the job that made its WeakRef; asked for twice
     "new A; weakref W A; let A null; collect; deref B W; say B; deref B W; say B; collect; deref B W; say B",
@@ -65,6 +84,74 @@ LIVES = [
     "new A; weakref W A; let A null; keys A; / collect; deref B W; say B",
     "new A; weakref W A; / let A null; deref B W; let B null; deref B B; / collect; deref B W; say B",
     "collect; collect",
+    # an entry whose key goes, and with it a value that nothing else holds; the same with key and value held
+    "weakmap M; new A; new B; wmset M A B; weakref W B; let B null; / collect; deref B W; say B; let A null; "
+    "let B null; / collect; deref B W; say B",
+    "weakmap M; new A; new B; wmset M A B; weakref W A; let A null; / collect; deref A W; say A; wmhas X M A; say X; "
+    "collect; say B",
+    "weakmap M; new A; new B; wmset M A B; collect; wmget C M A; same X B C; say X; wmdelete X M A; say X; "
+    "wmdelete X M A; say X; wmhas X M A; say X",
+    # a value that goes with its map, by its entry's deletion, or because another takes its place
+    "weakmap M; new A; new B; wmset M A B; weakref W B; let B null; let M null; / collect; deref B W; say B; say A",
+    "weakmap M; new A; new B; wmset M A B; weakref W B; let B null; wmdelete X M A; say X; / collect; deref B W; say B",
+    "weakmap M; new A; new B; new C; wmset M A B; wmset M A C; let C null; weakref W B; let B null; / collect; "
+    "wmget B M A; say B; deref B W; say B",
+    # a value that leads to its own key
+    "weakmap M; new A; wmset M A A; weakref W A; let A null; / collect; deref A W; say A; say M",
+    "weakmap M; new A; new B; set B p A; wmset M A B; weakref W A; let A null; let B null; / collect; deref A W; say A",
+    # a map that is its own key or value, or both, or a property of its key or value
+    "weakmap M; new A; wmset M M A; weakref W A; let A null; / collect; wmget A M M; say A; let A null; let M null; "
+    "/ collect; deref A W; say A",
+    "weakmap M; new A; wmset M A M; weakref W M; let M null; / collect; deref M W; say M; collect; wmhas X M A; say X",
+    "weakmap M; wmset M M M; wmget A M M; wmhas X A M; say X; weakref W M; let A null; let M null; / collect; "
+    "deref M W; say M",
+    "weakmap M; new A; new B; set A p M; wmset M A B; weakref W B; let B null; let M null; / collect; deref B W; "
+    "say B; get M A p; wmget C M A; say C",
+    # chains of entries, set from either end, in one map and in two, whole, and broken at a key
+    "weakmap M; new A; new B; new C; new D; wmset M A B; wmset M B C; wmset M C D; let B null; let C null; "
+    "let D null; collect; wmget B M A; wmget C M B; wmget D M C; say D",
+    "weakmap M; new A; new B; new C; new D; wmset M C D; wmset M B C; wmset M A B; let B null; let C null; "
+    "let D null; collect; wmget B M A; wmget C M B; wmget D M C; say D",
+    "new D; new C; new B; new A; weakmap M; weakmap N; wmset N C D; wmset M B C; wmset N A B; let B null; "
+    "let C null; let D null; collect; wmget B N A; wmget C M B; wmget D N C; say D",
+    "weakmap M; new A; new B; new C; wmset M B C; wmset M A B; weakref W C; let A null; let B null; let C null; "
+    "/ collect; deref C W; say C; say M",
+    # maps that only another map's entry leads to, and keys that only such a map's entry does
+    "weakmap M; weakmap N; new A; new B; wmset N A B; wmset M A N; let N null; weakref W B; let B null; / collect; "
+    "wmget N M A; wmget B N A; say B; deref B W; say B; let N null; let B null; / let M null; collect; deref B W; "
+    "say B",
+    "weakmap N; weakmap M; new A; new B; new C; wmset N B C; set N p B; wmset M A N; let N null; let B null; "
+    "let C null; collect; wmget N M A; get B N p; wmget C N B; say C",
+    "new A; new B; weakmap M; weakmap N; wmset N B M; wmset M A B; let B null; weakref W N; let N null; / collect; "
+    "wmget B M A; say B; deref N W; say N",
+    # keys that are WeakRefs: an entry's value may be the target, and lives as long as the WeakRef
+    "weakmap M; new A; weakref W A; wmset M W A; let A null; / collect; deref A W; say A; let A null; let W null; "
+    "/ collect; say M",
+    "weakmap M; new A; weakref W A; wmset M A W; let W null; weakref V A; let A null; / collect; deref A V; say A; "
+    "say M",
+    # maps and keys that are kept alive alone
+    "weakmap M; new A; new B; wmset M A B; weakref W A; let A null; let B null; collect; deref A W; wmget B M A; say B",
+    "weakmap M; new A; new B; wmset M A B; weakref W M; let M null; weakref V B; let B null; collect; deref M W; "
+    "wmget B M A; say B; let B null; let M null; / collect; deref B V; say B",
+    # sets, which hold no member; their own properties are held
+    "weakset S; new A; wsadd S A; wshas X S A; say X; weakref W A; let A null; / collect; deref A W; say A; "
+    "wshas X S A; say X; say S",
+    "weakset S; new A; wsadd S A; wsadd S A; collect; wshas X S A; say X; wsdelete X S A; say X; wsdelete X S A; "
+    "say X; wshas X S A; say X",
+    "weakset S; wsadd S S; weakref W S; wshas X S S; say X; let S null; / collect; deref S W; say S",
+    "weakset S; weakmap M; new A; wsadd S M; wmset M S A; set S p A; wshas X S M; say X; let A null; collect; "
+    "wmget A M S; get B S p; same X A B; say X; let M null; collect; keys S",
+    # what can't be held weakly is no key and no member, and asking for it is no refusal
+    "weakmap M; weakset S; symbol A; wmget B M A; say B; wmhas X M A; say X; wmdelete X M A; say X; wshas X S A; "
+    "say X; wsdelete X S A; say X; wmset M A A",
+    "weakset S; new A; wsadd S A; symbolfor B k; wshas X S B; say X; let B null; wsdelete X S B; say X; wsadd S B",
+    # what is no map or no set
+    "weakset S; new A; wmset S A A",
+    "weakmap M; new A; wsadd M A",
+    "new A; weakmap M; wmget B A M",
+    # what is made after a collection is no key or member, though what went was one
+    "weakmap M; weakset S; new A; wmset M A S; wsadd S A; let A null; collect; new A; wmhas X M A; say X; "
+    "wshas X S A; say X; wmset M A A; wmget B M A; say B",
 ]
 
 # Commands for spoiled plans: `collect`, written rightly and wrongly, and other faults
@@ -74,21 +161,22 @@ COLLECTS = [
 ]
 FAULTS = [
     ["new"], ["new", 1], ["new", "1x"], ["let", "x", 1.5], ["let", "x", "\u00e9"], ["let", "1x", 1.5], ["let", "1x", []],
+    ["weakmap"], ["weakset", "x", "x"], ["wmset", "x", "x"], ["wmset", "x", "1x", None], ["wmget", "x", "x", "1x"],
+    ["wmhas", "1x", "x", 1], ["wmdelete", "x", "x-", "x"], ["wsadd", "x"], ["wsadd", "x", "x", "x"], ["wshas", "x", "x"],
+    ["wsdelete", "x", "", "x"], ["WeakMap", "x"], ["wmclear", "x"],
 ]
 
 
+def operand(rng, use):
+    return rng.choice(LITERALS if use == "l" else ["", "k", "a text"] if use == "t" else KEYS if use == "k" else NAMES)
+
+
 def command(rng):
-    word = rng.choice(list(rules.OPERANDS) + ["new", "set", "weakref", "deref", "say", "collect"] * 2)
-    key = 1 if word == "set" else 2 if word in ("get", "delete") else None
-    args = []
-    for place, kind in enumerate(rules.OPERANDS[word]):
-        if kind == "l":
-            args.append(rng.choice(LITERALS))
-        elif kind == "t":
-            args.append(rng.choice(["", "k", "a text"]))
-        else:
-            args.append(rng.choice(KEYS if place == key else NAMES))
-    return [word, *args]
+    """Any command. The operands that are names of variables are drawn from few, whatever these hold."""
+    others = [word for word in USES if word not in WEAK_TABLES]
+    often = ["new", "set", "weakref", "deref", "say", "collect"]
+    word = rng.choice(WEAK_TABLES if rng.random() < 0.15 else others + often * 2)
+    return [word, *(operand(rng, use) for use in USES[word])]
 
 
 def callbacks(rng):
@@ -119,14 +207,132 @@ def life(rng):
         yield [None if word == "null" else word for word in piece.removeprefix("/").split()]
 
 
+def chain(rng):
+    """A chain of entries, each one's value the key of the next, that are set forward, backward or in any order, in one
+    map or in two, of which an entry of the first may alone lead to the second; what a collection leaves of it."""
+    m, n, first, holder, at, to = rng.sample(NAMES, 6)
+    length = rng.randint(2, 12)
+    maps = [m, rng.choice([m, n])]
+    yield from [["weakmap", m], ["weakmap", n], ["new", holder]]
+    for number in range(length + 1):
+        yield [rng.choice(["new"] * 5 + ["weakmap", "weakset"]), at]
+        yield ["set", holder, f"k{number}", at]
+    links = [(rng.choice(maps), number) for number in range(length)]
+    for table, number in rng.choice([links, links[::-1], rng.sample(links, length)]):
+        yield from [["get", at, holder, f"k{number}"], ["get", to, holder, f"k{number + 1}"], ["wmset", table, at, to]]
+    yield from [["get", first, holder, "k0"], ["get", to, holder, f"k{length}"]]
+    # From here on the first key alone is held, and a WeakRef to the last, in the holder's place.
+    yield from [["let", holder, None], ["let", at, None], ["weakref", holder, to], ["let", to, None]]
+    if inner := rng.random() < 0.4:
+        yield from [["wmset", m, m, n], ["let", n, None]]
+    if rng.random() < 0.2:
+        yield ["let", first, None]
+    yield None
+    yield from [["collect"], ["deref", to, holder], ["say", to], ["let", to, None], ["copy", at, first]]
+    if inner:
+        yield ["wmget", n, m, m]
+    for table, number in links[: rng.randint(0, length)]:
+        yield rng.choice([["wmget", at, table, at]] * 9 + [["wmdelete", to, table, at]])
+        yield ["say", at]
+    yield None
+    yield from [["collect"], ["deref", to, holder], ["say", to]]
+
+
+def suits(agent, use, name):
+    """Whether the variable holds what an operand of this use must be."""
+    if use == "v":
+        return True
+    right = {"o": agent.properties, "h": agent.properties, "w": agent.targets, "m": agent.entries, "s": agent.members}
+    value = agent.value(name)
+    return value[0] == "object" and value[1] in right[use]
+
+
+def suited(rng, agent):
+    """A command whose operands mostly suit what the agent's variables hold, and what may follow it at once."""
+    often = {
+        "let": 8, "new": 16, "set": 6, "get": 6, "copy": 4, "weakref": 8, "deref": 8, "collect": 6, "weakmap": 4,
+        "wmset": 26, "wmget": 16, "wmhas": 6, "wmdelete": 4, "wsadd": 8, "wshas": 6, "weakset": 2,
+    }
+    names = NAMES + [name for places in PLACES.values() for name in places]
+    while True:
+        word = rng.choices(list(USES), [often.get(word, 1) for word in USES])[0]
+        args, refused = [], False
+        for use in USES[word]:
+            if use == "x" and word in PLACES and rng.random() < 0.7:
+                args.append(rng.choice(PLACES[word]))
+            elif use == "x" and word in ANSWERING and rng.random() < 0.7:
+                args.append("z")
+            elif use == "x":
+                args.append(rng.choice(NAMES if rng.random() < 0.97 else names))
+            elif use == "l" and rng.random() < 0.8:
+                args.append(None)
+            elif use in "klt":
+                args.append(operand(rng, use))
+            else:
+                right = [name for name in names if suits(agent, use, name)]
+                refused = refused or not right
+                args.append(rng.choice(right if right and rng.random() < 0.98 else names))
+        if not refused or rng.random() < 0.02:
+            break
+    if word == "wmget" or (word in ASKING and rng.random() < 0.6):
+        # Of all that could be asked for, something that the map or set has, where there is such.
+        number = agent.value(args[1])[-1]
+        held = agent.entries.get(number) or agent.members.get(number) or []
+        args[2] = rng.choice([name for name in names if agent.value(name) in held] or [args[2]])
+    yield [word, *args]
+    if word in ("deref", "wmget", *ASKING) and rng.random() < 0.7:
+        yield ["say", args[0]]
+    if word in ("set", "wmset", "wsadd", "weakref") and rng.random() < 0.5:
+        # Now something else may hold it, or nothing.
+        yield ["let", args[-1], None]
+
+
+def tables(rng):
+    """Jobs of suited commands, and at last what the maps, sets and WeakRefs still have."""
+    agent, jobs = rules.Agent(), [[]]
+
+    def do(step):
+        jobs[-1].append(step)
+        try:
+            agent.do(step[0], step[1:])
+        except rules.TypeRefused:
+            jobs[-1] += [command(rng) for _ in range(rng.randint(0, 2))]
+            end()
+
+    def end():
+        agent.kept = []
+        jobs.append([])
+
+    for _ in range(rng.randint(20, 120)):
+        for step in suited(rng, agent):
+            if rng.random() < (0.6 if step == ["collect"] else 0.03):
+                end()
+            do(step)
+    end()
+    do(["collect"])
+    for name in NAMES:
+        do(["say", name])
+        for word, kind in [("wmget", "weakmap"), ("wshas", "weakset")]:
+            for table in PLACES[kind]:
+                if suits(agent, word[1], table):
+                    do([word, "z", table, name])
+                    do(["say", "z"])
+    for name in PLACES["weakref"]:
+        if suits(agent, "w", name):
+            do(["deref", "z", name])
+            do(["say", "z"])
+    return jobs
+
+
 def lives(rng):
     """Jobs of lives, one after the other, in which jobs end, and other commands stand, here and there."""
     jobs = [[]]
     for _ in range(rng.randint(1, 8)):
-        for step in life(rng):
+        steps, odd = (chain(rng), 0.003) if rng.random() < 0.1 else (life(rng), 0.05)
+        for step in steps:
             if step is None or rng.random() < 0.1:
                 jobs.append([])
-            if rng.random() < 0.05:
+            if rng.random() < odd:
                 jobs[-1].append(rng.choice([["collect"], command(rng)]))
             if step is not None:
                 jobs[-1].append(step)
@@ -190,8 +396,9 @@ def spoil(rng, value):
 
 def text(rng):
     kind = rng.random()
-    value = doubtful_plan(rng) if kind < 0.25 else plan_of(rng, lives if kind < 0.65 else any_jobs)
-    for _ in range(rng.choice([0, 0, 0, 0, 1] if kind < 0.65 else [0, 0, 1, 1, 2])):
+    jobs_of = lives if kind < 0.5 else tables if kind < 0.75 else any_jobs
+    value = doubtful_plan(rng) if kind < 0.2 else plan_of(rng, jobs_of)
+    for _ in range(rng.choice([0, 0, 0, 0, 1] if kind < 0.75 else [0, 0, 1, 1, 2])):
         value = spoil(rng, value)
     data = json.dumps(value, ensure_ascii=rng.random() < 0.5).encode()
     if rng.random() < 0.05:

@@ -13,6 +13,8 @@ LARGEST = 9007199254740991
 OPERANDS = {
     "let": "nl", "new": "n", "symbol": "n", "symbolfor": "nt", "copy": "nn", "same": "nnn", "say": "n",
     "set": "nnn", "get": "nnn", "delete": "nnn", "keys": "n", "weakref": "nn", "deref": "nn",
+    "weakmap": "n", "wmset": "nnn", "wmget": "nnn", "wmhas": "nnn", "wmdelete": "nnn",
+    "weakset": "n", "wsadd": "nn", "wshas": "nnn", "wsdelete": "nnn",
     "collect": "",
 }
 
@@ -169,11 +171,12 @@ class TypeRefused(Exception):
 
 
 class Agent:
-    """One agent: variables, objects with their properties, WeakRefs with their targets, what the running job
-    keeps alive, and the numbers of all that was emptied."""
+    """One agent: variables, objects with their properties, WeakRefs with their targets, WeakMaps with their entries,
+    WeakSets with their members, what the running job keeps alive, and the numbers of all that was emptied."""
 
     def __init__(self):
         self.variables, self.made, self.properties, self.targets = {}, 0, {}, {}
+        self.entries, self.members = {}, {}  # by the number of the WeakMap or WeakSet
         self.kept, self.gone = [], set()
 
     def value(self, name):
@@ -197,8 +200,7 @@ class Agent:
         return self.properties[value[1]]
 
     def new_weakref(self, target):
-        if target[0] != "object":
-            raise TypeRefused("TypeError: cannot be held weakly")
+        held_weakly(target)
         weakref = self.new_object()
         self.targets[weakref[1]] = target
         self.kept.append(target)
@@ -213,19 +215,58 @@ class Agent:
         self.kept.append(target)
         return target
 
+    def new_weakmap(self):
+        weakmap = self.new_object()
+        self.entries[weakmap[1]] = {}
+        return weakmap
+
+    def weakmap(self, name):
+        """The entries of the WeakMap in a variable, by key."""
+        value = self.value(name)
+        if value[0] != "object" or value[1] not in self.entries:
+            raise TypeRefused("TypeError: not a WeakMap")
+        return self.entries[value[1]]
+
+    def new_weakset(self):
+        weakset = self.new_object()
+        self.members[weakset[1]] = set()
+        return weakset
+
+    def weakset(self, name):
+        """The members of the WeakSet in a variable."""
+        value = self.value(name)
+        if value[0] != "object" or value[1] not in self.members:
+            raise TypeRefused("TypeError: not a WeakSet")
+        return self.members[value[1]]
+
     def reached(self):
-        """The numbers of all that variables and what is kept alive lead to; a WeakRef does not lead to its target."""
+        """The numbers of all that variables and what is kept alive lead to. A WeakRef does not lead to its target, a
+        WeakMap not to its keys, a WeakSet not to its members; an entry's value is reached where its WeakMap and its
+        key both are."""
         ahead, reached = [*self.variables.values(), *self.kept], set()
         while ahead:
-            value = ahead.pop()
-            if value[0] in ("object", "symbol") and value[1] not in reached:
-                reached.add(value[1])
-                ahead += self.properties.get(value[1], {}).values()
+            while ahead:
+                value = ahead.pop()
+                if value[0] in ("object", "symbol") and value[1] not in reached:
+                    reached.add(value[1])
+                    ahead += self.properties.get(value[1], {}).values()
+            for number in reached & set(self.entries):
+                for key, value in self.entries[number].items():
+                    if key[1] in reached and value[0] in ("object", "symbol") and value[1] not in reached:
+                        ahead.append(value)
         return reached
 
     def collect(self):
         dead = set(range(1, self.made + 1)) - self.gone - self.reached()
         self.gone |= dead
+        for tables in (self.entries, self.members):
+            for number in dead & set(tables):
+                del tables[number]
+        for entries in self.entries.values():
+            for key in [key for key in entries if key[1] in dead]:
+                del entries[key]
+        for members in self.members.values():
+            members.difference_update([member for member in members if member[1] in dead])
         return len(dead)
 
     def job(self, commands):
@@ -268,9 +309,38 @@ class Agent:
             self.variables[args[0]] = self.new_weakref(self.value(args[1]))
         elif word == "deref":
             self.variables[args[0]] = self.target(self.value(args[1]))
+        elif word == "weakmap":
+            self.variables[args[0]] = self.new_weakmap()
+        elif word == "wmset":
+            entries = self.weakmap(args[0])
+            entries[held_weakly(self.value(args[1]))] = self.value(args[2])
+        elif word == "wmget":
+            self.variables[args[0]] = self.weakmap(args[1]).get(self.value(args[2]), ("undefined",))
+        elif word == "wmhas":
+            self.variables[args[0]] = ("boolean", self.value(args[2]) in self.weakmap(args[1]))
+        elif word == "wmdelete":
+            self.variables[args[0]] = ("boolean", self.weakmap(args[1]).pop(self.value(args[2]), None) is not None)
+        elif word == "weakset":
+            self.variables[args[0]] = self.new_weakset()
+        elif word == "wsadd":
+            members = self.weakset(args[0])
+            members.add(held_weakly(self.value(args[1])))
+        elif word == "wshas":
+            self.variables[args[0]] = ("boolean", self.value(args[2]) in self.weakset(args[1]))
+        elif word == "wsdelete":
+            members, member = self.weakset(args[1]), self.value(args[2])
+            self.variables[args[0]] = ("boolean", member in members)
+            members.discard(member)
         elif word == "collect":
             return f"emptied {self.collect()}"
         return None
+
+
+def held_weakly(value):
+    """The value itself, where it can be held weakly."""
+    if value[0] != "object":
+        raise TypeRefused("TypeError: cannot be held weakly")
+    return value
 
 
 def literal(value):

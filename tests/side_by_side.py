@@ -2,8 +2,8 @@
 """Random plans through the program and through a JavaScript engine: what is said and refused must be the same.
 
 Usage: side_by_side.py PROGRAM COUNT SEED. It needs node, and engine.mjs beside it, which runs a plan with the engine's
-own objects, WeakRefs and full collections; how many values a collection emptied no engine tells. Prints each plan that
-differs, and `N passed, M failed` last.
+own objects, WeakRefs, WeakMaps, WeakSets and full collections; how many values a collection emptied no engine tells.
+Prints each plan that differs, and `N passed, M failed` last.
 """
 
 import json
@@ -21,7 +21,8 @@ def accepted_plans(program, count, rng):
     """Plans that the program runs, each as text with what the program reports."""
     plans = []
     while len(plans) < count:
-        jobs_of = random_plans.lives if rng.random() < 0.7 else random_plans.any_jobs
+        kind = rng.random()
+        jobs_of = random_plans.lives if kind < 0.5 else random_plans.tables if kind < 0.8 else random_plans.any_jobs
         plan = random_plans.plan_of(rng, jobs_of)
         for agent in plan["agents"]:
             agent["callbacks"] = {}

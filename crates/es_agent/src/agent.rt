@@ -16,6 +16,7 @@ ghost use Rattle.es_tables.specs.Tables.{SameState};
 ghost use Rattle.es_agent.specs.Graph.{AreMarksOf};
 
 mod decide;
+mod ephemerons;
 mod look_up;
 mod reach;
 

@@ -8,10 +8,10 @@ use Rattle.es_event.specs.LookBacks.{LookAlike}
 use Rattle.es_event.specs.Reach.{IsClosed}
 
 closed_before : (into : Receivers) (h : History) (code : Refusal) (m : ℕ → Type 0) → IsClosed into (Refused code ∷ h) m → IsClosed into h m
-closed_before into h code m c = record { variables = c.variables; kept = c.kept; properties = c.properties }
+closed_before into h code m c = record { variables = c.variables; kept = c.kept; properties = c.properties; entries = c.entries }
 
 closed_after : (into : Receivers) (h : History) (code : Refusal) (m : ℕ → Type 0) → IsClosed into h m → IsClosed into (Refused code ∷ h) m
-closed_after into h code m c = record { variables = c.variables; kept = c.kept; properties = c.properties }
+closed_after into h code m c = record { variables = c.variables; kept = c.kept; properties = c.properties; entries = c.entries }
 
 pub alike_refused : (into : Receivers) (h : History) (code : Refusal) → LookAlike into (Refused code ∷ h) h
 alike_refused into h code = record {
@@ -21,6 +21,8 @@ alike_refused into h code = record {
   kept = refl;
   gone = refl;
   targets = λ w. refl;
+  entries = λ w k. refl;
+  members = λ s v. refl;
   kinds = λ o. refl;
   made = omega arith;
   job = omega arith;

@@ -1,12 +1,11 @@
 -- A closed set stays closed, along every execution that is oblivious of what it lacks.
-use Rattle.std.proofs.Common.{◌≡◌, ℕ, ◌+◌, ◌≤◌, ◌==◌, not, Bool, true, false, sym, ◌∙◌, ap, refl, subst, arith, nat_lt, nat_le, List, [], ◌∷◌, ◌++◌, Some, inl, inr}
+use Rattle.std.proofs.Common.{◌≡◌, ℕ, ◌+◌, ◌<◌, ◌≤◌, not, Bool, true, false, sym, ◌∙◌, ap, refl, subst, arith, nat_lt, nat_le, List, [], ◌∷◌, ◌++◌, Some, inl, inr}
 use Rattle.std.specs.Prelude.{unwrap_or}
 use Rattle.std.specs.Option.{option_map_or}
 use Rattle.std.specs.Str.{bytes_eq}
-use Rattle.std.proofs.lemmas.Bool.{cases_Bool, and_from, and_right, or_cases, or_left, or_right, or_parts, lt-ltb, le-leb, lt-leb, false≢true}
-use Rattle.std.proofs.lemmas.List.Folds.{list_any-append}
+use Rattle.std.proofs.lemmas.Bool.{cases_Bool, and_from, and_right, or_cases, or_left, or_right, lt-ltb, le-leb, lt-leb, false≢true}
 use Rattle.es_value.specs.declared.value.Value.{Value}
-use Rattle.es_value.specs.declared.value.Value.TheVariants.{Undefined}
+use Rattle.es_value.specs.declared.value.Value.TheVariants.{Undefined, Object}
 use Rattle.es_event.specs.declared.event.Answer.{Answer}
 use Rattle.es_event.specs.declared.event.Answer.TheVariants.{Gives}
 use Rattle.es_event.specs.declared.event.Event.{Event}
@@ -15,26 +14,23 @@ use Rattle.es_event.specs.declared.command.Command.{Command}
 use Rattle.es_event.specs.declared.command.Command.TheVariants.{Deref}
 use Rattle.es_event.specs.Commands.{first, reads}
 use Rattle.es_event.specs.History.{History, at_key}
-use Rattle.es_event.specs.Identities.{identity, is_in, is_gone, is_made, has_identity_in, made, empties, gone}
+use Rattle.es_event.specs.Identities.{identity, is_in, is_gone, is_made, has_identity_in, made, gone}
 use Rattle.es_event.specs.Jobs.{Receivers}
 use Rattle.es_event.specs.Variables.{var, assigned}
-use Rattle.es_event.specs.Properties.{prop}
 use Rattle.es_event.specs.WeakRefs.{kept, first_target, target}
 use Rattle.es_event.specs.Rules.{Buffers, target_of}
 use Rattle.es_event.specs.Legal.{Lawful, LegalBy, values_of}
 use Rattle.es_event.specs.Live.{refers_into, DerefOf, ObliviousOf, Oblivious}
 use Rattle.es_event.specs.Reach.{IsClosed, IsClosedBeside, with_later}
 use Rattle.es_event.proofs.Accepted.{is_result}
+use Rattle.es_event.proofs.Entries.{still_there}
 use Rattle.es_event.proofs.Source.{IsDeref, source, fresh_number}
 use Rattle.es_event.proofs.Holds.{Holds, holds_after, holds_did, first_of, at_object, gives_held}
 use Rattle.es_event.proofs.Keeping.{kept_by, kept_either}
-use Rattle.es_event.proofs.Objects.{object_within, prop_owner}
+use Rattle.es_event.proofs.Objects.{object_within, prop_owner, map_within, key_within}
 use Rattle.es_event.proofs.Targets.{target_from}
 
 -- Later histories
-
-still_there : (e : Event) (g : History) (i : ℕ) → is_gone (e ∷ g) i ≡ false → is_gone g i ≡ false
-still_there e g i f = (or_parts (is_in (empties e) i) (is_gone g i) (sym (list_any-append (λ j. j == i) (empties e) (gone g)) ∙ f)).1
 
 not_gone : (f h : History) (i : ℕ) → is_gone (f ++ h) i ≡ false → is_gone h i ≡ false
 not_gone [] h i e = e
@@ -82,20 +78,20 @@ same_var into other (e ∷ h) x =
     ap (λ p. unwrap_or (at_key bytes_eq x p) (var other h x)) (same_assigned into other h e)
     ∙ ap (unwrap_or (at_key bytes_eq x (assigned into h e))) (same_var into other h x)
 
-was_made : (over : Buffers) (other : Receivers) (h : History) → LegalBy over other h → (o : ℕ) (k : List ℕ) (v : Value) → prop h o k ≡ Some v → is_made h o ≡ true
-was_made over other h l o k v e =
-    let w = object_within over other h l o (prop_owner over other h l o k v e) in
-    and_from (nat_lt 0 o) (nat_le o (made h)) (lt-ltb 0 o w.0) (le-leb o (made h) w.1)
+was_made : (h : History) (i : ℕ) → (0 < i) × (i ≤ made h) → is_made h i ≡ true
+was_made h i w = and_from (nat_lt 0 i) (nat_le i (made h)) (lt-ltb 0 i w.0) (le-leb i (made h) w.1)
+
+-- what was made at h and is had, is in m
+in_m : (h : History) (m : ℕ → Bool) (i : ℕ) → (0 < i) × (i ≤ made h) → with_later h m i ≡ true → m i ≡ true
+in_m h m i w e = elim (or_cases (m i) (not (is_made h i)) e) [ inl a ↦ a | inr b ↦ absurd (false≢true (sym (ap not (was_made h i w)) ∙ b)) ]
 
 held_at : (over : Buffers) (into other : Receivers) (h : History) (s : List ℕ) (m : ℕ → Bool) → IsClosedBeside s into h m → LegalBy over other h → Holds (Held h m) other h
 held_at over into other h s m all l = record {
   plain = λ v e i f. cc;
   variables = λ x i e. by_set h m i (all.closed.variables x i (ap identity (sym (same_var into other h x)) ∙ e));
-  properties = λ o k v held e i f.
-      elim (or_cases (m o) (not (is_made h o)) (held o refl)) [
-        | inl a ↦ by_set h m i (all.closed.properties o k v i a e f)
-        | inr b ↦ absurd (false≢true (sym (ap not (was_made over other h l o k v e)) ∙ b))
-      ];
+  properties = λ o k v held e i f. by_set h m i (all.closed.properties o k v i (in_m h m o (object_within over other h l o (prop_owner over other h l o k v e)) (held o refl)) e f);
+  entries = λ a k w v map key is e i f. by_set h m i (all.closed.entries a k v i
+      (in_m h m a (map_within over other h l a k v e) (map a refl)) (in_m h m k (key_within over other h l a k v e) (key k is)) e f);
 }
 
 -- What a command reads and gives
@@ -144,7 +140,7 @@ holds_along over into other h s m all (Did c vs r ∷ f) o =
     let given = gave over into other h s m all f c vs r before o.0 in
     holds_did (Held h m) other (f ++ h) c vs r before given.values given.answer
 holds_along over into other h s m all (e ∷ f) o =
-    holds_after (Held h m) other (f ++ h) e (holds_along over into other h s m all f o.1) (λ q t. cc) (λ q w t at. cc)
+    holds_after (Held h m) other (f ++ h) e (holds_along over into other h s m all f o.1) (λ q t. cc) (λ q w t at. cc) (λ q w t at. cc)
 
 keeps_along : (over : Buffers) (into other : Receivers) (h : History) (s : List ℕ) (m : ℕ → Bool) → IsClosedBeside s into h m → (f : History) → Oblivious s over other h f
     → (i : ℕ) → is_in (kept (f ++ h)) i ≡ true → with_later h m i ≡ true
@@ -159,6 +155,9 @@ keeps_along over into other h s m all (Did c vs r ∷ f) o i e =
 keeps_along over into other h s m all (JobEnded ∷ f) o i e = cc
 keeps_along over into other h s m all (x ∷ f) o i e = keeps_along over into other h s m all f o.1 i e
 
+held_object : (h : History) (m : ℕ → Bool) (p : ℕ) → with_later h m p ≡ true → Held h m (Object p)
+held_object h m p has j at = let same : p ≡ j = cc in subst (λ j. with_later h m j ≡ true) same has
+
 pub stays_closed : (over : Buffers) (into other : Receivers) (h : History) (s : List ℕ) (m : ℕ → Bool) → IsClosedBeside s into h m → (f : History) → Oblivious s over other h f
     → IsClosed other (f ++ h) (λ j. with_later h m j ≡ true)
 stays_closed over into other h s m all f o =
@@ -166,5 +165,6 @@ stays_closed over into other h s m all f o =
     record {
       variables = λ x i e. holds.variables x i e;
       kept = keeps_along over into other h s m all f o;
-      properties = λ p k v i has e is. holds.properties p k v (λ j at. let same : p ≡ j = cc in subst (λ j. with_later h m j ≡ true) same has) e i is;
+      properties = λ p k v i has e is. holds.properties p k v (held_object h m p has) e i is;
+      entries = λ p k v i map key e is. holds.entries p k (Object k) v (held_object h m p map) (held_object h m k key) refl e i is;
     }

@@ -97,8 +97,8 @@ NothingThatAClosedSetLacksIsLive =
 abbrev pub NothingDeadIsLive : Type 0
 NothingDeadIsLive = (into : Receivers) (h : History) (s : List ℕ) → AreDead into h s → Live into h s → ⊥
 
--- What a variable holds is live, and what a property holds of an object that is held so: a set with a member of these
--- is observed by some execution that is oblivious of it.
+-- What a variable holds is live, and what a property holds of an object that is held so, or an entry of a WeakMap under a
+-- key where both are: a set with a member of these is observed by some execution that is oblivious of it.
 abbrev pub WhatIsHeldIsLive : Type 0
 WhatIsHeldIsLive = (over : Buffers) (into : Receivers) (h : History) (s : List ℕ) (v : Value) → LegalBy over into h → IsHeld into h v → has_identity_in s v ≡ true → Live into h s
 
@@ -108,7 +108,8 @@ WhatIsHeldIsLive = (over : Buffers) (into : Receivers) (h : History) (s : List �
 abbrev pub NothingKeptIsGone : Type 0
 NothingKeptIsGone = (plan : AgentPlan) (h : History) (i : ℕ) → IsRun plan h → is_in (kept h) i ≡ true → is_in (gone h) i ≡ true → ⊥
 
--- Nothing that is reached is emptied: nothing that a variable, KeptAlive or a property of something reached holds.
+-- Nothing that is reached is emptied: nothing that a variable, KeptAlive or a property of something reached holds, or an
+-- entry of a WeakMap and a key that are both reached.
 abbrev pub NothingReachedIsGone : Type 0
 NothingReachedIsGone = (plan : AgentPlan) (h : History) (i : ℕ) → IsRun plan h → IsReached (receivers plan.jobs) h i → is_in (gone h) i ≡ true → ⊥
 

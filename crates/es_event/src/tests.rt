@@ -3,7 +3,7 @@
 ghost use Rattle.std.specs.Prelude.{⊤};
 
 use crate::{Command, Literal, Log, Members, OperandNames, Operands, Sequence, tests_lose_nothing};
-use es_value::{Name, Text, Value, same_value};
+use es_value::{Name, NoMemory, Text, Value, same_value};
 use std::test::Fail;
 
 #[test]
@@ -113,6 +113,80 @@ fn a_copied_command_reads_and_assigns_the_same(rt: HostRuntime) -> Result<(), Fa
     assert!(rt; matches!(collect.reads(), OperandNames::Nothing));
     assert!(rt; collect.assigns().is_none());
     assert!(rt; !collect.makes());
+    Ok(())
+}
+
+/// Whether a copy of the command reads this many variables, assigns one or none, and makes an identity or none.
+fn has_shape(command: Command, reads: usize, assigns: bool, makes: bool) -> Result<bool, NoMemory> {
+    let copied = command.copy();
+    drop(command);
+    let copied = copied?;
+    let count = match copied.reads() {
+        OperandNames::Nothing => 0,
+        OperandNames::One(_) => 1,
+        OperandNames::Two(_, _) => 2,
+        OperandNames::Three(_, _, _) => 3,
+        OperandNames::Four(_, _, _, _) => 4,
+    };
+    let same = count == reads && copied.assigns().is_some() == assigns && copied.makes() == makes;
+    drop(copied);
+    Ok(same)
+}
+
+#[test]
+fn commands_of_weakmaps_have_their_shapes(rt: HostRuntime) -> Result<(), Fail> {
+    let alloc = rt.alloc();
+    let to = Name::read(alloc, "x")?;
+    assert!(rt; has_shape(Command::WeakMap { to }, 0, true, true)?);
+    let map = Name::read(alloc, "m")?;
+    let key = Name::read(alloc, "k")?;
+    let from = Name::read(alloc, "y")?;
+    assert!(rt; has_shape(Command::WeakMapSet { map, key, from }, 3, false, false)?);
+    let to = Name::read(alloc, "x")?;
+    let map = Name::read(alloc, "m")?;
+    let key = Name::read(alloc, "k")?;
+    assert!(rt; has_shape(Command::WeakMapGet { to, map, key }, 2, true, false)?);
+    let to = Name::read(alloc, "x")?;
+    let map = Name::read(alloc, "m")?;
+    let key = Name::read(alloc, "k")?;
+    assert!(rt; has_shape(Command::WeakMapHas { to, map, key }, 2, true, false)?);
+    let to = Name::read(alloc, "x")?;
+    let map = Name::read(alloc, "m")?;
+    let key = Name::read(alloc, "k")?;
+    assert!(rt; has_shape(Command::WeakMapDelete { to, map, key }, 2, true, false)?);
+    Ok(())
+}
+
+#[test]
+fn commands_of_weaksets_have_their_shapes(rt: HostRuntime) -> Result<(), Fail> {
+    let alloc = rt.alloc();
+    let to = Name::read(alloc, "x")?;
+    assert!(rt; has_shape(Command::WeakSet { to }, 0, true, true)?);
+    let set = Name::read(alloc, "s")?;
+    let member = Name::read(alloc, "y")?;
+    assert!(rt; has_shape(Command::WeakSetAdd { set, member }, 2, false, false)?);
+    let to = Name::read(alloc, "x")?;
+    let set = Name::read(alloc, "s")?;
+    let member = Name::read(alloc, "y")?;
+    assert!(rt; has_shape(Command::WeakSetHas { to, set, member }, 2, true, false)?);
+    let to = Name::read(alloc, "x")?;
+    let set = Name::read(alloc, "s")?;
+    let member = Name::read(alloc, "y")?;
+    assert!(rt; has_shape(Command::WeakSetDelete { to, set, member }, 2, true, false)?);
+    Ok(())
+}
+
+#[test]
+fn a_copied_entry_keeps_the_order_of_its_names(rt: HostRuntime) -> Result<(), Fail> {
+    let alloc = rt.alloc();
+    let map = Name::read(alloc, "m")?;
+    let key = Name::read(alloc, "k")?;
+    let from = Name::read(alloc, "y")?;
+    let entry = Command::WeakMapSet { map, key, from };
+    let again = entry.copy()?;
+    assert!(rt;
+        matches!(again.reads(), OperandNames::Three(a, b, c) if a.as_str() == "m" && b.as_str() == "k" && c.as_str() == "y")
+    );
     Ok(())
 }
 

@@ -34,6 +34,8 @@ end live 0 awaiting 0 unregistered 0 taken 0
 agent second
 error TypeError: not an object
 error TypeError: not a WeakRef
+error TypeError: not a WeakMap
+error TypeError: not a WeakSet
 error TypeError: cannot be held weakly
 error limit: values
 emptied 0
@@ -155,6 +157,8 @@ fn breaker(alloc: Global) -> Result<Sequence<Event>, Fail> {
     for code in [
         Refusal::NotAnObject,
         Refusal::NotAWeakRef,
+        Refusal::NotAWeakMap,
+        Refusal::NotAWeakSet,
         Refusal::NotHeldWeakly,
         Refusal::TooManyValues,
     ] {

@@ -160,6 +160,42 @@ fn command_named(
             let (to, weakref) = two(names, operands, spot)?;
             Ok(Command::Deref { to, weakref })
         }
+        "weakmap" => {
+            let to = one(names, operands, spot)?;
+            Ok(Command::WeakMap { to })
+        }
+        "wmset" => {
+            let (map, key, from) = three(names, operands, spot)?;
+            Ok(Command::WeakMapSet { map, key, from })
+        }
+        "wmget" => {
+            let (to, map, key) = three(names, operands, spot)?;
+            Ok(Command::WeakMapGet { to, map, key })
+        }
+        "wmhas" => {
+            let (to, map, key) = three(names, operands, spot)?;
+            Ok(Command::WeakMapHas { to, map, key })
+        }
+        "wmdelete" => {
+            let (to, map, key) = three(names, operands, spot)?;
+            Ok(Command::WeakMapDelete { to, map, key })
+        }
+        "weakset" => {
+            let to = one(names, operands, spot)?;
+            Ok(Command::WeakSet { to })
+        }
+        "wsadd" => {
+            let (set, member) = two(names, operands, spot)?;
+            Ok(Command::WeakSetAdd { set, member })
+        }
+        "wshas" => {
+            let (to, set, member) = three(names, operands, spot)?;
+            Ok(Command::WeakSetHas { to, set, member })
+        }
+        "wsdelete" => {
+            let (to, set, member) = three(names, operands, spot)?;
+            Ok(Command::WeakSetDelete { to, set, member })
+        }
         "collect" => {
             none(operands, spot)?;
             outside_callbacks(spot)?;

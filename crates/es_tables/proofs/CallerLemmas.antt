@@ -1,7 +1,7 @@
 -- What a caller cites: that the tables say what a history says, at first, after growths, and after each event.
 use Rattle.std.proofs.Common.{◌≡◌, ℕ, ◌<◌, ap, ◌∙◌, length, reverse, arith, [], Option, None}
 use Rattle.std.proofs.lemmas.Bool.Decides.{nat_tests}
-use Rattle.std.specs.Prelude.{unwrap_or}
+use Rattle.std.specs.Prelude.{unwrap_or, is_some}
 use Rattle.std.specs.Map.{lookup}
 use Rattle.std.specs.Option.{option_map}
 use Rattle.std.specs.Str.{bytes_eq}
@@ -29,6 +29,8 @@ says_new into s new = record {
   keys = λ o here. ap (λ t. keys t o) new.heap;
   targets = λ w here. ap (λ ts. option_map Object (found ts w)) new.targets;
   kept = ap (λ k. reverse k) new.kept;
+  entries = λ m k. new.entries m k;
+  members = λ m k. ap is_some (new.members m k);
   tags = λ i positive. ap (λ ts. tag_at ts i) new.tags ∙ none_made i positive;
   made = ap (λ ts. length ts) new.tags;
 }
@@ -42,6 +44,8 @@ says_same into h s t same says = record {
   keys = λ o here. same.heap.keys o ∙ says.keys o here;
   targets = λ w here. ap (option_map Object) (same.targets w) ∙ says.targets w here;
   kept = ap (λ k. reverse k) same.kept ∙ says.kept;
+  entries = λ m k. same.entries m k ∙ says.entries m k;
+  members = λ m k. ap is_some (same.members m k) ∙ says.members m k;
   tags = λ i positive. ap (λ ts. tag_at ts i) same.tags ∙ says.tags i positive;
   made = ap (λ ts. length ts) same.tags ∙ says.made;
 }

@@ -7,15 +7,18 @@ use Rattle.es_value.specs.declared.value.Value.{Value}
 use Rattle.es_value.specs.declared.value.Value.TheVariants.{Object}
 use Rattle.es_props.specs.Heap.{Properties, object, keys_of, value_at}
 use Rattle.es_weakref.specs.WeakRefs.{target, unless_among}
+use Rattle.es_ephemeron.specs.Ephemerons.{record_at}
 use Rattle.es_event.specs.declared.event.Event.TheVariants.{Emptied}
 use Rattle.es_event.specs.Commands.{Kind}
 use Rattle.es_event.specs.History.{History}
 use Rattle.es_event.specs.Identities.{identity, made, gone, is_gone, is_in, has_identity_in, kind}
 use Rattle.es_event.specs.Jobs.{Receivers}
 use Rattle.es_event.specs.WeakRefs.{first_target, unless_gone}
+use Rattle.es_event.specs.Ephemerons.{first_entry, first_member}
 use Rattle.es_event.proofs.Lists.{in_both, out_of_both}
 use Rattle.es_tables.specs.Tags.{tag_of}
 use Rattle.es_tables.specs.Tables.{State, Says, Emptying}
+use Rattle.es_tables.proofs.Weak.{dropped}
 
 -- an object is there unless it is among these
 left_of : (b s g : Bool) (o : Option Properties) → is_some o ≡ (s && not g) → is_some (cond b None o) ≡ (s && not (b || g))
@@ -66,6 +69,10 @@ shown_emptied : (b g : Bool) (i m : ℕ) (k : Option Kind)
 shown_emptied true g i m k = grind (arith, nat_tests)
 shown_emptied false g i m k = grind (arith, nat_tests)
 
+some_left : {A : Type 0} (b : Bool) (o : Option A) → is_some (cond b None o) ≡ cond b false (is_some o)
+some_left true o = refl
+some_left false o = refl
+
 pub says_emptied : (into : Receivers) (h : History) (s t : State) (ids : List ℕ) → Says into h s → Emptying s ids t → Says into (Emptied ids ∷ h) t
 says_emptied into h s t ids says new = record {
   variables = λ x. new.variables x ∙ says.variables x;
@@ -80,6 +87,9 @@ says_emptied into h s t ids says new = record {
       ap (option_map Object) (new.targets w ∙ ap (λ b. cond b None (option_and_then (unless_among ids) (target s.weakrefs w))) out.0)
       ∙ aimed_still ids (gone h) (target s.weakrefs w) (first_target h w) (says.targets w out.1);
   kept = ap (λ k. reverse k) new.kept ∙ says.kept;
+  entries = λ m k. new.entries m k ∙ ap (cond (is_in ids m || is_in ids k) None) (says.entries m k) ∙ dropped None ids h m k (first_entry h m k);
+  members = λ m k. ap is_some (new.members m k) ∙ some_left (is_in ids m || is_in ids k) (record_at s.weak.members.all m k)
+      ∙ ap (cond (is_in ids m || is_in ids k) false) (says.members m k) ∙ dropped false ids h m k (first_member h m k);
   tags = λ i positive. new.tags i positive
       ∙ ap (λ o. if is_in ids i then None else o) (says.tags i positive)
       ∙ shown_emptied (is_in ids i) (is_gone h i) i (made h) (kind h i)

@@ -1,6 +1,7 @@
 -- What the tables add to a list is what is asked for.
 use Rattle.std.proofs.Common.{◌≡◌, ℕ, Bool, true, sym, ◌∙◌, ap, refl, List, [], ◌∷◌, ◌++◌, Option, Some, None}
 use Rattle.std.specs.Prelude.{unwrap_or}
+use Rattle.std.specs.Prelude.{nat_eq}
 use Rattle.std.specs.List.{IsDistinct}
 use Rattle.std.specs.Map.{lookup}
 use Rattle.std.specs.Str.{bytes_eq}
@@ -11,8 +12,11 @@ use Rattle.es_props.specs.Heap.{Store, keys, keys_of, edges, value_at, HasProper
 use Rattle.es_props.proofs.CallerLemmas.{edges-from_properties, properties-from_edges}
 use Rattle.es_props.proofs.Held.{identities, HasFound, found_of_all, all_of_found}
 use Rattle.es_props.proofs.Tables.{value_at_is_lookup}
+use Rattle.es_ephemeron.specs.Ephemerons.{Records, holders, records_at, record_at}
+use Rattle.es_ephemeron.proofs.CallerLemmas.{all_records-from_each, each-from_all_records}
+use Rattle.es_mark.specs.Graph.{HasValue}
 use Rattle.es_mark.proofs.Lists.{all_front, all_back, all_join}
-use Rattle.es_tables.specs.Found.{Adds, HasBound, HasHeld}
+use Rattle.es_tables.specs.Found.{Adds, HasBound, HasHeld, AddsEntries}
 use Rattle.es_tables.specs.Tables.{State, Bindings}
 
 -- what stands in the entries is what is bound
@@ -52,4 +56,14 @@ adds_edges s o old new added distinct = record {
   added = added;
   only = λ t has. edges-from_properties s o t distinct has;
   all = λ t all. properties-from_edges s o t all;
+}
+
+-- where no WeakMap stands twice
+pub adds_entries : (all : List (Records Value)) (k : ℕ) (old new : List (ℕ × Value)) → new ≡ old ++ records_at all k → IsDistinct nat_eq (holders (records_at all k)) → AddsEntries all k old new
+adds_entries all k old new added distinct = record {
+  entries = records_at all k;
+  added = added;
+  recorded = all_records-from_each (λ m v. record_at all m k ≡ Some v) all k distinct (λ m v e. e);
+  only = λ t has. all_records-from_each (λ m v. t m ≡ true → HasValue t v) all k distinct (λ m v e here. has m v here e);
+  all_of = λ t every m v here e. each-from_all_records (λ m v. t m ≡ true → HasValue t v) all k every m v e here;
 }

@@ -7,3 +7,4 @@ pub mod Outcomes
 pub mod Passing
 pub mod Recorded
 pub mod Tagging
+pub mod Weak

@@ -8,6 +8,7 @@ use Rattle.es_value.specs.declared.value.Value.{Value}
 use Rattle.es_value.specs.declared.value.Value.TheVariants.{Object}
 use Rattle.es_props.specs.Heap.{has, property, keys}
 use Rattle.es_weakref.specs.WeakRefs.{target}
+use Rattle.es_ephemeron.specs.Ephemerons.{record_at}
 use Rattle.es_event.specs.declared.event.Answer.{Answer}
 use Rattle.es_event.specs.declared.event.Refusal.TheVariants.{NotHeldWeakly}
 use Rattle.es_value.specs.Values.{is_held_weakly}
@@ -21,6 +22,7 @@ use Rattle.es_event.specs.Identities.{made, gone, is_gone, is_in, empties, has_i
 use Rattle.es_event.specs.Jobs.{Receivers}
 use Rattle.es_event.specs.Variables.{assigned}
 use Rattle.es_event.specs.Properties.{put, same_key, keys_after}
+use Rattle.es_event.specs.Ephemerons.{same_pair, entered, first_entry, joined, first_member}
 use Rattle.es_event.specs.WeakRefs.{aims, first_target, unless_gone, keeps, ends_job}
 use Rattle.es_event.specs.Rules.{result, first_refusal, tests, room}
 use Rattle.es_event.specs.Legal.{Lawful, LegalBy}
@@ -33,6 +35,7 @@ use Rattle.es_tables.specs.declared.effects.Effects.{Effects}
 use Rattle.es_tables.specs.Effects.{AreEffects, Applied, object_born, points}
 use Rattle.es_tables.specs.Tables.{State, Says, bound}
 use Rattle.es_tables.proofs.Fresh.{next_target, born_next}
+use Rattle.es_tables.proofs.Weak.{left_of, written, entered_there, joined_there}
 use Rattle.es_tables.proofs.Tagging.{tags_after, made_after}
 
 -- What is emptied
@@ -106,6 +109,11 @@ target_step into h (Did c vs r) s w legal lawful stays same =
 target_step into h e s w legal lawful stays same =
     plain_target (gone h) s (kind h w) (born e) w same (λ q is. cc)
 
+-- Entries and members
+
+left_still : {A : Type 0} (h : History) (e : Event) (m k : ℕ) (none a : A) → empties e ≡ [] → left_of none (is_gone h m) (is_gone h k) a ≡ left_of none (is_gone (e ∷ h) m) (is_gone (e ∷ h) k) a
+left_still h e m k none a quiet = ap (λ b. left_of none b (is_gone h k) a) (sym (same_gone h e m quiet)) ∙ ap (λ b. left_of none (is_gone (e ∷ h) m) b a) (sym (same_gone h e k quiet))
+
 -- All tables
 
 pub says_after : (into : Receivers) (h : History) (s t : State) (e : Event) (f : Effects)
@@ -127,6 +135,16 @@ says_after into h s t e f legal lawful stays quiet says are applied = record {
       ∙ ap (λ b. cond b [] (option_to_list f.kept ++ reverse s.weakrefs.kept)) are.clears
       ∙ ap (λ ids. cond (ends_job e) [] (ids ++ reverse s.weakrefs.kept)) are.kept
       ∙ ap (λ ids. cond (ends_job e) [] (keeps e ++ ids)) says.kept;
+  entries = λ m k. applied.entries m k
+      ∙ ap (λ p. unwrap_or (at_key same_pair (m, k) p) (record_at s.weak.entries.all m k)) are.entered
+      ∙ ap (unwrap_or (at_key same_pair (m, k) (entered e))) (says.entries m k)
+      ∙ written None m k (entered e) (is_gone h m) (is_gone h k) (first_entry h m k) (entered_there into h e m k lawful stays)
+      ∙ left_still h e m k None (first_entry (e ∷ h) m k) quiet;
+  members = λ m k. applied.members m k
+      ∙ ap (λ p. unwrap_or (at_key same_pair (m, k) p) (is_some (record_at s.weak.members.all m k))) are.joined
+      ∙ ap (unwrap_or (at_key same_pair (m, k) (joined e))) (says.members m k)
+      ∙ written false m k (joined e) (is_gone h m) (is_gone h k) (first_member h m k) (joined_there into h e m k lawful stays)
+      ∙ left_still h e m k false (first_member (e ∷ h) m k) quiet;
   tags = tags_after into h e s.tags.all t.tags.all f.makes legal lawful (λ i. same_gone h e i quiet) says.made says.tags (sym are.makes) applied.tags;
   made = made_after h e s.tags.all t.tags.all f.makes says.made (sym are.makes) applied.tags;
 }

@@ -1,5 +1,5 @@
 -- Internal: what an event does to the tables.
-use Rattle.std.specs.Prelude.{ℕ, ◌≡◌, ◌==◌, ◌||◌, ◌++◌, false, List, [], map, Option, Some, None, unwrap_or, reverse, if◌then◌else◌}
+use Rattle.std.specs.Prelude.{ℕ, ◌≡◌, ◌==◌, ◌||◌, ◌++◌, false, List, [], map, Option, Some, None, unwrap_or, is_some, reverse, if◌then◌else◌}
 use Rattle.std.specs.Option.{option_map, option_map_or, option_to_list}
 use Rattle.std.specs.Str.{bytes_eq}
 use Rattle.es_value.specs.declared.value.Value.{Value}
@@ -17,8 +17,10 @@ use Rattle.es_event.specs.Jobs.{Receivers}
 use Rattle.es_event.specs.Variables.{assigned}
 use Rattle.es_event.specs.Properties.{put, same_key, keys_after}
 use Rattle.es_event.specs.WeakRefs.{ends_job, keeps}
+use Rattle.es_event.specs.Ephemerons.{same_pair, entered, joined}
 use Rattle.es_props.specs.Heap.{has, property, keys}
 use Rattle.es_weakref.specs.WeakRefs.{target}
+use Rattle.es_ephemeron.specs.Ephemerons.{record_at}
 use Rattle.es_tables.specs.declared.effects.Effects.{Effects}
 use Rattle.es_tables.specs.Tags.{tag_made_at}
 use Rattle.es_tables.specs.Tables.{State, bound}
@@ -49,6 +51,8 @@ pub record AreEffects (event : Event) (e : Effects) : Type 0 where
   pub put : e.put ≡ put event
   pub born : e.born ≡ object_born event
   pub points : with_option e.points ≡ points event
+  pub entered : e.entered ≡ entered event
+  pub joined : e.joined ≡ joined event
   pub kept : option_to_list e.kept ≡ keeps event
   pub clears : e.clears ≡ ends_job event
   pub makes : e.makes ≡ tag_made_at event
@@ -60,5 +64,7 @@ pub record Applied (s : State) (e : Effects) (t : State) : Type 0 where
   pub keys : (o : ℕ) → keys t.heap o ≡ keys_after o e.put (keys s.heap o)
   pub objects : (o : ℕ) → has t.heap o ≡ (option_map_or (λ b. b == o) e.born false || has s.heap o)
   pub targets : (w : ℕ) → target t.weakrefs w ≡ unwrap_or (at_key (λ i j. i == j) w (with_option e.points)) (target s.weakrefs w)
+  pub entries : (m k : ℕ) → record_at t.weak.entries.all m k ≡ unwrap_or (at_key same_pair (m, k) e.entered) (record_at s.weak.entries.all m k)
+  pub members : (m k : ℕ) → is_some (record_at t.weak.members.all m k) ≡ unwrap_or (at_key same_pair (m, k) e.joined) (is_some (record_at s.weak.members.all m k))
   pub kept : reverse t.weakrefs.kept ≡ (if e.clears then [] else option_to_list e.kept ++ reverse s.weakrefs.kept)
   pub tags : t.tags.all ≡ s.tags.all ++ map Some (option_to_list e.makes)

@@ -1,7 +1,11 @@
 -- Internal: which identities a call adds to a list, by the sets that have them.
 use Rattle.std.specs.Prelude.{ℕ, ◌≡◌, Bool, true, List, ◌++◌, Some}
+use Rattle.es_value.specs.declared.value.Value.{Value}
+use Rattle.es_ephemeron.specs.Ephemerons.{Records}
+pub use Rattle.es_ephemeron.specs.Ephemerons.{record_at}
+use Rattle.std.specs.List.{AllByRecursion}
 use Rattle.es_value.specs.Values.{identity}
-use Rattle.es_mark.specs.Graph.{HasAll}
+use Rattle.es_mark.specs.Graph.{HasAll, HasValue, HasValues}
 use Rattle.es_tables.specs.Tables.{State, Bindings, bound}
 
 -- these identities are added, and a set has them all exactly where it has what is asked for
@@ -18,3 +22,15 @@ HasBound b t = (x : List ℕ) (i : ℕ) → identity (bound b x) ≡ Some i → 
 -- and what is kept
 abbrev pub HasHeld : State → (ℕ → Bool) → Type 0
 HasHeld s t = HasBound s.variables t × HasAll s.weakrefs.kept t
+
+-- the set has the value of each entry with key k whose map it has
+abbrev pub HasEntered : List (Records Value) → ℕ → (ℕ → Bool) → Type 0
+HasEntered all k t = (m : ℕ) (v : Value) → t m ≡ true → record_at all m k ≡ Some v → HasValue t v
+
+-- entries with key k are added, and a set has the value of each whose map it has exactly where it has all that it asks for
+pub record AddsEntries (all : List (Records Value)) (k : ℕ) (old new : List (ℕ × Value)) : Type 0 where
+  pub entries : List (ℕ × Value)
+  pub added : new ≡ old ++ entries
+  pub recorded : AllByRecursion (λ e. record_at all e.0 k ≡ Some e.1) entries
+  pub only : (t : ℕ → Bool) → HasEntered all k t → HasValues entries t
+  pub all_of : (t : ℕ → Bool) → HasValues entries t → HasEntered all k t

@@ -4,6 +4,7 @@ use Rattle.std.specs.Option.{option_map_or}
 use Rattle.es_value.specs.declared.value.Value.{Value}
 use Rattle.es_props.specs.Heap.{has, room_at}
 use Rattle.es_weakref.specs.WeakRefs.{target}
+use Rattle.es_ephemeron.specs.Ephemerons.{room_at as room_under}
 use Rattle.es_tables.specs.declared.effects.Effects.{Effects}
 use Rattle.es_tables.specs.Tables.{State}
 
@@ -25,6 +26,21 @@ has_room rooms put = option_map_or (λ p. has_room_at rooms p.0.0 p.1) put true
 abbrev pub has_place : List ℕ → Option ℕ → Bool
 has_place rooms born = option_map_or (λ o. nat_le o (length rooms)) born true
 
+-- there is room under the key for the entry that is set; a delete needs none
+abbrev pub has_room_under : List ℕ → ℕ → Option Value → Bool
+has_room_under rooms k v = option_map_or (λ v. nat_lt 0 (room_under rooms k)) v true
+
+abbrev pub has_entry_room : List ℕ → Option ((ℕ × ℕ) × Option Value) → Bool
+has_entry_room rooms entered = option_map_or (λ p. has_room_under rooms p.0.1 p.1) entered true
+
+-- there is room for the member that is added; a delete needs none
+abbrev pub has_room_for : List ℕ → ℕ → Bool → Bool
+has_room_for rooms k true = nat_lt 0 (room_under rooms k)
+has_room_for rooms k false = true
+
+abbrev pub has_member_room : List ℕ → Option ((ℕ × ℕ) × Bool) → Bool
+has_member_room rooms joined = option_map_or (λ p. has_room_for rooms p.0.1 p.1) joined true
+
 -- there is room for all that the effects add
 pub record IsReady (s : State) (e : Effects) : Type 0 where
   pub variables : 0 < s.variables.room
@@ -32,4 +48,6 @@ pub record IsReady (s : State) (e : Effects) : Type 0 where
   pub born : has_place s.rooms e.born ≡ true
   pub targets : 0 < s.weakrefs.target_room
   pub kept : 0 < s.weakrefs.kept_room
+  pub entered : has_entry_room s.weak.entries.rooms e.entered ≡ true
+  pub joined : has_member_room s.weak.members.rooms e.joined ≡ true
   pub tags : 0 < s.tags.room

@@ -7,12 +7,14 @@ use Rattle.es_value.specs.declared.value.Value.{Value}
 use Rattle.es_value.specs.declared.value.Value.TheVariants.{Undefined, Object}
 use Rattle.es_props.specs.Heap.{Store, object, has, property, keys}
 use Rattle.es_weakref.specs.WeakRefs.{Contents, target, unless_among}
+use Rattle.es_ephemeron.specs.Ephemerons.{Contents as WeakContents, record_at, Unchanged, Empties}
 use Rattle.es_event.specs.History.{History}
 use Rattle.es_event.specs.Identities.{is_in, made, is_gone, kind}
 use Rattle.es_event.specs.Jobs.{Receivers}
 use Rattle.es_event.specs.Variables.{var}
 use Rattle.es_event.specs.Properties.{prop, keys as keys_said}
 use Rattle.es_event.specs.WeakRefs.{target as target_said, kept}
+use Rattle.es_event.specs.Ephemerons.{entry, is_member}
 use Rattle.es_tables.specs.Tags.{TagList, tag_at, tag_said}
 
 -- the variables that were assigned, and for how many more there is room
@@ -31,6 +33,8 @@ pub record State : Type 0 where
   -- for how many more properties each object has room
   pub rooms : List ℕ
   pub weakrefs : Contents
+  -- entries of WeakMaps and members of WeakSets
+  pub weak : WeakContents
   pub tags : TagList
 
 -- nothing assigned, nothing made
@@ -39,6 +43,8 @@ pub record IsNew (s : State) : Type 0 where
   pub heap : s.heap ≡ []
   pub targets : s.weakrefs.targets ≡ []
   pub kept : s.weakrefs.kept ≡ []
+  pub entries : (m k : ℕ) → record_at s.weak.entries.all m k ≡ None
+  pub members : (m k : ℕ) → record_at s.weak.members.all m k ≡ None
   pub tags : s.tags.all ≡ []
 
 -- the target of w, as a value
@@ -57,18 +63,24 @@ pub record SameState (s t : State) : Type 0 where
   pub heap : SameHeap s.heap t.heap
   pub targets : (w : ℕ) → target t.weakrefs w ≡ target s.weakrefs w
   pub kept : t.weakrefs.kept ≡ s.weakrefs.kept
+  pub entries : Unchanged s.weak.entries.all t.weak.entries.all
+  pub members : Unchanged s.weak.members.all t.weak.members.all
   pub tags : t.tags.all ≡ s.tags.all
 
--- the tables after these identities were emptied: nothing is left of them, and WeakRefs to them have no target
+-- the tables after these identities were emptied: nothing is left of them, WeakRefs to them have no target, and no entry
+-- and no member has them as key, as WeakMap or as WeakSet
 pub record Emptying (s : State) (ids : List ℕ) (t : State) : Type 0 where
   pub variables : (x : List ℕ) → bound t.variables x ≡ bound s.variables x
   pub objects : (o : ℕ) → object t.heap o ≡ (if is_in ids o then None else object s.heap o)
   pub targets : (w : ℕ) → target t.weakrefs w ≡ (if is_in ids w then None else option_and_then (unless_among ids) (target s.weakrefs w))
   pub kept : t.weakrefs.kept ≡ s.weakrefs.kept
+  pub entries : Empties s.weak.entries.all ids t.weak.entries.all
+  pub members : Empties s.weak.members.all ids t.weak.members.all
   pub tags : (i : ℕ) → 0 < i → tag_at t.tags.all i ≡ (if is_in ids i then None else tag_at s.tags.all i)
   pub made : length t.tags.all ≡ length s.tags.all
 
--- the tables say what the history says, of what is not emptied; of what is, no object and no tag is left
+-- the tables say what the history says, of what is not emptied; of what is, no object, no entry, no member and no tag is
+-- left
 pub record Says (into : Receivers) (h : History) (s : State) : Type 0 where
   pub variables : (x : List ℕ) → bound s.variables x ≡ var into h x
   pub objects : (o : ℕ) → has s.heap o ≡ (is_some (kind h o) && not (is_gone h o))
@@ -76,5 +88,7 @@ pub record Says (into : Receivers) (h : History) (s : State) : Type 0 where
   pub keys : (o : ℕ) → is_gone h o ≡ false → keys s.heap o ≡ keys_said h o
   pub targets : (w : ℕ) → is_gone h w ≡ false → aimed s.weakrefs w ≡ target_said h w
   pub kept : reverse s.weakrefs.kept ≡ kept h
+  pub entries : (m k : ℕ) → record_at s.weak.entries.all m k ≡ (if is_gone h m then None else entry h m k)
+  pub members : (m k : ℕ) → is_some (record_at s.weak.members.all m k) ≡ (if is_gone h m then false else is_member h m k)
   pub tags : (i : ℕ) → 0 < i → tag_at s.tags.all i ≡ tag_said h i
   pub made : length s.tags.all ≡ made h

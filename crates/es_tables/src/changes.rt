@@ -1,14 +1,18 @@
-//! The changes that an event makes to the heap and to the WeakRefs, where there is room.
+//! The changes that an event makes to the heap, to the WeakRefs, and to WeakMaps and WeakSets, where
+//! there is room.
 
-ghost use Rattle.std.specs.Prelude.{◌≡◌, ◌<◌, ◌==◌, ◌||◌, ◌++◌, [], ℕ, List, Some, true, false, is_some, unwrap_or, reverse, if◌then◌else◌};
+ghost use Rattle.std.specs.Prelude.{◌≡◌, ◌<◌, ◌==◌, ◌||◌, ◌&&◌, ◌++◌, [], ℕ, List, Some, true, false, is_some, unwrap_or, reverse, if◌then◌else◌};
 ghost use Rattle.std.specs.Option.{option_map_or, option_to_list};
 ghost use Rattle.es_event.specs.History.{at_key};
 ghost use Rattle.es_event.specs.Properties.{same_key, keys_after};
 ghost use Rattle.es_props.specs.Heap.{has, property, keys, KeepsRoom};
 ghost use Rattle.es_weakref.specs.WeakRefs.{target as target_of};
 ghost use Rattle.es_tables.specs.Effects.{with_option};
-ghost use Rattle.es_tables.specs.Ready.{has_room, has_room_at, has_place};
+ghost use Rattle.es_event.specs.Ephemerons.{same_pair};
+ghost use Rattle.es_ephemeron.specs.Ephemerons.{record_at};
+ghost use Rattle.es_tables.specs.Ready.{has_room, has_room_at, has_place, has_room_under, has_entry_room, has_room_for, has_member_room};
 
+use es_ephemeron::WeakTables;
 use es_props::Heap;
 use es_value::{Id, Name, Value};
 use es_weakref::WeakRefs;
@@ -88,5 +92,54 @@ pub(crate) fn keep(weakrefs: &mut WeakRefs, kept: Option<Id>, clears: bool)
     }
     if let Some(id) = kept {
         let _ = weakrefs.keep(id);
+    }
+}
+
+/// Writes an entry of a WeakMap, where one is written.
+pub(crate) fn enter(weak: &mut WeakTables, entered: Option<((Id, Id), Option<Value>)>)
+    requires { has_entry_room weak.old.entries.rooms entered ≡ true }
+    ensures entries { (m k : ℕ) → record_at weak.new.entries.all m k ≡ unwrap_or (at_key same_pair (m, k) entered) (record_at weak.old.entries.all m k) }
+    ensures members { weak.new.members ≡ weak.old.members }
+{
+    if let Some(((map, key), value)) = entered {
+        write_entry(weak, map, key, value);
+    }
+}
+
+/// Sets an entry, or deletes it where there is no value.
+fn write_entry(weak: &mut WeakTables, map: Id, key: Id, value: Option<Value>)
+    requires { has_room_under weak.old.entries.rooms key value ≡ true }
+    ensures entries { (m k : ℕ) → record_at weak.new.entries.all m k ≡ (if same_pair (map, key) (m, k) then value else record_at weak.old.entries.all m k) }
+    ensures members { weak.new.members ≡ weak.old.members }
+{
+    match value {
+        Some(value) => weak.map_set(map, key, value),
+        None => {
+            weak.map_delete(map, key);
+        }
+    }
+}
+
+/// Writes a member of a WeakSet, where one is written.
+pub(crate) fn join(weak: &mut WeakTables, joined: Option<((Id, Id), bool)>)
+    requires { has_member_room weak.old.members.rooms joined ≡ true }
+    ensures members { (m k : ℕ) → is_some (record_at weak.new.members.all m k) ≡ unwrap_or (at_key same_pair (m, k) joined) (is_some (record_at weak.old.members.all m k)) }
+    ensures entries { weak.new.entries ≡ weak.old.entries }
+{
+    if let Some(((set, member), joins)) = joined {
+        write_member(weak, set, member, joins);
+    }
+}
+
+/// Adds a member, or deletes it.
+fn write_member(weak: &mut WeakTables, set: Id, member: Id, joins: bool)
+    requires { has_room_for weak.old.members.rooms member joins ≡ true }
+    ensures members { (m k : ℕ) → is_some (record_at weak.new.members.all m k) ≡ (if same_pair (set, member) (m, k) then joins else is_some (record_at weak.old.members.all m k)) }
+    ensures entries { weak.new.entries ≡ weak.old.entries }
+{
+    if joins {
+        weak.set_add(set, member);
+    } else {
+        weak.set_delete(set, member);
     }
 }

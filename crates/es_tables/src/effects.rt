@@ -11,6 +11,7 @@ ghost use Rattle.es_event.specs.WeakRefs.{ends_job, keeps, keeps_by, identity_gi
 ghost use Rattle.es_tables.specs.Effects.{AreEffects, object_born, points, points_by, with_option};
 ghost use Rattle.es_tables.specs.Tags.{tag_made, tag_made_at};
 
+use crate::ephemerons::{entered_at, joined_at};
 use crate::tags::Tag;
 use es_event::{Answer, Command, Event};
 use es_value::{Id, Name, NoMemory, Value};
@@ -26,6 +27,10 @@ pub struct Effects {
     pub born: Option<Id>,
     /// The WeakRef that is made, with its target.
     pub points: Option<(Id, Id)>,
+    /// The WeakMap and the key whose entry is written, with the new value, none for a delete.
+    pub entered: Option<((Id, Id), Option<Value>)>,
+    /// The WeakSet and the member that are written, and whether it is one from now on.
+    pub joined: Option<((Id, Id), bool)>,
     /// The identity that is added to KeptAlive.
     pub kept: Option<Id>,
     /// Whether KeptAlive is emptied.
@@ -43,6 +48,8 @@ pub fn effects_of(event: &Event) -> Result<Effects, NoMemory>
         put: put_at(event)?,
         born: born_at(event),
         points: points_at(event),
+        entered: entered_at(event)?,
+        joined: joined_at(event),
         kept: kept_at(event),
         clears: ends_job(event),
         makes: tag_made_at(event),
@@ -150,8 +157,13 @@ fn born_at(event: &Event) -> Option<Id>
             answer,
             ..
         } => match (command, answer) {
-            (Command::New { .. } | Command::WeakRef { .. }, Answer::Gives(Value::Object(object))) =>
-                Some(*object),
+            (
+                Command::New { .. }
+                | Command::WeakRef { .. }
+                | Command::WeakMap { .. }
+                | Command::WeakSet { .. },
+                Answer::Gives(Value::Object(object)),
+            ) => Some(*object),
             // no other command makes an object
             _ => None,
         },
@@ -267,6 +279,8 @@ fn tag_made(command: &Command) -> Option<Tag>
         Command::New { .. } => Some(Tag::Ordinary),
         Command::Symbol { .. } => Some(Tag::Symbol),
         Command::WeakRef { .. } => Some(Tag::WeakRef),
+        Command::WeakMap { .. } => Some(Tag::WeakMap),
+        Command::WeakSet { .. } => Some(Tag::WeakSet),
         // no other command makes anything
         _ => None,
     }

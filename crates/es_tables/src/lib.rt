@@ -4,6 +4,7 @@
 
 mod changes;
 mod effects;
+mod ephemerons;
 mod growths;
 mod tables;
 mod tags;

@@ -8,16 +8,18 @@ ghost use Rattle.es_mark.specs.Marks.{is_marked};
 ghost use Rattle.es_props.specs.Heap.{property, keys, HasProperties};
 ghost use Rattle.es_weakref.specs.WeakRefs.{target as target_of};
 ghost use Rattle.es_tables.specs.Effects.{Applied};
-ghost use Rattle.es_tables.specs.Found.{Adds, HasHeld};
+ghost use Rattle.es_ephemeron.specs.Ephemerons.{record_at};
+ghost use Rattle.es_tables.specs.Found.{Adds, HasHeld, AddsEntries};
 ghost use Rattle.es_tables.specs.Ready.{CanApply, IsReady};
 ghost use Rattle.es_tables.specs.Tables.{bound, IsNew, SameState, Emptying};
 ghost use Rattle.es_tables.specs.Tags.{tag_at};
 
-use crate::changes::{aim, change_heap, keep};
+use crate::changes::{aim, change_heap, enter, join, keep};
 use crate::effects::Effects;
-use crate::growths::reserve_heap;
+use crate::growths::{reserve_heap, reserve_weak};
 use crate::tags::{Tag, Tags};
 use crate::variables::Variables;
+use es_ephemeron::WeakTables;
 use es_mark::Marks;
 use es_props::Heap;
 use es_value::{Id, Name, NoMemory, Value};
@@ -26,13 +28,15 @@ use std::alloc::Global;
 use std::marker::Model;
 
 /// All that an agent keeps beside its history: its variables, its objects with their properties, its
-/// WeakRefs with their targets and KeptAlive, and what each identity is (ECMA-262, Agents). An event
-/// is applied in two steps: `reserve` makes every growth, and `apply` can't fail.
+/// WeakRefs with their targets and KeptAlive, the entries of its WeakMaps and the members of its
+/// WeakSets, and what each identity is (ECMA-262, Agents). An event is applied in two steps: `reserve`
+/// makes every growth, and `apply` can't fail.
 #[derive(Drop)]
 pub struct Tables {
     variables: Variables,
     heap: Heap,
     weakrefs: WeakRefs,
+    weak: WeakTables,
     tags: Tags,
 }
 
@@ -41,7 +45,7 @@ impl Model for Tables {
 
     ghost Value = { State };
 
-    ghost view = { λ t. record { variables = t.variables; heap = t.heap.all; rooms = t.heap.rooms; weakrefs = t.weakrefs; tags = t.tags } };
+    ghost view = { λ t. record { variables = t.variables; heap = t.heap.all; rooms = t.heap.rooms; weakrefs = t.weakrefs; weak = t.weak; tags = t.tags } };
 }
 
 impl Tables {
@@ -53,6 +57,7 @@ impl Tables {
             variables: Variables::new(alloc),
             heap: Heap::new(alloc),
             weakrefs: WeakRefs::new(alloc),
+            weak: WeakTables::new(alloc),
             tags: Tags::new(alloc),
         }
     }
@@ -102,6 +107,28 @@ impl Tables {
         self.weakrefs.target(weakref)
     }
 
+    /// The value under a key in a WeakMap, if the WeakMap has the key (WeakMap.prototype.get).
+    pub fn entry(&self, map: Id, key: Id) -> Option<&Value>
+        ensures { option_copied result ≡ record_at self.now.weak.entries.all map key }
+    {
+        self.weak.map_get(map, key)
+    }
+
+    /// Whether a WeakSet has a member (WeakSet.prototype.has).
+    pub fn has_member(&self, set: Id, member: Id) -> bool
+        ensures { result ≡ is_some (record_at self.now.weak.members.all set member) }
+    {
+        self.weak.set_has(set, member)
+    }
+
+    /// Adds the WeakMap and the value of each entry with this key to `found`; where there is no memory,
+    /// nothing is said of `found`.
+    pub fn add_entries(&self, key: Id, found: &mut Vec<(Id, Value)>) -> Result<(), NoMemory>
+        ensures { OnOk result (AddsEntries self.now.weak.entries.all key found.old.items found.new.items) }
+    {
+        self.weak.entries_of_key(key, found)
+    }
+
     /// KeptAlive, in order of keeping (ECMA-262, AddToKeptObjects).
     pub fn kept(&self) -> &[Id]
         ensures { result.now ≡ self.now.weakrefs.kept }
@@ -133,13 +160,15 @@ impl Tables {
         self.tags.unmarked(alloc, marks)
     }
 
-    /// Empties these identities: their objects go with all properties, and every WeakRef to one of
-    /// them loses its target (ECMA-262, Execution). It takes no memory.
+    /// Empties these identities: their objects go with all properties, every WeakRef to one of them
+    /// loses its target, and every entry and member that has one as key, as WeakMap or as WeakSet is
+    /// dropped (ECMA-262, Execution). It takes no memory.
     pub fn empty(&mut self, ids: &[Id])
         ensures { Emptying self.old ids.now self.new }
     {
         self.heap.remove(ids);
         self.weakrefs.empty(ids);
+        self.weak.empty(ids);
         self.tags.empty(ids);
     }
 
@@ -154,6 +183,7 @@ impl Tables {
         self.variables.reserve()?;
         self.tags.reserve()?;
         self.weakrefs.reserve()?;
+        reserve_weak(&mut self.weak, effects)?;
         reserve_heap(&mut self.heap, effects)
     }
 
@@ -168,6 +198,8 @@ impl Tables {
             put,
             born,
             points,
+            entered,
+            joined,
             kept,
             clears,
             makes,
@@ -175,6 +207,8 @@ impl Tables {
         change_heap(&mut self.heap, put, born);
         self.variables.assign(assigned);
         aim(&mut self.weakrefs, points);
+        enter(&mut self.weak, entered);
+        join(&mut self.weak, joined);
         keep(&mut self.weakrefs, kept, clears);
         self.tags.add(makes);
     }

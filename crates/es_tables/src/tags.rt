@@ -22,6 +22,10 @@ pub enum Tag {
     Ordinary,
     /// A WeakRef.
     WeakRef,
+    /// A WeakMap.
+    WeakMap,
+    /// A WeakSet.
+    WeakSet,
 }
 
 /// The tag of each identity that was made, and none of those that are emptied.

@@ -1,6 +1,9 @@
 //! Each public call once, where there is memory and what it asks for is there.
+//!
+//! Events and effects are handed to std's `drop` before an exit: what an exit drops itself is taken
+//! apart by cases, which are hundreds.
 
-ghost use Rattle.std.specs.Prelude.{◌≡◌, true, [], IfOk};
+ghost use Rattle.std.specs.Prelude.{◌≡◌, true, [], None, IfOk};
 ghost use Rattle.es_mark.specs.Graph.{HasAll, HasValues};
 ghost use Rattle.es_props.specs.Heap.{has};
 
@@ -21,11 +24,16 @@ fn with_weakref(alloc: Global, x: Name) -> Result<Tables, Fail>
         put: None,
         born: Some(Id::of(1)),
         points: Some((Id::of(1), Id::of(2))),
+        entered: None,
+        joined: None,
         kept: Some(Id::of(2)),
         clears: false,
         makes: Some(Tag::WeakRef),
     };
-    tables.reserve(&made)?;
+    if let Err(error) = tables.reserve(&made) {
+        drop(made);
+        return Err(Fail::from(error));
+    }
     tables.apply(made);
     Ok(tables)
 }
@@ -39,11 +47,16 @@ fn set(tables: &mut Tables, key: Name) -> Result<(), Fail>
         put: Some(((Id::of(1), key), Some(Value::Symbol(Id::of(3))))),
         born: None,
         points: None,
+        entered: None,
+        joined: None,
         kept: None,
         clears: false,
         makes: Some(Tag::Symbol),
     };
-    tables.reserve(&written)?;
+    if let Err(error) = tables.reserve(&written) {
+        drop(written);
+        return Err(Fail::from(error));
+    }
     tables.apply(written);
     Ok(())
 }
@@ -108,6 +121,67 @@ fn properties_are_set_and_lead_on(rt: HostRuntime) -> Result<(), Fail> {
     Ok(())
 }
 
+/// The effects of an event that writes an entry and a member, or neither.
+fn writing(entered: Option<((Id, Id), Option<Value>)>, joined: Option<((Id, Id), bool)>) -> Effects
+    ensures put { result.put ≡ None }
+    ensures born { result.born ≡ None }
+    ensures points { result.points ≡ None }
+{
+    Effects {
+        assigned: None,
+        put: None,
+        born: None,
+        points: None,
+        entered,
+        joined,
+        kept: None,
+        clears: false,
+        makes: None,
+    }
+}
+
+/// Applies these effects, which put nothing and make nothing.
+fn apply(tables: &mut Tables, effects: Effects) -> Result<(), NoMemory>
+    requires put { effects.put ≡ None }
+    requires born { effects.born ≡ None }
+    requires points { effects.points ≡ None }
+{
+    if let Err(error) = tables.reserve(&effects) {
+        drop(effects);
+        return Err(error);
+    }
+    tables.apply(effects);
+    Ok(())
+}
+
+#[test]
+fn an_entry_is_found_under_its_key(rt: HostRuntime) -> Result<(), Fail> {
+    let alloc = rt.alloc();
+    let mut tables = Tables::new(alloc);
+    let value = Value::Object(Id::of(3));
+    apply(
+        &mut tables,
+        writing(Some(((Id::of(1), Id::of(2)), Some(value))), None),
+    )?;
+    assert!(rt; tables.entry(Id::of(1), Id::of(2)).is_some());
+    let mut found = Vec::new(alloc);
+    tables.add_entries(Id::of(2), &mut found)?;
+    assert_eq!(rt; found.len(), 1);
+    Ok(())
+}
+
+#[test]
+fn a_member_is_found_in_its_weakset(rt: HostRuntime) -> Result<(), Fail> {
+    let mut tables = Tables::new(rt.alloc());
+    apply(
+        &mut tables,
+        writing(None, Some(((Id::of(4), Id::of(5)), true))),
+    )?;
+    assert!(rt; tables.has_member(Id::of(4), Id::of(5)));
+    assert!(rt; !tables.has_member(Id::of(5), Id::of(4)));
+    Ok(())
+}
+
 /// Empties all that is not marked.
 fn empty(alloc: Global, tables: &mut Tables, marks: &Marks) -> Result<(), Fail> {
     if tables.made() < 1_000_001 {
@@ -131,39 +205,53 @@ fn what_is_unmarked_is_emptied(rt: HostRuntime) -> Result<(), Fail> {
     Ok(())
 }
 
-/// The effects of a command that read these values and gave this answer.
-fn done(command: Command, values: Vec<Value>, answer: Answer) -> Result<Effects, Fail> {
-    let event = Event::Did {
-        command,
-        values: Operands::of_sequence(Sequence::from_vec(values)),
-        answer,
-    };
-    Ok(effects_of(&event)?)
+/// The effects of an event.
+fn effects(event: Event) -> Result<Effects, NoMemory> {
+    let effects = effects_of(&event);
+    drop(event);
+    effects
+}
+
+/// Whether the effects are those of making WeakRef 2 to object 1, and of nothing else.
+fn make_a_weakref(made: &Effects) -> bool {
+    made.put.is_none()
+        && made.born == Some(Id::of(2))
+        && made.points == Some((Id::of(2), Id::of(1)))
+        && made.kept == Some(Id::of(1))
+        && made.makes == Some(Tag::WeakRef)
+        && made.assigned.is_some()
 }
 
 #[test]
 fn effects_are_those_of_the_event(rt: HostRuntime) -> Result<(), Fail> {
     let alloc = rt.alloc();
     let to = Name::read(alloc, "w")?;
-    let one = Value::Object(Id::of(1));
-    let two = Value::Object(Id::of(2));
-    let command = Command::WeakRef {
-        to: to.copy()?,
-        target: to,
-    };
-    let made = done(command, vec![in alloc; one]?, Answer::Gives(two))?;
-    assert!(rt; made.put.is_none());
-    assert_eq!(rt; made.born, Some(Id::of(2)));
-    assert_eq!(rt; made.points, Some((Id::of(2), Id::of(1))));
-    assert_eq!(rt; made.kept, Some(Id::of(1)));
-    assert_eq!(rt; made.makes, Some(Tag::WeakRef));
-    assert!(rt; made.assigned.is_some());
+    let values = vec![in alloc; Value::Object(Id::of(1))]?;
+    let made = effects(Event::Did {
+        command: Command::WeakRef {
+            to: to.copy()?,
+            target: to,
+        },
+        values: Operands::of_sequence(Sequence::from_vec(values)),
+        answer: Answer::Gives(Value::Object(Id::of(2))),
+    })?;
+    let as_expected = make_a_weakref(&made);
+    drop(made);
+    assert!(rt; as_expected);
     Ok(())
+}
+
+/// Whether the event empties KeptAlive.
+fn clears(event: Event) -> Result<bool, NoMemory> {
+    let effects = effects(event)?;
+    let clears = effects.clears;
+    drop(effects);
+    Ok(clears)
 }
 
 #[test]
 fn the_end_of_a_job_clears(rt: HostRuntime) -> Result<(), Fail> {
-    assert!(rt; effects_of(&Event::JobEnded)?.clears);
-    assert!(rt; !effects_of(&Event::Closed)?.clears);
+    assert!(rt; clears(Event::JobEnded)?);
+    assert!(rt; !clears(Event::Closed)?);
     Ok(())
 }

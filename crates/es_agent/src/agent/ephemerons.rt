@@ -1,0 +1,63 @@
+//! What the commands of WeakMaps and WeakSets come to.
+
+ghost use Rattle.std.specs.Prelude.{◌≡◌, ◌∷◌, [], false, is_some};
+ghost use Rattle.es_event.specs.Identities.{gone, has_identity_in};
+ghost use Rattle.es_event.specs.Rules.{refuse_or, first_refusal, of_weakmap, of_weakset, of_held_weakly, or_undefined, entry_of, is_member_of};
+ghost use Rattle.es_agent.specs.Completion.{Completes};
+
+use super::AgentCore;
+use crate::operand::held_weakly;
+use crate::stop::Stop;
+use es_event::{Answer, Refusal};
+use es_tables::Tag;
+use es_value::Value;
+
+impl AgentCore {
+    pub(super) fn weakmap_set(&self, map: &Value, key: &Value) -> Result<Answer, Stop>
+        requires there { has_identity_in (gone self.now.history) map.now ≡ false }
+        ensures { Completes (refuse_or (first_refusal (of_weakmap self.now.history map.now ∷ of_held_weakly key.now ∷ [])) Answer.Nothing) result }
+    {
+        self.tagged(map, Tag::WeakMap, Refusal::NotAWeakMap)?;
+        held_weakly(key)?;
+        Ok(Answer::Nothing)
+    }
+
+    pub(super) fn weakmap_get(&self, map: &Value, key: &Value) -> Result<Answer, Stop>
+        requires there { has_identity_in (gone self.now.history) map.now ≡ false }
+        ensures { Completes (refuse_or (first_refusal (of_weakmap self.now.history map.now ∷ [])) (or_undefined (entry_of self.now.history map.now key.now))) result }
+    {
+        let map = self.tagged(map, Tag::WeakMap, Refusal::NotAWeakMap)?;
+        match self.entry(map, key) {
+            Some(value) => Ok(Answer::Gives(value.copy()?)),
+            None => Ok(Answer::Gives(Value::Undefined)),
+        }
+    }
+
+    /// Whether the WeakMap has the key: what `has` and `delete` alike answer.
+    pub(super) fn weakmap_has(&self, map: &Value, key: &Value) -> Result<Answer, Stop>
+        requires there { has_identity_in (gone self.now.history) map.now ≡ false }
+        ensures { Completes (refuse_or (first_refusal (of_weakmap self.now.history map.now ∷ [])) (Answer.Gives (Value.Boolean (is_some (entry_of self.now.history map.now key.now))))) result }
+    {
+        let map = self.tagged(map, Tag::WeakMap, Refusal::NotAWeakMap)?;
+        let there = self.entry(map, key).is_some();
+        Ok(Answer::Gives(Value::Boolean(there)))
+    }
+
+    pub(super) fn weakset_add(&self, set: &Value, member: &Value) -> Result<Answer, Stop>
+        requires there { has_identity_in (gone self.now.history) set.now ≡ false }
+        ensures { Completes (refuse_or (first_refusal (of_weakset self.now.history set.now ∷ of_held_weakly member.now ∷ [])) Answer.Nothing) result }
+    {
+        self.tagged(set, Tag::WeakSet, Refusal::NotAWeakSet)?;
+        held_weakly(member)?;
+        Ok(Answer::Nothing)
+    }
+
+    /// Whether the WeakSet has the member: what `has` and `delete` alike answer.
+    pub(super) fn weakset_has(&self, set: &Value, member: &Value) -> Result<Answer, Stop>
+        requires there { has_identity_in (gone self.now.history) set.now ≡ false }
+        ensures { Completes (refuse_or (first_refusal (of_weakset self.now.history set.now ∷ [])) (Answer.Gives (Value.Boolean (is_member_of self.now.history set.now member.now)))) result }
+    {
+        let set = self.tagged(set, Tag::WeakSet, Refusal::NotAWeakSet)?;
+        Ok(Answer::Gives(Value::Boolean(self.has_member(set, member))))
+    }
+}

@@ -1,0 +1,4 @@
+pub mod CallerLemmas
+mod Held
+mod Looked
+mod Places

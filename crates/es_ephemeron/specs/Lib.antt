@@ -1,0 +1,2 @@
+pub mod Ephemerons
+pub mod Slots

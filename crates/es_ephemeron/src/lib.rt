@@ -1,0 +1,12 @@
+//! The entries of an agent's WeakMaps and the members of its WeakSets, kept by key.
+#![tactic(auto)]
+
+mod keyed;
+mod slot;
+mod slots;
+mod table;
+#[cfg(test)]
+mod tests;
+mod weak_tables;
+
+pub use weak_tables::WeakTables;
