@@ -1,0 +1,24 @@
+use Rattle.std.proofs.Common.{arith, refl, ◌≡◌, true}
+use Rattle.es_registry.specs.Slots.{is_awaiting, passes_at}
+use Rattle.es_registry.specs.declared.slot.Slot.TheVariants.{Taken}
+use Rattle.es_registry.proofs.Counting.{counts_taken}
+use Rattle.es_registry.proofs.Indexing.{set_listed}
+use Rattle.es_registry.proofs.cells.Cells.take.Goals as goal
+
+pub overflow_sub-self : goal.overflow_sub-self
+overflow_sub-self c =
+    let here : passes_at is_awaiting c.self.inside.slots.items c.args.place ≡ true = rw (← c.self.view_is) at c.requires in
+    let after = counts_taken c.self.inside.slots.items c.args.place here in
+    omega (arith, c.self.invariant.of_awaiting, after.awaiting)
+
+pub invariant_of-self : goal.invariant_of-self
+invariant_of-self c =
+    let here : passes_at is_awaiting c.self.inside.slots.items c.args.place ≡ true = rw (← c.self.view_is) at c.requires in
+    let after = counts_taken c.self.inside.slots.items c.args.place here in
+    rw c.replace-slot.ensures.items
+    (record {
+      of_awaiting = omega (arith, c.self.invariant.of_awaiting, after.awaiting);
+      of_unregistered = omega (arith, c.self.invariant.of_unregistered, after.unregistered);
+      of_taken = omega (arith, c.self.invariant.of_taken, after.taken);
+      listed = set_listed c.self.inside.slots.items c.args.place Taken c.self.inside.present.items refl c.self.invariant.listed;
+    })

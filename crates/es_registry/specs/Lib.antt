@@ -1,0 +1,4 @@
+pub mod Slots
+pub mod Cells
+pub mod Places
+pub mod Registries
