@@ -16,10 +16,15 @@ Usage: plans.py NAME [NUMBER]. Each plan has one agent. NAME is one of
             are, and one after (150,000)
   nested    NUMBER WeakMaps with an entry each, whose value is the next WeakMap; a collection while the first WeakMap
             and all keys are held, and one after (150,000)
+  registrations
+            NUMBER registrations with one FinalizationRegistry, each with a target and a token of its own; then every
+            second one is unregistered, and after it a collection empties the targets of the rest, for each of which the
+            callback runs one command (200,000)
   check     NUMBER jobs of 2,670 commands over few variables, every tenth a `say` (1,000, which are 50 MB)
 With wide the collections empty 0 and NUMBER + 1, with list 0 and NUMBER, with entries-* 1 (what held the keys while the
-entries were set) and NUMBER + 2, with maps 0 and three times NUMBER, with nested 0 and twice NUMBER. Where there are
-entries, the value to which most of them lead is asked for after each collection, by a WeakRef.
+entries were set) and NUMBER + 2, with maps 0 and three times NUMBER, with nested 0 and twice NUMBER, with registrations
+0 and twice NUMBER and one. Where there are entries, the value to which most of them lead is asked for after each
+collection, by a WeakRef.
 """
 
 import json
@@ -112,6 +117,23 @@ def nested(count):
     yield from collections_watched("m", "keys")
 
 
+def registrations(count):
+    """One object holds all tokens, each by a property, and a token holds its target, until the collection."""
+    yield [["registry", "r", "cb"], ["new", "o"], ["let", "h", 1]]
+    yield from jobs(
+        [
+            [
+                ["new", "x"], ["new", "t"], ["set", "t", "p", "x"], ["set", "o", f"k{number}", "t"],
+                ["register", "r", "x", "h", "t"],
+            ]
+            for number in range(count)
+        ]
+    )
+    yield from jobs([[["get", "t", "o", f"k{number}"], ["unregister", "b", "r", "t"]] for number in range(0, count, 2)])
+    yield [["say", "b"], ["collect"], *forgotten("o", "x", "t")]
+    yield [["collect"]]
+
+
 def mixed(count):
     """Sets and gets properties of one object; every tenth command says a value. None is refused."""
     length = 2670
@@ -167,8 +189,10 @@ PLANS = {
     "entries-shuffled": (entries("shuffled"), 300000),
     "maps": (maps, 150000),
     "nested": (nested, 150000),
+    "registrations": (registrations, 200000),
     "check": (mixed, 1000),
 }
+CALLBACKS = {"registrations": {"cb": [["copy", "last", "held"]]}}
 
 
 def main():
@@ -178,7 +202,8 @@ def main():
     count = int(sys.argv[2]) if len(sys.argv) == 3 else usual
     # Job by job, since a plan as one value takes much memory.
     text = json.JSONEncoder(separators=(",", ":")).encode
-    sys.stdout.write('{"version":1,"agents":[{"name":"a","callbacks":{},"jobs":[')
+    callbacks = text(CALLBACKS.get(sys.argv[1], {}))
+    sys.stdout.write(f'{{"version":1,"agents":[{{"name":"a","callbacks":{callbacks},"jobs":[')
     for number, run in enumerate(runs(count)):
         sys.stdout.write("," * (number > 0) + text({"run": run}))
     sys.stdout.write("]}]}\n")

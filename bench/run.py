@@ -8,10 +8,12 @@ table: the median time by the clock and of all processors (which other load chan
 the program's numbers as multiples of the interpreter's. With --growth each plan is run at 10,000, 30,000, 100,000 and
 300,000 in place of its usual number, and a line below it has the exponents between the first and the last: with 1 a
 time grows as the number, with 2 as its square; a constant part, such as node's start, lowers them. Reports that differ,
-but for `emptied N`, are told below the table. It needs GNU time as `/usr/bin/time`.
+but for `emptied N` and for the order of `cleanup` lines that follow each other, which is an engine's own, are told below
+the table. It needs GNU time as `/usr/bin/time`.
 """
 
 import argparse
+import itertools
 import math
 import os
 import shutil
@@ -27,7 +29,7 @@ PROGRAM = os.path.join(os.path.dirname(HERE), "crates", "clusterrun", "out", "cl
 ENGINE = ["node", "--expose-gc", os.path.join(HERE, "engine.mjs")]
 NAMES = [
     "start", "commands", "new", "held", "wide", "list", "entries-forward", "entries-reversed", "entries-shuffled",
-    "maps", "nested", "check",
+    "maps", "nested", "registrations", "check",
 ]
 SIZES = [10000, 30000, 100000, 300000]
 
@@ -73,7 +75,9 @@ def measure(row, words, room, limit):
     row.worked.append(user + system)
     row.peak = max(row.peak, peak / 1000)
     with open(said, encoding="utf-8") as out:
-        return [line for line in out if not line.startswith("emptied ")]
+        lines = [line for line in out if not line.startswith("emptied ")]
+    groups = itertools.groupby(lines, lambda line: line.startswith("cleanup "))
+    return [line for cleaned, group in groups for line in (sorted(group) if cleaned else group)]
 
 
 def ratio(ours, theirs):

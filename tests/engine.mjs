@@ -1,12 +1,21 @@
 // Runs plans in this JavaScript engine itself: variables are properties of one object, each job is a task of its own,
 // and `collect` asks the engine for a full collection. Prints what each agent says. node --expose-gc engine.mjs < lines of JSON
+//
+// Registrations are made with the engine's own FinalizationRegistries, whose callbacks the engine calls in tasks of its
+// own, in an order of its own. After each job the engine has time until it calls nothing any more (`quiet`). What it is
+// told beside the plan: each held value goes with the number of its registration, so that `cleanup` lines can be printed;
+// the harness holds every FinalizationRegistry to the end of its agent, since an engine may give up one that nothing holds,
+// and its callbacks with it; and a refused command throws out of its callback, which the engine has to survive.
 import { createInterface } from "node:readline";
 
 const isObject = (v) => typeof v === "object" && v !== null;
 class Refused extends Error {}
 
-function agent() {
-  return { vars: Object.create(null), made: 0, numbers: new WeakMap(), out: [] };
+function agent(callbacks) {
+  return {
+    vars: Object.create(null), made: 0, numbers: new WeakMap(), out: [], callbacks, registries: [], registered: 0,
+    calls: 0,
+  };
 }
 function show(a, v) {
   if (v === undefined) return "undefined";
@@ -67,26 +76,62 @@ const does = {
   wsadd(a, s, y) { call(WeakSet, "add", made(WeakSet, read(a, s)), heldWeakly(read(a, y))); },
   wshas(a, x, s, y) { a.vars[x] = call(WeakSet, "has", made(WeakSet, read(a, s)), read(a, y)); },
   wsdelete(a, x, s, y) { a.vars[x] = call(WeakSet, "delete", made(WeakSet, read(a, s)), read(a, y)); },
+  registry(a, x, c) {
+    const registry = new FinalizationRegistry(({ registered, held }) => {
+      a.calls += 1;
+      a.out.push(`cleanup ${registered} held ${show(a, held)}`);
+      a.vars.held = held;
+      runCommands(a, a.callbacks[c]);
+    });
+    a.registries.push(registry);
+    a.vars[x] = number(a, registry);
+  },
+  register(a, r, y, h, t) {
+    const registry = made(FinalizationRegistry, read(a, r));
+    const target = heldWeakly(read(a, y)), held = read(a, h), token = t === undefined ? undefined : read(a, t);
+    if (Object.is(target, held)) throw new Refused("TypeError: target and held value are the same");
+    if (token !== undefined) heldWeakly(token);
+    call(FinalizationRegistry, "register", registry, target, { registered: ++a.registered, held }, token);
+  },
+  unregister(a, x, r, t) {
+    const registry = made(FinalizationRegistry, read(a, r));
+    a.vars[x] = call(FinalizationRegistry, "unregister", registry, heldWeakly(read(a, t)));
+  },
   collect() { gc(); },
 };
-function runJob(a, run) {
+// Runs commands up to the first that is refused, which is told, and thrown on.
+function runCommands(a, run) {
   for (const [word, ...operands] of run) {
     try { does[word](a, ...operands); } catch (e) {
-      if (!(e instanceof Refused)) throw e;
-      a.out.push(`error ${e.message}`);
-      return;
+      if (e instanceof Refused) a.out.push(`error ${e.message}`);
+      throw e;
     }
   }
 }
+function unlessRefused(e) {
+  if (!(e instanceof Refused)) throw e;
+}
+function runJob(a, run) {
+  try { runCommands(a, run); } catch (e) { unlessRefused(e); }
+}
+// Out of a callback that the engine calls.
+process.on("uncaughtException", unlessRefused);
 const task = () => new Promise((go) => setImmediate(go));
+// Waits until the engine called nothing back in several tasks.
+async function quiet(a) {
+  for (let left = 4, calls = a.calls; left > 0; left -= 1) {
+    await task();
+    if (a.calls !== calls) [left, calls] = [4, a.calls];
+  }
+}
 for await (const line of createInterface({ input: process.stdin })) {
   const said = [];
   for (const plan of JSON.parse(line).agents) {
-    const a = agent();
+    const a = agent(plan.callbacks);
     for (const job of plan.jobs) {
       await task();
       runJob(a, job.run);
-      await task();
+      await quiet(a);
     }
     said.push(a.out);
   }

@@ -62,6 +62,9 @@ each_growth 0 run "$examples/cycle.json"
 each_growth 0 run "$examples/ephemerons.json"
 each_growth 0 run "$examples/entries.json"
 each_growth 0 run "$examples/members.json"
+each_growth 0 run "$examples/unregister.json"
+each_growth 0 run "$examples/queue.json"
+each_growth 0 run "$examples/anew.json"
 each_growth 0 run "$examples/agents.json"
 each_growth 0 check "$examples/refusals.json"
 
@@ -80,6 +83,19 @@ forget='["let","l",null],["let","v",null],["let","m",null],["let","s",null]'
     printf '%s,["let","f",null],["let","k",null],["collect"]]}]}]}\n' "$forget"
 } >"$room/tables.json"
 each_growth 0 run "$room/tables.json"
+
+# registrations with a token each, with one that all share, and with none, in a FinalizationRegistry of each link, so that
+# several are queued at once; callbacks that are refused, register anew and unregister what awaits them
+link='["registry","q","cb"],["new","x"],["new","t"],["register","q","x","n","t"],["register","q","x","n","s"]'
+link=$link',["register","r","x","q"],["register","r","x","n","s"],["register","r","x","n","t"],["unregister","b","r","t"]'
+{
+    printf '{"version":1,"agents":[{"name":"a","callbacks":{"cb":[["say","held"],["new","y"],["register","r","y","held","y"],'
+    printf '["let","y",null],["unregister","b","r","s"],["say","b"],["keys","held"]]},"jobs":[{"run":['
+    printf '["let","n",1],["new","s"],["registry","r","cb"],'
+    yes "$link" | head -n 9 | paste -s -d ,
+    printf ',["let","x",null],["collect"]]},{"run":[["collect"],["let","held",null],["let","t",null],["collect"]]}]}]}\n'
+} >"$room/cells.json"
+each_growth 0 run "$room/cells.json"
 
 # a fault in the last command of the last agent, so that all before it is read
 sed 's/\["keys", "x"\]/["keys", "1x"]/' "$examples/agents.json" >"$room/faulty.json"

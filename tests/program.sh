@@ -61,28 +61,58 @@ faulty() {
     expect "$1, checked" 1 "$room/nothing" "$2"
 }
 
-# job COMMAND..: these commands as one job of a plan; each is given in words, and null is the only literal
+# commands COMMAND..: each is given in words, in which null and whole numbers are the only literals
+commands() {
+    printf '%s\n' "$@" | sed 's/ /","/g; s/.*/["&"]/; s/"\(null\|-\{0,1\}[0-9]\{1,\}\)"/\1/g' | paste -s -d ,
+}
+
+# job COMMAND..: these commands as one job of a plan
 job() {
-    printf '%s\n' "$@" | sed 's/ /","/g; s/.*/["&"]/; s/"null"/null/g' | paste -s -d , | sed 's/.*/{"run":[&]}/'
+    commands "$@" | sed 's/.*/{"run":[&]}/'
 }
 
-# plan JOB..: the file script becomes a plan of one agent with these jobs
-plan() {
-    printf '%s\n' "$@" | paste -s -d , |
-        sed 's/.*/{"version":1,"agents":[{"name":"a","callbacks":{},"jobs":[&]}]}/' >"$room/script"
-}
-
-# reported NAME LINE..: the agent of the file script says these lines
-reported() {
+# callback NAME COMMAND..: these commands as one callback of a plan
+callback() {
     name=$1
     shift
+    commands "$@" | sed "s/.*/\"$name\":[&]/"
+}
+
+# plan_with CALLBACKS JOB..: the file script becomes a plan of one agent with these callbacks and jobs
+plan_with() {
+    calls=$1
+    shift
+    printf '%s\n' "$@" | paste -s -d , |
+        sed "s/.*/{\"version\":1,\"agents\":[{\"name\":\"a\",\"callbacks\":{$calls},\"jobs\":[&]}]}/" >"$room/script"
+}
+
+# plan JOB..: the same without callbacks
+plan() {
+    plan_with "" "$@"
+}
+
+# cleaned NAME FATES LINE..: the agent of the file script says these lines; at its end so many of its registrations are
+# live, await their cleanup, were unregistered and were taken
+cleaned() {
+    name=$1
+    fates=$2
+    shift 2
     {
         echo 'agent a'
         printf '%s\n' "$@"
-        tail -n +2 "$room/report"
+        # shellcheck disable=SC2086
+        printf 'end live %s awaiting %s unregistered %s taken %s\n' $fates
+        tail -n 3 "$room/report"
     } >"$room/wanted"
     run run "$room/script"
     expect "$name" 0 "$room/wanted" ""
+}
+
+# reported NAME LINE..: the same of an agent without registrations
+reported() {
+    name=$1
+    shift
+    cleaned "$name" "0 0 0 0" "$@"
 }
 
 printf '{"version":1,"agents":[{"name":"a","callbacks":{},"jobs":[]}]}\n' >"$room/plan.json"
@@ -202,6 +232,41 @@ faulty "collect with an operand in a callback" "refused S7 agent 0 callback 1 co
 plan "$(job "collect x")"
 faulty "collect with an operand" "refused S7 agent 0 job 1 command 1"
 
+# of_registry NAME ERRORS COMMAND: as the second command of the second job, where cb and none but it is a callback
+of_registry() {
+    plan_with '"cb":[]' "$(job "new x")" "$(job "registry r cb" "$3")"
+    faulty "$1" "$2"
+}
+at='agent 0 job 2 command 2'
+of_registry "a callback that is not there" "refused S6 $at" "registry x nobody"
+of_registry "a callback's name in another case" "refused S6 $at" "registry x CB"
+of_registry "a variable's name that is none before a callback that is not there" "refused S5 $at" "registry 1x nobody"
+of_registry "a callback's name that is none" "refused S5 $at" "registry x 1x"
+of_registry "a callback as undefined" "refused S7 $at" "registry x null"
+of_registry "a callback as a number" "refused S7 $at" "registry 1x 1"
+of_registry "registry without a callback" "refused S7 $at" "registry x"
+of_registry "registry with two callbacks" "refused S7 $at" "registry x cb cb"
+of_registry "register of two operands" "refused S7 $at" "register r x"
+of_registry "register of five operands" "refused S7 $at" "register r x x x x"
+of_registry "a token as a literal" "refused S7 $at" "register r x x null"
+of_registry "a token's name that is none" "refused S5 $at" "register r x x 1x"
+of_registry "a held value's name that is none, before a token's" "refused S5 $at" "register r x x- 1x"
+of_registry "unregister of two operands" "refused S7 $at" "unregister x r"
+of_registry "unregister of four operands" "refused S7 $at" "unregister x r x x"
+of_registry "unregister of a name that is none" "refused S5 $at" "unregister x r 1x"
+plan "$(job "registry x cb")"
+faulty "a callback of an agent without callbacks" "refused S6 agent 0 job 1 command 1"
+plan_with "$(callback B "say x" "registry y cb"),$(callback cb "registry y B" "registry y C")" "$(job "new 1x")"
+faulty "a callback that is not there, in a callback" "refused S6 agent 0 callback 2 command 2"
+plan_with "$(callback b "registry y nobody"),$(callback a collect)" "$(job "new 1x")"
+faulty "a collection in a callback before another's fault" "refused S9 agent 0 callback 1 command 1"
+printf '{"version":1,"agents":[{"name":"a","callbacks":{"cb":[]},"jobs":[]},{"name":"b","callbacks":{},"jobs":[%s]}]}' \
+    "$(job "registry x cb")" >"$room/script"
+faulty "a callback of another agent" "refused S6 agent 1 job 1 command 1"
+plan_with "$(callback cb "register r held held" "registry r cb")" "$(job "register r x x" "unregister r r r")"
+run check "$room/script"
+expect "a callback that names itself" 0 "$room/ok" ""
+
 # Collections
 
 kept=$(job "new a" "weakref w a" "let a null" collect "deref b w" "say b")
@@ -215,6 +280,72 @@ reported "a target that leads to another" "emptied 2" "say undefined" "say undef
 plan "$(job "new a" "new b" "set a p b" "set b p a" "weakref w a" "let a null" "let b null" collect)" \
     "$(job collect "deref x w" "say x")"
 reported "a target in a cycle" "emptied 0" "emptied 2" "say undefined"
+
+# Registrations
+
+cb='"cb":[]'
+one=$(job "registry r cb" "new x" "let h 5" "register r x h x" "let x null" collect)
+plan_with "$cb" "$one"
+cleaned "a target that is its own token" "0 0 0 1" "emptied 1" "cleanup 1 held 5"
+plan_with "$(callback cb "say held" "set held p held" "say held")" "$one" "$(job "say held")"
+cleaned "a refusing callback" "0 0 0 1" "emptied 1" "cleanup 1 held 5" "say 5" "error TypeError: not an object" "say 5"
+plan_with "$cb" "$(job "registry r cb" "new x" "new h" "set h p x" "register r x h" "let x null" "let h null" collect)"
+cleaned "a held value that leads to its target" "1 0 0 0" "emptied 0"
+plan_with "$cb" "$(job "registry r cb" "new x" "new y" "new t" "let h 1" "register r x h t" "register r y h t" \
+    "let x null" collect "unregister b r t" "say b")"
+cleaned "a token of two, one of which awaits its cleanup" "0 0 2 0" "emptied 1" "say true"
+plan_with "$(callback cb "set held p held")" "$(job "registry r cb" "new x" "new y" "let h 1" "let i 2" \
+    "register r x h" "register r y i" "let x null" "let y null" collect)"
+cleaned "a refusal, and another cleanup job" "0 0 0 2" "emptied 2" "cleanup 1 held 1" "error TypeError: not an object" \
+    "cleanup 2 held 2" "error TypeError: not an object"
+plan_with "$cb" "$(job "registry r cb" "new a" "register r a a")" "$(job "let n 5" "register r n n")"
+cleaned "a target that is the held value" "0 0 0 0" "error TypeError: target and held value are the same" \
+    "error TypeError: cannot be held weakly"
+plan_with "$cb" "$(job "registry r cb" "new x" "new t" "let h 1" "register r x h t" "unregister b r t" \
+    "unregister c r t" "say b" "say c" "let x null" collect)"
+cleaned "what was unregistered" "0 0 1 0" "say true" "say false" "emptied 1"
+plan_with "$(callback cb "say held" "deref y w" "say y")" \
+    "$(job "registry r cb" "new x" "weakref w x" "let h 3" "register r x h" "let x null")" "$(job collect "say h")"
+cleaned "a WeakRef to a target whose cleanup job runs" "0 0 0 1" "emptied 1" "say 3" "cleanup 1 held 3" "say 3" \
+    "say undefined"
+plan_with "$cb" "$(job "registry r cb" "registry q cb" "new x" "let h 1" "let i 2" "register q x i" "register r x h" \
+    "let x null" collect)"
+cleaned "two registries, by rising identity" "0 0 0 2" "emptied 1" "cleanup 2 held 1" "cleanup 1 held 2"
+
+# the order of tests, and what they leave: no registration, and no assignment
+plan_with "$cb" "$(job "registry r cb" "new a" "register a x a x")" "$(job "register r x x r")" "$(job "register r a a x")" \
+    "$(job "let n 1" "register r a n n")" "$(job "unregister b n n")" "$(job "let b 7" "unregister b r x")" \
+    "$(job "say b" "registry r cb" "say r" "symbol s" "register r s n")" "$(job "register r a s s")" \
+    "$(job "unregister b r s")" "$(job "register r a s x" "unregister b r a" "say b")"
+cleaned "the order of tests" "1 0 0 0" "error TypeError: not a FinalizationRegistry" \
+    "error TypeError: cannot be held weakly" "error TypeError: target and held value are the same" \
+    "error TypeError: cannot be held weakly" "error TypeError: not a FinalizationRegistry" \
+    "error TypeError: cannot be held weakly" "say 7" "say object 3" "error TypeError: cannot be held weakly" \
+    "error TypeError: cannot be held weakly" "error TypeError: cannot be held weakly" "say false"
+
+# FinalizationRegistries are never emptied, nor what their properties and their cells' held values lead to
+plan_with "$cb" "$(job "registry r cb" "new p" "set r k p" "new h" "new x" "register r x h x" "weakref w r" \
+    "let p null" "let h null" "let r null" "let x null" collect)" "$(job "deref r w" "say r" "get p r k" "say p" collect)" \
+    "$(job "let held null" collect)"
+cleaned "a registry that nothing holds" "0 0 0 1" "emptied 1" "cleanup 1 held object 3" "say object 1" "say object 2" \
+    "emptied 0" "emptied 1"
+
+# of two collections in a job the first decides the place of a registry in the queue; a refusal puts it last
+plan_with "$(callback cb "say held" "keys held"),\"calm\":[]" "$(job "registry q calm" "registry r cb" "new x" "new y" \
+    "new z" "let i 1" "let j 2" "let k 3" "register r x i" "register r y j" "register q z k" "let x null" collect \
+    "let y null" "let z null" collect)"
+cleaned "a queue of two" "0 0 0 3" "emptied 1" "emptied 2" "cleanup 1 held 1" "say 1" "error TypeError: not an object" \
+    "cleanup 3 held 3" "cleanup 2 held 2" "say 2" "error TypeError: not an object"
+
+# a callback unregisters what awaits the same cleanup job, and registers anew
+plan_with "$(callback cb "unregister b r t" "say b" "new n" "register r n held n" "let n null")" \
+    "$(job "registry r cb" "new t" "new x" "new y" "let h 4" "register r x h t" "register r y h t" "let x null" \
+        "let y null" collect)" "$(job collect)"
+cleaned "a callback that unregisters the rest" "1 0 1 2" "emptied 2" "cleanup 1 held 4" "say true" "emptied 1" \
+    "cleanup 3 held 4" "say false"
+plan_with "$(callback cb "unregister b r t")" "$(job "registry r cb" "new t" "new x" "register r x t t" "let x null" \
+    collect "unregister b r t" "say b")" "$(job "say held")"
+cleaned "a cleanup job that finds nothing" "0 0 1 0" "emptied 1" "say true" "say undefined"
 
 # A plan of many pieces, whole and without its last bracket
 
@@ -257,9 +388,10 @@ many() {
     done
 }
 
-# joined: the file script becomes a plan of one agent with the jobs on standard input
+# joined [CALLBACKS]: the file script becomes a plan of one agent with the jobs on standard input
 joined() {
-    paste -s -d , | sed 's/.*/{"version":1,"agents":[{"name":"a","callbacks":{},"jobs":[&]}]}/' >"$room/script"
+    paste -s -d , |
+        sed "s/.*/{\"version\":1,\"agents\":[{\"name\":\"a\",\"callbacks\":{${1-}},\"jobs\":[&]}]}/" >"$room/script"
 }
 
 {
@@ -275,9 +407,10 @@ reported "a plan of more than a million bytes" 'say "last"'
     job "weakset y" "say y"
     job "weakref y x" "say y"
     job "weakref y y" "say y"
-} | joined
+    job "registry y cb" "say y"
+} | joined '"cb":[]'
 reported "an object past the last identity" "say object 1000000" "error limit: values" "error limit: values" \
-    "error limit: values" "error limit: values" "error TypeError: cannot be held weakly"
+    "error limit: values" "error limit: values" "error TypeError: cannot be held weakly" "error limit: values"
 {
     many 99 '["new","x"]'
     yes '["new","x"]' | head -n 9999 | paste -s -d , | sed 's/.*/{"run":[&]}/'

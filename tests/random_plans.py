@@ -3,9 +3,10 @@
 
 Usage: random_plans.py PROGRAM COUNT SEED. Prints each plan that differs, and `N passed, M failed` last.
 
-The plans are of four kinds: of lives that were written by hand, mixed (`lives`); of commands that mostly suit what the
-variables hold at that point, WeakMaps and WeakSets before all (`tables`); of any commands (`any_jobs`); and with faults
-(`doubtful_plan`).
+The plans are of five kinds: of lives that were written by hand, mixed (`lives`); of commands that mostly suit what the
+variables hold at that point, WeakMaps and WeakSets before all (`tables`), or FinalizationRegistries before all
+(`registrations`); of any commands (`any_jobs`); and with faults (`doubtful_plan`). The callbacks of all but the last
+were written by hand as well, and have any command among them here and there.
 """
 
 import copy
@@ -17,21 +18,28 @@ import sys
 import rules
 
 NAMES = ["a", "b", "c", "w", "x", "y"]
-# where `tables` has most of its WeakMaps, WeakSets and WeakRefs, and assigns little else
-PLACES = {"weakmap": ["m", "n"], "weakset": ["s"], "weakref": ["u", "v"]}
+# where `tables` has most of its WeakMaps, WeakSets, WeakRefs and FinalizationRegistries, and assigns little else
+PLACES = {"weakmap": ["m", "n"], "weakset": ["s"], "weakref": ["u", "v"], "registry": ["f", "g"]}
+# where `registrations` has most of its tokens
+TOKENS = ["t", "k"]
 KEYS = ["p", "q", "r"]
+CALLBACKS = ["cb", "B", "_x"]
 # what the operands of each command are for: x is assigned, k a property's key, l a literal, t a text, and the others
-# are read: v as any value, o as an object, h as what can be held weakly, w as a WeakRef, m as a WeakMap, s as a WeakSet
+# are read: v as any value, o as an object, h as what can be held weakly, w as a WeakRef, m as a WeakMap, s as a WeakSet,
+# r as a FinalizationRegistry; c names a callback
 USES = {
     "let": "xl", "new": "x", "symbol": "x", "symbolfor": "xt", "copy": "xv", "same": "xvv", "say": "v",
     "set": "okv", "get": "xok", "delete": "xok", "keys": "o", "weakref": "xh", "deref": "xw",
     "weakmap": "x", "wmset": "mhv", "wmget": "xmh", "wmhas": "xmh", "wmdelete": "xmh",
     "weakset": "x", "wsadd": "sh", "wshas": "xsh", "wsdelete": "xsh",
+    "registry": "xc", "register": "rhv", "unregister": "xrh",
     "collect": "",
 }
-assert USES.keys() == rules.OPERANDS.keys()
+# an operand that may stand after these
+ONE_MORE = {"register": "h"}
+assert USES.keys() == rules.OPERANDS.keys() and ONE_MORE.keys() == rules.ONE_MORE.keys()
 ASKING = ["wmhas", "wmdelete", "wshas", "wsdelete"]
-ANSWERING = ["same", "delete", *ASKING]  # what assigns true or false
+ANSWERING = ["same", "delete", "unregister", *ASKING]  # what assigns true or false
 WEAK_TABLES = ["weakmap", "wmset", "wmget", "wmhas", "wmdelete", "weakset", "wsadd", "wshas", "wsdelete"]
 # numbers and texts that JSON readers treat differently, and arrays at and past the deepest nesting
 ODD_JSON = [
@@ -152,6 +160,65 @@ LIVES = [
     # what is made after a collection is no key or member, though what went was one
     "weakmap M; weakset S; new A; wmset M A S; wsadd S A; let A null; collect; new A; wmhas X M A; say X; "
     "wshas X S A; say X; wmset M A A; wmget B M A; say B",
+    # a held value of each kind; one that leads to the target, so that it is never taken; one that a cell alone holds
+    "registry f cb; new A; let B 5; register f A B A; let A null; collect; / say held",
+    "registry f cb; new A; new B; set B p A; register f A B; let A null; let B null; collect; / collect",
+    "registry f cb; new A; new B; weakref W B; register f A B; let B null; / collect; let A null; / collect; / "
+    "say held; let held null; collect; deref B W; say B",
+    "registry f cb; new A; symbol B; register f A B; let B null; collect; let A null; collect; / let held null; "
+    "collect",
+    "registry f _x; new A; symbolfor B k; register f A B; register f A A; let A null; collect",
+    # a target that is registered several times, with one FinalizationRegistry and with two
+    "registry f cb; registry g _x; new A; let B 1; let C 2; register f A B; register g A C; register f A C; "
+    "let A null; / collect; / collect",
+    # tokens: one that two share, one that goes, one that is the target, one of another FinalizationRegistry
+    "registry f cb; new A; new B; new C; let X 1; register f A X C; register f B X C; let A null; collect; "
+    "unregister Y f C; say Y; unregister Y f C; say Y; let B null; collect",
+    "registry f cb; new A; new B; let X 1; register f A X B; let B null; collect; new B; unregister Y f B; say Y; "
+    "let A null; collect; unregister Y f B; say Y",
+    "registry f _x; new A; let X 1; register f A X A; register f A X; unregister Y f A; say Y; let A null; collect",
+    "registry f cb; registry g cb; new A; new B; let X 1; register f A X B; let A null; unregister Y g B; say Y; "
+    "collect; / unregister Y f B; say Y",
+    # a cell that is unregistered while its FinalizationRegistry awaits its cleanup job, so that the job finds none
+    "registry f cb; new A; new B; let X 1; register f A X B; let A null; collect; unregister Y f B; say Y; / collect",
+    # what is no FinalizationRegistry, what can't be held weakly, and what is the target and the held value
+    "registry f cb; register f f f",
+    "registry f cb; new A; register A A A",
+    "registry f cb; let A 1; new B; register f A A A",
+    "registry f cb; new A; let B 1; register f A B B",
+    "registry f cb; new A; register f A A B",
+    "registry f cb; new A; symbol B; register f B A; / unregister X A A; / unregister X f B; / unregister X f X",
+    # a FinalizationRegistry that no variable holds, one with properties, and one that is a target, a key, a held value
+    "registry f cb; weakref W f; new A; set f p A; let A null; let B 1; register f f B; let f null; / collect; "
+    "deref f W; get A f p; say A; say f; keys f",
+    "registry f cb; registry g _x; weakmap M; new A; wmset M f A; let B 1; register g f B f; register g f g f; "
+    "let f null; let A null; collect; unregister X g g; say X; deref f g",
+    # a chain of targets and held values, of which each collection takes one
+    "registry f cb; new A; new B; new C; register f A B; register f B C; let A null; let B null; let C null; collect; "
+    "/ let held null; collect; / let held null; collect; / let held null; collect",
+]
+
+# What callbacks do, in words; capitals stand for variables here too, and the others are those of PLACES and TOKENS
+CALLS = [
+    "", "say held", "say held; say held", "say held; let held null",
+    # what WeakRefs lead to in a cleanup job
+    "deref A u; say A", "say held; deref A v; deref B u; say B; let A null; let B null", "weakref u held",
+    # properties, of the held value too
+    "set held p held", "say held; set held p held; keys held", "set f p held", "get A f p; say A; set A q held; keys A",
+    # registrations anew, with the same FinalizationRegistry and with another
+    "new A; register f A held; let A null", "new A; register f A held A", "say held; new A; register g A A; say A",
+    "register f held B; say held", "new A; let B 1; register f A B C; unregister X f C; say X",
+    "registry A cb; new B; register A B held; let B null; copy f A", "new A; set held p A; register g A A held",
+    # a callback may unregister what awaits as well
+    "unregister X f A; say X", "say held; unregister X f A; let X null", "unregister X f held; say X",
+    "unregister X g held; unregister Y f B; say X; say Y", "get A held p; unregister X f A; say X",
+    "say held; unregister X f t; say X", "unregister X g k; say X; new A; register g A A",
+    "unregister X g t; say X; keys X", "unregister X f k; say X; new A; register f A X k; let A null",
+    "say held; unregister X g t; unregister Y f k; say Y",
+    # refusals, of some held values and of all
+    "say held; deref A held; say A", "keys held", "say f; keys z", "copy A held; say A; wmget B m A",
+    "same X held A; say X; set z p z; say X", "copy z A; say held; set z p held",
+    "wmset m held A; wmget B m held; say B", "wsadd s held; wshas X s held; say X", "symbol A; say A",
 ]
 
 # Commands for spoiled plans: `collect`, written rightly and wrongly, and other faults
@@ -164,11 +231,24 @@ FAULTS = [
     ["weakmap"], ["weakset", "x", "x"], ["wmset", "x", "x"], ["wmset", "x", "1x", None], ["wmget", "x", "x", "1x"],
     ["wmhas", "1x", "x", 1], ["wmdelete", "x", "x-", "x"], ["wsadd", "x"], ["wsadd", "x", "x", "x"], ["wshas", "x", "x"],
     ["wsdelete", "x", "", "x"], ["WeakMap", "x"], ["wmclear", "x"],
+    ["registry"], ["registry", "x"], ["registry", "x", None], ["registry", "1x", []], ["registry", "x", "cb", "cb"],
+    ["registry", "1x", "nobody"], ["registry", "x", "1x"], ["registry", "x", ""], ["registry", "x", "nobody"],
+    ["registry", "x", "cB"], ["registry", "x", "cb"], ["registry", "x", "B"], ["register", "x", "x"],
+    ["register", "x", "x", None], ["register", "x", "x", "1x"], ["register", "x", "x", "x", None],
+    ["register", "x", "x", "x", "1x"], ["register", "x", "1x", "x", []], ["register", "x", "x", "x", "x", "x"],
+    ["unregister", "x", "x"], ["unregister", "x", "x", "x", "x"], ["unregister", "x", "x-", "x"],
+    ["Register", "x", "x", "x"],
 ]
 
 
+def uses(rng, word):
+    """What the command's operands are for, of those that it has this time."""
+    return USES[word] + (ONE_MORE.get(word, "") if rng.random() < 0.6 else "")
+
+
 def operand(rng, use):
-    return rng.choice(LITERALS if use == "l" else ["", "k", "a text"] if use == "t" else KEYS if use == "k" else NAMES)
+    drawn_from = {"l": LITERALS, "t": ["", "k", "a text"], "k": KEYS, "c": CALLBACKS}
+    return rng.choice(drawn_from.get(use, NAMES))
 
 
 def command(rng):
@@ -176,35 +256,60 @@ def command(rng):
     others = [word for word in USES if word not in WEAK_TABLES]
     often = ["new", "set", "weakref", "deref", "say", "collect"]
     word = rng.choice(WEAK_TABLES if rng.random() < 0.15 else others + often * 2)
-    return [word, *(operand(rng, use) for use in USES[word])]
+    return [word, *(operand(rng, use) for use in uses(rng, word))]
 
 
-def callbacks(rng):
-    """Up to two callbacks of a command each, now and then one that a callback can't have."""
-    drawn = {name: command(rng) for name in rng.sample(["cb", "B", "_x"], rng.randint(0, 2))}
-    return {name: [c] for name, c in drawn.items() if c != ["collect"] or rng.random() < 0.1}
+def callback(rng):
+    """What a callback does, now and then with any command, even with one that a callback can't have."""
+    unregistering = [text for text in CALLS if "unregister" in text]
+    run = [*written(rng, rng.choice(unregistering if rng.random() < 0.2 else CALLS))]
+    if rng.random() < 0.15:
+        drawn = command(rng)
+        if drawn != ["collect"] or rng.random() < 0.05:
+            run.insert(rng.randint(0, len(run)), drawn)
+    return run
+
+
+def named(runs):
+    """The names of callbacks in these commands."""
+    return {step[2] for run in runs for step in run if step[0] == "registry"}
 
 
 def plan_of(rng, jobs_of):
-    """A plan of one to three agents, each with what `jobs_of` gives."""
-    names = rng.sample(["a", "main", "w", "B", "_"], rng.randint(1, 3))
-    agents = [{"name": n, "callbacks": callbacks(rng), "jobs": [{"run": run} for run in jobs_of(rng)]} for n in names]
+    """A plan of one to three agents, each with what `jobs_of` gives for its callbacks."""
+    agents = []
+    for name in rng.sample(["a", "main", "w", "B", "_"], rng.randint(1, 3)):
+        calls = {call: callback(rng) for call in rng.sample(CALLBACKS, len(CALLBACKS))}
+        jobs = jobs_of(rng, calls)
+        # A callback that nothing names may be left out, and once in a while one that something names.
+        kept = named([*jobs, *calls.values()])
+        calls = {call: run for call, run in calls.items() if rng.random() < (0.998 if call in kept else 0.5)}
+        agents.append({"name": name, "callbacks": calls, "jobs": [{"run": run} for run in jobs]})
     return {"version": 1, "agents": agents}
 
 
-def any_jobs(rng):
+def any_jobs(rng, _calls):
     return [[command(rng) for _ in range(rng.randint(0, 25))] for _ in range(rng.randint(0, 6))]
 
 
-def life(rng):
-    """One of the lives, its capitals replaced by variables, and None where its job ends."""
-    words = rng.choice(LIVES).replace(";", " ;").split()
+def written(rng, text):
+    """Commands in words, their capitals replaced by variables, and None where a job ends."""
+    words = text.replace(";", " ;").split()
     capitals = sorted({word for word in words if word.isupper()})
     names = dict(zip(capitals, rng.sample(NAMES, len(capitals))))
+    if not words:
+        return
     for piece in " ".join(names.get(word, word) for word in words).split(" ; "):
         if piece.startswith("/"):
             yield None
-        yield [None if word == "null" else word for word in piece.removeprefix("/").split()]
+        words = piece.removeprefix("/").split()
+        yield [None if word == "null" else int(word) if word.isdigit() else word for word in words]
+
+
+def life(rng):
+    """One of the lives; with a callback that was not written into it, where it has one."""
+    for step in written(rng, rng.choice(LIVES)):
+        yield [*step[:2], rng.choice(CALLBACKS)] if step and step[0] == "registry" else step
 
 
 def chain(rng):
@@ -242,22 +347,32 @@ def suits(agent, use, name):
     """Whether the variable holds what an operand of this use must be."""
     if use == "v":
         return True
-    right = {"o": agent.properties, "h": agent.properties, "w": agent.targets, "m": agent.entries, "s": agent.members}
+    right = {
+        "o": agent.properties, "h": agent.properties, "w": agent.targets, "m": agent.entries, "s": agent.members,
+        "r": agent.registries,
+    }
     value = agent.value(name)
     return value[0] == "object" and value[1] in right[use]
 
 
-def suited(rng, agent):
+# how often the commands come where most suit what the variables hold; the others come once
+OFTEN_TABLES = {
+    "let": 8, "new": 16, "set": 6, "get": 6, "copy": 4, "weakref": 8, "deref": 8, "collect": 6, "weakmap": 4,
+    "wmset": 26, "wmget": 16, "wmhas": 6, "wmdelete": 4, "wsadd": 8, "wshas": 6, "weakset": 2, "register": 3,
+}
+OFTEN_REGISTRATIONS = {
+    "let": 10, "new": 20, "set": 4, "get": 3, "copy": 3, "weakref": 4, "deref": 3, "collect": 9, "wmset": 3,
+    "registry": 3, "register": 45, "unregister": 12,
+}
+
+
+def suited(rng, agent, often):
     """A command whose operands mostly suit what the agent's variables hold, and what may follow it at once."""
-    often = {
-        "let": 8, "new": 16, "set": 6, "get": 6, "copy": 4, "weakref": 8, "deref": 8, "collect": 6, "weakmap": 4,
-        "wmset": 26, "wmget": 16, "wmhas": 6, "wmdelete": 4, "wsadd": 8, "wshas": 6, "weakset": 2,
-    }
-    names = NAMES + [name for places in PLACES.values() for name in places]
+    names = NAMES + ["held"] + TOKENS + [name for places in PLACES.values() for name in places]
     while True:
         word = rng.choices(list(USES), [often.get(word, 1) for word in USES])[0]
         args, refused = [], False
-        for use in USES[word]:
+        for use in uses(rng, word):
             if use == "x" and word in PLACES and rng.random() < 0.7:
                 args.append(rng.choice(PLACES[word]))
             elif use == "x" and word in ANSWERING and rng.random() < 0.7:
@@ -266,10 +381,16 @@ def suited(rng, agent):
                 args.append(rng.choice(NAMES if rng.random() < 0.97 else names))
             elif use == "l" and rng.random() < 0.8:
                 args.append(None)
-            elif use in "klt":
+            elif use in "kltc":
                 args.append(operand(rng, use))
             else:
                 right = [name for name in names if suits(agent, use, name)]
+                if word == "register" and use == "v" and rng.random() < 0.9:
+                    # Most held values are something, and another thing than the target.
+                    others = [("undefined",), agent.value(args[1])]
+                    right = [name for name in names if agent.value(name) not in others]
+                elif len(args) == 3 and rng.random() < 0.6:
+                    right = [name for name in TOKENS if suits(agent, use, name)] or right
                 refused = refused or not right
                 args.append(rng.choice(right if right and rng.random() < 0.98 else names))
         if not refused or rng.random() < 0.02:
@@ -279,17 +400,39 @@ def suited(rng, agent):
         number = agent.value(args[1])[-1]
         held = agent.entries.get(number) or agent.members.get(number) or []
         args[2] = rng.choice([name for name in names if agent.value(name) in held] or [args[2]])
+    if word == "unregister" and rng.random() < 0.8:
+        number = agent.value(args[1])[-1]
+        tokens = [cell.token for cell in agent.cells.values() if cell.registry == number and cell.token[0] == "object"]
+        args[2] = rng.choice([name for name in names if agent.value(name) in tokens] or [args[2]])
     yield [word, *args]
-    if word in ("deref", "wmget", *ASKING) and rng.random() < 0.7:
+    if word in ("deref", "wmget", "unregister", *ASKING) and rng.random() < 0.7:
         yield ["say", args[0]]
     if word in ("set", "wmset", "wsadd", "weakref") and rng.random() < 0.5:
         # Now something else may hold it, or nothing.
         yield ["let", args[-1], None]
+    if word == "register" and rng.random() < 0.6:
+        # Of the target, the held value and the token, some are held by nothing else from now on.
+        for name in rng.choice([args[1:2], args[1:2], args[1:3], args[1:]]):
+            if name not in TOKENS or rng.random() < 0.1:
+                yield ["let", name, None]
 
 
-def tables(rng):
-    """Jobs of suited commands, and at last what the maps, sets and WeakRefs still have."""
-    agent, jobs = rules.Agent(), [[]]
+def batch(rng):
+    """Several registrations whose targets go together, most with a token that stays."""
+    at, held = rng.sample(NAMES, 2)
+    for number in range(rng.randint(2, 5)):
+        yield from [["new", at], ["let", held, number] if rng.random() < 0.7 else ["new", held]]
+        token = rng.choice([[], [at], [held], *([name] for name in TOKENS * 3)])
+        yield ["register", rng.choice(PLACES["registry"]), at, held, *token]
+    yield from [["let", at, None], ["collect"]]
+
+
+def suited_jobs(rng, calls, often):
+    """Jobs of suited commands, and at last what the maps, sets and WeakRefs still have, and which registrations are
+    left when nothing is held any more."""
+    # A plan with a callback that collects is refused, so here none does: it might never come to its end.
+    agent = rules.Agent({call: [step for step in run if step != ["collect"]] for call, run in calls.items()})
+    jobs = [[]]
 
     def do(step):
         jobs[-1].append(step)
@@ -301,10 +444,18 @@ def tables(rng):
 
     def end():
         agent.kept = []
+        for _ in agent.cleanup_jobs():
+            pass
         jobs.append([])
 
+    if often is OFTEN_REGISTRATIONS:
+        for name in PLACES["registry"]:
+            do(["registry", name, rng.choice(CALLBACKS)])
+        for name in TOKENS:
+            do(["new", name])
     for _ in range(rng.randint(20, 120)):
-        for step in suited(rng, agent):
+        batched = often is OFTEN_REGISTRATIONS and rng.random() < 0.04
+        for step in batch(rng) if batched else suited(rng, agent, often):
             if rng.random() < (0.6 if step == ["collect"] else 0.03):
                 end()
             do(step)
@@ -321,10 +472,23 @@ def tables(rng):
         if suits(agent, "w", name):
             do(["deref", "z", name])
             do(["say", "z"])
+    if rng.random() < 0.5:
+        end()
+        for name in [*agent.variables]:
+            do(["let", name, None])
+        do(["collect"])
     return jobs
 
 
-def lives(rng):
+def tables(rng, calls):
+    return suited_jobs(rng, calls, OFTEN_TABLES)
+
+
+def registrations(rng, calls):
+    return suited_jobs(rng, calls, OFTEN_REGISTRATIONS)
+
+
+def lives(rng, _calls):
     """Jobs of lives, one after the other, in which jobs end, and other commands stand, here and there."""
     jobs = [[]]
     for _ in range(rng.randint(1, 8)):
@@ -396,9 +560,9 @@ def spoil(rng, value):
 
 def text(rng):
     kind = rng.random()
-    jobs_of = lives if kind < 0.5 else tables if kind < 0.75 else any_jobs
+    jobs_of = lives if kind < 0.45 else tables if kind < 0.6 else registrations if kind < 0.8 else any_jobs
     value = doubtful_plan(rng) if kind < 0.2 else plan_of(rng, jobs_of)
-    for _ in range(rng.choice([0, 0, 0, 0, 1] if kind < 0.75 else [0, 0, 1, 1, 2])):
+    for _ in range(rng.choice([0, 0, 0, 0, 1] if kind < 0.8 else [0, 0, 1, 1, 2])):
         value = spoil(rng, value)
     data = json.dumps(value, ensure_ascii=rng.random() < 0.5).encode()
     if rng.random() < 0.05:

@@ -1,6 +1,6 @@
 """The rules once more, independently of the program: what a plan's text is refused with, and what its run reports.
 
-Used by random_plans.py alone. It knows the commands that are built so far.
+Used by random_plans.py and side_by_side.py. It knows the commands that are built so far.
 """
 
 import json
@@ -9,14 +9,17 @@ import re
 NAME = re.compile(r"[A-Za-z_][A-Za-z0-9_]{0,31}\Z")
 LARGEST = 9007199254740991
 
-# the operands of each command: n a name, l a literal, t a text
+# the operands of each command: n a name, l a literal, t a text, c the name of a callback
 OPERANDS = {
     "let": "nl", "new": "n", "symbol": "n", "symbolfor": "nt", "copy": "nn", "same": "nnn", "say": "n",
     "set": "nnn", "get": "nnn", "delete": "nnn", "keys": "n", "weakref": "nn", "deref": "nn",
     "weakmap": "n", "wmset": "nnn", "wmget": "nnn", "wmhas": "nnn", "wmdelete": "nnn",
     "weakset": "n", "wsadd": "nn", "wshas": "nnn", "wsdelete": "nnn",
+    "registry": "nc", "register": "nnn", "unregister": "nnn",
     "collect": "",
 }
+# an operand that may stand after these
+ONE_MORE = {"register": "n"}
 
 
 class Refused(Exception):
@@ -114,9 +117,11 @@ def is_plan(value):
     )
 
 
-def check_command(command, where, number):
+def check_command(command, callbacks, where, number):
     kinds = OPERANDS.get(command[0])
     operands = command[1:]
+    if kinds is not None and len(operands) > len(kinds):
+        kinds += ONE_MORE.get(command[0], "")
     if kinds is None or len(kinds) != len(operands):
         raise Refused(7, *where, number)
     for kind, operand in zip(kinds, operands):
@@ -125,19 +130,21 @@ def check_command(command, where, number):
     if command[0] == "collect" and where[1][0] == "callback":
         raise Refused(9, *where, number)
     for kind, operand in zip(kinds, operands):
-        if kind == "n" and not NAME.match(operand):
+        if kind in "nc" and not NAME.match(operand):
             raise Refused(5, *where, number)
-        if kind != "n" and isinstance(operand, str) and not is_text(operand):
+        if kind == "c" and operand not in callbacks:
+            raise Refused(6, *where, number)
+        if kind in "lt" and isinstance(operand, str) and not is_text(operand):
             raise Refused(8, *where, number)
         if isinstance(operand, Number) and (operand.whole() is None or abs(operand.whole()) > LARGEST):
             raise Refused(8, *where, number)
 
 
-def check_run(run, where):
+def check_run(run, callbacks, where):
     if len(run) > 10000:
         raise Refused(10, *where)
     for number, command in enumerate(run, 1):
-        check_command(command, where, number)
+        check_command(command, callbacks, where, number)
 
 
 def read_plan(data):
@@ -160,9 +167,9 @@ def read_plan(data):
         for k, name in enumerate(sorted(agent["callbacks"], key=str.encode), 1):
             if not NAME.match(name):
                 raise Refused(5, number, ("callback", k))
-            check_run(agent["callbacks"][name], (number, ("callback", k)))
+            check_run(agent["callbacks"][name], agent["callbacks"], (number, ("callback", k)))
         for j, job in enumerate(agent["jobs"], 1):
-            check_run(job["run"], (number, ("job", j)))
+            check_run(job["run"], agent["callbacks"], (number, ("job", j)))
     return plan
 
 
@@ -170,13 +177,26 @@ class TypeRefused(Exception):
     """An agent refuses a command."""
 
 
+class Cell:
+    """A registration that was neither unregistered nor taken."""
+
+    def __init__(self, registry, target, held, token):
+        self.registry, self.target, self.held, self.token = registry, target, held, token
+
+
 class Agent:
     """One agent: variables, objects with their properties, WeakRefs with their targets, WeakMaps with their entries,
-    WeakSets with their members, what the running job keeps alive, and the numbers of all that was emptied."""
+    WeakSets with their members, FinalizationRegistries with their callbacks, the registrations, what the running job
+    keeps alive, and the numbers of all that was emptied."""
 
-    def __init__(self):
+    def __init__(self, callbacks):
+        self.callbacks = callbacks  # their commands, by name
         self.variables, self.made, self.properties, self.targets = {}, 0, {}, {}
         self.entries, self.members = {}, {}  # by the number of the WeakMap or WeakSet
+        self.registries = {}  # the names of their callbacks, by their numbers
+        self.cells = {}  # by the numbers of the registrations, which rise
+        self.registered, self.unregistered, self.taken = 0, 0, 0
+        self.queue = []  # the FinalizationRegistries of which cleanup jobs are due
         self.kept, self.gone = [], set()
 
     def value(self, name):
@@ -239,11 +259,49 @@ class Agent:
             raise TypeRefused("TypeError: not a WeakSet")
         return self.members[value[1]]
 
+    def new_registry(self, callback):
+        registry = self.new_object()
+        self.registries[registry[1]] = callback
+        return registry
+
+    def registry(self, name):
+        """The number of the FinalizationRegistry in a variable."""
+        value = self.value(name)
+        if value[0] != "object" or value[1] not in self.registries:
+            raise TypeRefused("TypeError: not a FinalizationRegistry")
+        return value[1]
+
+    def register(self, registry, target, held, token):
+        held_weakly(target)
+        if target == held:
+            raise TypeRefused("TypeError: target and held value are the same")
+        if token != ("undefined",):
+            held_weakly(token)
+        self.registered += 1
+        self.cells[self.registered] = Cell(registry, target, held, token)
+
+    def unregister(self, registry, token):
+        """Whether there was a registration with this token, which now is none any more."""
+        held_weakly(token)
+        found = [number for number, cell in self.cells.items() if cell.registry == registry and cell.token == token]
+        for number in found:
+            del self.cells[number]
+        self.unregistered += len(found)
+        return bool(found)
+
+    def awaiting(self, registry):
+        """The numbers of the registrations with an emptied target, the oldest first."""
+        cells = self.cells.items()
+        return [number for number, cell in cells if cell.registry == registry and cell.target[1] in self.gone]
+
     def reached(self):
-        """The numbers of all that variables and what is kept alive lead to. A WeakRef does not lead to its target, a
-        WeakMap not to its keys, a WeakSet not to its members; an entry's value is reached where its WeakMap and its
-        key both are."""
+        """The numbers of all that variables, what is kept alive, FinalizationRegistries and the held values of
+        registrations lead to. A WeakRef does not lead to its target, a WeakMap not to its keys, a WeakSet not to its
+        members, a registration neither to its target nor to its token; an entry's value is reached where its WeakMap
+        and its key both are."""
         ahead, reached = [*self.variables.values(), *self.kept], set()
+        ahead += [("object", number) for number in self.registries]
+        ahead += [cell.held for cell in self.cells.values()]
         while ahead:
             while ahead:
                 value = ahead.pop()
@@ -267,18 +325,64 @@ class Agent:
                 del entries[key]
         for members in self.members.values():
             members.difference_update([member for member in members if member[1] in dead])
+        touched = {cell.registry for cell in self.cells.values() if cell.target[1] in dead}
+        self.queue += sorted(touched - set(self.queue))
         return len(dead)
+
+    def run(self, commands):
+        """The lines of commands, up to the first that is refused."""
+        for command in commands:
+            line = self.do(command[0], command[1:])
+            if line is not None:
+                yield line
 
     def job(self, commands):
         """The lines of a job. It ends with its first refusal, and keeps nothing alive from then on."""
         try:
-            for command in commands:
-                line = self.do(command[0], command[1:])
-                if line is not None:
-                    yield line
+            yield from self.run(commands)
         except TypeRefused as refused:
             yield f"error {refused}"
         self.kept = []
+
+    def cleanup_jobs(self):
+        """The lines of the cleanup jobs that are due after a job."""
+        while self.queue:
+            registry = self.next_registry()
+            self.queue.remove(registry)
+            yield from self.cleanup_job(registry)
+
+    def cleanup_job(self, registry):
+        """The lines of a cleanup job. It ends with the first refusal of a callback as well."""
+        try:
+            while self.awaiting(registry):
+                number = self.next_cell(registry)
+                held = self.cells.pop(number).held
+                self.taken += 1
+                self.variables["held"] = held
+                yield f"cleanup {number} held {printed(held)}"
+                yield from self.run(self.callbacks[self.registries[registry]])
+        except TypeRefused as refused:
+            yield f"error {refused}"
+            if self.awaiting(registry):
+                self.queue.append(registry)
+        self.kept = []
+
+    def next_registry(self):
+        """The one of the queue whose cleanup job is next."""
+        return self.queue[0]
+
+    def next_cell(self, registry):
+        """The number of the registration that the cleanup job takes next; there is one with an emptied target."""
+        return self.awaiting(registry)[0]
+
+    def lines(self, jobs):
+        """The lines of the agent, from its first job to its end."""
+        for job in jobs:
+            yield from self.job(job["run"])
+            yield from self.cleanup_jobs()
+        awaiting = sum(cell.target[1] in self.gone for cell in self.cells.values())
+        live = len(self.cells) - awaiting
+        yield f"end live {live} awaiting {awaiting} unregistered {self.unregistered} taken {self.taken}"
 
     def do(self, word, args):
         """Does a command; gives the line that it reports, if any."""
@@ -331,6 +435,14 @@ class Agent:
             members, member = self.weakset(args[1]), self.value(args[2])
             self.variables[args[0]] = ("boolean", member in members)
             members.discard(member)
+        elif word == "registry":
+            self.variables[args[0]] = self.new_registry(args[1])
+        elif word == "register":
+            token = self.value(args[3]) if len(args) == 4 else ("undefined",)
+            self.register(self.registry(args[0]), self.value(args[1]), self.value(args[2]), token)
+        elif word == "unregister":
+            removed = self.unregister(self.registry(args[1]), self.value(args[2]))
+            self.variables[args[0]] = ("boolean", removed)
         elif word == "collect":
             return f"emptied {self.collect()}"
         return None
@@ -371,11 +483,7 @@ def printed(value):
 def report(plan):
     lines = []
     for agent in plan["agents"]:
-        lines.append(f"agent {agent['name']}")
-        core = Agent()
-        for job in agent["jobs"]:
-            lines += core.job(job["run"])
-        lines.append("end live 0 awaiting 0 unregistered 0 taken 0")
+        lines += [f"agent {agent['name']}", *Agent(agent["callbacks"]).lines(agent["jobs"])]
     lines += ["cluster", "blocks 0 released 0", "messages posted 0 taken 0 drained 0"]
     return "\n".join(lines) + "\n"
 

@@ -3,9 +3,9 @@ use Rattle.std.specs.Prelude.{ℕ, ◌≡◌, ⊤, Bool, false, Option, Some, No
 use Rattle.es_event.specs.declared.event.Refusal.{Refusal}
 use Rattle.es_event.specs.declared.event.Refusal.TheVariants.{NotAnObject}
 use Rattle.es_event.specs.Commands.{Kind}
-use Rattle.es_event.specs.Rules.{is_weakref, is_weakmap, is_weakset}
+use Rattle.es_event.specs.Rules.{is_weakref, is_weakmap, is_weakset, is_registry}
 use Rattle.es_tables.specs.declared.tags.Tag.{Tag}
-use Rattle.es_tables.specs.declared.tags.Tag.TheVariants.{WeakRef, WeakMap, WeakSet}
+use Rattle.es_tables.specs.declared.tags.Tag.TheVariants.{WeakRef, WeakMap, WeakSet, FinalizationRegistry}
 use Rattle.es_agent.specs.declared.stop.Stop.{Stop}
 use Rattle.es_agent.specs.declared.stop.Stop.TheVariants.{Refused, NoMemory}
 
@@ -20,9 +20,10 @@ abbrev pub object_or_refusal : Option ℕ → Result ℕ Refusal
 object_or_refusal None = Err NotAnObject
 object_or_refusal (Some i) = Ok i
 
--- the object is of the kind that has this tag; only these three have commands of their own
+-- the object is of the kind that has this tag; only these four have commands of their own
 abbrev pub is_of : Tag → Option Kind → Bool
 is_of WeakRef k = is_weakref k
 is_of WeakMap k = is_weakmap k
 is_of WeakSet k = is_weakset k
+is_of FinalizationRegistry k = is_registry k
 is_of _ k = false

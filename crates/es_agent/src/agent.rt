@@ -1,6 +1,6 @@
 //! The agent: its calls, each of which records one event or shows what stands.
 
-ghost use Rattle.std.specs.Prelude.{◌≡◌, ◌≤◌, ℕ, [], true, reverse, IfOk, OnOk, OnErr};
+ghost use Rattle.std.specs.Prelude.{◌≡◌, ◌≤◌, ℕ, [], true, codes, drop, reverse, IfOk, OnOk, OnErr};
 ghost use Rattle.es_event.specs.Identities.{gone, is_in};
 ghost use Rattle.es_event.specs.Jobs.{receivers};
 ghost use Rattle.es_event.specs.WeakRefs.{kept};
@@ -9,8 +9,10 @@ ghost use Rattle.es_event.specs.Order.{due};
 ghost use Rattle.es_event.specs.Runs.{IsRun};
 ghost use Rattle.es_agent.specs.Book.{Book, need, IsNext, Records, RecordsNext, EmptiesDead};
 ghost use Rattle.es_event.specs.Jobs.{waits_for_nobody};
-ghost use Rattle.es_agent.specs.Due.{shown};
+ghost use Rattle.es_cursor.specs.Cursor.{IsAt};
+ghost use Rattle.es_cursor.specs.Due.{shown};
 ghost use Rattle.es_tables.specs.Effects.{AreEffects};
+ghost use Rattle.es_tables.specs.Registries.{again_at};
 ghost use Rattle.es_tables.specs.Ready.{CanApply, IsReady};
 ghost use Rattle.es_tables.specs.Tables.{SameState};
 ghost use Rattle.es_agent.specs.Graph.{AreMarksOf};
@@ -19,15 +21,15 @@ mod decide;
 mod ephemerons;
 mod look_up;
 mod reach;
+mod registries;
 
-use crate::cursor::{Cursor, Position};
-use crate::due::Due;
-use crate::need::Need;
+use crate::need::{Need, need_of};
 use crate::step::Step;
-use es_event::{AgentPlan, Event, Log, Sequence};
+use es_cursor::{Cleanup, Cursor, Due, Position, callback_commands, commands, due_command};
+use es_event::{AgentPlan, Command, Event, Log, Sequence};
 use es_mark::Marks;
 use es_tables::{Effects, Tables};
-use es_value::{Id, NoMemory};
+use es_value::{Id, Name, NameFault, NoMemory};
 use std::alloc::Global;
 use std::marker::Model;
 
@@ -45,10 +47,12 @@ pub struct AgentCore {
     events: Log<Event>,
     tables: Tables,
     cursor: Cursor,
+    // the variable that held values are assigned to
+    held: Name,
 }
 
 impl Model for AgentCore {
-    ghost use Rattle.std.specs.Prelude.{◌≢◌, ◌<◌};
+    ghost use Rattle.std.specs.Prelude.{◌≡◌, ◌≢◌, ◌<◌, codes};
     ghost use Rattle.es_event.specs.Order.{phase, ended};
     ghost use Rattle.es_agent.specs.Book.{Book};
     ghost use Rattle.es_agent.specs.Ties.{Ties};
@@ -58,7 +62,7 @@ impl Model for AgentCore {
     ghost view = { λ a. record { plan = a.plan; number = a.number; agents = a.agents; history = a.events.events } };
 
     // there is room for the closing event, until it stands
-    ghost invariant = { λ a. Ties a.plan a.events.events a.tables a.cursor × (phase a.events.events ≢ ended → 0 < a.events.room) };
+    ghost invariant = { λ a. Ties a.plan a.events.events a.tables a.cursor × (a.held ≡ codes "held") × (phase a.events.events ≢ ended → 0 < a.events.room) };
 }
 
 impl AgentCore {
@@ -72,6 +76,7 @@ impl AgentCore {
         requires { waits_for_nobody plan ≡ true }
         ensures { IfOk result (λ a. a ≡ record { plan = plan; number = number; agents = agents; history = [] }) }
     {
+        let held = held_name(alloc)?;
         let mut events = Log::new(alloc);
         match events.reserve(1) {
             Ok(()) => Ok(AgentCore {
@@ -82,6 +87,7 @@ impl AgentCore {
                 events,
                 tables: Tables::new(alloc),
                 cursor: Cursor::START,
+                held,
             }),
             Err(error) => Err(error),
         }
@@ -116,7 +122,8 @@ impl AgentCore {
     pub fn next(&self) -> Need
         ensures { result ≡ need self.now }
     {
-        self.due().need()
+        let due = self.due();
+        need_of(&due)
     }
 
     /// Takes the next step that asks nobody else, and records its one event; where there is no
@@ -141,11 +148,11 @@ impl AgentCore {
     {
         let ids = self.dead(marks)?;
         self.events.reserve(2)?;
-        self.tables.empty(ids.as_slice());
+        self.tables.empty(ids.as_slice())?;
         let event = Event::Emptied {
             ids: Sequence::from_vec(ids),
         };
-        self.cursor = self.cursor.after(&event, &self.plan);
+        self.cursor = self.cursor.after(&event, &self.plan, None);
         self.events.append(event);
         Ok(())
     }
@@ -172,14 +179,43 @@ impl AgentCore {
     fn due(&self) -> Due<'_>
         ensures { shown result ≡ due self.now.plan self.now.history }
     {
-        self.cursor.due(&self.plan)
+        match self.cursor.position {
+            Position::Between => self.due_between(),
+            Position::Inside(at) => due_command(commands(&self.plan, self.cursor.job), at),
+            Position::Cleaning(cleanup) => self.due_cleaning(cleanup),
+            Position::Stopped | Position::CleanupStopped(_) => Due::EndJob,
+            Position::Ended => Due::Nothing,
+        }
+    }
+
+    /// What comes next between two jobs: the first cleanup job that is queued, or else the next job.
+    fn due_between(&self) -> Due<'_>
+        requires { IsAt self.now.plan self.now.history Position.Between }
+        ensures { shown result ≡ due self.now.plan self.now.history }
+    {
+        match self.tables.queued() {
+            Some(registry) => Due::Clean(registry.number()),
+            None => self.cursor.due_job(&self.plan),
+        }
+    }
+
+    /// What comes next in a cleanup job: the next command of its callback, or else the oldest cell that
+    /// awaits it, or else its end.
+    fn due_cleaning(&self, cleanup: Cleanup) -> Due<'_>
+        requires { IsAt self.now.plan self.now.history (Position.Cleaning cleanup) }
+        ensures { shown result ≡ due self.now.plan self.now.history }
+    {
+        match callback_commands(&self.plan, cleanup.callback).get(cleanup.at) {
+            Some(command) => Due::Run(command),
+            None => self.due_cell(),
+        }
     }
 
     /// Makes every growth that the step needs, then records it: nothing after the growths can fail.
     fn record(&mut self, step: Step) -> Result<(), NoMemory>
         requires need { need self.old ≡ Need.Local }
         requires next { IsNext self.old step.event }
-        requires effects { AreEffects step.event step.effects }
+        requires effects { AreEffects (again_at self.old.history) step.event step.effects }
         ensures ok { OnOk result (Records self.old step.event self.new) }
         ensures err { OnErr result (self.new ≡ self.old) }
     {
@@ -188,10 +224,22 @@ impl AgentCore {
             return Err(error);
         }
         let Step { event, effects } = step;
+        let callback = self.callback_at(&event);
         self.tables.apply(effects);
-        self.cursor = self.cursor.after(&event, &self.plan);
+        self.cursor = self.cursor.after(&event, &self.plan, callback);
         self.events.append(event);
         Ok(())
+    }
+}
+
+/// The name of the variable that held values are assigned to.
+fn held_name(alloc: Global) -> Result<Name, NoMemory>
+    ensures { IfOk result (λ n. n ≡ codes "held") }
+{
+    match Name::read(alloc, "held") {
+        Ok(name) => Ok(name),
+        Err(NameFault::NoMemory) => Err(NoMemory),
+        Err(NameFault::BadName) => unreachable!(),
     }
 }
 

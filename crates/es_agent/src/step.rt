@@ -1,11 +1,11 @@
 //! An event that is about to be recorded.
 
-ghost use Rattle.std.specs.Prelude.{◌≡◌, IfOk};
+ghost use Rattle.std.specs.Prelude.{◌≡◌, IfOk, codes};
 ghost use Rattle.es_tables.specs.Effects.{AreEffects};
 
 use es_event::Event;
 use es_tables::{Effects, effects_of};
-use es_value::NoMemory;
+use es_value::{Id, Name, NoMemory};
 
 /// An event that is about to be recorded, and what it does to the tables.
 #[derive(Drop)]
@@ -15,12 +15,14 @@ pub struct Step {
 }
 
 impl Step {
-    /// The step of an event.
-    pub fn of(event: Event) -> Result<Step, NoMemory>
+    /// The step of an event. `held` is the name of the variable that held values are assigned to, and
+    /// `again` is the registry that is queued again where the event ends a job.
+    pub fn of(event: Event, held: &Name, again: Option<Id>) -> Result<Step, NoMemory>
+        requires { held.now ≡ codes "held" }
         ensures event { IfOk result (λ s. s.event ≡ event) }
-        ensures effects { IfOk result (λ s. AreEffects event s.effects) }
+        ensures effects { IfOk result (λ s. AreEffects again event s.effects) }
     {
-        match effects_of(&event) {
+        match effects_of(&event, held, again) {
             Ok(effects) => Ok(Step { event, effects }),
             Err(error) => Err(error),
         }

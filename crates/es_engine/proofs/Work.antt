@@ -1,95 +1,26 @@
--- How many events are left to an agent at most; each event that the plan permits leaves fewer.
-use Rattle.std.proofs.Common.{◌≡◌, ℕ, zero, suc, ◌+◌, ◌-◌, ◌<◌, Bool, true, false, cond, refl, ap, subst, arith, List, [], ◌∷◌, length, drop, Option, Some, None}
+-- How much is left to an agent: each step leaves less, of the cleanup queue or of the jobs.
+use Rattle.std.proofs.Common.{◌≡◌, ℕ, zero, suc, ◌-◌, ◌<◌, ◌||◌, Bool, true, false, cond, sym, ◌∙◌, ap, refl, subst, List, [], ◌∷◌, Option, Some, None}
 use Rattle.std.specs.Prelude.{slice_get, is_none}
-use Rattle.std.specs.List.{list_all}
+use Rattle.std.specs.List.{list_all, list_any}
 use Rattle.std.specs.Option.{option_map}
 use Rattle.std.proofs.lemmas.Bool.{and_parts}
 use Rattle.es_event.specs.declared.command.Command.{Command}
 use Rattle.es_event.specs.declared.event.Event.{Event}
-use Rattle.es_event.specs.declared.event.Event.TheVariants.{JobBegun, Did, Refused, Emptied, JobEnded, Closed}
+use Rattle.es_event.specs.declared.event.Event.TheVariants.{Emptied}
 use Rattle.es_event.specs.declared.plan.AgentPlan.{AgentPlan}
 use Rattle.es_event.specs.declared.plan.Job.{Job}
 use Rattle.es_event.specs.Commands.{collects}
 use Rattle.es_event.specs.History.{History}
-use Rattle.es_event.specs.Jobs.{Receivers, receivers, job}
+use Rattle.es_event.specs.Jobs.{receivers, job, cleaning, waits_for_nobody, callbacks_collect_nothing}
 use Rattle.es_event.specs.Rules.{Buffers}
-use Rattle.es_event.specs.Order.{Phase, between, inside, stopped, ended, phase, left, job_commands, end_job, due, due_at, due_job, due_inside}
-use Rattle.es_event.specs.Follows.{Permits}
+use Rattle.es_event.specs.Order.{Phase, between, inside, stopped, ended, phase, left, queue, due, due_at, due_job, due_between, due_inside, due_after, is_cleaning_up}
+use Rattle.es_event.specs.Follows.{Follows}
+use Rattle.es_event.specs.Runs.{IsRun}
+use Rattle.es_event.proofs.Awaiting.{between_clean}
+use Rattle.es_event.proofs.Coming.{Comes, begins_job, begins_cleanup, does, refuses, empties_dead, takes, ends, stops, closes, comes, next_cell}
+use Rattle.es_event.proofs.Work.{plan_work, cleanup_work, cleanup_less, plan_less, quiet, not_due, in_cleanup}
 use Rattle.es_agent.specs.Book.{Book, need_of, RecordsNext, EmptiesDead}
-use Rattle.es_event.specs.Jobs.{waits_for_nobody}
 use Rattle.es_agent.specs.declared.need.Need.TheVariants.{Local, Collect, Ended}
-
--- the events of these jobs at most
-abbrev pub ahead : List Job → ℕ
-ahead [] = 0
-ahead (j ∷ js) = (length j.run + 2) + ahead js
-
--- the events from where the agent stands
-abbrev pub work_at : AgentPlan → History → Phase → ℕ
-work_at plan h between = 1 + ahead (drop (job h - 1) plan.jobs)
-work_at plan h inside = 2 + length (left plan h) + ahead (drop (job h) plan.jobs)
-work_at plan h stopped = 2 + ahead (drop (job h) plan.jobs)
-work_at plan h ended = 0
-
-abbrev pub work : AgentPlan → History → ℕ
-work plan h = work_at plan h (phase h)
-
--- the events of the job at n and those after it
-ahead_step : (n : ℕ) (jobs : List Job) (j : Job) → slice_get jobs n ≡ Some j → ahead (drop n jobs) ≡ (length j.run + 2) + ahead (drop (suc n) jobs)
-ahead_step n [] j e = cc
-ahead_step zero (i ∷ js) j e = let same : i ≡ j = cc in ap (λ (k : Job). length k.run + 2 + ahead js) same
-ahead_step (suc n) (i ∷ js) j e = ahead_step n js j e
-
--- An event that ends no job
-
-same_job : (t : ℕ) → 0 + t + 1 ≡ t + 1
-same_job t = omega arith
-
-next_job : (t : ℕ) → 1 + t + 1 - 1 ≡ t + 1
-next_job t = omega arith
-
-begun : (plan : AgentPlan) (h : History) (k : ℕ) (j : Job) → k ≡ job h → slice_get plan.jobs (job h - 1) ≡ Some j → work plan (JobBegun k ∷ h) < 1 + ahead (drop (job h - 1) plan.jobs)
-begun plan h k j n e =
-    let commands : length (job_commands plan k) ≡ length j.run = rw (n, e) refl in
-    let here : ahead (drop (job h - 1) plan.jobs) ≡ (length j.run + 2) + ahead (drop (suc (job h - 1)) plan.jobs) = ahead_step (job h - 1) plan.jobs j e in
-    let at : suc (job h - 1) ≡ job h = omega arith in
-    let then : job (JobBegun k ∷ h) ≡ job h = same_job _ in
-    rw (then, commands, here, at) (omega arith)
-
-less_begin : (over : Buffers) (into : Receivers) (plan : AgentPlan) (h : History) (e : Event) (j : Job) (on : Option (ℕ × List ℕ)) → slice_get plan.jobs (job h - 1) ≡ Some j
-    → Permits over into h (due_job (job h) (Some on)) e → work plan (e ∷ h) < 1 + ahead (drop (job h - 1) plan.jobs)
-less_begin over into plan h (JobBegun k) j None is p = begun plan h k j p is
-less_begin over into plan h _ j None is p = absurd p
-less_begin over into plan h e j (Some on) is p = absurd p
-
-less_between : (over : Buffers) (into : Receivers) (plan : AgentPlan) (h : History) (e : Event) (o : Option Job) → slice_get plan.jobs (job h - 1) ≡ o
-    → Permits over into h (due_job (job h) (option_map (λ j. j.on) o)) e → work plan (e ∷ h) < 1 + ahead (drop (job h - 1) plan.jobs)
-less_between over into plan h Closed None is p = omega arith
-less_between over into plan h _ None is p = absurd p
-less_between over into plan h e (Some j) is p = less_begin over into plan h e j j.on is p
-
-less_inside : (over : Buffers) (into : Receivers) (plan : AgentPlan) (h : History) (e : Event) (cs : List Command) → left plan h ≡ cs → phase h ≡ inside
-    → Permits over into h (due_inside cs) e → work plan (e ∷ h) < 2 + length cs + ahead (drop (job h) plan.jobs)
-less_inside over into plan h JobEnded [] l is p = rw (next_job _) (omega arith)
-less_inside over into plan h _ [] l is p = absurd p
-less_inside over into plan h (Did d vs r) (c ∷ cs) l is p = rw (is, l, same_job _) (omega arith)
-less_inside over into plan h (Refused code) (c ∷ cs) l is p = rw (same_job _) (omega arith)
-less_inside over into plan h (Emptied ids) (c ∷ cs) l is p = rw (is, l, same_job _) (omega arith)
-less_inside over into plan h _ (c ∷ cs) l is p = absurd p
-
-less_stopped : (over : Buffers) (into : Receivers) (plan : AgentPlan) (h : History) (e : Event) → Permits over into h end_job e → work plan (e ∷ h) < 2 + ahead (drop (job h) plan.jobs)
-less_stopped over into plan h JobEnded p = rw (next_job _) (omega arith)
-less_stopped over into plan h _ p = absurd p
-
-less_at : (over : Buffers) (into : Receivers) (plan : AgentPlan) (h : History) (s : Phase) (e : Event) → phase h ≡ s → Permits over into h (due_at plan h s) e → work plan (e ∷ h) < work_at plan h s
-less_at over into plan h between e is p = less_between over into plan h e (slice_get plan.jobs (job h - 1)) refl p
-less_at over into plan h inside e is p = less_inside over into plan h e (left plan h) refl is p
-less_at over into plan h stopped e is p = less_stopped over into plan h e p
-less_at over into plan h ended e is p = absurd p
-
--- an event that the plan permits leaves fewer
-less : (over : Buffers) (into : Receivers) (plan : AgentPlan) (h : History) (e : Event) → Permits over into h (due plan h) e → work plan (e ∷ h) < work plan h
-less over into plan h e p = less_at over into plan h (phase h) e refl p
 
 -- Where nothing is asked for
 
@@ -102,21 +33,29 @@ asks : (n : ℕ) (on : Option (ℕ × List ℕ)) → is_none on ≡ true → nee
 asks n None free e = cc
 asks n (Some on) free e = cc
 
-asks_between : (plan : AgentPlan) (n m : ℕ) (o : Option Job) → waits_for_nobody plan ≡ true → slice_get plan.jobs n ≡ o → need_of (due_job m (option_map (λ j. j.on) o)) ≡ Ended → between ≡ ended
-asks_between plan n m None built is e = cc
-asks_between plan n m (Some j) built is e = asks m j.on (free_at plan.jobs n j built is) e
+asks_job : (plan : AgentPlan) (n m : ℕ) (o : Option Job) → waits_for_nobody plan ≡ true → slice_get plan.jobs n ≡ o → need_of (due_job m (option_map (λ j. j.on) o)) ≡ Ended → between ≡ ended
+asks_job plan n m None built is e = cc
+asks_job plan n m (Some j) built is e = asks m j.on (free_at plan.jobs n j built is) e
+
+asks_between : (plan : AgentPlan) (h : History) (q : List ℕ) → waits_for_nobody plan ≡ true → need_of (due_between plan h q) ≡ Ended → between ≡ ended
+asks_between plan h [] built e = asks_job plan (job h - 1) (job h) (slice_get plan.jobs (job h - 1)) built refl e
+asks_between plan h (r ∷ rs) built e = cc
 
 asks_command : (collects : Bool) → cond collects Collect Local ≡ Ended → inside ≡ ended
 asks_command true e = cc
 asks_command false e = cc
 
-asks_inside : (cs : List Command) → need_of (due_inside cs) ≡ Ended → inside ≡ ended
-asks_inside [] e = cc
-asks_inside (c ∷ cs) e = asks_command (collects c) e
+asks_after : (o : Option ℕ) → need_of (due_after o) ≡ Ended → inside ≡ ended
+asks_after None e = cc
+asks_after (Some n) e = cc
+
+asks_inside : (h : History) (cs : List Command) → need_of (due_inside h cs) ≡ Ended → inside ≡ ended
+asks_inside h [] e = asks_after (next_cell h) e
+asks_inside h (c ∷ cs) e = asks_command (collects c) e
 
 at_end_at : (plan : AgentPlan) (h : History) (s : Phase) → waits_for_nobody plan ≡ true → need_of (due_at plan h s) ≡ Ended → s ≡ ended
-at_end_at plan h between built e = asks_between plan (job h - 1) (job h) (slice_get plan.jobs (job h - 1)) built refl e
-at_end_at plan h inside built e = asks_inside (left plan h) e
+at_end_at plan h between built e = asks_between plan h (queue h) built e
+at_end_at plan h inside built e = asks_inside h (left plan h) e
 at_end_at plan h stopped built e = cc
 at_end_at plan h ended built e = refl
 
@@ -124,10 +63,60 @@ at_end_at plan h ended built e = refl
 pub at_end : (plan : AgentPlan) (h : History) → waits_for_nobody plan ≡ true → need_of (due plan h) ≡ Ended → phase h ≡ ended
 at_end plan h built e = at_end_at plan h (phase h) built e
 
--- a step leaves fewer
-pub less_next : (old new : Book) → RecordsNext old new → work new.plan new.history < work old.plan old.history
-less_next old new p = rw p.2 (less [] (receivers old.plan.jobs) old.plan old.history p.0 p.1.permitted)
+-- While it cleans up, an agent asks nobody
+
+-- an agent that has closed cleans nothing up
+ended_next : (over : Buffers) (plan : AgentPlan) (h : History) (at : Phase) (e : Event) → Comes over (receivers plan.jobs) plan h at e → phase h ≡ at → phase (e ∷ h) ≡ ended → cleaning (e ∷ h) ≡ None
+ended_next over plan h at _ (begins_job k j b none is same) here e = cc
+ended_next over plan h at _ (begins_cleanup r rs b is) here e = cc
+ended_next over plan h at _ (does d cs vs a i is) here e = let f : inside ≡ ended = sym (here ∙ i) ∙ e in cc
+ended_next over plan h at _ (refuses d cs code i is) here e = cc
+ended_next over plan h at _ (empties_dead d cs ids i is co dead) here e = let f : inside ≡ ended = sym (here ∙ i) ∙ e in cc
+ended_next over plan h at _ (takes n v i is next) here e = let f : inside ≡ ended = sym (here ∙ i) ∙ e in cc
+ended_next over plan h at _ (ends i is none) here e = refl
+ended_next over plan h at _ (stops s) here e = refl
+ended_next over plan h at _ (closes b none) here e = between_clean h (here ∙ b)
+
+ended_clean : (over : Buffers) (plan : AgentPlan) (h : History) → Follows over plan h → phase h ≡ ended → cleaning h ≡ None
+ended_clean over plan [] follows e = refl
+ended_clean over plan (x ∷ h) follows e = ended_next over plan h (phase h) x (comes over plan h x follows.0) refl e
+
+local_after : (o : Option ℕ) → need_of (due_after o) ≡ Local
+local_after None = refl
+local_after (Some n) = refl
+
+first_not : (a b : Bool) → (a || b) ≡ false → a ≡ false
+first_not true b e = cc
+first_not false b e = refl
+
+local_inside : (h : History) (cs : List Command) → list_any collects cs ≡ false → need_of (due_inside h cs) ≡ Local
+local_inside h [] none = local_after (next_cell h)
+local_inside h (c ∷ cs) none = ap (λ b. cond b Collect Local) (first_not (collects c) (list_any collects cs) none)
+
+local_between : (plan : AgentPlan) (h : History) (q : List ℕ) → (q ≡ [] → ⊥) → need_of (due_between plan h q) ≡ Local
+local_between plan h [] some = absurd (some refl)
+local_between plan h (r ∷ rs) some = refl
+
+local_at : (over : Buffers) (plan : AgentPlan) (h : History) (at : Phase) → phase h ≡ at → callbacks_collect_nothing plan ≡ true → Follows over plan h → is_cleaning_up h ≡ true → need_of (due_at plan h at) ≡ Local
+local_at over plan h between is all follows up = local_between plan h (queue h) (λ none. not_due h is none up)
+local_at over plan h inside is all follows up = let clean = in_cleanup h inside up is (λ e. cc) in local_inside h (left plan h) (quiet over plan h all follows clean.0 clean.1)
+local_at over plan h stopped is all follows up = refl
+local_at over plan h ended is all follows up =
+    let clean = in_cleanup h ended up is (λ e. cc) in
+    let f : ◌≡◌ {A = Option ℕ} None (Some clean.0) = sym (ended_clean over plan h follows is) ∙ clean.1 in cc
+
+pub cleans_locally : (plan : AgentPlan) (h : History) → callbacks_collect_nothing plan ≡ true → IsRun plan h → is_cleaning_up h ≡ true → need_of (due plan h) ≡ Local
+cleans_locally plan h all run up = local_at run.0 plan h (phase h) refl all run.2 up
+
+-- A step leaves less
+
+pub less_cleaning : (old new : Book) → callbacks_collect_nothing old.plan ≡ true → IsRun old.plan old.history → is_cleaning_up old.history ≡ true → RecordsNext old new
+    → (cleanup_work new.plan new.history < cleanup_work old.plan old.history) × (plan_work new.plan new.history ≡ plan_work old.plan old.history)
+less_cleaning old new all run up p = rw p.2 (cleanup_less run.0 [] old.plan old.history p.0 all run.1 run.2 up (p.1.lawful, p.1.permitted))
+
+pub less_next : (old new : Book) → is_cleaning_up old.history ≡ false → RecordsNext old new → plan_work new.plan new.history < plan_work old.plan old.history
+less_next old new still p = rw p.2 (plan_less [] old.plan old.history p.0 still (p.1.lawful, p.1.permitted))
 
 -- and so does a collection
-pub less_collected : (old new : Book) → EmptiesDead old new → work new.plan new.history < work old.plan old.history
-less_collected old new p = less_next old new (Emptied p.0, p.2, p.3)
+pub less_collected : (old new : Book) → is_cleaning_up old.history ≡ false → EmptiesDead old new → plan_work new.plan new.history < plan_work old.plan old.history
+less_collected old new still p = less_next old new still (Emptied p.0, p.2, p.3)

@@ -1,6 +1,7 @@
 //! A run: the bytes of a plan in, and its report out.
 
 ghost use Rattle.std.specs.Prelude.{◌≡◌, ◌≢◌, IfOk, IfErr, OnOk, OnErr, true};
+ghost use Rattle.es_script.specs.Grammar.{no_callback_collects};
 ghost use Rattle.es_engine.specs.Engine.{has_no_message_job, Answers, IsAnswerFault, ReadsPlan, RunsTo};
 
 use crate::agents::run_plan;
@@ -36,6 +37,7 @@ pub fn run<H: AllocGlobal, R: Read, W: Write>(
 fn plan_from<R: Read>(alloc: Global, reader: &mut R) -> Result<Plan, RunFault>
     ensures reads { ReadsPlan (R.remaining reader.old) (R.remaining reader.new) result }
     ensures built { IfOk result (λ p. has_no_message_job p ≡ true) }
+    ensures quiet { IfOk result (λ p. no_callback_collects p ≡ true) }
 {
     let bytes = read_all(alloc, reader)?;
     let plan = read_plan(alloc, bytes.as_slice())?;
@@ -44,7 +46,8 @@ fn plan_from<R: Read>(alloc: Global, reader: &mut R) -> Result<Plan, RunFault>
 
 /// Writes what there is to say of a plan.
 fn answer<W: Write>(alloc: Global, plan: Plan, check: bool, writer: &mut W) -> Result<(), RunFault>
-    requires { has_no_message_job plan ≡ true }
+    requires waits { has_no_message_job plan ≡ true }
+    requires collects { no_callback_collects plan ≡ true }
     ensures answers { OnOk result (Answers check plan (W.contents writer.old) (W.contents writer.new)) }
     ensures fault { IfErr result IsAnswerFault }
     ensures unwritten { IfErr result (λ e. e ≢ RunFault.Write → writer.new ≡ writer.old) }
@@ -52,6 +55,6 @@ fn answer<W: Write>(alloc: Global, plan: Plan, check: bool, writer: &mut W) -> R
     if check {
         return writer.write_all(b"ok\n").map_err(|_| RunFault::Write);
     }
-    let outcome = run_plan(alloc, plan)?;
-    write_report(&outcome, writer).map_err(|_| RunFault::Write)
+    let ended = run_plan(alloc, plan)?;
+    write_report(&ended.outcome, ended.tallies.as_slice(), writer).map_err(|_| RunFault::Write)
 }

@@ -1,7 +1,7 @@
 -- What is reached, computed: a list that is closed, and to each of whose members a chain of steps leads.
-use Rattle.std.proofs.Common.{◌≡◌, ℕ, ◌==◌, ◌&&◌, Bool, true, false, sym, ◌∙◌, refl, subst, List, [], ◌∷◌, ◌++◌, map, Option, Some, None, inl, inr}
+use Rattle.std.proofs.Common.{◌≡◌, ℕ, ◌==◌, ◌&&◌, Bool, true, false, cond, sym, ◌∙◌, refl, subst, List, [], ◌∷◌, ◌++◌, map, Option, Some, None, inl, inr}
 use Rattle.std.specs.List.{list_all}
-use Rattle.std.specs.Option.{option_map_or, option_and_then, option_to_list}
+use Rattle.std.specs.Option.{option_map, option_map_or, option_and_then, option_to_list}
 use Rattle.std.proofs.lemmas.Bool.{eq-eqb, and_parts, and_from, or_left, or_right, or_cases}
 use Rattle.std.proofs.lemmas.List.Folds.{list_all-append, list_all-map}
 use Rattle.es_value.specs.declared.value.Value.{Value}
@@ -12,9 +12,10 @@ use Rattle.es_event.specs.Variables.{var, assigned}
 use Rattle.es_event.specs.Properties.{prop}
 use Rattle.es_event.specs.WeakRefs.{kept}
 use Rattle.es_event.specs.Ephemerons.{entry}
-use Rattle.es_event.specs.Reach.{IsClosed, IsReached, LedTo, by_variable, by_keeping, by_property, by_entry}
+use Rattle.es_event.specs.Registrations.{Cell, callback, numbered_cell, cell, fate, is_present}
+use Rattle.es_event.specs.Reach.{IsClosed, IsReached, LedTo, by_variable, by_keeping, by_registry, by_cell, by_property, by_entry}
 use Rattle.es_event.proofs.Lists.{in_both, in_option}
-use Rattle.es_event.proofs.Deciding.{implies, implies_true, said, all_puts, all_entered, closed_variable, closed_property, closed_entry}
+use Rattle.es_event.proofs.Deciding.{implies, implies_true, said, all_born, all_puts, all_entered, registry_at, held_at, if_present, closed_variable, closed_registry, closed_cell, closed_property, closed_entry}
 
 -- Rules: where a set has all of the first, it has the second, if there is one
 
@@ -107,18 +108,53 @@ closing P (r ∷ rs) respects ids all =
 abbrev of_variable : Receivers → History → List ℕ → Rule
 of_variable into h x = ([], identity (var into h x))
 
+abbrev of_registry : History → ℕ → Rule
+of_registry h r = ([], registry_at h r)
+
+abbrev of_cell : History → ℕ → Rule
+of_cell h n = ([], held_at h n)
+
 abbrev of_property : History → ℕ × List ℕ → Rule
 of_property h p = (p.0 ∷ [], option_and_then identity (prop h p.0 p.1))
 
 abbrev of_entry : History → ℕ × ℕ → Rule
 of_entry h p = (p.0 ∷ p.1 ∷ [], option_and_then identity (entry h p.0 p.1))
 
+-- the rules of all keys that are said, kind by kind
+abbrev of_variables : Receivers → History → List Rule
+of_variables into h = map (of_variable into h) (said (assigned into) h)
+
+abbrev of_registries : History → List Rule
+of_registries h = map (of_registry h) (said all_born h)
+
+abbrev of_cells : History → List Rule
+of_cells h = map (of_cell h) (said numbered_cell h)
+
+abbrev of_properties : History → List Rule
+of_properties h = map (of_property h) (said all_puts h)
+
+abbrev of_entries : History → List Rule
+of_entries h = map (of_entry h) (said all_entered h)
+
 abbrev rules_of : Receivers → History → List Rule
-rules_of into h = map (of_variable into h) (said (assigned into) h) ++ (map (of_property h) (said all_puts h) ++ map (of_entry h) (said all_entered h))
+rules_of into h = of_variables into h ++ (of_registries h ++ (of_cells h ++ (of_properties h ++ of_entries h)))
 
 variable_led : (into : Receivers) (h : History) (x : List ℕ) (o : Option ℕ) → identity (var into h x) ≡ o → Has (LedTo into h) o
 variable_led into h x None e = tt
 variable_led into h x (Some i) e = by_variable x i e
+
+registry_led : (into : Receivers) (h : History) (r : ℕ) (o : Option ℕ) → callback h r ≡ o → Has (LedTo into h) (option_map (λ c. r) o)
+registry_led into h r None e = tt
+registry_led into h r (Some c) e = by_registry r c e
+
+at_cell : (into : Receivers) (h : History) (n : ℕ) (c : Cell) (b : Bool) (i : Option ℕ) → cell h n ≡ Some c → is_present (fate h n) ≡ b → identity c.held ≡ i → Has (LedTo into h) (cond b i None)
+at_cell into h n c false i e present f = tt
+at_cell into h n c true None e present f = tt
+at_cell into h n c true (Some i) e present f = by_cell n c i e present f
+
+cell_led : (into : Receivers) (h : History) (n : ℕ) (o : Option Cell) → cell h n ≡ o → Has (LedTo into h) (if_present h n o)
+cell_led into h n None e = tt
+cell_led into h n (Some c) e = at_cell into h n c (is_present (fate h n)) (identity c.held) e refl refl
 
 at_property : (into : Receivers) (h : History) (o : ℕ) (k : List ℕ) (v : Value) (i : Option ℕ) → LedTo into h o → prop h o k ≡ Some v → identity v ≡ i → Has (LedTo into h) i
 at_property into h o k v None l e f = tt
@@ -138,11 +174,14 @@ entry_led into h w k (Some v) e a b = at_entry into h w k v (identity v) a b e r
 
 respected : (into : Receivers) (h : History) → Respects (LedTo into h) (rules_of into h)
 respected into h =
-    respects_both (LedTo into h) (map (of_variable into h) (said (assigned into) h)) (map (of_property h) (said all_puts h) ++ map (of_entry h) (said all_entered h))
-    (respects_map (LedTo into h) (of_variable into h) (λ x u. variable_led into h x (identity (var into h x)) refl) (said (assigned into) h))
-    (respects_both (LedTo into h) (map (of_property h) (said all_puts h)) (map (of_entry h) (said all_entered h))
-    (respects_map (LedTo into h) (of_property h) (λ p l. property_led into h p.0 p.1 (prop h p.0 p.1) refl l.0) (said all_puts h))
-    (respects_map (LedTo into h) (of_entry h) (λ p l. entry_led into h p.0 p.1 (entry h p.0 p.1) refl l.0 l.1.0) (said all_entered h)))
+    let P : ℕ → Type 0 = LedTo into h in
+    let entries : Respects P (of_entries h) = respects_map P (of_entry h) (λ p l. entry_led into h p.0 p.1 (entry h p.0 p.1) refl l.0 l.1.0) (said all_entered h) in
+    let properties : Respects P (of_properties h) = respects_map P (of_property h) (λ p l. property_led into h p.0 p.1 (prop h p.0 p.1) refl l.0) (said all_puts h) in
+    let cells : Respects P (of_cells h) = respects_map P (of_cell h) (λ n u. cell_led into h n (cell h n) refl) (said numbered_cell h) in
+    let registries : Respects P (of_registries h) = respects_map P (of_registry h) (λ r u. registry_led into h r (callback h r) refl) (said all_born h) in
+    let variables : Respects P (of_variables into h) = respects_map P (of_variable into h) (λ x u. variable_led into h x (identity (var into h x)) refl) (said (assigned into) h) in
+    respects_both P (of_variables into h) _ variables
+    (respects_both P (of_registries h) _ registries (respects_both P (of_cells h) _ cells (respects_both P (of_properties h) _ properties entries)))
 
 abbrev pub Reached : Receivers → History → Type 0
 Reached into h = Closing (LedTo into h) (rules_of into h) (kept h)
@@ -150,24 +189,31 @@ Reached into h = Closing (LedTo into h) (rules_of into h) (kept h)
 pub reached : (into : Receivers) (h : History) → Reached into h
 reached into h = closing (LedTo into h) (rules_of into h) (respected into h) (kept h) (λ i e. by_keeping i e)
 
+-- two lists of rules that a list obeys together
+obeys_both : (ids : List ℕ) (rs ss : List Rule) → list_all (obeys ids) (rs ++ ss) ≡ true → (list_all (obeys ids) rs ≡ true) × (list_all (obeys ids) ss ≡ true)
+obeys_both ids rs ss e = and_parts (list_all (obeys ids) rs) (list_all (obeys ids) ss) (sym (list_all-append (obeys ids) rs ss) ∙ e)
+
 pub reached_closed : (into : Receivers) (h : History) (r : Reached into h) → IsClosed into h (λ j. is_in r.list j ≡ true)
 reached_closed into h r =
-    let vs : List Rule = map (of_variable into h) (said (assigned into) h) in
-    let ps : List Rule = map (of_property h) (said all_puts h) in
-    let es : List Rule = map (of_entry h) (said all_entered h) in
-    let both = and_parts (list_all (obeys r.list) vs) (list_all (obeys r.list) (ps ++ es)) (sym (list_all-append (obeys r.list) vs (ps ++ es)) ∙ r.closed) in
-    let rest = and_parts (list_all (obeys r.list) ps) (list_all (obeys r.list) es) (sym (list_all-append (obeys r.list) ps es) ∙ both.1) in
+    let vs = obeys_both r.list (of_variables into h) _ r.closed in
+    let rs = obeys_both r.list (of_registries h) _ vs.1 in
+    let cs = obeys_both r.list (of_cells h) _ rs.1 in
+    let ps = obeys_both r.list (of_properties h) _ cs.1 in
     record {
-      variables = closed_variable into h r.list (sym (list_all-map (obeys r.list) (of_variable into h) (said (assigned into) h)) ∙ both.0);
+      variables = closed_variable into h r.list (sym (list_all-map (obeys r.list) (of_variable into h) (said (assigned into) h)) ∙ vs.0);
       kept = r.grows;
-      properties = closed_property h r.list (sym (list_all-map (obeys r.list) (of_property h) (said all_puts h)) ∙ rest.0);
-      entries = closed_entry h r.list (sym (list_all-map (obeys r.list) (of_entry h) (said all_entered h)) ∙ rest.1);
+      registries = closed_registry h r.list (sym (list_all-map (obeys r.list) (of_registry h) (said all_born h)) ∙ rs.0);
+      cells = closed_cell h r.list (sym (list_all-map (obeys r.list) (of_cell h) (said numbered_cell h)) ∙ cs.0);
+      properties = closed_property h r.list (sym (list_all-map (obeys r.list) (of_property h) (said all_puts h)) ∙ ps.0);
+      entries = closed_entry h r.list (sym (list_all-map (obeys r.list) (of_entry h) (said all_entered h)) ∙ ps.1);
     }
 
 -- what a chain of steps leads to is in each closed set, also one that no test decides
 pub led_in : (P : ℕ → Type 0) (into : Receivers) (h : History) → IsClosed into h P → (i : ℕ) → LedTo into h i → P i
 led_in P into h c i (by_variable x j e) = c.variables x i e
 led_in P into h c i (by_keeping j e) = c.kept i e
+led_in P into h c i (by_registry r n e) = c.registries i n e
+led_in P into h c i (by_cell n d j e present f) = c.cells n d i e present f
 led_in P into h c i (by_property o k v j l e f) = c.properties o k v i (led_in P into h c o l) e f
 led_in P into h c i (by_entry w k v j a b e f) = c.entries w k v i (led_in P into h c w a) (led_in P into h c k b) e f
 

@@ -40,11 +40,11 @@ entry_either X e g m k v new old f =
 
 -- What a command writes
 
-mapped : {A B : Type 0} (f : A → B) (o : Option A) (q : B) → option_map f o ≡ Some q → (a : A) × (o ≡ Some a) × (f a ≡ q)
+pub mapped : {A B : Type 0} (f : A → B) (o : Option A) (q : B) → option_map f o ≡ Some q → (a : A) × (o ≡ Some a) × (f a ≡ q)
 mapped f None q e = cc
 mapped f (Some a) q e = (a, refl, cc)
 
-inner : {A : Type 0} {a b : A} → ◌≡◌ {A = Option A} (Some a) (Some b) → a ≡ b
+pub inner : {A : Type 0} {a b : A} → ◌≡◌ {A = Option A} (Some a) (Some b) → a ≡ b
 inner e = cc
 
 -- the WeakMap is the first value read, the key that of the second, and the new value the third

@@ -9,7 +9,7 @@ use Rattle.es_event.specs.declared.event.Event.{Event}
 use Rattle.es_event.specs.declared.event.Event.TheVariants.{Did}
 use Rattle.es_event.specs.declared.event.Refusal.TheVariants.{NotAWeakMap}
 use Rattle.es_event.specs.declared.command.Command.{Command}
-use Rattle.es_event.specs.declared.command.Command.TheVariants.{New, WeakRef, WeakMap, WeakMapSet, WeakMapDelete, WeakSet}
+use Rattle.es_event.specs.declared.command.Command.TheVariants.{New, WeakRef, WeakMap, WeakMapSet, WeakMapDelete, WeakSet, FinalizationRegistry}
 use Rattle.es_event.specs.Commands.{first, second, Kind, kind_made}
 use Rattle.es_event.specs.History.{History}
 use Rattle.es_event.specs.Identities.{made, kind, born}
@@ -30,22 +30,26 @@ made_after over h (New to) vs kd o k e = let next : made h + 1 ≡ o = cc in ome
 made_after over h (WeakRef to y) vs kd o k e = let next : made h + 1 ≡ o = cc in omega (arith, next)
 made_after over h (WeakMap to) vs kd o k e = let next : made h + 1 ≡ o = cc in omega (arith, next)
 made_after over h (WeakSet to) vs kd o k e = let next : made h + 1 ≡ o = cc in omega (arith, next)
+made_after over h (FinalizationRegistry to n) vs kd o k e = let next : made h + 1 ≡ o = cc in omega (arith, next)
 made_after over h _ vs kd o k e = cc
+
+-- so an object keeps its kind
+pub kind_same : (over : Buffers) (into : Receivers) (e : Event) (h : History) → LegalBy over into (e ∷ h) → (o : ℕ) → is_some (kind h o) ≡ true → kind (e ∷ h) o ≡ kind h o
+kind_same over into (Did c vs r) h l o is =
+    at_either (λ k. k ≡ kind h o) (λ i j. i == j) o (born (Did c vs r)) (kind h o)
+    (λ q s t.
+    let b = birth c vs r q s in
+    let late : made h < q.0 = made_after over h c vs b.0 q.0 b.2 (is_result over h c vs r l.0.1 ∙ b.3) in
+    let early = object_within over into h l.1 o is in
+    absurd (omega (arith, late, early.1, eqb-true q.0 o t))) refl
+kind_same over into _ h l o is = refl
 
 a_kind : (k : Option Kind) → is_weakmap k ≡ true → is_some k ≡ true
 a_kind None e = cc
 a_kind (Some k) e = refl
 
--- so a WeakMap stays one
 map_stays : (over : Buffers) (into : Receivers) (e : Event) (h : History) → LegalBy over into (e ∷ h) → (m : ℕ) → is_weakmap (kind h m) ≡ true → is_weakmap (kind (e ∷ h) m) ≡ true
-map_stays over into (Did c vs r) h l m is =
-    at_either (λ k. is_weakmap k ≡ true) (λ i j. i == j) m (born (Did c vs r)) (kind h m)
-    (λ q s t.
-    let b = birth c vs r q s in
-    let late : made h < q.0 = made_after over h c vs b.0 q.0 b.2 (is_result over h c vs r l.0.1 ∙ b.3) in
-    let early = object_within over into h l.1 m (a_kind (kind h m) is) in
-    absurd (omega (arith, late, early.1, eqb-true q.0 m t))) is
-map_stays over into _ h l m is = is
+map_stays over into e h l m is = ap is_weakmap (kind_same over into e h l m (a_kind (kind h m) is)) ∙ is
 
 -- What writes an entry is given a WeakMap
 

@@ -1,14 +1,15 @@
--- What variables, properties and entries hold can be observed: an execution brings it into a variable of its own, and says it.
+-- What variables, properties and entries hold can be observed: an execution brings it into a variable of its own, and says
+-- it. And what a cell holds: its target is emptied, and its cleanup takes it.
 use Rattle.std.proofs.Common.{◌≡◌, ℕ, zero, suc, ◌+◌, ◌<◌, ◌≤◌, ◌==◌, true, false, cond, sym, ◌∙◌, ap, refl, arith, List, [], ◌∷◌, ◌++◌, length, Option, Some, None, Ok, inl, inr}
 use Rattle.std.specs.Prelude.{unwrap_or}
 use Rattle.std.specs.Option.{option_map, option_and_then}
 use Rattle.std.specs.Str.{bytes_eq}
-use Rattle.std.proofs.lemmas.Bool.{or_left, cases_Bool}
+use Rattle.std.proofs.lemmas.Bool.{eq-eqb, or_left, cases_Bool}
 use Rattle.std.proofs.lemmas.Slice.Eq.{bytes_eq-Decides}
 use Rattle.es_value.specs.declared.value.Value.{Value}
 use Rattle.es_value.specs.declared.value.Value.TheVariants.{Object}
 use Rattle.es_event.specs.declared.event.Answer.TheVariants.{Nothing, Gives}
-use Rattle.es_event.specs.declared.event.Event.TheVariants.{Did}
+use Rattle.es_event.specs.declared.event.Event.TheVariants.{Did, Emptied, Taken}
 use Rattle.es_event.specs.declared.event.Refusal.TheVariants.{NotAWeakMap}
 use Rattle.es_event.specs.declared.command.Command.{Command}
 use Rattle.es_event.specs.declared.command.Command.TheVariants.{Say, Get, WeakMapGet}
@@ -19,10 +20,12 @@ use Rattle.es_event.specs.Jobs.{Receivers}
 use Rattle.es_event.specs.Variables.{var}
 use Rattle.es_event.specs.Properties.{prop, put_by, same_key}
 use Rattle.es_event.specs.Ephemerons.{same_pair, entered_by, first_entry, entry}
+use Rattle.es_event.specs.Registrations.{Cell, cell, fate, is_present}
 use Rattle.es_event.specs.Rules.{Buffers, is_weakmap, refuse_or, or_undefined}
 use Rattle.es_event.specs.Legal.{LegalBy}
 use Rattle.es_event.specs.Live.{AgreeAlong, ObliviousDid, Oblivious, Live}
 use Rattle.es_event.specs.Reach.{IsHeld, in_variable, in_property, in_entry}
+use Rattle.es_event.proofs.Cells.{fate_awaits}
 use Rattle.es_event.proofs.Entries.{entry_parts}
 use Rattle.es_event.proofs.Maps.{entry_in_map}
 
@@ -151,4 +154,18 @@ held_live over into h s v l held e =
       event = Did (Say r.place) (v ∷ []) Nothing;
       oblivious = ((ap (λ a. a ∷ []) (sym r.there), refl, refl), r.reading.oblivious);
       observed = or_left (has_identity_in s v) false e;
+    })
+
+-- What a cell holds that is in its registry
+
+pub holding_live : (over : Buffers) (into : Receivers) (h : History) (s : List ℕ) (n : ℕ) (c : Cell) → LegalBy over into h → cell h n ≡ Some c → is_present (fate h n) ≡ true → has_identity_in s c.held ≡ true → Live into h s
+holding_live over into h s n c l at present e =
+    inr (record {
+      over = over;
+      other = into;
+      agree = agrees into h;
+      before = Emptied (c.target ∷ []) ∷ [];
+      event = Taken n c.held;
+      oblivious = ((ap (option_map (λ c. c.held)) at, fate_awaits (c.target ∷ []) h n c at present (or_left (c.target == c.target) false (eq-eqb c.target c.target refl))), (tt, l));
+      observed = e;
     })

@@ -9,7 +9,7 @@ use Rattle.es_value.specs.declared.value.Value.TheVariants.{Undefined, Object}
 use Rattle.es_event.specs.declared.event.Answer.{Answer}
 use Rattle.es_event.specs.declared.event.Answer.TheVariants.{Gives}
 use Rattle.es_event.specs.declared.event.Event.{Event}
-use Rattle.es_event.specs.declared.event.Event.TheVariants.{Did, JobEnded}
+use Rattle.es_event.specs.declared.event.Event.TheVariants.{Did, Taken, JobEnded}
 use Rattle.es_event.specs.declared.command.Command.{Command}
 use Rattle.es_event.specs.declared.command.Command.TheVariants.{Deref}
 use Rattle.es_event.specs.Commands.{first, reads}
@@ -25,7 +25,7 @@ use Rattle.es_event.specs.Reach.{IsClosed, IsClosedBeside, with_later}
 use Rattle.es_event.proofs.Accepted.{is_result}
 use Rattle.es_event.proofs.Entries.{still_there}
 use Rattle.es_event.proofs.Source.{IsDeref, source, fresh_number}
-use Rattle.es_event.proofs.Holds.{Holds, holds_after, holds_did, first_of, at_object, gives_held}
+use Rattle.es_event.proofs.Holds.{Holds, holds_after, holds_did, holds_taken, first_of, at_object, gives_held}
 use Rattle.es_event.proofs.Keeping.{kept_by, kept_either}
 use Rattle.es_event.proofs.Objects.{object_within, prop_owner, map_within, key_within}
 use Rattle.es_event.proofs.Targets.{target_from}
@@ -48,6 +48,9 @@ Held h m v = (i : ℕ) → identity v ≡ Some i → with_later h m i ≡ true
 
 by_set : (h : History) (m : ℕ → Bool) (i : ℕ) → m i ≡ true → with_later h m i ≡ true
 by_set h m i e = or_left (m i) (not (is_made h i)) e
+
+held_object : (h : History) (m : ℕ → Bool) (p : ℕ) → with_later h m p ≡ true → Held h m (Object p)
+held_object h m p has j at = let same : p ≡ j = cc in subst (λ j. with_later h m j ≡ true) same has
 
 by_number : (h : History) (m : ℕ → Bool) (i : ℕ) → is_made h i ≡ false → with_later h m i ≡ true
 by_number h m i e = or_right (m i) (not (is_made h i)) (ap not e)
@@ -89,6 +92,8 @@ held_at : (over : Buffers) (into other : Receivers) (h : History) (s : List ℕ)
 held_at over into other h s m all l = record {
   plain = λ v e i f. cc;
   variables = λ x i e. by_set h m i (all.closed.variables x i (ap identity (sym (same_var into other h x)) ∙ e));
+  registries = λ r c e. held_object h m r (by_set h m r (all.closed.registries r c e));
+  cells = λ n c e present i is. by_set h m i (all.closed.cells n c i e present is);
   properties = λ o k v held e i f. by_set h m i (all.closed.properties o k v i (in_m h m o (object_within over other h l o (prop_owner over other h l o k v e)) (held o refl)) e f);
   entries = λ a k w v map key is e i f. by_set h m i (all.closed.entries a k v i
       (in_m h m a (map_within over other h l a k v e) (map a refl)) (in_m h m k (key_within over other h l a k v e) (key k is)) e f);
@@ -139,8 +144,9 @@ holds_along over into other h s m all (Did c vs r ∷ f) o =
     let before = holds_along over into other h s m all f o.1 in
     let given = gave over into other h s m all f c vs r before o.0 in
     holds_did (Held h m) other (f ++ h) c vs r before given.values given.answer
+holds_along over into other h s m all (Taken n held ∷ f) o = holds_taken (Held h m) other (f ++ h) n held (holds_along over into other h s m all f o.1) o.0.0 o.0.1
 holds_along over into other h s m all (e ∷ f) o =
-    holds_after (Held h m) other (f ++ h) e (holds_along over into other h s m all f o.1) (λ q t. cc) (λ q w t at. cc) (λ q w t at. cc)
+    holds_after (Held h m) other (f ++ h) e (holds_along over into other h s m all f o.1) (λ q t. cc) (λ q w t at. cc) (λ q w t at. cc) (λ q t. cc) (λ c t. cc)
 
 keeps_along : (over : Buffers) (into other : Receivers) (h : History) (s : List ℕ) (m : ℕ → Bool) → IsClosedBeside s into h m → (f : History) → Oblivious s over other h f
     → (i : ℕ) → is_in (kept (f ++ h)) i ≡ true → with_later h m i ≡ true
@@ -155,15 +161,14 @@ keeps_along over into other h s m all (Did c vs r ∷ f) o i e =
 keeps_along over into other h s m all (JobEnded ∷ f) o i e = cc
 keeps_along over into other h s m all (x ∷ f) o i e = keeps_along over into other h s m all f o.1 i e
 
-held_object : (h : History) (m : ℕ → Bool) (p : ℕ) → with_later h m p ≡ true → Held h m (Object p)
-held_object h m p has j at = let same : p ≡ j = cc in subst (λ j. with_later h m j ≡ true) same has
-
 pub stays_closed : (over : Buffers) (into other : Receivers) (h : History) (s : List ℕ) (m : ℕ → Bool) → IsClosedBeside s into h m → (f : History) → Oblivious s over other h f
     → IsClosed other (f ++ h) (λ j. with_later h m j ≡ true)
 stays_closed over into other h s m all f o =
     let holds = holds_along over into other h s m all f o in
     record {
       variables = λ x i e. holds.variables x i e;
+      registries = λ r c e. holds.registries r c e r refl;
+      cells = λ n c i e present is. holds.cells n c e present i is;
       kept = keeps_along over into other h s m all f o;
       properties = λ p k v i has e is. holds.properties p k v (held_object h m p has) e i is;
       entries = λ p k v i map key e is. holds.entries p k (Object k) v (held_object h m p map) (held_object h m k key) refl e i is;

@@ -4,7 +4,7 @@ use Rattle.std.specs.Option.{option_map}
 use Rattle.es_value.specs.declared.value.Value.{Value}
 use Rattle.es_value.specs.declared.value.Value.TheVariants.{Object}
 use Rattle.es_event.specs.declared.event.Event.{Event}
-use Rattle.es_event.specs.declared.event.Event.TheVariants.{JobBegun, Did, Refused, Emptied, JobEnded, Closed}
+use Rattle.es_event.specs.declared.event.Event.TheVariants.{JobBegun, CleanupBegun, Did, Refused, Emptied, Taken, JobEnded, Closed}
 use Rattle.es_event.specs.declared.command.Command.{Command}
 use Rattle.es_event.specs.declared.command.Command.TheVariants.{WeakMapSet, WeakMapDelete, WeakSetAdd, WeakSetDelete}
 use Rattle.es_event.specs.History.{History, latest_at}
@@ -26,9 +26,11 @@ entered_by _ vs = None
 -- the entry that the event writes
 abbrev pub entered : Event → Option ((ℕ × ℕ) × Option Value)
 entered (JobBegun j) = None
+entered (CleanupBegun q) = None
 entered (Did c vs r) = entered_by c vs
 entered (Refused code) = None
 entered (Emptied ids) = None
+entered (Taken n held) = None
 entered JobEnded = None
 entered Closed = None
 
@@ -52,9 +54,11 @@ joined_by _ vs = None
 -- the member that the event writes
 abbrev pub joined : Event → Option ((ℕ × ℕ) × Bool)
 joined (JobBegun j) = None
+joined (CleanupBegun q) = None
 joined (Did c vs r) = joined_by c vs
 joined (Refused code) = None
 joined (Emptied ids) = None
+joined (Taken n held) = None
 joined JobEnded = None
 joined Closed = None
 

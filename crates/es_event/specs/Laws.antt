@@ -1,19 +1,20 @@
 -- To believe: what is said of the definitions as a whole. Each is the contract of a function of its name that does
 -- nothing, so it is proved; none of them adds to what the definitions mean.
-use Rattle.std.specs.Prelude.{ℕ, ◌≡◌, ◌↔◌, Bool, true, false, List, ◌∷◌, ◌++◌, is_some}
+use Rattle.std.specs.Prelude.{ℕ, ◌≡◌, ◌↔◌, ◌+◌, Bool, true, false, List, ◌∷◌, ◌++◌, Some, is_some}
 use Rattle.es_value.specs.declared.value.Value.{Value}
 use Rattle.es_event.specs.declared.event.Event.{Event}
-use Rattle.es_event.specs.declared.event.Event.TheVariants.{Refused}
+use Rattle.es_event.specs.declared.event.Event.TheVariants.{Refused, Taken}
 use Rattle.es_event.specs.declared.event.Refusal.{Refusal}
 use Rattle.es_event.specs.declared.outcome.Outcome.{Outcome}
 use Rattle.es_event.specs.declared.plan.AgentPlan.{AgentPlan}
 use Rattle.es_event.specs.declared.plan.Plan.{Plan}
 use Rattle.es_event.specs.History.{History}
 use Rattle.es_event.specs.Identities.{is_in, is_made, has_identity_in, gone}
-use Rattle.es_event.specs.Jobs.{Receivers, receivers, waits_for_nobody}
+use Rattle.es_event.specs.Jobs.{Receivers, receivers, waits_for_nobody, callbacks_collect_nothing}
 use Rattle.es_event.specs.LookBacks.{LookAlike}
 use Rattle.es_event.specs.Properties.{prop, keys, has_key}
 use Rattle.es_event.specs.WeakRefs.{kept}
+use Rattle.es_event.specs.Registrations.{Cell, Fate, live, awaiting, unregistered, taken, registered, is_registered, cell, fate, is_present, tally}
 use Rattle.es_event.specs.Rules.{Buffers}
 use Rattle.es_event.specs.Legal.{is_rising, LegalBy}
 use Rattle.es_event.specs.Reach.{IsClosed, IsReached, LedTo, IsHeld, AreDead, IsClosedBeside, with_later}
@@ -34,10 +35,12 @@ OneEventComesNext = (over : Buffers) (plan : AgentPlan) (h : History) (e f : Eve
 abbrev pub SomeEventComesNext : Type 0
 SomeEventComesNext = (over : Buffers) (plan : AgentPlan) (h : History) → (due plan h ≡ nothing → ⊥) → ((sender : ℕ) → due plan h ≡ receive sender → ⊥) → (e : Event) × ComesNext over plan h e
 
--- Each run so far of a plan in which no job waits for a message comes to its end. It will change as the last did.
+-- Each run so far of a plan in which no job waits for a message and no callback collects comes to its end: the work on the
+-- cleanup queue ends too. It will change as the last did.
 abbrev pub EachRunComesToItsEnd : Type 0
 EachRunComesToItsEnd =
-    (over : Buffers) (plan : AgentPlan) (h : History) → waits_for_nobody plan ≡ true → LegalBy over (receivers plan.jobs) h → Follows over plan h
+    (over : Buffers) (plan : AgentPlan) (h : History) → waits_for_nobody plan ≡ true → callbacks_collect_nothing plan ≡ true
+    → LegalBy over (receivers plan.jobs) h → Follows over plan h
     → (f : History) × IsWholeRunOver over plan (f ++ h)
 
 -- An agent's plan has one whole run, over the same buffers.
@@ -58,6 +61,40 @@ ARefusalChangesNothing = (into : Receivers) (h : History) (code : Refusal) → L
 -- A key is listed exactly where the object has a property of it.
 abbrev pub KeysAreThoseOfProperties : Type 0
 KeysAreThoseOfProperties = (h : History) (o : ℕ) (k : List ℕ) → has_key (keys h o) k ≡ is_some (prop h o k)
+
+-- Registrations
+
+-- Every registration ever made is exactly one of live, awaiting its cleanup, unregistered or taken.
+abbrev pub EachRegistrationHasOneFate : Type 0
+EachRegistrationHasOneFate = (h : History) → tally h live + tally h awaiting + tally h unregistered + tally h taken ≡ registered h
+
+-- where the fate may go from here
+abbrev pub may_become : Fate → Fate → Bool
+may_become live f = true
+may_become awaiting live = false
+may_become awaiting awaiting = true
+may_become awaiting unregistered = true
+may_become awaiting taken = true
+may_become unregistered live = false
+may_become unregistered awaiting = false
+may_become unregistered unregistered = true
+may_become unregistered taken = false
+may_become taken live = false
+may_become taken awaiting = false
+may_become taken unregistered = false
+may_become taken taken = true
+
+-- A fate only moves forward: from live, or from awaiting to unregistered or taken.
+abbrev pub FatesMoveForward : Type 0
+FatesMoveForward = (f h : History) (n : ℕ) → is_registered h n ≡ true → may_become (fate h n) (fate (f ++ h) n) ≡ true
+
+-- No registration is taken twice.
+abbrev pub NothingIsTakenTwice : Type 0
+NothingIsTakenTwice = (over : Buffers) (into : Receivers) (f h : History) (n : ℕ) (v w : Value) → LegalBy over into (Taken n w ∷ (f ++ (Taken n v ∷ h))) → ⊥
+
+-- No cleanup is lost: where a run of a plan is whole, no registration awaits its cleanup any more.
+abbrev pub NoCleanupIsLost : Type 0
+NoCleanupIsLost = (over : Buffers) (plan : AgentPlan) (h : History) → IsWholeRunOver over plan h → tally h awaiting ≡ 0
 
 -- What is reached, and what is dead
 
@@ -102,14 +139,20 @@ NothingDeadIsLive = (into : Receivers) (h : History) (s : List ℕ) → AreDead 
 abbrev pub WhatIsHeldIsLive : Type 0
 WhatIsHeldIsLive = (over : Buffers) (into : Receivers) (h : History) (s : List ℕ) (v : Value) → LegalBy over into h → IsHeld into h v → has_identity_in s v ≡ true → Live into h s
 
+-- What a cell holds that is in its registry is live: its target may be emptied, and its cleanup observes the held value.
+abbrev pub WhatACellHoldsIsLive : Type 0
+WhatACellHoldsIsLive =
+    (over : Buffers) (into : Receivers) (h : History) (s : List ℕ) (n : ℕ) (c : Cell) → LegalBy over into h → cell h n ≡ Some c → is_present (fate h n) ≡ true
+    → has_identity_in s c.held ≡ true → Live into h s
+
 -- Emptying, in any run of a plan so far
 
 -- Nothing in KeptAlive is emptied.
 abbrev pub NothingKeptIsGone : Type 0
 NothingKeptIsGone = (plan : AgentPlan) (h : History) (i : ℕ) → IsRun plan h → is_in (kept h) i ≡ true → is_in (gone h) i ≡ true → ⊥
 
--- Nothing that is reached is emptied: nothing that a variable, KeptAlive or a property of something reached holds, or an
--- entry of a WeakMap and a key that are both reached.
+-- Nothing that is reached is emptied: no registry, and nothing that a variable, KeptAlive, a cell in its registry or a property
+-- of something reached holds, or an entry of a WeakMap and a key that are both reached.
 abbrev pub NothingReachedIsGone : Type 0
 NothingReachedIsGone = (plan : AgentPlan) (h : History) (i : ℕ) → IsRun plan h → IsReached (receivers plan.jobs) h i → is_in (gone h) i ≡ true → ⊥
 

@@ -7,6 +7,7 @@ use Rattle.es_event.specs.Variables.{var}
 use Rattle.es_event.specs.Properties.{prop, keys}
 use Rattle.es_event.specs.WeakRefs.{kept, target}
 use Rattle.es_event.specs.Ephemerons.{entry, is_member}
+use Rattle.es_event.specs.Registrations.{registered, cell, fate}
 use Rattle.es_event.specs.Reach.{IsReached}
 
 -- the look-backs of two histories are the same, but for where the agent stands in its plan
@@ -19,6 +20,9 @@ pub record LookAlike (into : Receivers) (g h : History) : Type 0 where
   pub targets : (w : ℕ) → target g w ≡ target h w
   pub entries : (w k : ℕ) → entry g w k ≡ entry h w k
   pub members : (s v : ℕ) → is_member g s v ≡ is_member h s v
+  pub registered : registered g ≡ registered h
+  pub cells : (n : ℕ) → cell g n ≡ cell h n
+  pub fates : (n : ℕ) → fate g n ≡ fate h n
   pub kinds : (o : ℕ) → kind g o ≡ kind h o
   pub made : made g ≡ made h
   pub job : job g ≡ job h

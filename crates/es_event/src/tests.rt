@@ -4,6 +4,7 @@ ghost use Rattle.std.specs.Prelude.{⊤};
 
 use crate::{Command, Literal, Log, Members, OperandNames, Operands, Sequence, tests_lose_nothing};
 use es_value::{Name, NoMemory, Text, Value, same_value};
+use std::alloc::Global;
 use std::test::Fail;
 
 #[test]
@@ -177,16 +178,71 @@ fn commands_of_weaksets_have_their_shapes(rt: HostRuntime) -> Result<(), Fail> {
 }
 
 #[test]
+fn commands_of_registries_have_their_shapes(rt: HostRuntime) -> Result<(), Fail> {
+    let alloc = rt.alloc();
+    let to = Name::read(alloc, "x")?;
+    let callback = 1;
+    assert!(rt;
+        has_shape(
+            Command::FinalizationRegistry { to, callback },
+            0,
+            true,
+            true
+        )?
+    );
+    assert!(rt; has_shape(register(alloc, None)?, 3, false, false)?);
+    let token = Name::read(alloc, "t")?;
+    assert!(rt; has_shape(register(alloc, Some(token))?, 4, false, false)?);
+    let to = Name::read(alloc, "x")?;
+    let registry = Name::read(alloc, "r")?;
+    let token = Name::read(alloc, "t")?;
+    assert!(rt;
+        has_shape(
+            Command::Unregister {
+                to,
+                registry,
+                token
+            },
+            2,
+            true,
+            false
+        )?
+    );
+    Ok(())
+}
+
+fn register(alloc: Global, token: Option<Name>) -> Result<Command, Fail> {
+    Ok(Command::Register {
+        registry: Name::read(alloc, "r")?,
+        target: Name::read(alloc, "y")?,
+        held: Name::read(alloc, "h")?,
+        token,
+    })
+}
+
+/// Whether a copy of the command reads operands of these names.
+fn reads_in_order(command: Command, names: [&str; 3]) -> Result<bool, NoMemory> {
+    let copied = command.copy();
+    drop(command);
+    let copied = copied?;
+    let in_order = match copied.reads() {
+        OperandNames::Three(a, b, c) => {
+            a.as_str() == names[0] && b.as_str() == names[1] && c.as_str() == names[2]
+        }
+        _ => false,
+    };
+    drop(copied);
+    Ok(in_order)
+}
+
+#[test]
 fn a_copied_entry_keeps_the_order_of_its_names(rt: HostRuntime) -> Result<(), Fail> {
     let alloc = rt.alloc();
     let map = Name::read(alloc, "m")?;
     let key = Name::read(alloc, "k")?;
     let from = Name::read(alloc, "y")?;
     let entry = Command::WeakMapSet { map, key, from };
-    let again = entry.copy()?;
-    assert!(rt;
-        matches!(again.reads(), OperandNames::Three(a, b, c) if a.as_str() == "m" && b.as_str() == "k" && c.as_str() == "y")
-    );
+    assert!(rt; reads_in_order(entry, ["m", "k", "y"])?);
     Ok(())
 }
 

@@ -3,9 +3,11 @@
 ghost use Rattle.std.specs.Prelude.{OnOk};
 ghost use Rattle.std.specs.Io.KnownBytes.{Appends};
 ghost use Rattle.es_event.specs.Report.{agents_text, cluster_text, report};
+ghost use Rattle.es_report.specs.Tallies.{AreTallies};
 
 use crate::agent::write_agent;
 use es_event::{Event, Outcome, Sequence};
+use es_registry::Tally;
 use es_value::Name;
 use std::io;
 use std::io::Write;
@@ -13,14 +15,23 @@ use std::io::Write;
 /// Writes the report of a run: the lines of each agent in the plan's order, and then the cluster's.
 /// A name without a history, or a history without a name, has no lines.
 ///
+/// The totals of each agent's registrations stand in its last line. They are given, since looking
+/// them up in a history takes a time that grows with its square.
+///
 /// It takes no memory and hands the writer one piece of a line after another. Where the writer
 /// fails, it answers that error and writes nothing more.
-pub fn write_report<W: Write>(outcome: &Outcome, writer: &mut W) -> Result<(), io::Error>
+pub fn write_report<W: Write>(
+    outcome: &Outcome,
+    tallies: &[Tally],
+    writer: &mut W,
+) -> Result<(), io::Error>
+    requires { AreTallies outcome.now.histories tallies.now }
     ensures { OnOk result (Appends (W.contents writer.old) (W.contents writer.new) (report outcome.now)) }
 {
     write_agents(
         outcome.names.as_slice(),
         outcome.histories.as_slice(),
+        tallies,
         writer,
     )?;
     write_cluster(writer)
@@ -29,12 +40,14 @@ pub fn write_report<W: Write>(outcome: &Outcome, writer: &mut W) -> Result<(), i
 fn write_agents<W: Write>(
     names: &[Name],
     histories: &[Sequence<Event>],
+    tallies: &[Tally],
     writer: &mut W,
 ) -> Result<(), io::Error>
+    requires { AreTallies histories.now tallies.now }
     ensures { OnOk result (Appends (W.contents writer.old) (W.contents writer.new) (agents_text names.now histories.now)) }
 {
-    for (name, history) in names.iter().zip(histories) {
-        write_agent(name, history, writer)?;
+    for ((name, history), tally) in names.iter().zip(histories).zip(tallies) {
+        write_agent(name, history, tally, writer)?;
     }
     Ok(())
 }

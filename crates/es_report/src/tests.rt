@@ -1,12 +1,21 @@
-//! Reports written by hand for histories of each kind of event, and a writer that fails once.
+//! Reports and lines written by hand for histories of each kind of event, and a writer that fails
+//! once.
 
+ghost use Rattle.std.specs.Prelude.{◌≡◌, []};
+
+mod events;
+mod totals;
+
+use crate::agent::write_lines;
 use crate::write_report;
-use es_event::{Answer, Command, Event, Operands, Outcome, Refusal, Sequence};
-use es_value::{Id, Name, Text, Value};
+use es_event::{Outcome, Sequence};
+use es_value::Name;
+use events::{breaker, speaker};
 use std::alloc::Global;
 use std::io;
 use std::io::Write;
 use std::test::Fail;
+use totals::{END_OF_KEEPER, END_OF_TAKER, two_agents};
 
 /// The report of a run without agents.
 const NOBODY: &str = "\
@@ -15,9 +24,8 @@ blocks 0 released 0
 messages posted 0 taken 0 drained 0
 ";
 
-/// The report of `two_agents`.
-const TWO_AGENTS: &str = "\
-agent first
+/// The lines of `speaker`.
+const SPOKEN: &str = "\
 say undefined
 say true
 say false
@@ -30,17 +38,34 @@ say symbol 10
 keys
 keys k
 keys b a
-end live 0 awaiting 0 unregistered 0 taken 0
-agent second
+";
+
+/// The lines of `breaker`.
+const BROKEN: &str = "\
 error TypeError: not an object
 error TypeError: not a WeakRef
 error TypeError: not a WeakMap
 error TypeError: not a WeakSet
+error TypeError: not a FinalizationRegistry
 error TypeError: cannot be held weakly
+error TypeError: target and held value are the same
 error limit: values
 emptied 0
 emptied 12
-end live 0 awaiting 0 unregistered 0 taken 0
+cleanup 3 held undefined
+cleanup 12 held \"a b\"
+cleanup 1 held object 7
+";
+
+/// The report of `two_agents`.
+const TWO_AGENTS: &str = "\
+agent first
+emptied 1
+cleanup 1 held 7
+end live 0 awaiting 0 unregistered 1 taken 1
+agent second
+emptied 1
+end live 2 awaiting 1 unregistered 0 taken 0
 cluster
 blocks 0 released 0
 messages posted 0 taken 0 drained 0
@@ -76,9 +101,24 @@ impl Write for Faltering {
 }
 
 #[test]
-fn a_report_has_a_line_for_each_event(rt: HostRuntime) -> Result<(), Fail> {
+fn events_have_their_lines(rt: HostRuntime) -> Result<(), Fail> {
     let mut bytes = Vec::new(rt.alloc());
-    write_report(&two_agents(rt.alloc())?, &mut bytes)?;
+    write_lines(speaker(rt.alloc())?.as_slice(), &mut bytes)?;
+    assert_eq!(rt; str::from_utf8(bytes.as_slice()), Ok(SPOKEN));
+    let mut bytes = Vec::new(rt.alloc());
+    write_lines(breaker(rt.alloc())?.as_slice(), &mut bytes)?;
+    assert_eq!(rt; str::from_utf8(bytes.as_slice()), Ok(BROKEN));
+    Ok(())
+}
+
+#[test]
+fn each_agent_has_its_own_totals(rt: HostRuntime) -> Result<(), Fail> {
+    let mut bytes = Vec::new(rt.alloc());
+    write_report(
+        &two_agents(rt.alloc())?,
+        &[END_OF_TAKER, END_OF_KEEPER],
+        &mut bytes,
+    )?;
     assert_eq!(rt; str::from_utf8(bytes.as_slice()), Ok(TWO_AGENTS));
     Ok(())
 }
@@ -86,7 +126,7 @@ fn a_report_has_a_line_for_each_event(rt: HostRuntime) -> Result<(), Fail> {
 #[test]
 fn a_run_without_agents_has_a_report(rt: HostRuntime) -> Result<(), Fail> {
     let mut bytes = Vec::new(rt.alloc());
-    write_report(&nobody(rt.alloc()), &mut bytes)?;
+    write_report(&nobody(rt.alloc()), &[], &mut bytes)?;
     assert_eq!(rt; str::from_utf8(bytes.as_slice()), Ok(NOBODY));
     Ok(())
 }
@@ -101,7 +141,7 @@ fn a_report_ends_where_its_writer_fails(rt: HostRuntime) -> Result<(), Fail> {
             room,
             failed: false,
         };
-        let fault = write_report(&outcome, &mut writer)
+        let fault = write_report(&outcome, &[END_OF_TAKER, END_OF_KEEPER], &mut writer)
             .err()
             .map(|fault| fault.kind());
         let broken = (room < report.len()).then_some(io::ErrorKind::BrokenPipe);
@@ -111,104 +151,15 @@ fn a_report_ends_where_its_writer_fails(rt: HostRuntime) -> Result<(), Fail> {
     Ok(())
 }
 
-fn nobody(alloc: Global) -> Outcome {
+fn nobody(alloc: Global) -> Outcome
+    ensures { result.histories ≡ [] }
+{
     Outcome {
         names: Sequence::new(alloc),
         histories: Sequence::new(alloc),
     }
 }
 
-fn two_agents(alloc: Global) -> Result<Outcome, Fail> {
-    let mut outcome = nobody(alloc);
-    outcome.names.push(name(alloc, "first")?)?;
-    outcome.names.push(name(alloc, "second")?)?;
-    outcome.histories.push(speaker(alloc)?)?;
-    outcome.histories.push(breaker(alloc)?)?;
-    Ok(outcome)
-}
-
-/// An agent that says a value of each kind and lists keys.
-fn speaker(alloc: Global) -> Result<Sequence<Event>, Fail> {
-    let mut history = Sequence::new(alloc);
-    history.push(Event::JobBegun { job: 1 })?;
-    history.push(made(alloc)?)?;
-    history.push(said(alloc, Value::Undefined)?)?;
-    history.push(said(alloc, Value::Boolean(true))?)?;
-    history.push(said(alloc, Value::Boolean(false))?)?;
-    history.push(said(alloc, Value::Number(-5))?)?;
-    history.push(said(alloc, Value::Number(9007199254740991))?)?;
-    let text = Text::read(alloc, "a b")?;
-    history.push(said(alloc, Value::Text(text))?)?;
-    let key = Text::read(alloc, "t")?;
-    history.push(said(alloc, Value::Registered(key))?)?;
-    history.push(said(alloc, Value::Object(Id::of(3)))?)?;
-    history.push(said(alloc, Value::Symbol(Id::of(10)))?)?;
-    history.push(listed(alloc, &[])?)?;
-    history.push(listed(alloc, &["k"])?)?;
-    history.push(listed(alloc, &["b", "a"])?)?;
-    history.push(Event::JobEnded)?;
-    history.push(Event::Closed)?;
-    Ok(history)
-}
-
-/// An agent whose commands are refused, and whose values are emptied.
-fn breaker(alloc: Global) -> Result<Sequence<Event>, Fail> {
-    let mut history = Sequence::new(alloc);
-    for code in [
-        Refusal::NotAnObject,
-        Refusal::NotAWeakRef,
-        Refusal::NotAWeakMap,
-        Refusal::NotAWeakSet,
-        Refusal::NotHeldWeakly,
-        Refusal::TooManyValues,
-    ] {
-        history.push(Event::Refused { code })?;
-    }
-    for count in [0, 12] {
-        history.push(emptied(alloc, count)?)?;
-    }
-    Ok(history)
-}
-
 fn name(alloc: Global, text: &str) -> Result<Name, Fail> {
     Ok(Name::read(alloc, text)?)
-}
-
-fn made(alloc: Global) -> Result<Event, Fail> {
-    let to = name(alloc, "x")?;
-    Ok(Event::Did {
-        command: Command::New { to },
-        values: Operands::of_none(),
-        answer: Answer::Gives(Value::Object(Id::of(1))),
-    })
-}
-
-fn said(alloc: Global, value: Value) -> Result<Event, Fail> {
-    let from = name(alloc, "x")?;
-    Ok(Event::Did {
-        command: Command::Say { from },
-        values: Operands::of_one(value),
-        answer: Answer::Nothing,
-    })
-}
-
-fn listed(alloc: Global, texts: &[&str]) -> Result<Event, Fail> {
-    let mut keys = Sequence::new(alloc);
-    for text in texts {
-        keys.push(name(alloc, text)?)?;
-    }
-    let object = name(alloc, "o")?;
-    Ok(Event::Did {
-        command: Command::Keys { object },
-        values: Operands::of_none(),
-        answer: Answer::Listed(keys),
-    })
-}
-
-fn emptied(alloc: Global, count: u32) -> Result<Event, Fail> {
-    let mut ids = Sequence::new(alloc);
-    for number in 1..=count {
-        ids.push(Id::of(number))?;
-    }
-    Ok(Event::Emptied { ids })
 }

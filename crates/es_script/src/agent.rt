@@ -3,13 +3,14 @@
 ghost use Rattle.std.specs.Prelude.{◌≡◌, [], option_map};
 ghost use Rattle.serde_json.specs.View.{view, items_view, members_view};
 ghost use Rattle.es_script.specs.Parts.{members_in};
-ghost use Rattle.es_script.specs.Reading.{Gives, callback_read, callbacks_read, job_read, jobs_read, names_read, agent_name_read, agent_read, agents_read};
+ghost use Rattle.es_script.specs.Reading.{Gives, said, callback_read, callbacks_read, job_read, jobs_read, names_read, agent_name_read, agent_read, agents_read};
 ghost use Rattle.es_script.specs.Grammar.{is_used};
 
 use crate::command::{callback_run, job_run};
 use crate::fault::{FaultCode, Spot, fault_in};
 use crate::operand::name_of;
 use crate::parts::{has_at_most, has_at_most_members, items, taken_items, text};
+use crate::scope::{CallbackNumbers, callback_numbers};
 use crate::{Place, ReadFault};
 use es_event::{AgentPlan, Callback, Job, Sequence};
 use es_value::{MOST_CALLBACKS, MOST_JOBS, Name, Names};
@@ -80,9 +81,10 @@ fn agent_with(names: &mut Names, agent: usize, mut value: Value) -> Result<Agent
     if !has_at_most(items(value.get("jobs")), MOST_JOBS) {
         return Err(fault_in(Place::Agent(agent), FaultCode::Limit));
     }
-    let callbacks = callbacks_of(names, agent, value.get("callbacks"))?;
+    let scope = callback_numbers(names.allocator(), value.get("callbacks"))?;
+    let callbacks = callbacks_of(names, &scope, agent, value.get("callbacks"))?;
     let mut jobs = taken_items(names.allocator(), value.get_mut("jobs"));
-    let jobs = jobs_of(names, agent, jobs.as_mut_slice())?;
+    let jobs = jobs_of(names, &scope, agent, jobs.as_mut_slice())?;
     Ok(AgentPlan {
         name,
         callbacks,
@@ -92,14 +94,15 @@ fn agent_with(names: &mut Names, agent: usize, mut value: Value) -> Result<Agent
 
 fn callbacks_of(
     names: &mut Names,
+    scope: &CallbackNumbers,
     agent: usize,
     value: Option<&Value>,
 ) -> Result<Sequence<Callback>, ReadFault>
     ensures { Gives (λ s. s) result
-        (callbacks_read agent 1 (members_in (option_map (λ v. view v.now) value.entry))) }
+        (callbacks_read (said scope.now) agent 1 (members_in (option_map (λ v. view v.now) value.entry))) }
 {
     match value {
-        Some(Value::Object(members)) => callbacks_in(names, agent, members),
+        Some(Value::Object(members)) => callbacks_in(names, scope, agent, members),
         _ => Ok(Sequence::new(names.allocator())),
     }
 }
@@ -108,15 +111,16 @@ fn callbacks_of(
 /// come by rising names.
 fn callbacks_in(
     names: &mut Names,
+    scope: &CallbackNumbers,
     agent: usize,
     members: &Map<String, Value>,
 ) -> Result<Sequence<Callback>, ReadFault>
-    ensures { Gives (λ s. s) result (callbacks_read agent 1 (members_view members.now.entries)) }
+    ensures { Gives (λ s. s) result (callbacks_read (said scope.now) agent 1 (members_view members.now.entries)) }
 {
     let mut callbacks = Vec::new(names.allocator());
     for (name, value) in members.iter() {
         let place = Place::Callback(agent, callbacks.len() + 1);
-        let callback = callback_of(names, name.as_str(), value, place)?;
+        let callback = callback_of(names, scope, name.as_str(), value, place)?;
         callbacks.push(callback)?;
     }
     Ok(Sequence::from_vec(callbacks))
@@ -124,32 +128,43 @@ fn callbacks_in(
 
 fn callback_of(
     names: &mut Names,
+    scope: &CallbackNumbers,
     name: &str,
     value: &Value,
     place: Place,
 ) -> Result<Callback, ReadFault>
-    ensures { Gives (λ c. c) result (callback_read place name.now (view value.now)) }
+    ensures { Gives (λ c. c) result (callback_read (said scope.now) place name.now (view value.now)) }
 {
     let name = name_of(names, name, Spot { place, command: 0 })?;
-    let run = callback_run(names, items(Some(value)), place)?;
+    let run = callback_run(names, scope, items(Some(value)), place)?;
     Ok(Callback { name, run })
 }
 
-fn jobs_of(names: &mut Names, agent: usize, jobs: &mut [Value]) -> Result<Sequence<Job>, ReadFault>
-    ensures { Gives (λ s. s) result (jobs_read agent 1 (items_view jobs.old)) }
+fn jobs_of(
+    names: &mut Names,
+    scope: &CallbackNumbers,
+    agent: usize,
+    jobs: &mut [Value],
+) -> Result<Sequence<Job>, ReadFault>
+    ensures { Gives (λ s. s) result (jobs_read (said scope.now) agent 1 (items_view jobs.old)) }
 {
     let mut all = Sequence::new(names.allocator());
     for (index, value) in jobs.iter_mut().enumerate() {
-        let job = job_of(names, value.take(), Place::Job(agent, index + 1))?;
+        let job = job_of(names, scope, value.take(), Place::Job(agent, index + 1))?;
         all.push(job)?;
     }
     Ok(all)
 }
 
-fn job_of(names: &mut Names, mut value: Value, place: Place) -> Result<Job, ReadFault>
-    ensures { Gives (λ j. j) result (job_read place (view value)) }
+fn job_of(
+    names: &mut Names,
+    scope: &CallbackNumbers,
+    mut value: Value,
+    place: Place,
+) -> Result<Job, ReadFault>
+    ensures { Gives (λ j. j) result (job_read (said scope.now) place (view value)) }
 {
     let list = taken_items(names.allocator(), value.get_mut("run"));
-    let run = job_run(names, list, place)?;
+    let run = job_run(names, scope, list, place)?;
     Ok(Job { on: None, run })
 }

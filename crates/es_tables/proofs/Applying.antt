@@ -1,5 +1,5 @@
 -- What the next event does can be applied to the tables.
-use Rattle.std.proofs.Common.{◌≡◌, ℕ, ◌+◌, ◌&&◌, not, Bool, true, false, sym, ◌∙◌, ap, refl, subst, List, [], Option, Some, None}
+use Rattle.std.proofs.Common.{◌≡◌, ℕ, ◌+◌, ◌-◌, arith, ◌∷◌, ◌&&◌, not, Bool, true, false, sym, ◌∙◌, ap, refl, subst, List, [], Option, Some, None}
 use Rattle.std.specs.Prelude.{is_some}
 use Rattle.std.specs.Option.{option_map, option_map_or, option_and_then}
 use Rattle.es_value.specs.declared.value.Value.{Value}
@@ -9,8 +9,8 @@ use Rattle.es_weakref.specs.WeakRefs.{target}
 use Rattle.es_event.specs.declared.event.Answer.{Answer}
 use Rattle.es_event.specs.declared.event.Answer.TheVariants.{Gives}
 use Rattle.es_event.specs.declared.event.Event.{Event}
-use Rattle.es_event.specs.declared.event.Event.TheVariants.{Did}
-use Rattle.es_event.specs.declared.command.Command.TheVariants.{WeakRef}
+use Rattle.es_event.specs.declared.event.Event.TheVariants.{Did, Taken, JobEnded}
+use Rattle.es_event.specs.declared.command.Command.TheVariants.{WeakRef, FinalizationRegistry, Register, Unregister}
 use Rattle.es_event.specs.Commands.{first, Kind, reads}
 use Rattle.es_event.specs.History.{History}
 use Rattle.es_event.specs.Identities.{identity, made, gone, is_gone, kind, born, object_of}
@@ -24,7 +24,19 @@ use Rattle.es_event.proofs.Objects.{first_object}
 use Rattle.es_tables.specs.declared.effects.Effects.{Effects}
 use Rattle.es_tables.specs.Effects.{AreEffects, object_born, points, with_option}
 use Rattle.es_tables.specs.Ready.{CanApply}
-use Rattle.es_tables.specs.Tables.{State, Says}
+use Rattle.es_tables.specs.Tables.{State, Says, slot_said}
+use Rattle.es_event.specs.declared.command.Command.{Command}
+use Rattle.es_event.specs.Registrations.{Cell, Fate, awaiting, callback as callback_said, callback_in, registers_by, registered, cell, fate}
+use Rattle.es_event.proofs.Accepted.{is_result}
+use Rattle.es_event.proofs.Cells.{cell_within}
+use Rattle.es_event.proofs.Entries.{mapped}
+use Rattle.es_registry.specs.Slots.{passes_at, is_awaiting}
+use Rattle.es_registry.specs.Registries.{Contents as RegistryContents, callback}
+use Rattle.es_tables.specs.declared.registries.RegistryChange.TheVariants.{Leaves, Registers, Unregisters, Queues}
+use Rattle.es_tables.specs.Registries.{CanChange, change, change_by, made_by as registry_made_by, again_at}
+use Rattle.es_tables.proofs.Numbered.{get_numbered}
+use Rattle.es_tables.proofs.Registering.{registers_change}
+use Rattle.es_tables.proofs.Slots.{slots, slot_at}
 use Rattle.es_tables.proofs.Fresh.{next_kind, next_target, born_next}
 
 if_some : {A : Type 0} (p : A → Bool) (o : Option A) (d : Bool) → ((a : A) → o ≡ Some a → p a ≡ d) → option_map_or p o d ≡ d
@@ -81,8 +93,48 @@ points_next : (into : Receivers) (h : History) (e : Event) (p : ℕ × Option �
 points_next into h (Did (WeakRef to y) vs r) p lawful e = sym (number_born into h (Did (WeakRef to y) vs r) _ p.0 lawful refl (pointed y to vs r p e))
 points_next into h _ p lawful e = cc
 
+-- a registry that is made is not there yet
+can_did : (into : Receivers) (h : History) (t : RegistryContents) (c : Command) (vs : List Value) (a : Answer) → LegalBy [] into h → Lawful [] into h (Did c vs a) → ((r : ℕ) → callback t r ≡ callback_said h r)
+    → CanChange t (change_by c vs a)
+can_did into h t (FinalizationRegistry to n) vs a legal lawful callbacks =
+    subst (λ a. CanChange t (registry_made_by n a)) (is_result [] h (FinalizationRegistry to n) vs a lawful.1) (callbacks (made h + 1) ∙ ap (option_and_then callback_in) (next_kind into h legal))
+can_did into h t (Register x y v k) vs a legal lawful callbacks = subst (CanChange t) (sym (registers_change x y v k vs a)) (at (registers_by (Register x y v k) vs))
+  where
+    at : (k : Option Cell) → CanChange t (option_map_or (λ k. Registers k.registry k.target k.held k.token) k Leaves)
+    at None = tt
+    at (Some k) = tt
+can_did into h t (Unregister to x k) (Object o ∷ w ∷ []) a legal lawful callbacks = at (identity w)
+  where
+    at : (i : Option ℕ) → CanChange t (option_map_or (Unregisters o) i Leaves)
+    at None = tt
+    at (Some i) = tt
+can_did into h t (Unregister to x k) vs a legal lawful callbacks = tt
+can_did into h t c vs a legal lawful callbacks = tt
+
+-- a cell that is taken awaits its cleanup
+awaits_at : (n : ℕ) (f : Fate) (k : Option Cell) (c : Cell) → f ≡ awaiting → k ≡ Some c → is_awaiting (slot_at n f k) ≡ true
+awaits_at n f k c is at = ap (λ f. is_awaiting (slot_at n f k)) is ∙ ap (λ k. is_awaiting (slot_at n awaiting k)) at
+
+can_end : (again : Option ℕ) (t : RegistryContents) → CanChange t (option_map_or Queues again Leaves)
+can_end None t = tt
+can_end (Some r) t = tt
+
+can_change : (into : Receivers) (h : History) (t : RegistryContents) (e : Event) → LegalBy [] into h → Lawful [] into h e → ((r : ℕ) → callback t r ≡ callback_said h r) → t.cells ≡ slots h → CanChange t (change (again_at h) e)
+can_change into h t (Did c vs a) legal lawful callbacks cells = can_did into h t c vs a legal lawful callbacks
+can_change into h t (Taken n held) legal lawful callbacks cells =
+    let at = mapped (λ c. c.held) (cell h n) held lawful.0 in
+    let numbered = cell_within h n at.0 at.1 in
+    let place : 1 + (n - 1) ≡ n = omega (arith, numbered.0) in (
+      numbered.0,
+      ap (λ cs. passes_at is_awaiting cs (n - 1)) cells
+          ∙ (ap (λ o. option_map_or is_awaiting o false) (get_numbered (slot_said h) 1 (registered h) (n - 1) (omega (arith, numbered.0, numbered.1)))
+          ∙ (ap (λ j. is_awaiting (slot_said h j)) place ∙ awaits_at n (fate h n) (cell h n) at.0 lawful.1 at.1)),
+    )
+can_change into h t JobEnded legal lawful callbacks cells = can_end (again_at h) t
+can_change into h t e legal lawful callbacks cells = tt
+
 pub can_apply : (into : Receivers) (h : History) (s : State) (e : Event) (f : Effects)
-    → LegalBy [] into h → Lawful [] into h e → Stays into h → Says into h s → AreEffects e f → CanApply s f
+    → LegalBy [] into h → Lawful [] into h e → Stays into h → Says into h s → AreEffects (again_at h) e f → CanApply s f
 can_apply into h s e f legal lawful stays says are = record {
   put = if_some (λ p. has s.heap p.0.0) f.put true (λ q is.
       let put' = sym are.put ∙ is in
@@ -92,4 +144,5 @@ can_apply into h s e f legal lawful stays says are = record {
       let pointed' = sym are.points ∙ some_points f.points q is in
       let here = next_alive [] into h legal q.0 (points_next into h e (q.0, Some q.1) lawful pointed') in
       no_value (target s.weakrefs q.0) (says.targets q.0 here ∙ ap (option_and_then (unless_gone (gone h))) (no_target into h e (q.0, Some q.1) legal lawful pointed')));
+  registry = subst (CanChange s.registries) (sym are.registry) (can_change into h s.registries e legal lawful says.callbacks says.cells);
 }

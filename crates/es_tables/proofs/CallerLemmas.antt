@@ -16,6 +16,7 @@ use Rattle.es_tables.specs.declared.tags.Tag.{Tag}
 pub use Rattle.es_tables.proofs.Applying.{can_apply}
 pub use Rattle.es_tables.proofs.Emptied.{says_emptied}
 pub use Rattle.es_tables.proofs.Recorded.{says_after}
+pub use Rattle.es_tables.proofs.Registering.{IsQuiet}
 
 none_made : (i : ℕ) → 0 < i → ◌≡◌ {A = Option Tag} None (tag_said [] i)
 none_made i positive = grind (arith, nat_tests, positive)
@@ -31,6 +32,9 @@ says_new into s new = record {
   kept = ap (λ k. reverse k) new.kept;
   entries = λ m k. new.entries m k;
   members = λ m k. ap is_some (new.members m k);
+  callbacks = new.callbacks;
+  cells = new.cells;
+  queue = new.queue;
   tags = λ i positive. ap (λ ts. tag_at ts i) new.tags ∙ none_made i positive;
   made = ap (λ ts. length ts) new.tags;
 }
@@ -46,6 +50,9 @@ says_same into h s t same says = record {
   kept = ap (λ k. reverse k) same.kept ∙ says.kept;
   entries = λ m k. same.entries m k ∙ says.entries m k;
   members = λ m k. ap is_some (same.members m k) ∙ says.members m k;
+  callbacks = λ r. same.callbacks r ∙ says.callbacks r;
+  cells = same.cells ∙ says.cells;
+  queue = same.queue ∙ says.queue;
   tags = λ i positive. ap (λ ts. tag_at ts i) same.tags ∙ says.tags i positive;
   made = ap (λ ts. length ts) same.tags ∙ says.made;
 }

@@ -1,5 +1,5 @@
 -- The tables still say what the history says after values were emptied.
-use Rattle.std.proofs.Common.{◌≡◌, ℕ, ◌+◌, ◌||◌, ◌&&◌, not, Bool, true, false, cond, nat_lt, nat_le, sym, ◌∙◌, ap, refl, arith, List, [], ◌∷◌, ◌++◌, length, Option, Some, None, if◌then◌else◌, reverse}
+use Rattle.std.proofs.Common.{◌≡◌, ℕ, ◌+◌, ◌||◌, ◌&&◌, not, Bool, true, false, cond, nat_lt, nat_le, sym, ◌∙◌, ap, refl, arith, List, [], ◌∷◌, ◌++◌, map, length, Option, Some, None, if◌then◌else◌, reverse}
 use Rattle.std.specs.Prelude.{is_some}
 use Rattle.std.specs.Option.{option_map, option_map_or, option_and_then}
 use Rattle.std.proofs.lemmas.Bool.Decides.{nat_tests}
@@ -17,6 +17,11 @@ use Rattle.es_event.specs.WeakRefs.{first_target, unless_gone}
 use Rattle.es_event.specs.Ephemerons.{first_entry, first_member}
 use Rattle.es_event.proofs.Lists.{in_both, out_of_both}
 use Rattle.es_tables.specs.Tags.{tag_of}
+use Rattle.es_event.specs.Order.{queue}
+use Rattle.es_event.specs.Legal.{LegalBy}
+use Rattle.es_registry.specs.Slots.{emptied}
+use Rattle.es_tables.proofs.Queued.{joined}
+use Rattle.es_tables.proofs.Slots.{slots_emptied}
 use Rattle.es_tables.specs.Tables.{State, Says, Emptying}
 use Rattle.es_tables.proofs.Weak.{dropped}
 
@@ -73,8 +78,8 @@ some_left : {A : Type 0} (b : Bool) (o : Option A) → is_some (cond b None o) �
 some_left true o = refl
 some_left false o = refl
 
-pub says_emptied : (into : Receivers) (h : History) (s t : State) (ids : List ℕ) → Says into h s → Emptying s ids t → Says into (Emptied ids ∷ h) t
-says_emptied into h s t ids says new = record {
+pub says_emptied : (into : Receivers) (h : History) (s t : State) (ids : List ℕ) → LegalBy [] into h → Says into h s → Emptying s ids t → Says into (Emptied ids ∷ h) t
+says_emptied into h s t ids legal says new = record {
   variables = λ x. new.variables x ∙ says.variables x;
   objects = λ o.
       ap is_some (new.objects o) ∙ left_of (is_in ids o) (is_some (kind h o)) (is_gone h o) (object s.heap o) (says.objects o)
@@ -90,6 +95,9 @@ says_emptied into h s t ids says new = record {
   entries = λ m k. new.entries m k ∙ ap (cond (is_in ids m || is_in ids k) None) (says.entries m k) ∙ dropped None ids h m k (first_entry h m k);
   members = λ m k. ap is_some (new.members m k) ∙ some_left (is_in ids m || is_in ids k) (record_at s.weak.members.all m k)
       ∙ ap (cond (is_in ids m || is_in ids k) false) (says.members m k) ∙ dropped false ids h m k (first_member h m k);
+  callbacks = λ r. new.callbacks r ∙ says.callbacks r;
+  cells = new.cells ∙ ap (map (emptied ids)) says.cells ∙ slots_emptied ids h;
+  queue = new.queue.1 ∙ ap (λ q. q ++ new.queue.0) says.queue ∙ ap (λ q. queue h ++ q) (joined into h s ids new.queue.0 legal says new.queue.2);
   tags = λ i positive. new.tags i positive
       ∙ ap (λ o. if is_in ids i then None else o) (says.tags i positive)
       ∙ shown_emptied (is_in ids i) (is_gone h i) i (made h) (kind h i)

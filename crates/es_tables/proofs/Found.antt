@@ -1,9 +1,10 @@
 -- What the tables add to a list is what is asked for.
-use Rattle.std.proofs.Common.{◌≡◌, ℕ, Bool, true, sym, ◌∙◌, ap, refl, List, [], ◌∷◌, ◌++◌, Option, Some, None}
+use Rattle.std.proofs.Common.{◌≡◌, ℕ, ◌==◌, Bool, true, inl, inr, subst, sym, ◌∙◌, ap, refl, List, [], ◌∷◌, ◌++◌, Option, Some, None}
 use Rattle.std.specs.Prelude.{unwrap_or}
 use Rattle.std.specs.Prelude.{nat_eq}
 use Rattle.std.specs.List.{IsDistinct}
 use Rattle.std.specs.Map.{lookup}
+use Rattle.std.proofs.lemmas.Bool.{eqb-true, eq-eqb, or_cases, or_left, or_right}
 use Rattle.std.specs.Str.{bytes_eq}
 use Rattle.es_value.specs.declared.value.Value.{Value}
 use Rattle.es_value.specs.declared.value.Value.TheVariants.{Undefined}
@@ -14,7 +15,9 @@ use Rattle.es_props.proofs.Held.{identities, HasFound, found_of_all, all_of_foun
 use Rattle.es_props.proofs.Tables.{value_at_is_lookup}
 use Rattle.es_ephemeron.specs.Ephemerons.{Records, holders, records_at, record_at}
 use Rattle.es_ephemeron.proofs.CallerLemmas.{all_records-from_each, each-from_all_records}
-use Rattle.es_mark.specs.Graph.{HasValue}
+use Rattle.es_registry.specs.Registries.{Contents as RegistryContents, is_root}
+use Rattle.es_value.specs.Ids.{is_in}
+use Rattle.es_mark.specs.Graph.{HasAll, HasValue}
 use Rattle.es_mark.proofs.Lists.{all_front, all_back, all_join}
 use Rattle.es_tables.specs.Found.{Adds, HasBound, HasHeld, AddsEntries}
 use Rattle.es_tables.specs.Tables.{State, Bindings}
@@ -38,17 +41,43 @@ adds_bound b old new distinct added = record {
   all = λ t all. entries_bound b t (found_of_all t b.entries all);
 }
 
-pub adds_held : (s : State) (old mid new : List ℕ) → Adds (HasBound s.variables) old mid → new ≡ mid ++ s.weakrefs.kept → Adds (HasHeld s) old new
-adds_held s old mid new bound' added = record {
-  ids = bound'.ids ++ s.weakrefs.kept;
-  added = added ∙ ap (λ l. l ++ s.weakrefs.kept) bound'.added ∙ appended old bound'.ids s.weakrefs.kept;
-  only = λ t has. all_join (λ i. t i ≡ true) bound'.ids s.weakrefs.kept (bound'.only t has.0) has.1;
-  all = λ t all. (bound'.all t (all_front (λ i. t i ≡ true) bound'.ids s.weakrefs.kept all), all_back (λ i. t i ≡ true) bound'.ids s.weakrefs.kept all);
+-- sets as tests, and as lists
+
+pub all_each : (t : ℕ → Bool) (xs : List ℕ) → HasAll xs t → (i : ℕ) → is_in xs i ≡ true → t i ≡ true
+all_each t [] all i e = cc
+all_each t (x ∷ xs) all i e = elim (or_cases (x == i) (is_in xs i) e) [ inl s ↦ subst (λ j. t j ≡ true) (eqb-true x i s) all.0 | inr r ↦ all_each t xs all.1 i r ]
+
+pub each_all : (t : ℕ → Bool) (xs : List ℕ) → ((i : ℕ) → is_in xs i ≡ true → t i ≡ true) → HasAll xs t
+each_all t [] each = tt
+each_all t (x ∷ xs) each = (each x (or_left (x == x) (is_in xs x) (eq-eqb x x refl)), each_all t xs (λ i e. each i (or_right (x == i) (is_in xs i) e)))
+
+-- the registries and what cells in them hold
+pub record AddsRegistryRoots (c : RegistryContents) (old new : List ℕ) : Type 0 where
+  pub ids : List ℕ
+  pub added : new ≡ old ++ ids
+  pub exactly : (i : ℕ) → is_in ids i ≡ is_root c i
+
+appended : (xs ys zs : List ℕ) → (xs ++ ys) ++ zs ≡ xs ++ (ys ++ zs)
+appended [] ys zs = refl
+appended (x ∷ xs) ys zs = ap (λ l. x ∷ l) (appended xs ys zs)
+
+pub adds_held : (s : State) (old mid more new : List ℕ) → Adds (HasBound s.variables) old mid → more ≡ mid ++ s.weakrefs.kept → AddsRegistryRoots s.registries more new → Adds (HasHeld s) old new
+adds_held s old mid more new bound' kept roots = record {
+  ids = bound'.ids ++ (s.weakrefs.kept ++ roots.ids);
+  added = roots.added
+      ∙ (ap (λ l. l ++ roots.ids) (kept ∙ ap (λ l. l ++ s.weakrefs.kept) bound'.added)
+      ∙ (appended (old ++ bound'.ids) s.weakrefs.kept roots.ids
+      ∙ appended old bound'.ids (s.weakrefs.kept ++ roots.ids)));
+  only = λ t has. all_join (λ i. t i ≡ true) bound'.ids (s.weakrefs.kept ++ roots.ids) (bound'.only t has.variables)
+      (all_join (λ i. t i ≡ true) s.weakrefs.kept roots.ids has.kept (each_all t roots.ids (λ i e. has.registries i (sym (roots.exactly i) ∙ e))));
+  all = λ t all.
+      let rest = all_back (λ i. t i ≡ true) bound'.ids (s.weakrefs.kept ++ roots.ids) all in
+      record {
+        variables = bound'.all t (all_front (λ i. t i ≡ true) bound'.ids (s.weakrefs.kept ++ roots.ids) all);
+        kept = all_front (λ i. t i ≡ true) s.weakrefs.kept roots.ids rest;
+        registries = λ i e. all_each t roots.ids (all_back (λ i. t i ≡ true) s.weakrefs.kept roots.ids rest) i (roots.exactly i ∙ e);
+      };
 }
-  where
-    appended : (xs ys zs : List ℕ) → (xs ++ ys) ++ zs ≡ xs ++ (ys ++ zs)
-    appended [] ys zs = refl
-    appended (x ∷ xs) ys zs = ap (λ l. x ∷ l) (appended xs ys zs)
 
 pub adds_edges : (s : Store) (o : ℕ) (old new : List ℕ) → new ≡ old ++ edges s o → IsDistinct bytes_eq (keys s o) → Adds (HasProperties s o) old new
 adds_edges s o old new added distinct = record {

@@ -3,8 +3,12 @@ pub mod CallerLemmas
 pub mod Emptied
 pub mod Found
 pub mod Fresh
+pub mod Numbered
 pub mod Outcomes
 pub mod Passing
+pub mod Queued
 pub mod Recorded
+pub mod Registering
+pub mod Slots
 pub mod Tagging
 pub mod Weak

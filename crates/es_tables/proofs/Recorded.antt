@@ -35,6 +35,9 @@ use Rattle.es_tables.specs.declared.effects.Effects.{Effects}
 use Rattle.es_tables.specs.Effects.{AreEffects, Applied, object_born, points}
 use Rattle.es_tables.specs.Tables.{State, Says, bound}
 use Rattle.es_tables.proofs.Fresh.{next_target, born_next}
+use Rattle.es_registry.specs.Registries.{callback}
+use Rattle.es_tables.specs.Registries.{change, callback_after, cells_after, queue_after, again_at}
+use Rattle.es_tables.proofs.Registering.{IsQuiet, quiet_empties, callback_next, cells_next, queue_next}
 use Rattle.es_tables.proofs.Weak.{left_of, written, entered_there, joined_there}
 use Rattle.es_tables.proofs.Tagging.{tags_after, made_after}
 
@@ -117,8 +120,8 @@ left_still h e m k none a quiet = ap (λ b. left_of none b (is_gone h k) a) (sym
 -- All tables
 
 pub says_after : (into : Receivers) (h : History) (s t : State) (e : Event) (f : Effects)
-    → LegalBy [] into h → Lawful [] into h e → Stays into h → empties e ≡ [] → Says into h s → AreEffects e f → Applied s f t → Says into (e ∷ h) t
-says_after into h s t e f legal lawful stays quiet says are applied = record {
+    → LegalBy [] into h → Lawful [] into h e → Stays into h → IsQuiet e → Says into h s → AreEffects (again_at h) e f → Applied s f t → Says into (e ∷ h) t
+says_after into h s t e f legal lawful stays silent says are applied = let quiet : empties e ≡ [] = quiet_empties e silent in record {
   variables = λ x. applied.variables x ∙ ap (λ p. unwrap_or (at_key bytes_eq x p) (bound s.variables x)) (are.assigned into h) ∙ ap (unwrap_or (at_key bytes_eq x (assigned into h e))) (says.variables x);
   objects = λ o. applied.objects o
       ∙ ap (λ b. option_map_or (λ i. i == o) b false || has s.heap o) are.born
@@ -131,6 +134,18 @@ says_after into h s t e f legal lawful stays quiet says are applied = record {
   targets = λ w here. ap (option_map Object) (applied.targets w ∙ ap (λ p. unwrap_or (at_key (λ i j. i == j) w p) (target s.weakrefs w)) are.points)
       ∙ target_step into h e (target s.weakrefs w) w legal lawful stays (says.targets w (sym (same_gone h e w quiet) ∙ here))
       ∙ ap (λ ids. aimed_at (ids ++ gone h) (kind (e ∷ h) w)) (sym quiet);
+  callbacks = λ r. applied.callbacks r
+      ∙ ap (λ c. callback_after c r (callback s.registries r)) are.registry
+      ∙ ap (callback_after (change (again_at h) e) r) (says.callbacks r)
+      ∙ callback_next into h e r legal lawful;
+  cells = applied.cells
+      ∙ ap (λ c. cells_after c s.registries.cells) are.registry
+      ∙ ap (cells_after (change (again_at h) e)) says.cells
+      ∙ cells_next into h e (lawful, legal) stays silent;
+  queue = applied.queue
+      ∙ ap (λ c. queue_after c s.registries.queue) are.registry
+      ∙ ap (queue_after (change (again_at h) e)) says.queue
+      ∙ queue_next h e silent;
   kept = applied.kept
       ∙ ap (λ b. cond b [] (option_to_list f.kept ++ reverse s.weakrefs.kept)) are.clears
       ∙ ap (λ ids. cond (ends_job e) [] (ids ++ reverse s.weakrefs.kept)) are.kept

@@ -8,7 +8,7 @@ use Rattle.es_value.specs.declared.value.Value.{Value}
 use Rattle.es_event.specs.declared.event.Event.{Event}
 use Rattle.es_event.specs.declared.event.Event.TheVariants.{Did}
 use Rattle.es_event.specs.declared.command.Command.{Command}
-use Rattle.es_event.specs.declared.command.Command.TheVariants.{New, Symbol, WeakRef, WeakMap, WeakSet}
+use Rattle.es_event.specs.declared.command.Command.TheVariants.{New, Symbol, WeakRef, WeakMap, WeakSet, FinalizationRegistry}
 use Rattle.es_event.specs.Commands.{Kind, makes, kind_made}
 use Rattle.es_event.specs.History.{History, at_key}
 use Rattle.es_event.specs.Identities.{made, makes_at, is_gone, kind, born}
@@ -45,6 +45,7 @@ counted (Symbol to) = refl
 counted (WeakRef to y) = refl
 counted (WeakMap to) = refl
 counted (WeakSet to) = refl
+counted (FinalizationRegistry to c) = refl
 counted _ = refl
 
 counted_at : (e : Event) → option_map_or (λ t. 1) (tag_made_at e) 0 ≡ makes_at e
@@ -57,6 +58,7 @@ kind_counted (New to) vs kd e = refl
 kind_counted (WeakRef to y) vs kd e = refl
 kind_counted (WeakMap to) vs kd e = refl
 kind_counted (WeakSet to) vs kd e = refl
+kind_counted (FinalizationRegistry to c) vs kd e = refl
 kind_counted _ vs kd e = cc
 
 born_counted : (e : Event) (q : ℕ × Option Kind) → born e ≡ Some q → makes_at e ≡ 1
@@ -87,6 +89,7 @@ tag_new h (Symbol to) vs t e none = ap tag_of none ∙ cc
 tag_new h (WeakRef to y) vs t e none = ap tag_of (given (made h + 1) _ (kind h (made h + 1))) ∙ cc
 tag_new h (WeakMap to) vs t e none = ap tag_of (given (made h + 1) _ (kind h (made h + 1))) ∙ cc
 tag_new h (WeakSet to) vs t e none = ap tag_of (given (made h + 1) _ (kind h (made h + 1))) ∙ cc
+tag_new h (FinalizationRegistry to c) vs t e none = ap tag_of (given (made h + 1) _ (kind h (made h + 1))) ∙ cc
 tag_new h _ vs t e none = cc
 
 tag_next : (into : Receivers) (h : History) (e : Event) (t : Tag) (i : ℕ) → LegalBy [] into h → Lawful [] into h e → tag_made_at e ≡ Some t → i ≡ made h + 1 → tag_of (kind (e ∷ h) i) ≡ t

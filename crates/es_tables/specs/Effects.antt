@@ -7,7 +7,7 @@ use Rattle.es_value.specs.declared.value.Value.TheVariants.{Object}
 use Rattle.es_event.specs.declared.event.Answer.{Answer}
 use Rattle.es_event.specs.declared.event.Answer.TheVariants.{Gives}
 use Rattle.es_event.specs.declared.event.Event.{Event}
-use Rattle.es_event.specs.declared.event.Event.TheVariants.{JobBegun, Did, Refused, Emptied, JobEnded, Closed}
+use Rattle.es_event.specs.declared.event.Event.TheVariants.{JobBegun, CleanupBegun, Did, Refused, Emptied, Taken, JobEnded, Closed}
 use Rattle.es_event.specs.declared.command.Command.{Command}
 use Rattle.es_event.specs.declared.command.Command.TheVariants.{WeakRef}
 use Rattle.es_event.specs.Commands.{first}
@@ -22,6 +22,8 @@ use Rattle.es_props.specs.Heap.{has, property, keys}
 use Rattle.es_weakref.specs.WeakRefs.{target}
 use Rattle.es_ephemeron.specs.Ephemerons.{record_at}
 use Rattle.es_tables.specs.declared.effects.Effects.{Effects}
+use Rattle.es_registry.specs.Registries.{callback}
+use Rattle.es_tables.specs.Registries.{change, callback_after, cells_after, queue_after}
 use Rattle.es_tables.specs.Tags.{tag_made_at}
 use Rattle.es_tables.specs.Tables.{State, bound}
 
@@ -37,22 +39,26 @@ points_by _ vs r = None
 -- the WeakRef that the event makes, with its target
 abbrev pub points : Event → Option (ℕ × Option ℕ)
 points (JobBegun j) = None
+points (CleanupBegun q) = None
 points (Did c vs r) = points_by c vs r
 points (Refused code) = None
 points (Emptied ids) = None
+points (Taken n held) = None
 points JobEnded = None
 points Closed = None
 
 abbrev pub with_option : Option (ℕ × ℕ) → Option (ℕ × Option ℕ)
 with_option p = option_map (λ p. (p.0, Some p.1)) p
 
-pub record AreEffects (event : Event) (e : Effects) : Type 0 where
+-- where the event ends a job, `again` is the registry that it queues again, if it does
+pub record AreEffects (again : Option ℕ) (event : Event) (e : Effects) : Type 0 where
   pub assigned : (into : Receivers) (h : History) → e.assigned ≡ assigned into h event
   pub put : e.put ≡ put event
   pub born : e.born ≡ object_born event
   pub points : with_option e.points ≡ points event
   pub entered : e.entered ≡ entered event
   pub joined : e.joined ≡ joined event
+  pub registry : e.registry ≡ change again event
   pub kept : option_to_list e.kept ≡ keeps event
   pub clears : e.clears ≡ ends_job event
   pub makes : e.makes ≡ tag_made_at event
@@ -66,5 +72,8 @@ pub record Applied (s : State) (e : Effects) (t : State) : Type 0 where
   pub targets : (w : ℕ) → target t.weakrefs w ≡ unwrap_or (at_key (λ i j. i == j) w (with_option e.points)) (target s.weakrefs w)
   pub entries : (m k : ℕ) → record_at t.weak.entries.all m k ≡ unwrap_or (at_key same_pair (m, k) e.entered) (record_at s.weak.entries.all m k)
   pub members : (m k : ℕ) → is_some (record_at t.weak.members.all m k) ≡ unwrap_or (at_key same_pair (m, k) e.joined) (is_some (record_at s.weak.members.all m k))
+  pub callbacks : (r : ℕ) → callback t.registries r ≡ callback_after e.registry r (callback s.registries r)
+  pub cells : t.registries.cells ≡ cells_after e.registry s.registries.cells
+  pub queue : t.registries.queue ≡ queue_after e.registry s.registries.queue
   pub kept : reverse t.weakrefs.kept ≡ (if e.clears then [] else option_to_list e.kept ++ reverse s.weakrefs.kept)
   pub tags : t.tags.all ≡ s.tags.all ++ map Some (option_to_list e.makes)

@@ -6,6 +6,7 @@ pub use Rattle.es_ephemeron.specs.Ephemerons.{record_at}
 use Rattle.std.specs.List.{AllByRecursion}
 use Rattle.es_value.specs.Values.{identity}
 use Rattle.es_mark.specs.Graph.{HasAll, HasValue, HasValues}
+use Rattle.es_registry.specs.Registries.{Contents as RegistryContents, is_root}
 use Rattle.es_tables.specs.Tables.{State, Bindings, bound}
 
 -- these identities are added, and a set has them all exactly where it has what is asked for
@@ -19,9 +20,15 @@ pub record Adds (asked : (ℕ → Bool) → Type 0) (old new : List ℕ) : Type 
 abbrev pub HasBound : Bindings → (ℕ → Bool) → Type 0
 HasBound b t = (x : List ℕ) (i : ℕ) → identity (bound b x) ≡ Some i → t i ≡ true
 
--- and what is kept
-abbrev pub HasHeld : State → (ℕ → Bool) → Type 0
-HasHeld s t = HasBound s.variables t × HasAll s.weakrefs.kept t
+-- the set has the registries, and what cells in them hold
+abbrev pub HasRegistryRoots : RegistryContents → (ℕ → Bool) → Type 0
+HasRegistryRoots c t = (i : ℕ) → is_root c i ≡ true → t i ≡ true
+
+-- the set has all roots: what variables hold, what is kept, the registries and what cells in them hold
+pub record HasHeld (s : State) (t : ℕ → Bool) : Type 0 where
+  pub variables : HasBound s.variables t
+  pub kept : HasAll s.weakrefs.kept t
+  pub registries : HasRegistryRoots s.registries t
 
 -- the set has the value of each entry with key k whose map it has
 abbrev pub HasEntered : List (Records Value) → ℕ → (ℕ → Bool) → Type 0

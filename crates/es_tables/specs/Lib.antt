@@ -1,5 +1,6 @@
 pub mod Tags
 pub mod Tables
+pub mod Registries
 pub mod Effects
 pub mod Ready
 pub mod Found

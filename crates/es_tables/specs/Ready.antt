@@ -6,13 +6,15 @@ use Rattle.es_props.specs.Heap.{has, room_at}
 use Rattle.es_weakref.specs.WeakRefs.{target}
 use Rattle.es_ephemeron.specs.Ephemerons.{room_at as room_under}
 use Rattle.es_tables.specs.declared.effects.Effects.{Effects}
+use Rattle.es_tables.specs.Registries.{CanChange, HasRoomFor}
 use Rattle.es_tables.specs.Tables.{State}
 
--- what is put is an object's, and what is born is not there yet
+-- what is put is an object's, what is born is not there yet, and a cell that is taken awaits its cleanup
 pub record CanApply (s : State) (e : Effects) : Type 0 where
   pub put : option_map_or (λ p. has s.heap p.0.0) e.put true ≡ true
   pub born : option_map_or (has s.heap) e.born false ≡ false
   pub points : option_map_or (λ p. is_some (target s.weakrefs p.0)) e.points false ≡ false
+  pub registry : CanChange s.registries e.registry
 
 -- object o has room for what is set; a delete needs none
 abbrev pub has_room_at : List ℕ → ℕ → Option Value → Bool
@@ -50,4 +52,5 @@ pub record IsReady (s : State) (e : Effects) : Type 0 where
   pub kept : 0 < s.weakrefs.kept_room
   pub entered : has_entry_room s.weak.entries.rooms e.entered ≡ true
   pub joined : has_member_room s.weak.members.rooms e.joined ≡ true
+  pub registry : HasRoomFor s.registries e.registry
   pub tags : 0 < s.tags.room

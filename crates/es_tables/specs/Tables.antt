@@ -1,5 +1,5 @@
 -- Internal: what the tables of an agent say, and that they say what its history says.
-use Rattle.std.specs.Prelude.{ℕ, ◌≡◌, ◌<◌, ◌&&◌, not, false, List, [], Option, None, unwrap_or, is_some, length, reverse, if◌then◌else◌}
+use Rattle.std.specs.Prelude.{ℕ, ◌≡◌, ◌<◌, ◌&&◌, not, false, List, [], ◌++◌, map, Option, Some, None, unwrap_or, is_some, length, reverse, if◌then◌else◌}
 use Rattle.std.specs.Map.{lookup}
 use Rattle.std.specs.Option.{option_map, option_and_then}
 use Rattle.std.specs.Str.{bytes_eq}
@@ -8,6 +8,10 @@ use Rattle.es_value.specs.declared.value.Value.TheVariants.{Undefined, Object}
 use Rattle.es_props.specs.Heap.{Store, object, has, property, keys}
 use Rattle.es_weakref.specs.WeakRefs.{Contents, target, unless_among}
 use Rattle.es_ephemeron.specs.Ephemerons.{Contents as WeakContents, record_at, Unchanged, Empties}
+use Rattle.es_registry.specs.declared.slot.Slot.{Slot}
+use Rattle.es_registry.specs.declared.slot.Slot.TheVariants.{Present, Unregistered, Taken}
+use Rattle.es_registry.specs.Slots.{emptied}
+use Rattle.es_registry.specs.Registries.{Contents as RegistryContents, callback, Joins}
 use Rattle.es_event.specs.History.{History}
 use Rattle.es_event.specs.Identities.{is_in, made, is_gone, kind}
 use Rattle.es_event.specs.Jobs.{Receivers}
@@ -15,6 +19,8 @@ use Rattle.es_event.specs.Variables.{var}
 use Rattle.es_event.specs.Properties.{prop, keys as keys_said}
 use Rattle.es_event.specs.WeakRefs.{target as target_said, kept}
 use Rattle.es_event.specs.Ephemerons.{entry, is_member}
+use Rattle.es_event.specs.Order.{queue}
+use Rattle.es_event.specs.Registrations.{Cell, Fate, live, awaiting, unregistered, taken, callback as callback_said, registrations, cell, fate}
 use Rattle.es_tables.specs.Tags.{TagList, tag_at, tag_said}
 
 -- the variables that were assigned, and for how many more there is room
@@ -35,6 +41,8 @@ pub record State : Type 0 where
   pub weakrefs : Contents
   -- entries of WeakMaps and members of WeakSets
   pub weak : WeakContents
+  -- FinalizationRegistries, their cells and the cleanup queue
+  pub registries : RegistryContents
   pub tags : TagList
 
 -- nothing assigned, nothing made
@@ -45,6 +53,9 @@ pub record IsNew (s : State) : Type 0 where
   pub kept : s.weakrefs.kept ≡ []
   pub entries : (m k : ℕ) → record_at s.weak.entries.all m k ≡ None
   pub members : (m k : ℕ) → record_at s.weak.members.all m k ≡ None
+  pub callbacks : (r : ℕ) → callback s.registries r ≡ None
+  pub cells : s.registries.cells ≡ []
+  pub queue : s.registries.queue ≡ []
   pub tags : s.tags.all ≡ []
 
 -- the target of w, as a value
@@ -65,10 +76,14 @@ pub record SameState (s t : State) : Type 0 where
   pub kept : t.weakrefs.kept ≡ s.weakrefs.kept
   pub entries : Unchanged s.weak.entries.all t.weak.entries.all
   pub members : Unchanged s.weak.members.all t.weak.members.all
+  pub callbacks : (r : ℕ) → callback t.registries r ≡ callback s.registries r
+  pub cells : t.registries.cells ≡ s.registries.cells
+  pub queue : t.registries.queue ≡ s.registries.queue
   pub tags : t.tags.all ≡ s.tags.all
 
--- the tables after these identities were emptied: nothing is left of them, WeakRefs to them have no target, and no entry
--- and no member has them as key, as WeakMap or as WeakSet
+-- the tables after these identities were emptied: nothing is left of them, WeakRefs and cells with one of them as target have
+-- none, no entry and no member has them as key, as WeakMap or as WeakSet, and each registry of which a cell lost its target
+-- is queued
 pub record Emptying (s : State) (ids : List ℕ) (t : State) : Type 0 where
   pub variables : (x : List ℕ) → bound t.variables x ≡ bound s.variables x
   pub objects : (o : ℕ) → object t.heap o ≡ (if is_in ids o then None else object s.heap o)
@@ -76,8 +91,22 @@ pub record Emptying (s : State) (ids : List ℕ) (t : State) : Type 0 where
   pub kept : t.weakrefs.kept ≡ s.weakrefs.kept
   pub entries : Empties s.weak.entries.all ids t.weak.entries.all
   pub members : Empties s.weak.members.all ids t.weak.members.all
+  pub callbacks : (r : ℕ) → callback t.registries r ≡ callback s.registries r
+  pub cells : t.registries.cells ≡ map (emptied ids) s.registries.cells
+  pub queue : (more : List ℕ) × (t.registries.queue ≡ s.registries.queue ++ more) × Joins s.registries ids more
   pub tags : (i : ℕ) → 0 < i → tag_at t.tags.all i ≡ (if is_in ids i then None else tag_at s.tags.all i)
   pub made : length t.tags.all ≡ length s.tags.all
+
+-- the slot of registration n, of this fate and with this cell
+abbrev pub slot_of : ℕ → Fate → Cell → Slot
+slot_of n live c = Present (record { registry = c.registry; target = Some c.target; token = c.token; cell = record { registration = n; held = c.held } })
+slot_of n awaiting c = Present (record { registry = c.registry; target = None; token = c.token; cell = record { registration = n; held = c.held } })
+slot_of n unregistered c = Unregistered
+slot_of n taken c = Taken
+
+-- the slot of registration n by the history
+abbrev pub slot_said : History → ℕ → Slot
+slot_said h n = unwrap_or (option_map (slot_of n (fate h n)) (cell h n)) Taken
 
 -- the tables say what the history says, of what is not emptied; of what is, no object, no entry, no member and no tag is
 -- left
@@ -90,5 +119,8 @@ pub record Says (into : Receivers) (h : History) (s : State) : Type 0 where
   pub kept : reverse s.weakrefs.kept ≡ kept h
   pub entries : (m k : ℕ) → record_at s.weak.entries.all m k ≡ (if is_gone h m then None else entry h m k)
   pub members : (m k : ℕ) → is_some (record_at s.weak.members.all m k) ≡ (if is_gone h m then false else is_member h m k)
+  pub callbacks : (r : ℕ) → callback s.registries r ≡ callback_said h r
+  pub cells : s.registries.cells ≡ map (slot_said h) (registrations h)
+  pub queue : s.registries.queue ≡ queue h
   pub tags : (i : ℕ) → 0 < i → tag_at s.tags.all i ≡ tag_said h i
   pub made : length s.tags.all ≡ made h

@@ -1,6 +1,6 @@
 //! What an event does to the tables, read off the event.
 
-ghost use Rattle.std.specs.Prelude.{◌≡◌, Some, None, IfOk};
+ghost use Rattle.std.specs.Prelude.{◌≡◌, Some, None, IfOk, codes};
 ghost use Rattle.std.specs.Option.{option_to_list};
 ghost use Rattle.es_event.specs.Commands.{assigns};
 ghost use Rattle.es_event.specs.History.{History};
@@ -12,6 +12,7 @@ ghost use Rattle.es_tables.specs.Effects.{AreEffects, object_born, points, point
 ghost use Rattle.es_tables.specs.Tags.{tag_made, tag_made_at};
 
 use crate::ephemerons::{entered_at, joined_at};
+use crate::registries::{RegistryChange, change_at};
 use crate::tags::Tag;
 use es_event::{Answer, Command, Event};
 use es_value::{Id, Name, NoMemory, Value};
@@ -31,6 +32,8 @@ pub struct Effects {
     pub entered: Option<((Id, Id), Option<Value>)>,
     /// The WeakSet and the member that are written, and whether it is one from now on.
     pub joined: Option<((Id, Id), bool)>,
+    /// What changes of the FinalizationRegistries, their cells and the cleanup queue.
+    pub registry: RegistryChange,
     /// The identity that is added to KeptAlive.
     pub kept: Option<Id>,
     /// Whether KeptAlive is emptied.
@@ -39,28 +42,34 @@ pub struct Effects {
     pub makes: Option<Tag>,
 }
 
-/// The effects of an event; it takes memory for the texts that are assigned or put.
-pub fn effects_of(event: &Event) -> Result<Effects, NoMemory>
-    ensures { IfOk result (AreEffects event.now) }
+/// The effects of an event. `held` is the name of the variable that a cell's held value is assigned to,
+/// and `again` is the registry that is queued again where the event ends a job. It takes memory for the
+/// texts that are assigned or put.
+pub fn effects_of(event: &Event, held: &Name, again: Option<Id>) -> Result<Effects, NoMemory>
+    requires { held.now ≡ codes "held" }
+    ensures { IfOk result (AreEffects again event.now) }
 {
     Ok(Effects {
-        assigned: assigned_at(event)?,
+        assigned: assigned_at(event, held)?,
         put: put_at(event)?,
         born: born_at(event),
         points: points_at(event),
         entered: entered_at(event)?,
         joined: joined_at(event),
+        registry: change_at(event, again)?,
         kept: kept_at(event),
         clears: ends_job(event),
         makes: tag_made_at(event),
     })
 }
 
-fn assigned_at(event: &Event) -> Result<Option<(Name, Value)>, NoMemory>
+fn assigned_at(event: &Event, held_name: &Name) -> Result<Option<(Name, Value)>, NoMemory>
+    requires { held_name.now ≡ codes "held" }
     ensures { IfOk result (λ r. (into : Receivers) (h : History) → r ≡ assigned into h event.now) }
 {
     match event {
         Event::JobBegun { .. } => Ok(None),
+        Event::CleanupBegun { .. } => Ok(None),
         Event::Did {
             command,
             answer,
@@ -68,6 +77,7 @@ fn assigned_at(event: &Event) -> Result<Option<(Name, Value)>, NoMemory>
         } => given_by(command, answer),
         Event::Refused { .. } => Ok(None),
         Event::Emptied { .. } => Ok(None),
+        Event::Taken { held, .. } => named(held_name, held),
         Event::JobEnded => Ok(None),
         Event::Closed => Ok(None),
     }
@@ -100,6 +110,7 @@ fn put_at(event: &Event) -> Result<Option<((Id, Name), Option<Value>)>, NoMemory
 {
     match event {
         Event::JobBegun { .. } => Ok(None),
+        Event::CleanupBegun { .. } => Ok(None),
         Event::Did {
             command,
             values,
@@ -107,6 +118,7 @@ fn put_at(event: &Event) -> Result<Option<((Id, Name), Option<Value>)>, NoMemory
         } => put_by(command, values.as_slice()),
         Event::Refused { .. } => Ok(None),
         Event::Emptied { .. } => Ok(None),
+        Event::Taken { .. } => Ok(None),
         Event::JobEnded => Ok(None),
         Event::Closed => Ok(None),
     }
@@ -152,6 +164,7 @@ fn born_at(event: &Event) -> Option<Id>
 {
     match event {
         Event::JobBegun { .. } => None,
+        Event::CleanupBegun { .. } => None,
         Event::Did {
             command,
             answer,
@@ -161,7 +174,8 @@ fn born_at(event: &Event) -> Option<Id>
                 Command::New { .. }
                 | Command::WeakRef { .. }
                 | Command::WeakMap { .. }
-                | Command::WeakSet { .. },
+                | Command::WeakSet { .. }
+                | Command::FinalizationRegistry { .. },
                 Answer::Gives(Value::Object(object)),
             ) => Some(*object),
             // no other command makes an object
@@ -169,6 +183,7 @@ fn born_at(event: &Event) -> Option<Id>
         },
         Event::Refused { .. } => None,
         Event::Emptied { .. } => None,
+        Event::Taken { .. } => None,
         Event::JobEnded => None,
         Event::Closed => None,
     }
@@ -179,6 +194,7 @@ fn points_at(event: &Event) -> Option<(Id, Id)>
 {
     match event {
         Event::JobBegun { .. } => None,
+        Event::CleanupBegun { .. } => None,
         Event::Did {
             command,
             values,
@@ -186,6 +202,7 @@ fn points_at(event: &Event) -> Option<(Id, Id)>
         } => points_by(command, values.as_slice(), answer),
         Event::Refused { .. } => None,
         Event::Emptied { .. } => None,
+        Event::Taken { .. } => None,
         Event::JobEnded => None,
         Event::Closed => None,
     }
@@ -209,6 +226,7 @@ fn kept_at(event: &Event) -> Option<Id>
 {
     match event {
         Event::JobBegun { .. } => None,
+        Event::CleanupBegun { .. } => None,
         Event::Did {
             command,
             values,
@@ -216,6 +234,7 @@ fn kept_at(event: &Event) -> Option<Id>
         } => kept_by(command, values.as_slice(), answer),
         Event::Refused { .. } => None,
         Event::Emptied { .. } => None,
+        Event::Taken { .. } => None,
         Event::JobEnded => None,
         Event::Closed => None,
     }
@@ -251,9 +270,11 @@ fn ends_job(event: &Event) -> bool
 {
     match event {
         Event::JobBegun { .. } => false,
+        Event::CleanupBegun { .. } => false,
         Event::Did { .. } => false,
         Event::Refused { .. } => false,
         Event::Emptied { .. } => false,
+        Event::Taken { .. } => false,
         Event::JobEnded => true,
         Event::Closed => false,
     }
@@ -264,9 +285,11 @@ fn tag_made_at(event: &Event) -> Option<Tag>
 {
     match event {
         Event::JobBegun { .. } => None,
+        Event::CleanupBegun { .. } => None,
         Event::Did { command, .. } => tag_made(command),
         Event::Refused { .. } => None,
         Event::Emptied { .. } => None,
+        Event::Taken { .. } => None,
         Event::JobEnded => None,
         Event::Closed => None,
     }
@@ -281,6 +304,7 @@ fn tag_made(command: &Command) -> Option<Tag>
         Command::WeakRef { .. } => Some(Tag::WeakRef),
         Command::WeakMap { .. } => Some(Tag::WeakMap),
         Command::WeakSet { .. } => Some(Tag::WeakSet),
+        Command::FinalizationRegistry { .. } => Some(Tag::FinalizationRegistry),
         // no other command makes anything
         _ => None,
     }

@@ -14,6 +14,7 @@ pub(crate) fn entered_at(event: &Event) -> Result<Option<((Id, Id), Option<Value
 {
     match event {
         Event::JobBegun { .. } => Ok(None),
+        Event::CleanupBegun { .. } => Ok(None),
         Event::Did {
             command,
             values,
@@ -21,6 +22,7 @@ pub(crate) fn entered_at(event: &Event) -> Result<Option<((Id, Id), Option<Value
         } => entered_by(command, values.as_slice()),
         Event::Refused { .. } => Ok(None),
         Event::Emptied { .. } => Ok(None),
+        Event::Taken { .. } => Ok(None),
         Event::JobEnded => Ok(None),
         Event::Closed => Ok(None),
     }
@@ -68,6 +70,7 @@ pub(crate) fn joined_at(event: &Event) -> Option<((Id, Id), bool)>
 {
     match event {
         Event::JobBegun { .. } => None,
+        Event::CleanupBegun { .. } => None,
         Event::Did {
             command,
             values,
@@ -75,6 +78,7 @@ pub(crate) fn joined_at(event: &Event) -> Option<((Id, Id), bool)>
         } => joined_by(command, values.as_slice()),
         Event::Refused { .. } => None,
         Event::Emptied { .. } => None,
+        Event::Taken { .. } => None,
         Event::JobEnded => None,
         Event::Closed => None,
     }

@@ -6,6 +6,7 @@ mod changes;
 mod effects;
 mod ephemerons;
 mod growths;
+mod registries;
 mod tables;
 mod tags;
 #[cfg(test)]
@@ -13,5 +14,6 @@ mod tests;
 mod variables;
 
 pub use effects::{Effects, effects_of};
+pub use registries::RegistryChange;
 pub use tables::Tables;
 pub use tags::Tag;

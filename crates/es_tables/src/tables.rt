@@ -1,7 +1,7 @@
 //! All that an agent keeps beside its history, as one value.
 
-ghost use Rattle.std.specs.Prelude.{◌≡◌, ◌<◌, ◌≤◌, ◌&&◌, ◌++◌, not, is_some, length, IfOk, OnOk};
-ghost use Rattle.std.specs.List.{filter, range_with_len};
+ghost use Rattle.std.specs.Prelude.{◌≡◌, ◌<◌, ◌≤◌, ◌&&◌, ◌++◌, not, is_some, length, IfOk, OnOk, OnErr, slice_get};
+ghost use Rattle.std.specs.List.{filter, list_any, range_with_len};
 ghost use Rattle.std.specs.Option.{option_copied};
 ghost use Rattle.es_value.specs.Limits.{most_identities};
 ghost use Rattle.es_mark.specs.Marks.{is_marked};
@@ -9,6 +9,8 @@ ghost use Rattle.es_props.specs.Heap.{property, keys, HasProperties};
 ghost use Rattle.es_weakref.specs.WeakRefs.{target as target_of};
 ghost use Rattle.es_tables.specs.Effects.{Applied};
 ghost use Rattle.es_ephemeron.specs.Ephemerons.{record_at};
+ghost use Rattle.es_registry.specs.Slots.{has_token, tally_of};
+ghost use Rattle.es_registry.specs.Registries.{callback as callback_of, oldest};
 ghost use Rattle.es_tables.specs.Found.{Adds, HasHeld, AddsEntries};
 ghost use Rattle.es_tables.specs.Ready.{CanApply, IsReady};
 ghost use Rattle.es_tables.specs.Tables.{bound, IsNew, SameState, Emptying};
@@ -17,11 +19,13 @@ ghost use Rattle.es_tables.specs.Tags.{tag_at};
 use crate::changes::{aim, change_heap, enter, join, keep};
 use crate::effects::Effects;
 use crate::growths::{reserve_heap, reserve_weak};
+use crate::registries::{make_change, reserve_change};
 use crate::tags::{Tag, Tags};
 use crate::variables::Variables;
 use es_ephemeron::WeakTables;
 use es_mark::Marks;
 use es_props::Heap;
+use es_registry::{Cell, Registries, Tally};
 use es_value::{Id, Name, NoMemory, Value};
 use es_weakref::WeakRefs;
 use std::alloc::Global;
@@ -29,7 +33,8 @@ use std::marker::Model;
 
 /// All that an agent keeps beside its history: its variables, its objects with their properties, its
 /// WeakRefs with their targets and KeptAlive, the entries of its WeakMaps and the members of its
-/// WeakSets, and what each identity is (ECMA-262, Agents). An event is applied in two steps: `reserve`
+/// WeakSets, its FinalizationRegistries with their cells and the cleanup queue, and what each identity
+/// is (ECMA-262, Agents). An event is applied in two steps: `reserve`
 /// makes every growth, and `apply` can't fail.
 #[derive(Drop)]
 pub struct Tables {
@@ -37,6 +42,7 @@ pub struct Tables {
     heap: Heap,
     weakrefs: WeakRefs,
     weak: WeakTables,
+    registries: Registries,
     tags: Tags,
 }
 
@@ -45,7 +51,7 @@ impl Model for Tables {
 
     ghost Value = { State };
 
-    ghost view = { λ t. record { variables = t.variables; heap = t.heap.all; rooms = t.heap.rooms; weakrefs = t.weakrefs; weak = t.weak; tags = t.tags } };
+    ghost view = { λ t. record { variables = t.variables; heap = t.heap.all; rooms = t.heap.rooms; weakrefs = t.weakrefs; weak = t.weak; registries = t.registries; tags = t.tags } };
 }
 
 impl Tables {
@@ -58,6 +64,7 @@ impl Tables {
             heap: Heap::new(alloc),
             weakrefs: WeakRefs::new(alloc),
             weak: WeakTables::new(alloc),
+            registries: Registries::new(alloc),
             tags: Tags::new(alloc),
         }
     }
@@ -83,13 +90,14 @@ impl Tables {
         self.heap.keys(object)
     }
 
-    /// Adds the identities of what variables hold and of what is kept to `found`;
-    /// where there is no memory, nothing is said of `found`.
+    /// Adds the identities of what variables hold, of what is kept, of all registries and of what cells
+    /// in their registries hold to `found`; where there is no memory, nothing is said of `found`.
     pub fn add_roots(&self, found: &mut Vec<Id>) -> Result<(), NoMemory>
         ensures { OnOk result (Adds (HasHeld self.now) found.old.items found.new.items) }
     {
         self.variables.add_identities(found)?;
-        add_all(self.weakrefs.kept(), found)
+        add_all(self.weakrefs.kept(), found)?;
+        self.registries.roots(found)
     }
 
     /// Adds the identities of what an object's properties hold to `found`; where
@@ -119,6 +127,42 @@ impl Tables {
         ensures { result ≡ is_some (record_at self.now.weak.members.all set member) }
     {
         self.weak.set_has(set, member)
+    }
+
+    /// The number of a FinalizationRegistry's callback, if it is one.
+    pub fn callback(&self, registry: Id) -> Option<usize>
+        ensures { result ≡ callback_of self.now.registries registry }
+    {
+        self.registries.callback(registry)
+    }
+
+    /// Whether a cell in this registry has this token (FinalizationRegistry.prototype.unregister).
+    pub fn finds_token(&self, registry: Id, token: Id) -> bool
+        ensures { result ≡ list_any (has_token registry token) self.now.registries.cells }
+    {
+        self.registries.finds(registry, token)
+    }
+
+    /// The oldest cell of a registry that awaits its cleanup, if there is one
+    /// (CleanupFinalizationRegistry).
+    pub fn awaiting(&self, registry: Id) -> Option<&Cell>
+        ensures { option_copied result ≡ oldest self.now.registries registry }
+    {
+        self.registries.awaiting(registry)
+    }
+
+    /// The registry whose cleanup job is to run next, if there is one.
+    pub fn queued(&self) -> Option<Id>
+        ensures { result ≡ slice_get self.now.registries.queue 0 }
+    {
+        self.registries.queued()
+    }
+
+    /// How many registrations have each fate.
+    pub fn tally(&self) -> Tally
+        ensures { result ≡ tally_of self.now.registries.cells }
+    {
+        self.registries.tally()
     }
 
     /// Adds the WeakMap and the value of each entry with this key to `found`; where there is no memory,
@@ -161,15 +205,20 @@ impl Tables {
     }
 
     /// Empties these identities: their objects go with all properties, every WeakRef to one of them
-    /// loses its target, and every entry and member that has one as key, as WeakMap or as WeakSet is
-    /// dropped (ECMA-262, Execution). It takes no memory.
-    pub fn empty(&mut self, ids: &[Id])
-        ensures { Emptying self.old ids.now self.new }
+    /// loses its target, every entry and member that has one as key, as WeakMap or as WeakSet is
+    /// dropped, and every cell with one as target awaits its cleanup, for which its registry is queued
+    /// (ECMA-262, Execution; HostEnqueueFinalizationRegistryCleanupJob). Where there is no memory the
+    /// tables say what they said.
+    pub fn empty(&mut self, ids: &[Id]) -> Result<(), NoMemory>
+        ensures ok { OnOk result (Emptying self.old ids.now self.new) }
+        ensures err { OnErr result (SameState self.old self.new) }
     {
+        self.registries.empty(ids)?;
         self.heap.remove(ids);
         self.weakrefs.empty(ids);
         self.weak.empty(ids);
         self.tags.empty(ids);
+        Ok(())
     }
 
     /// Makes every growth that the effects need, so that `apply` of them is granted; the tables say
@@ -184,6 +233,7 @@ impl Tables {
         self.tags.reserve()?;
         self.weakrefs.reserve()?;
         reserve_weak(&mut self.weak, effects)?;
+        reserve_change(&mut self.registries, &effects.registry)?;
         reserve_heap(&mut self.heap, effects)
     }
 
@@ -200,6 +250,7 @@ impl Tables {
             points,
             entered,
             joined,
+            registry,
             kept,
             clears,
             makes,
@@ -209,6 +260,7 @@ impl Tables {
         aim(&mut self.weakrefs, points);
         enter(&mut self.weak, entered);
         join(&mut self.weak, joined);
+        make_change(&mut self.registries, registry);
         keep(&mut self.weakrefs, kept, clears);
         self.tags.add(makes);
     }

@@ -26,6 +26,8 @@ pub enum Tag {
     WeakMap,
     /// A WeakSet.
     WeakSet,
+    /// A FinalizationRegistry.
+    FinalizationRegistry,
 }
 
 /// The tag of each identity that was made, and none of those that are emptied.

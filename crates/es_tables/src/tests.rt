@@ -1,13 +1,14 @@
 //! Each public call once, where there is memory and what it asks for is there.
 //!
-//! Events and effects are handed to std's `drop` before an exit: what an exit drops itself is taken
-//! apart by cases, which are hundreds.
+//! Events, effects and tables are handed to std's `drop` before an exit: what an exit drops itself is
+//! taken apart by cases, which are hundreds. So a test looks at tables in a function that answers a
+//! `bool`.
 
 ghost use Rattle.std.specs.Prelude.{◌≡◌, true, [], None, IfOk};
 ghost use Rattle.es_mark.specs.Graph.{HasAll, HasValues};
 ghost use Rattle.es_props.specs.Heap.{has};
 
-use crate::{Effects, Tables, Tag, effects_of};
+use crate::{Effects, RegistryChange, Tables, Tag, effects_of};
 use es_event::{Answer, Command, Event, Operands, Sequence};
 use es_mark::{Graph, Marks, mark};
 use es_value::{Id, Name, NoMemory, Value};
@@ -26,6 +27,7 @@ fn with_weakref(alloc: Global, x: Name) -> Result<Tables, Fail>
         points: Some((Id::of(1), Id::of(2))),
         entered: None,
         joined: None,
+        registry: RegistryChange::Leaves,
         kept: Some(Id::of(2)),
         clears: false,
         makes: Some(Tag::WeakRef),
@@ -49,6 +51,7 @@ fn set(tables: &mut Tables, key: Name) -> Result<(), Fail>
         points: None,
         entered: None,
         joined: None,
+        registry: RegistryChange::Leaves,
         kept: None,
         clears: false,
         makes: Some(Tag::Symbol),
@@ -90,17 +93,48 @@ impl Graph for Unreached {
     }
 }
 
+/// Whether the variable holds an object.
+fn holds_an_object(tables: &Tables, name: &Name) -> Result<bool, NoMemory> {
+    let value = tables.variable(name)?;
+    let is_object = matches!(value, Value::Object(_));
+    drop(value);
+    Ok(is_object)
+}
+
+/// Whether these tables are those with the one WeakRef.
+fn have_the_weakref(tables: &Tables) -> bool {
+    tables.target(Id::of(1)) == Some(Id::of(2))
+        && tables.kept() == [Id::of(2)].as_slice()
+        && tables.made() == 1
+        && tables.tag(Id::of(1)) == Some(Tag::WeakRef)
+}
+
 #[test]
 fn what_is_applied_is_found(rt: HostRuntime) -> Result<(), Fail> {
     let alloc = rt.alloc();
     let x = Name::read(alloc, "x")?;
     let tables = with_weakref(alloc, x.copy()?)?;
-    assert!(rt; matches!(tables.variable(&x)?, Value::Object(_)));
-    assert_eq!(rt; tables.target(Id::of(1)), Some(Id::of(2)));
-    assert_eq!(rt; tables.kept(), [Id::of(2)].as_slice());
-    assert_eq!(rt; tables.made(), 1);
-    assert_eq!(rt; tables.tag(Id::of(1)), Some(Tag::WeakRef));
+    let is_object = holds_an_object(&tables, &x);
+    let are_found = have_the_weakref(&tables);
+    drop(tables);
+    assert!(rt; is_object?);
+    assert!(rt; are_found);
     Ok(())
+}
+
+/// Whether object 1 has this property alone, and in it a symbol.
+fn has_a_symbol(tables: &Tables, key: Name) -> Result<bool, NoMemory> {
+    let holds = matches!(tables.property(Id::of(1), &key), Some(Value::Symbol(_)));
+    let keys = tables.keys(Id::of(1))?;
+    Ok(holds && keys.as_slice() == [key].as_slice())
+}
+
+/// What the roots and object 1 lead to.
+fn led_to(alloc: Global, tables: &Tables) -> Result<Vec<Id>, NoMemory> {
+    let mut found = Vec::new(alloc);
+    tables.add_roots(&mut found)?;
+    tables.add_edges(Id::of(1), &mut found)?;
+    Ok(found)
 }
 
 #[test]
@@ -108,14 +142,14 @@ fn properties_are_set_and_lead_on(rt: HostRuntime) -> Result<(), Fail> {
     let alloc = rt.alloc();
     let key = Name::read(alloc, "k")?;
     let mut tables = with_weakref(alloc, key.copy()?)?;
-    set(&mut tables, key.copy()?)?;
-    assert!(rt; matches!(tables.property(Id::of(1), &key), Some(Value::Symbol(_))));
-    assert_eq!(rt; tables.keys(Id::of(1))?.as_slice(), [key].as_slice());
-    let mut found = Vec::new(alloc);
-    tables.add_roots(&mut found)?;
-    tables.add_edges(Id::of(1), &mut found)?;
+    let set = set(&mut tables, key.copy()?);
+    let has = has_a_symbol(&tables, key);
+    let found = led_to(alloc, &tables);
+    drop(tables);
+    set?;
+    assert!(rt; has?);
     assert_eq!(rt;
-        found.as_slice(),
+        found?.as_slice(),
         [Id::of(1), Id::of(2), Id::of(3)].as_slice()
     );
     Ok(())
@@ -126,6 +160,7 @@ fn writing(entered: Option<((Id, Id), Option<Value>)>, joined: Option<((Id, Id),
     ensures put { result.put ≡ None }
     ensures born { result.born ≡ None }
     ensures points { result.points ≡ None }
+    ensures registry { result.registry ≡ RegistryChange.Leaves }
 {
     Effects {
         assigned: None,
@@ -134,6 +169,7 @@ fn writing(entered: Option<((Id, Id), Option<Value>)>, joined: Option<((Id, Id),
         points: None,
         entered,
         joined,
+        registry: RegistryChange::Leaves,
         kept: None,
         clears: false,
         makes: None,
@@ -145,6 +181,7 @@ fn apply(tables: &mut Tables, effects: Effects) -> Result<(), NoMemory>
     requires put { effects.put ≡ None }
     requires born { effects.born ≡ None }
     requires points { effects.points ≡ None }
+    requires registry { effects.registry ≡ RegistryChange.Leaves }
 {
     if let Err(error) = tables.reserve(&effects) {
         drop(effects);
@@ -154,31 +191,99 @@ fn apply(tables: &mut Tables, effects: Effects) -> Result<(), NoMemory>
     Ok(())
 }
 
+/// How many entries have this key.
+fn entries_of(alloc: Global, tables: &Tables, key: Id) -> Result<usize, NoMemory> {
+    let mut found = Vec::new(alloc);
+    tables.add_entries(key, &mut found)?;
+    Ok(found.len())
+}
+
 #[test]
 fn an_entry_is_found_under_its_key(rt: HostRuntime) -> Result<(), Fail> {
     let alloc = rt.alloc();
     let mut tables = Tables::new(alloc);
     let value = Value::Object(Id::of(3));
-    apply(
+    let applied = apply(
         &mut tables,
         writing(Some(((Id::of(1), Id::of(2)), Some(value))), None),
-    )?;
-    assert!(rt; tables.entry(Id::of(1), Id::of(2)).is_some());
-    let mut found = Vec::new(alloc);
-    tables.add_entries(Id::of(2), &mut found)?;
-    assert_eq!(rt; found.len(), 1);
+    );
+    let is_found = tables.entry(Id::of(1), Id::of(2)).is_some();
+    let count = entries_of(alloc, &tables, Id::of(2));
+    drop(tables);
+    applied?;
+    assert!(rt; is_found);
+    assert_eq!(rt; count?, 1);
     Ok(())
 }
 
 #[test]
 fn a_member_is_found_in_its_weakset(rt: HostRuntime) -> Result<(), Fail> {
     let mut tables = Tables::new(rt.alloc());
-    apply(
+    let applied = apply(
         &mut tables,
         writing(None, Some(((Id::of(4), Id::of(5)), true))),
-    )?;
-    assert!(rt; tables.has_member(Id::of(4), Id::of(5)));
-    assert!(rt; !tables.has_member(Id::of(5), Id::of(4)));
+    );
+    let is_member = tables.has_member(Id::of(4), Id::of(5));
+    let the_other_way = tables.has_member(Id::of(5), Id::of(4));
+    drop(tables);
+    applied?;
+    assert!(rt; is_member && !the_other_way);
+    Ok(())
+}
+
+/// Registers target 2 in registry 1, with token 3.
+fn register(tables: &mut Tables) -> Result<(), NoMemory> {
+    let registers = Effects {
+        assigned: None,
+        put: None,
+        born: None,
+        points: None,
+        entered: None,
+        joined: None,
+        registry: RegistryChange::Registers {
+            registry: Id::of(1),
+            target: Id::of(2),
+            held: Value::Undefined,
+            token: Some(Id::of(3)),
+        },
+        kept: None,
+        clears: false,
+        makes: None,
+    };
+    if let Err(error) = tables.reserve(&registers) {
+        drop(registers);
+        return Err(error);
+    }
+    tables.apply(registers);
+    Ok(())
+}
+
+/// Whether the one cell awaits, its registry being queued, or has its target, and none is queued.
+fn awaits(tables: &Tables) -> Option<bool> {
+    if !tables.finds_token(Id::of(1), Id::of(3)) {
+        return None;
+    }
+    let awaits = tables.awaiting(Id::of(1)).is_some();
+    let is_queued = tables.queued() == Some(Id::of(1));
+    let count = tables.tally().awaiting;
+    match (awaits, is_queued, count) {
+        (true, true, 1) => Some(true),
+        (false, false, 0) => Some(false),
+        _ => None,
+    }
+}
+
+#[test]
+fn a_cell_awaits_once_its_target_is_emptied(rt: HostRuntime) -> Result<(), Fail> {
+    let mut tables = Tables::new(rt.alloc());
+    let registered = register(&mut tables);
+    let before = awaits(&tables);
+    let emptied = tables.empty([Id::of(2)].as_slice());
+    let after = awaits(&tables);
+    drop(tables);
+    registered?;
+    emptied?;
+    assert_eq!(rt; (before, after), (Some(false), Some(true)));
     Ok(())
 }
 
@@ -186,30 +291,42 @@ fn a_member_is_found_in_its_weakset(rt: HostRuntime) -> Result<(), Fail> {
 fn empty(alloc: Global, tables: &mut Tables, marks: &Marks) -> Result<(), Fail> {
     if tables.made() < 1_000_001 {
         let ids = tables.unmarked(alloc, marks)?;
-        tables.empty(ids.as_slice());
+        tables.empty(ids.as_slice())?;
     }
     Ok(())
+}
+
+/// Whether the one WeakRef that was made is gone.
+fn is_gone(tables: &Tables) -> Result<bool, NoMemory> {
+    let keys = tables.keys(Id::of(1))?;
+    Ok(
+        tables.made() == 1
+            && tables.tag(Id::of(1)).is_none()
+            && tables.target(Id::of(1)).is_none()
+            && keys.is_empty(),
+    )
 }
 
 #[test]
 fn what_is_unmarked_is_emptied(rt: HostRuntime) -> Result<(), Fail> {
     let alloc = rt.alloc();
     let x = Name::read(alloc, "x")?;
-    let mut tables = with_weakref(alloc, x)?;
     let marks = mark(alloc, &Unreached)?;
-    empty(alloc, &mut tables, &marks)?;
-    assert_eq!(rt; tables.made(), 1);
-    assert_eq!(rt; tables.tag(Id::of(1)), None);
-    assert_eq!(rt; tables.target(Id::of(1)), None);
-    assert!(rt; tables.keys(Id::of(1))?.is_empty());
+    let mut tables = with_weakref(alloc, x)?;
+    let emptied = empty(alloc, &mut tables, &marks);
+    let gone = is_gone(&tables);
+    drop(tables);
+    emptied?;
+    assert!(rt; gone?);
     Ok(())
 }
 
 /// The effects of an event.
-fn effects(event: Event) -> Result<Effects, NoMemory> {
-    let effects = effects_of(&event);
+fn effects(alloc: Global, event: Event) -> Result<Effects, Fail> {
+    let held = Name::read(alloc, "held")?;
+    let effects = effects_of(&event, &held, None);
     drop(event);
-    effects
+    Ok(effects?)
 }
 
 /// Whether the effects are those of making WeakRef 2 to object 1, and of nothing else.
@@ -227,14 +344,17 @@ fn effects_are_those_of_the_event(rt: HostRuntime) -> Result<(), Fail> {
     let alloc = rt.alloc();
     let to = Name::read(alloc, "w")?;
     let values = vec![in alloc; Value::Object(Id::of(1))]?;
-    let made = effects(Event::Did {
-        command: Command::WeakRef {
-            to: to.copy()?,
-            target: to,
+    let made = effects(
+        alloc,
+        Event::Did {
+            command: Command::WeakRef {
+                to: to.copy()?,
+                target: to,
+            },
+            values: Operands::of_sequence(Sequence::from_vec(values)),
+            answer: Answer::Gives(Value::Object(Id::of(2))),
         },
-        values: Operands::of_sequence(Sequence::from_vec(values)),
-        answer: Answer::Gives(Value::Object(Id::of(2))),
-    })?;
+    )?;
     let as_expected = make_a_weakref(&made);
     drop(made);
     assert!(rt; as_expected);
@@ -242,8 +362,8 @@ fn effects_are_those_of_the_event(rt: HostRuntime) -> Result<(), Fail> {
 }
 
 /// Whether the event empties KeptAlive.
-fn clears(event: Event) -> Result<bool, NoMemory> {
-    let effects = effects(event)?;
+fn clears(alloc: Global, event: Event) -> Result<bool, Fail> {
+    let effects = effects(alloc, event)?;
     let clears = effects.clears;
     drop(effects);
     Ok(clears)
@@ -251,7 +371,7 @@ fn clears(event: Event) -> Result<bool, NoMemory> {
 
 #[test]
 fn the_end_of_a_job_clears(rt: HostRuntime) -> Result<(), Fail> {
-    assert!(rt; clears(Event::JobEnded)?);
-    assert!(rt; !clears(Event::Closed)?);
+    assert!(rt; clears(rt.alloc(), Event::JobEnded)?);
+    assert!(rt; !clears(rt.alloc(), Event::Closed)?);
     Ok(())
 }

@@ -1,0 +1,64 @@
+-- Internal: where an agent is in its plan, and that its history says the same.
+use Rattle.std.specs.Prelude.{ℕ, ◌≡◌, ◌≤◌, ◌+◌, length, drop, nat_lt, List, [], Option, Some, None, if◌then◌else◌}
+use Rattle.std.specs.Option.{option_map_or}
+use Rattle.es_event.specs.declared.command.Command.{Command}
+use Rattle.es_event.specs.declared.plan.AgentPlan.{AgentPlan}
+use Rattle.es_event.specs.History.{History}
+use Rattle.es_event.specs.Jobs.{job, cleaning}
+use Rattle.es_event.specs.Order.{phase, between, inside, stopped, ended, job_commands, callback_commands, left}
+use Rattle.es_cursor.specs.declared.cursor.Cursor.{Cursor}
+use Rattle.es_cursor.specs.declared.cursor.Cleanup.{Cleanup}
+use Rattle.es_cursor.specs.declared.cursor.Position.{Position}
+use Rattle.es_cursor.specs.declared.cursor.Position.TheVariants.{Between, Inside, Stopped, Cleaning, CleanupStopped, Ended}
+
+-- the commands of this callback, none where there is no callback
+abbrev pub commands_of : AgentPlan → Option ℕ → List Command
+commands_of plan c = option_map_or (callback_commands plan) c []
+
+-- the cleanup job of its registry runs, with so many commands of the callback done
+pub record IsCleaning (plan : AgentPlan) (h : History) (c : Cleanup) : Type 0 where
+  pub phase : phase h ≡ inside
+  pub cleaning : cleaning h ≡ Some c.registry
+  pub left : left plan h ≡ drop c.at (commands_of plan c.callback)
+
+-- the history leads to this place
+abbrev pub IsAt : AgentPlan → History → Position → Type 0
+IsAt plan h Between = (phase h ≡ between) × (cleaning h ≡ None)
+IsAt plan h (Inside at) = (phase h ≡ inside) × (cleaning h ≡ None) × (left plan h ≡ drop at (job_commands plan (job h))) × (job h ≤ length plan.jobs)
+IsAt plan h Stopped = (phase h ≡ stopped) × (cleaning h ≡ None) × (job h ≤ length plan.jobs)
+IsAt plan h (Cleaning c) = IsCleaning plan h c
+IsAt plan h (CleanupStopped r) = (phase h ≡ stopped) × (cleaning h ≡ Some r)
+IsAt plan h Ended = (phase h ≡ ended) × (cleaning h ≡ None)
+
+pub record IsCursorOf (plan : AgentPlan) (h : History) (c : Cursor) : Type 0 where
+  pub job : c.job ≡ job h
+  pub position : IsAt plan h c.position
+
+-- after one more of so many commands
+abbrev pub at_after : ℕ → ℕ → ℕ
+at_after at count = if nat_lt at count then at + 1 else at
+
+-- the job after the end of a job, of so many jobs
+abbrev pub passed_at : Position → ℕ → ℕ → ℕ
+passed_at (Cleaning c) n jobs = n
+passed_at (CleanupStopped r) n jobs = n
+passed_at _ n jobs = at_after n (jobs + 1)
+
+abbrev pub job_passed : Cursor → ℕ → ℕ
+job_passed c jobs = passed_at c.position c.job jobs
+
+-- after one more command of job n, or of the running callback
+abbrev pub position_after : AgentPlan → ℕ → Position → Position
+position_after plan n (Inside at) = Inside (at_after at (length (job_commands plan n)))
+position_after plan n (Cleaning c) = Cleaning (record c { at = at_after c.at (length (commands_of plan c.callback)) })
+position_after plan n p = p
+
+-- after a refusal
+abbrev pub position_stopped : Position → Position
+position_stopped (Cleaning c) = CleanupStopped c.registry
+position_stopped _ = Stopped
+
+-- after the taking of a cell
+abbrev pub position_taken : Option ℕ → Position → Position
+position_taken callback (Cleaning c) = Cleaning (record { registry = c.registry; callback = callback; at = 0 })
+position_taken callback p = p

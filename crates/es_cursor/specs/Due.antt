@@ -1,0 +1,20 @@
+-- Internal: what is due, as the code has it.
+use Rattle.std.specs.Prelude.{List, [], ◌∷◌}
+use Rattle.es_event.specs.declared.command.Command.{Command}
+use Rattle.es_event.specs.Order.{Due as DueSaid, begin, run, clean, take_cell, end_job, close, nothing}
+use Rattle.es_cursor.specs.declared.due.Due.{Due}
+use Rattle.es_cursor.specs.declared.due.Due.TheVariants.{Begin, Run, Clean, Take, EndJob, Close, Nothing}
+
+abbrev pub shown : Due → DueSaid
+shown (Begin n) = begin n
+shown (Run c) = run c.now
+shown (Clean r) = clean r
+shown (Take n) = take_cell n
+shown EndJob = end_job
+shown Close = close
+shown Nothing = nothing
+
+-- the next of these commands, or the job's end
+abbrev pub due_of : List Command → DueSaid
+due_of [] = end_job
+due_of (c ∷ cs) = run c

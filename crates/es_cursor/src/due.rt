@@ -1,0 +1,35 @@
+//! What comes next by the plan.
+
+ghost use Rattle.std.specs.Prelude.{◌≡◌, drop};
+ghost use Rattle.es_cursor.specs.Due.{shown, due_of};
+
+use es_event::Command;
+
+/// What comes next by the plan.
+#[derive(Clone, Copy, Debug)]
+pub enum Due<'a> {
+    /// The job of this number, counted from 1, begins.
+    Begin(usize),
+    /// A command is run.
+    Run(&'a Command),
+    /// The cleanup job of the registry that is first in the queue begins: the number of its identity.
+    Clean(u32),
+    /// The running cleanup job takes the cell of the registration of this number.
+    Take(usize),
+    /// The running job ends.
+    EndJob,
+    /// The agent closes.
+    Close,
+    /// Nothing comes any more.
+    Nothing,
+}
+
+/// The next of these commands, or the job's end.
+pub fn due_command<'a>(commands: &'a [Command], at: usize) -> Due<'a>
+    ensures { shown result ≡ due_of (drop at commands.now) }
+{
+    match commands.get(at) {
+        Some(command) => Due::Run(command),
+        None => Due::EndJob,
+    }
+}

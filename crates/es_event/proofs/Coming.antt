@@ -1,0 +1,85 @@
+-- What an event that comes next is, by where the agent is in its plan.
+use Rattle.std.proofs.Common.{◌≡◌, ℕ, ◌-◌, true, refl, sym, subst, List, [], ◌∷◌, Option, Some, None}
+use Rattle.std.specs.Prelude.{slice_get}
+use Rattle.std.specs.Option.{option_map, option_and_then}
+use Rattle.es_value.specs.declared.value.Value.{Value}
+use Rattle.es_event.specs.declared.event.Answer.{Answer}
+use Rattle.es_event.specs.declared.event.Event.{Event}
+use Rattle.es_event.specs.declared.event.Event.TheVariants.{JobBegun, CleanupBegun, Did, Refused, Emptied, Taken, JobEnded, Closed}
+use Rattle.es_event.specs.declared.event.Refusal.{Refusal}
+use Rattle.es_event.specs.declared.command.Command.{Command}
+use Rattle.es_event.specs.declared.plan.AgentPlan.{AgentPlan}
+use Rattle.es_event.specs.declared.plan.Job.{Job}
+use Rattle.es_event.specs.Commands.{collects}
+use Rattle.es_event.specs.History.{History}
+use Rattle.es_event.specs.Jobs.{Receivers, receivers, job, cleaning}
+use Rattle.es_event.specs.Registrations.{first_awaiting}
+use Rattle.es_event.specs.Rules.{Buffers}
+use Rattle.es_event.specs.Reach.{AreDead}
+use Rattle.es_event.specs.Order.{Phase, between, inside, stopped, ended, phase, left, queue, run, due_after, due_inside, due_job, due_between, due_at, due}
+use Rattle.es_event.specs.Follows.{Permits}
+
+-- the cell that the running cleanup job takes next
+abbrev pub next_cell : History → Option ℕ
+next_cell h = option_and_then (first_awaiting h) (cleaning h)
+
+pub data Comes (over : Buffers) (into : Receivers) (plan : AgentPlan) (h : History) (at : Phase) : Event → Type 0 where
+  begins_job : (k : ℕ) (j : Job) → at ≡ between → queue h ≡ [] → slice_get plan.jobs (job h - 1) ≡ Some j → k ≡ job h → Comes over into plan h at (JobBegun k)
+  begins_cleanup : (r : ℕ) (rs : List ℕ) → at ≡ between → queue h ≡ r ∷ rs → Comes over into plan h at (CleanupBegun r)
+  does : (c : Command) (cs : List Command) (vs : List Value) (r : Answer) → at ≡ inside → left plan h ≡ c ∷ cs → Comes over into plan h at (Did c vs r)
+  refuses : (c : Command) (cs : List Command) (code : Refusal) → at ≡ inside → left plan h ≡ c ∷ cs → Comes over into plan h at (Refused code)
+  empties_dead : (c : Command) (cs : List Command) (ids : List ℕ) → at ≡ inside → left plan h ≡ c ∷ cs → collects c ≡ true → AreDead into h ids → Comes over into plan h at (Emptied ids)
+  takes : (n : ℕ) (v : Value) → at ≡ inside → left plan h ≡ [] → next_cell h ≡ Some n → Comes over into plan h at (Taken n v)
+  ends : at ≡ inside → left plan h ≡ [] → next_cell h ≡ None → Comes over into plan h at JobEnded
+  stops : at ≡ stopped → Comes over into plan h at JobEnded
+  closes : at ≡ between → queue h ≡ [] → Comes over into plan h at Closed
+
+comes_command : (over : Buffers) (into : Receivers) (plan : AgentPlan) (h : History) (c : Command) (cs : List Command) (e : Event) → left plan h ≡ c ∷ cs
+    → Permits over into h (run c) e → Comes over into plan h inside e
+comes_command over into plan h c cs (Did d vs r) is p = does d cs vs r refl (subst (λ d. left plan h ≡ d ∷ cs) (sym p) is)
+comes_command over into plan h c cs (Refused code) is p = refuses c cs code refl is
+comes_command over into plan h c cs (Emptied ids) is p = empties_dead c cs ids refl is p.0 p.1
+comes_command over into plan h c cs _ is p = absurd p
+
+comes_after : (over : Buffers) (into : Receivers) (plan : AgentPlan) (h : History) (o : Option ℕ) (e : Event) → left plan h ≡ [] → next_cell h ≡ o
+    → Permits over into h (due_after o) e → Comes over into plan h inside e
+comes_after over into plan h None JobEnded is next p = ends refl is next
+comes_after over into plan h None _ is next p = absurd p
+comes_after over into plan h (Some n) (Taken m v) is next p = takes m v refl is (subst (λ m. next_cell h ≡ Some m) (sym p) next)
+comes_after over into plan h (Some n) _ is next p = absurd p
+
+comes_inside : (over : Buffers) (into : Receivers) (plan : AgentPlan) (h : History) (cs : List Command) (e : Event) → left plan h ≡ cs
+    → Permits over into h (due_inside h cs) e → Comes over into plan h inside e
+comes_inside over into plan h [] e is p = comes_after over into plan h (next_cell h) e is refl p
+comes_inside over into plan h (c ∷ cs) e is p = comes_command over into plan h c cs e is p
+
+comes_begin : (over : Buffers) (into : Receivers) (plan : AgentPlan) (h : History) (j : Job) (on : Option (ℕ × List ℕ)) (e : Event) → queue h ≡ [] → slice_get plan.jobs (job h - 1) ≡ Some j
+    → Permits over into h (due_job (job h) (Some on)) e → Comes over into plan h between e
+comes_begin over into plan h j None (JobBegun k) none is p = begins_job k j refl none is p
+comes_begin over into plan h j None _ none is p = absurd p
+comes_begin over into plan h j (Some on) e none is p = absurd p
+
+comes_job : (over : Buffers) (into : Receivers) (plan : AgentPlan) (h : History) (o : Option Job) (e : Event) → queue h ≡ [] → slice_get plan.jobs (job h - 1) ≡ o
+    → Permits over into h (due_job (job h) (option_map (λ j. j.on) o)) e → Comes over into plan h between e
+comes_job over into plan h None Closed none is p = closes refl none
+comes_job over into plan h None _ none is p = absurd p
+comes_job over into plan h (Some j) e none is p = comes_begin over into plan h j j.on e none is p
+
+comes_between : (over : Buffers) (into : Receivers) (plan : AgentPlan) (h : History) (rs : List ℕ) (e : Event) → queue h ≡ rs
+    → Permits over into h (due_between plan h rs) e → Comes over into plan h between e
+comes_between over into plan h [] e is p = comes_job over into plan h (slice_get plan.jobs (job h - 1)) e is refl p
+comes_between over into plan h (r ∷ rs) (CleanupBegun q) is p = begins_cleanup q rs refl (subst (λ q. queue h ≡ q ∷ rs) (sym p) is)
+comes_between over into plan h (r ∷ rs) _ is p = absurd p
+
+comes_stopped : (over : Buffers) (into : Receivers) (plan : AgentPlan) (h : History) (e : Event) → Permits over into h (due_at plan h stopped) e → Comes over into plan h stopped e
+comes_stopped over into plan h JobEnded p = stops refl
+comes_stopped over into plan h _ p = absurd p
+
+comes_at : (over : Buffers) (into : Receivers) (plan : AgentPlan) (h : History) (at : Phase) (e : Event) → Permits over into h (due_at plan h at) e → Comes over into plan h at e
+comes_at over into plan h between e p = comes_between over into plan h (queue h) e refl p
+comes_at over into plan h inside e p = comes_inside over into plan h (left plan h) e refl p
+comes_at over into plan h stopped e p = comes_stopped over into plan h e p
+comes_at over into plan h ended e p = absurd p
+
+pub comes : (over : Buffers) (plan : AgentPlan) (h : History) (e : Event) → Permits over (receivers plan.jobs) h (due plan h) e → Comes over (receivers plan.jobs) plan h (phase h) e
+comes over plan h e p = comes_at over (receivers plan.jobs) plan h (phase h) e p
