@@ -38,28 +38,43 @@ fn number(value: &Value) -> Option<i64> {
 }
 
 #[test]
-fn operands_are_had_by_name(rt: HostRuntime) -> Result<(), Fail> {
-    let alloc = rt.alloc();
-    assert!(rt; Operands::of_none().as_slice().is_empty());
-    assert_eq!(rt; number(Operands::of_one(Value::Number(1)).one()), Some(1));
+fn one_operand_or_two_are_had_by_name(rt: HostRuntime) -> Result<(), Fail> {
+    let none = Operands::of_none().as_slice().is_empty();
+    let one = number(Operands::of_one(Value::Number(1)).one()) == Some(1);
     let two = Operands::of_two(Value::Number(1), Value::Number(2));
     let (first, second) = two.two();
-    assert_eq!(rt; (number(first), number(second)), (Some(1), Some(2)));
-    let mut values = Sequence::new(alloc);
+    let right = number(first) == Some(1) && number(second) == Some(2);
+    drop(two);
+    assert!(rt; none && one && right);
+    Ok(())
+}
+
+#[test]
+fn three_operands_are_had_by_name(rt: HostRuntime) -> Result<(), Fail> {
+    let mut values = Sequence::new(rt.alloc());
     values.push(Value::Number(1))?;
     values.push(Value::Number(2))?;
     values.push(Value::Number(3))?;
     let three = Operands::of_sequence(values);
-    let (_, second, third) = three.three();
-    assert_eq!(rt; (number(second), number(third)), (Some(2), Some(3)));
-    let mut values = Sequence::new(alloc);
+    let (first, second, third) = three.three();
+    let right = number(first) == Some(1) && number(second) == Some(2) && number(third) == Some(3);
+    drop(three);
+    assert!(rt; right);
+    Ok(())
+}
+
+#[test]
+fn four_operands_are_had_by_name(rt: HostRuntime) -> Result<(), Fail> {
+    let mut values = Sequence::new(rt.alloc());
     values.push(Value::Number(1))?;
     values.push(Value::Undefined)?;
     values.push(Value::Undefined)?;
     values.push(Value::Number(4))?;
     let four = Operands::of_sequence(values);
     let (first, _, _, fourth) = four.four();
-    assert_eq!(rt; (number(first), number(fourth)), (Some(1), Some(4)));
+    let right = number(first) == Some(1) && number(fourth) == Some(4);
+    drop(four);
+    assert!(rt; right);
     Ok(())
 }
 
@@ -76,52 +91,75 @@ fn literals_stand_for_values(rt: HostRuntime) -> Result<(), Fail> {
     Ok(())
 }
 
+/// A copy of the command, which is given up.
+fn copied(command: Command) -> Result<Command, NoMemory> {
+    let copied = command.copy();
+    drop(command);
+    copied
+}
+
+fn is_set_of_key(command: &Command, name: &str) -> bool {
+    matches!(command, Command::Set { key, .. } if key.as_str() == name)
+}
+
+fn reads_two(command: &Command, first: &str, second: &str) -> bool {
+    matches!(command.reads(), OperandNames::Two(a, b) if a.as_str() == first && b.as_str() == second)
+}
+
 #[test]
-fn a_copied_command_reads_and_assigns_the_same(rt: HostRuntime) -> Result<(), Fail> {
+fn a_copied_set_reads_object_and_value(rt: HostRuntime) -> Result<(), Fail> {
     let alloc = rt.alloc();
     let object = Name::read(alloc, "o")?;
     let key = Name::read(alloc, "k")?;
     let from = Name::read(alloc, "x")?;
-    let set = Command::Set {
-        object: object.copy()?,
-        key: key.copy()?,
-        from: from.copy()?,
-    };
-    let set = set.copy()?;
-    assert!(rt; matches!(&set, Command::Set { key: k, .. } if *k == key));
-    assert!(rt; matches!(set.reads(), OperandNames::Two(a, b) if *a == object && *b == from));
-    assert!(rt; set.assigns().is_none());
-    assert!(rt; !set.makes());
-    let weakref = Command::WeakRef {
-        to: from.copy()?,
-        target: object.copy()?,
-    };
-    let weakref = weakref.copy()?;
-    assert!(rt; matches!(weakref.reads(), OperandNames::One(a) if *a == object));
-    assert!(rt; weakref.assigns().is_some_and(|to| *to == from));
-    assert!(rt; weakref.makes());
-    let text = Text::read(alloc, "t")?;
-    let literal = Command::Let {
-        to: object.copy()?,
-        literal: Literal::Text(text),
-    };
-    let literal = literal.copy()?;
-    assert!(rt; literal.assigns().is_some_and(|to| *to == object));
-    assert!(rt;
-        matches!(&literal, Command::Let { literal: Literal::Text(t), .. } if t.as_str() == "t")
-    );
-    let collect = Command::Collect.copy()?;
-    assert!(rt; matches!(collect.reads(), OperandNames::Nothing));
-    assert!(rt; collect.assigns().is_none());
-    assert!(rt; !collect.makes());
+    let set = copied(Command::Set { object, key, from })?;
+    let right = is_set_of_key(&set, "k") && reads_two(&set, "o", "x");
+    let nothing_else = set.assigns().is_none() && !set.makes();
+    drop(set);
+    assert!(rt; right && nothing_else);
+    Ok(())
+}
+
+fn reads_one(command: &Command, name: &str) -> bool {
+    matches!(command.reads(), OperandNames::One(a) if a.as_str() == name)
+}
+
+fn assigns_to(command: &Command, name: &str) -> bool {
+    command.assigns().is_some_and(|to| to.as_str() == name)
+}
+
+#[test]
+fn a_copied_weakref_makes_what_it_assigns(rt: HostRuntime) -> Result<(), Fail> {
+    let alloc = rt.alloc();
+    let to = Name::read(alloc, "x")?;
+    let target = Name::read(alloc, "o")?;
+    let weakref = copied(Command::WeakRef { to, target })?;
+    let right = reads_one(&weakref, "o") && assigns_to(&weakref, "x") && weakref.makes();
+    drop(weakref);
+    assert!(rt; right);
+    Ok(())
+}
+
+fn has_text(command: &Command, text: &str) -> bool {
+    matches!(command, Command::Let { literal: Literal::Text(t), .. } if t.as_str() == text)
+}
+
+#[test]
+fn a_copied_let_has_its_literal(rt: HostRuntime) -> Result<(), Fail> {
+    let alloc = rt.alloc();
+    let to = Name::read(alloc, "o")?;
+    let literal = Literal::Text(Text::read(alloc, "t")?);
+    let literal = copied(Command::Let { to, literal })?;
+    let right = assigns_to(&literal, "o") && has_text(&literal, "t");
+    drop(literal);
+    assert!(rt; right);
+    assert!(rt; has_shape(Command::Collect, 0, false, false)?);
     Ok(())
 }
 
 /// Whether a copy of the command reads this many variables, assigns one or none, and makes an identity or none.
 fn has_shape(command: Command, reads: usize, assigns: bool, makes: bool) -> Result<bool, NoMemory> {
-    let copied = command.copy();
-    drop(command);
-    let copied = copied?;
+    let copied = copied(command)?;
     let count = match copied.reads() {
         OperandNames::Nothing => 0,
         OperandNames::One(_) => 1,
@@ -222,9 +260,7 @@ fn register(alloc: Global, token: Option<Name>) -> Result<Command, Fail> {
 
 /// Whether a copy of the command reads operands of these names.
 fn reads_in_order(command: Command, names: [&str; 3]) -> Result<bool, NoMemory> {
-    let copied = command.copy();
-    drop(command);
-    let copied = copied?;
+    let copied = copied(command)?;
     let in_order = match copied.reads() {
         OperandNames::Three(a, b, c) => {
             a.as_str() == names[0] && b.as_str() == names[1] && c.as_str() == names[2]
