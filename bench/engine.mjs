@@ -42,7 +42,7 @@ const { register, unregister } = FinalizationRegistry.prototype;
 class Agent {
   vars = new Map();
   made = 0;
-  symbols = new Map(); // the number of each
+  symbols = new WeakMap(); // the number of each
   out = [];
   registries = []; // held to the end, since an engine may give one up that nothing holds
   registered = 0;
@@ -73,7 +73,8 @@ class Agent {
   }
   heldWeakly(name) {
     const value = this.vars.get(name);
-    if (typeof value !== "object") throw new Refused("TypeError: cannot be held weakly");
+    const can = typeof value === "object" || (typeof value === "symbol" && Symbol.keyFor(value) === undefined);
+    if (!can) throw new Refused("TypeError: cannot be held weakly");
     return value;
   }
   weakMap(name) {

@@ -40,9 +40,9 @@ function made(Kind, v) {
   if (!(v instanceof Kind)) throw new Refused(`TypeError: not a ${Kind.name}`);
   return v;
 }
-// Symbols can't be held weakly yet, whatever this engine does.
+// What this engine itself can hold weakly: objects, and symbols outside the registry.
 function heldWeakly(v) {
-  if (!isObject(v)) throw new Refused("TypeError: cannot be held weakly");
+  try { new WeakSet([v]); } catch { throw new Refused("TypeError: cannot be held weakly"); }
   return v;
 }
 // A method as the engine has it, since an object may have a property of its name.

@@ -315,13 +315,35 @@ cleaned "two registries, by rising identity" "0 0 0 2" "emptied 1" "cleanup 2 he
 # the order of tests, and what they leave: no registration, and no assignment
 plan_with "$cb" "$(job "registry r cb" "new a" "register a x a x")" "$(job "register r x x r")" "$(job "register r a a x")" \
     "$(job "let n 1" "register r a n n")" "$(job "unregister b n n")" "$(job "let b 7" "unregister b r x")" \
-    "$(job "say b" "registry r cb" "say r" "symbol s" "register r s n")" "$(job "register r a s s")" \
+    "$(job "say b" "registry r cb" "say r" "symbolfor s k" "register r s n")" "$(job "register r a s s")" \
     "$(job "unregister b r s")" "$(job "register r a s x" "unregister b r a" "say b")"
 cleaned "the order of tests" "1 0 0 0" "error TypeError: not a FinalizationRegistry" \
     "error TypeError: cannot be held weakly" "error TypeError: target and held value are the same" \
     "error TypeError: cannot be held weakly" "error TypeError: not a FinalizationRegistry" \
     "error TypeError: cannot be held weakly" "say 7" "say object 3" "error TypeError: cannot be held weakly" \
     "error TypeError: cannot be held weakly" "error TypeError: cannot be held weakly" "say false"
+
+# Symbols that are held weakly, and registered ones, which are not
+
+plan "$(job "symbol s" "say s" "weakref w s")"
+reported "a symbol as a target" "say symbol 1"
+plan "$(job "symbolfor f k" "say f" "weakref w f")"
+reported "a registered symbol as a target" 'say symbolfor "k"' "error TypeError: cannot be held weakly"
+plan "$(job "symbol k" "new v" "weakmap m" "wmset m k v" "set v p k" "let k null" "let v null" collect)"
+reported "a symbol as a key that its value leads to" "emptied 2"
+plan_with "$cb" "$(job "registry r cb" "symbol s" "let h 5" "register r s h s" "let s null" collect)"
+cleaned "a symbol as a target and its token" "0 0 0 1" "emptied 1" "cleanup 1 held 5"
+plan_with "$cb" "$(job "registry r cb" "symbol s" "register r s s")"
+cleaned "a symbol that is the held value" "0 0 0 0" "error TypeError: target and held value are the same"
+plan "$(job "symbol s" "weakset w" "wsadd w s" "wshas x w s" "say x" "weakref u s" "deref y u" "say y")"
+reported "a symbol as a member" "say true" "say symbol 1"
+plan_with "$cb" "$(job "symbolfor f k" "weakmap m" "wmhas x m f" "say x" "registry r cb" "unregister y r f")"
+cleaned "a registered symbol as a token" "0 0 0 0" "say false" "error TypeError: cannot be held weakly"
+plan "$(job "symbol s" "weakref w s")" "$(job "let s null" collect "deref x w" "say x" "weakref v s")"
+reported "a symbol that was emptied" "emptied 1" "say undefined" "error TypeError: cannot be held weakly"
+plan "$(job "symbol s" "weakref w s" "let s null" collect "deref x w" "same y x s" "say y" "weakset m" "wsadd m x" \
+    "wshas y m x" "say y" "set x p x")" "$(job "let x null" collect)"
+reported "a symbol that a deref gives" "emptied 0" "say false" "say true" "error TypeError: not an object" "emptied 1"
 
 # FinalizationRegistries are never emptied, nor what their properties and their cells' held values lead to
 plan_with "$cb" "$(job "registry r cb" "new p" "set r k p" "new h" "new x" "register r x h x" "weakref w r" \

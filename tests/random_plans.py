@@ -85,6 +85,24 @@ LIVES = [
     # symbols
     "symbol A; new B; set B p A; let A null; collect; get C B p; say C; delete A B p; let C null; collect; say B",
     "symbol A; copy B A; let A null; collect; symbol A; let B null; collect; say A",
+    # symbols that are held weakly: a target, a key that its value leads to, a member, a target and a token; and registered
+    # ones, which are not
+    "symbol A; weakref W A; let A null; collect; deref B W; say B; let B null; / collect; deref B W; say B",
+    "symbol A; weakref W A; / deref B W; same X A B; say X; let A null; let B null; collect; deref B W; say B; "
+    "let B null; / collect; deref B W; say B",
+    "weakmap M; symbol A; new B; wmset M A B; set B p A; let B null; collect; wmget B M A; say B; let B null; "
+    "wmhas X M A; say X; let A null; collect; say X",
+    "weakset S; symbol A; wsadd S A; wshas X S A; say X; weakref W A; let A null; / collect; deref A W; say A; "
+    "wshas X S A; say X",
+    "weakmap M; symbol A; symbol B; wmset M A B; wmset M B A; let B null; collect; wmget B M A; say B; wmdelete X M A; "
+    "say X; let A null; let B null; collect; say M",
+    "registry f cb; symbol A; let B 5; register f A B A; let A null; collect; / say held",
+    "registry f cb; new A; symbol B; let X 1; register f A X B; register f B X; unregister Y f B; say Y; let A null; "
+    "let B null; collect",
+    "registry f cb; symbol A; register f A A",
+    "symbolfor A k; weakref W A", "weakmap M; symbolfor A k; wmhas X M A; say X; wmset M A M",
+    "registry f cb; symbolfor A k; let B 1; register f A B", "registry f cb; symbol A; symbolfor B k; register f A f B",
+    "registry f cb; symbolfor A k; unregister X f A",
     # what stays can be used as before, and no number is given again
     "new A; new B; set A p B; set A q A; let B null; collect; keys A; delete X A p; collect; keys A; set A r A; keys A",
     "new A; let A null; collect; new A; say A; symbol B; say B; weakref W A; say W",
@@ -150,7 +168,7 @@ LIVES = [
     "weakset S; weakmap M; new A; wsadd S M; wmset M S A; set S p A; wshas X S M; say X; let A null; collect; "
     "wmget A M S; get B S p; same X A B; say X; let M null; collect; keys S",
     # what can't be held weakly is no key and no member, and asking for it is no refusal
-    "weakmap M; weakset S; symbol A; wmget B M A; say B; wmhas X M A; say X; wmdelete X M A; say X; wshas X S A; "
+    "weakmap M; weakset S; symbolfor A k; wmget B M A; say B; wmhas X M A; say X; wmdelete X M A; say X; wshas X S A; "
     "say X; wsdelete X S A; say X; wmset M A A",
     "weakset S; new A; wsadd S A; symbolfor B k; wshas X S B; say X; let B null; wsdelete X S B; say X; wsadd S B",
     # what is no map or no set
@@ -187,7 +205,7 @@ LIVES = [
     "registry f cb; let A 1; new B; register f A A A",
     "registry f cb; new A; let B 1; register f A B B",
     "registry f cb; new A; register f A A B",
-    "registry f cb; new A; symbol B; register f B A; / unregister X A A; / unregister X f B; / unregister X f X",
+    "registry f cb; new A; symbolfor B k; register f B A; / unregister X A A; / unregister X f B; / unregister X f X",
     # a FinalizationRegistry that no variable holds, one with properties, and one that is a target, a key, a held value
     "registry f cb; weakref W f; new A; set f p A; let A null; let B 1; register f f B; let f null; / collect; "
     "deref f W; get A f p; say A; say f; keys f",
@@ -320,7 +338,7 @@ def chain(rng):
     maps = [m, rng.choice([m, n])]
     yield from [["weakmap", m], ["weakmap", n], ["new", holder]]
     for number in range(length + 1):
-        yield [rng.choice(["new"] * 5 + ["weakmap", "weakset"]), at]
+        yield [rng.choice(["new"] * 4 + ["symbol"] * 2 + ["weakmap", "weakset"]), at]
         yield ["set", holder, f"k{number}", at]
     links = [(rng.choice(maps), number) for number in range(length)]
     for table, number in rng.choice([links, links[::-1], rng.sample(links, length)]):
@@ -347,21 +365,22 @@ def suits(agent, use, name):
     """Whether the variable holds what an operand of this use must be."""
     if use == "v":
         return True
-    right = {
-        "o": agent.properties, "h": agent.properties, "w": agent.targets, "m": agent.entries, "s": agent.members,
-        "r": agent.registries,
-    }
     value = agent.value(name)
+    if use == "h":
+        return value[0] in ("object", "symbol")
+    right = {
+        "o": agent.properties, "w": agent.targets, "m": agent.entries, "s": agent.members, "r": agent.registries,
+    }
     return value[0] == "object" and value[1] in right[use]
 
 
 # how often the commands come where most suit what the variables hold; the others come once
 OFTEN_TABLES = {
-    "let": 8, "new": 16, "set": 6, "get": 6, "copy": 4, "weakref": 8, "deref": 8, "collect": 6, "weakmap": 4,
+    "let": 8, "new": 12, "symbol": 5, "set": 6, "get": 6, "copy": 4, "weakref": 8, "deref": 8, "collect": 6, "weakmap": 4,
     "wmset": 26, "wmget": 16, "wmhas": 6, "wmdelete": 4, "wsadd": 8, "wshas": 6, "weakset": 2, "register": 3,
 }
 OFTEN_REGISTRATIONS = {
-    "let": 10, "new": 20, "set": 4, "get": 3, "copy": 3, "weakref": 4, "deref": 3, "collect": 9, "wmset": 3,
+    "let": 10, "new": 15, "symbol": 6, "set": 4, "get": 3, "copy": 3, "weakref": 4, "deref": 3, "collect": 9, "wmset": 3,
     "registry": 3, "register": 45, "unregister": 12,
 }
 
@@ -402,7 +421,7 @@ def suited(rng, agent, often):
         args[2] = rng.choice([name for name in names if agent.value(name) in held] or [args[2]])
     if word == "unregister" and rng.random() < 0.8:
         number = agent.value(args[1])[-1]
-        tokens = [cell.token for cell in agent.cells.values() if cell.registry == number and cell.token[0] == "object"]
+        tokens = [cell.token for cell in agent.cells.values() if cell.registry == number and cell.token[0] != "undefined"]
         args[2] = rng.choice([name for name in names if agent.value(name) in tokens] or [args[2]])
     yield [word, *args]
     if word in ("deref", "wmget", "unregister", *ASKING) and rng.random() < 0.7:
@@ -421,7 +440,8 @@ def batch(rng):
     """Several registrations whose targets go together, most with a token that stays."""
     at, held = rng.sample(NAMES, 2)
     for number in range(rng.randint(2, 5)):
-        yield from [["new", at], ["let", held, number] if rng.random() < 0.7 else ["new", held]]
+        made = "new" if rng.random() < 0.7 else "symbol"
+        yield from [[made, at], ["let", held, number] if rng.random() < 0.7 else ["new", held]]
         token = rng.choice([[], [at], [held], *([name] for name in TOKENS * 3)])
         yield ["register", rng.choice(PLACES["registry"]), at, held, *token]
     yield from [["let", at, None], ["collect"]]
@@ -452,7 +472,7 @@ def suited_jobs(rng, calls, often):
         for name in PLACES["registry"]:
             do(["registry", name, rng.choice(CALLBACKS)])
         for name in TOKENS:
-            do(["new", name])
+            do([rng.choice(["new", "new", "symbol"]), name])
     for _ in range(rng.randint(20, 120)):
         batched = often is OFTEN_REGISTRATIONS and rng.random() < 0.04
         for step in batch(rng) if batched else suited(rng, agent, often):

@@ -449,8 +449,8 @@ class Agent:
 
 
 def held_weakly(value):
-    """The value itself, where it can be held weakly."""
-    if value[0] != "object":
+    """The value itself, where it can be held weakly: an object, or a symbol outside the registry."""
+    if value[0] not in ("object", "symbol"):
         raise TypeRefused("TypeError: cannot be held weakly")
     return value
 

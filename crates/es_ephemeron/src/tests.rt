@@ -300,3 +300,25 @@ fn a_key_may_be_in_many_maps(rt: HostRuntime) -> Result<(), Fail> {
     assert!(rt; right?);
     Ok(())
 }
+
+/// Whether WeakMap 7 has symbol 4 under symbol 3, and WeakSet 8 has symbol 3, until it is emptied.
+fn holds_symbols(tables: &mut WeakTables) -> Result<bool, Fail> {
+    let symbol = Value::Symbol(id(3)).identity().unwrap_or(id(1));
+    tables.reserve_entry(symbol)?;
+    tables.map_set(id(7), symbol, Value::Symbol(id(4)));
+    set_add(tables, 8, symbol.number())?;
+    let value = matches!(tables.map_get(id(7), symbol), Some(Value::Symbol(_)));
+    let member = tables.set_has(id(8), symbol);
+    tables.empty(&[symbol]);
+    let left = tables.map_has(id(7), symbol) || tables.set_has(id(8), symbol);
+    Ok(value && member && !left)
+}
+
+#[test]
+fn a_symbol_is_a_key_and_a_member_like_an_object(rt: HostRuntime) -> Result<(), Fail> {
+    let mut tables = WeakTables::new(rt.alloc());
+    let right = holds_symbols(&mut tables);
+    drop(tables);
+    assert!(rt; right?);
+    Ok(())
+}

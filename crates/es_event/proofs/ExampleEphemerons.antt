@@ -313,9 +313,8 @@ plan_refusals = plan_of (
     ∷ WeakSetHas (codes "x") (codes "s") (codes "n") ∷ say_x ∷ WeakSetDelete (codes "x") (codes "s") (codes "f") ∷ say_x
     ∷ WeakMapHas (codes "x") (codes "m") (codes "y") ∷ WeakSetHas (codes "x") (codes "s") (codes "y") ∷ set_m_n_n ∷ say_x ∷ [])
     ∷ (WeakMapSet (codes "m") (codes "f") (codes "m") ∷ [])
-    ∷ (WeakMapSet (codes "m") (codes "y") (codes "m") ∷ [])
     ∷ (add_s_n ∷ [])
-    ∷ (WeakSetAdd (codes "s") (codes "y") ∷ [])
+    ∷ (WeakSetAdd (codes "s") (codes "f") ∷ [])
     ∷ (set_s_n_n ∷ [])
     ∷ (add_m_n ∷ [])
     ∷ (WeakMapGet (codes "x") (codes "n") (codes "m") ∷ [])
@@ -356,9 +355,6 @@ abbrev pub not_held_weakly : History
 not_held_weakly =
     JobEnded
     ∷ Refused NotHeldWeakly
-    ∷ JobBegun 5
-    ∷ JobEnded
-    ∷ Refused NotHeldWeakly
     ∷ JobBegun 4
     ∷ JobEnded
     ∷ Refused NotHeldWeakly
@@ -371,28 +367,28 @@ not_held_weakly =
     ∷ asked_in_vain
 
 abbrev pub begun_wrong_map : History
-begun_wrong_map = JobBegun 6 ∷ not_held_weakly
+begun_wrong_map = JobBegun 5 ∷ not_held_weakly
 
 abbrev pub begun_wrong_set : History
-begun_wrong_set = JobBegun 7 ∷ JobEnded ∷ Refused NotAWeakMap ∷ begun_wrong_map
+begun_wrong_set = JobBegun 6 ∷ JobEnded ∷ Refused NotAWeakMap ∷ begun_wrong_map
 
 abbrev pub not_maps : History
 not_maps =
     JobEnded
-    ∷ Refused NotAWeakMap
-    ∷ JobBegun 10
-    ∷ JobEnded
     ∷ Refused NotAWeakMap
     ∷ JobBegun 9
     ∷ JobEnded
     ∷ Refused NotAWeakMap
     ∷ JobBegun 8
     ∷ JobEnded
+    ∷ Refused NotAWeakMap
+    ∷ JobBegun 7
+    ∷ JobEnded
     ∷ Refused NotAWeakSet
     ∷ begun_wrong_set
 
 abbrev pub closed_refusals : History
-closed_refusals = Closed ∷ JobEnded ∷ Refused NotAWeakSet ∷ JobBegun 12 ∷ JobEnded ∷ Refused NotAWeakSet ∷ JobBegun 11 ∷ not_maps
+closed_refusals = Closed ∷ JobEnded ∷ Refused NotAWeakSet ∷ JobBegun 11 ∷ JobEnded ∷ Refused NotAWeakSet ∷ JobBegun 10 ∷ not_maps
 
 pub legal_refusals : LegalBy [] (receivers plan_refusals.jobs) closed_refusals
 legal_refusals = search rules
@@ -403,7 +399,7 @@ follows_refusals = search rules
 pub whole_refusals : IsWholeRun plan_refusals closed_refusals
 whole_refusals = ([], legal_refusals, follows_refusals)
 
-pub reported_refusals : agent_text plan_refusals.name (reverse closed_refusals) ≡ codes "agent a\nsay undefined\nsay false\nsay false\nsay false\nsay false\nerror TypeError: cannot be held weakly\nerror TypeError: cannot be held weakly\nerror TypeError: cannot be held weakly\nerror TypeError: cannot be held weakly\nerror TypeError: cannot be held weakly\nerror TypeError: not a WeakMap\nerror TypeError: not a WeakSet\nerror TypeError: not a WeakMap\nerror TypeError: not a WeakMap\nerror TypeError: not a WeakMap\nerror TypeError: not a WeakSet\nerror TypeError: not a WeakSet\nend live 0 awaiting 0 unregistered 0 taken 0\n"
+pub reported_refusals : agent_text plan_refusals.name (reverse closed_refusals) ≡ codes "agent a\nsay undefined\nsay false\nsay false\nsay false\nsay false\nerror TypeError: cannot be held weakly\nerror TypeError: cannot be held weakly\nerror TypeError: cannot be held weakly\nerror TypeError: cannot be held weakly\nerror TypeError: not a WeakMap\nerror TypeError: not a WeakSet\nerror TypeError: not a WeakMap\nerror TypeError: not a WeakMap\nerror TypeError: not a WeakMap\nerror TypeError: not a WeakSet\nerror TypeError: not a WeakSet\nend live 0 awaiting 0 unregistered 0 taken 0\n"
 unfolding digits
 reported_refusals = refl
 
@@ -600,13 +596,13 @@ has_the_deleted_member l = cc
 number_as_key : IsUnlawful plan_refusals asked_in_vain (Did set_m_n_n (Object 1 ∷ Number (pos 1) ∷ Number (pos 1) ∷ []) Nothing)
 number_as_key l = cc
 
--- or a symbol does
-symbol_as_key : IsUnlawful plan_refusals asked_in_vain (Did (WeakMapSet (codes "m") (codes "y") (codes "m")) (Object 1 ∷ SymbolValue 3 ∷ Object 1 ∷ []) Nothing)
-symbol_as_key l = cc
+-- or a registered symbol does
+registered_as_key : IsUnlawful plan_refusals asked_in_vain (Did (WeakMapSet (codes "m") (codes "f") (codes "m")) (Object 1 ∷ Registered (codes "t") ∷ Object 1 ∷ []) Nothing)
+registered_as_key l = cc
 
 -- or a member
-symbol_as_member : IsUnlawful plan_refusals asked_in_vain (Did (WeakSetAdd (codes "s") (codes "y")) (Object 2 ∷ SymbolValue 3 ∷ []) Nothing)
-symbol_as_member l = cc
+registered_as_member : IsUnlawful plan_refusals asked_in_vain (Did (WeakSetAdd (codes "s") (codes "f")) (Object 2 ∷ Registered (codes "t") ∷ []) Nothing)
+registered_as_member l = cc
 
 -- a get of such a key is refused
 refuses_a_get : IsOutOfPlace plan_refusals made_kinds (Refused NotHeldWeakly)

@@ -365,3 +365,32 @@ fn a_refused_growth_changes_nothing(rt: HostRuntime) -> Result<(), Fail> {
     assert!(rt; right?);
     Ok(())
 }
+
+/// Whether the registrations of symbol 7 are found by their tokens, which are symbols 7 and 9, and are taken once it is
+/// emptied.
+fn registers_symbols(registries: &mut Registries) -> Result<bool, Fail> {
+    let symbol = Value::Symbol(id(7)).identity().unwrap_or(id(1));
+    make(registries, 1, 10)?;
+    register(registries, 1, symbol.number(), Value::Number(4), Some(7))?;
+    register(
+        registries,
+        1,
+        symbol.number(),
+        Value::Symbol(id(8)),
+        Some(9),
+    )?;
+    let unregistered = registries.unregister(id(1), id(9));
+    registries.empty(&[symbol])?;
+    let first = next(registries, 1);
+    let second = next(registries, 1);
+    Ok(unregistered && first == Some(1) && second.is_none())
+}
+
+#[test]
+fn a_symbol_is_a_target_and_a_token_like_an_object(rt: HostRuntime) -> Result<(), Fail> {
+    let mut registries = Registries::new(rt.alloc());
+    let right = registers_symbols(&mut registries);
+    drop(registries);
+    assert!(rt; right?);
+    Ok(())
+}

@@ -13,7 +13,7 @@ use Rattle.es_event.specs.declared.event.Event.TheVariants.{Did, Taken, JobEnded
 use Rattle.es_event.specs.declared.command.Command.TheVariants.{WeakRef, FinalizationRegistry, Register, Unregister}
 use Rattle.es_event.specs.Commands.{first, Kind, reads}
 use Rattle.es_event.specs.History.{History}
-use Rattle.es_event.specs.Identities.{identity, made, gone, is_gone, kind, born, object_of}
+use Rattle.es_event.specs.Identities.{identity, made, gone, is_gone, kind, born}
 use Rattle.es_event.specs.Jobs.{Receivers}
 use Rattle.es_event.specs.Properties.{put}
 use Rattle.es_event.specs.WeakRefs.{first_target, unless_gone}
@@ -37,7 +37,8 @@ use Rattle.es_tables.specs.Registries.{CanChange, change, change_by, made_by as 
 use Rattle.es_tables.proofs.Numbered.{get_numbered}
 use Rattle.es_tables.proofs.Registering.{registers_change}
 use Rattle.es_tables.proofs.Slots.{slots, slot_at}
-use Rattle.es_tables.proofs.Fresh.{next_kind, next_target, born_next}
+use Rattle.es_event.proofs.Births.{next_kind, born_next}
+use Rattle.es_tables.proofs.Fresh.{next_target}
 
 if_some : {A : Type 0} (p : A → Bool) (o : Option A) (d : Bool) → ((a : A) → o ≡ Some a → p a ≡ d) → option_map_or p o d ≡ d
 if_some p None d each = refl
@@ -51,14 +52,14 @@ put_there into h _ q legal lawful e = cc
 -- what is born is not there yet
 number_born : (into : Receivers) (h : History) (e : Event) (b : Option (ℕ × Option Kind)) (i : ℕ) → Lawful [] into h e → born e ≡ b → option_map (λ b. b.0) b ≡ Some i → made h + 1 ≡ i
 number_born into h e None i lawful is o = cc
-number_born into h e (Some q) i lawful is o = let same : q.0 ≡ i = cc in born_next into h e q lawful is ∙ same
+number_born into h e (Some q) i lawful is o = let same : q.0 ≡ i = cc in born_next [] into h e q lawful is ∙ same
 
 not_born : (into : Receivers) (h : History) (e : Event) (i : ℕ) → LegalBy [] into h → Lawful [] into h e → object_born e ≡ Some i → is_some (kind h i) ≡ false
-not_born into h e i legal lawful is = subst (λ j. is_some (kind h j) ≡ false) (number_born into h e _ i lawful refl is) (ap is_some (next_kind into h legal))
+not_born into h e i legal lawful is = subst (λ j. is_some (kind h j) ≡ false) (number_born into h e _ i lawful refl is) (ap is_some (next_kind [] into h legal))
 
 -- a new WeakRef has no target yet
 pointed : (y : List ℕ) (to : List ℕ) (vs : List Value) (r : Answer) (p : ℕ × Option ℕ) → points (Did (WeakRef to y) vs r) ≡ Some p → object_born (Did (WeakRef to y) vs r) ≡ Some p.0
-pointed y to vs (Gives (Object w)) p e = numbers (object_of (first vs)) w p e
+pointed y to vs (Gives (Object w)) p e = numbers (identity (first vs)) w p e
   where
     numbers : (o : Option ℕ) (w : ℕ) (p : ℕ × Option ℕ) → option_map (λ t. (w, Some t)) o ≡ Some p → ◌≡◌ {A = Option ℕ} (Some w) (Some p.0)
     numbers None w p e = cc
@@ -69,10 +70,6 @@ no_target : (into : Receivers) (h : History) (e : Event) (p : ℕ × Option ℕ)
 no_target into h (Did (WeakRef to y) vs r) p legal lawful e =
     subst (λ w. first_target h w ≡ None) (number_born into h (Did (WeakRef to y) vs r) _ p.0 lawful refl (pointed y to vs r p e)) (next_target into h legal)
 no_target into h _ p legal lawful e = cc
-
-no_value : (t : Option ℕ) → option_map Object t ≡ None → is_some t ≡ false
-no_value None e = refl
-no_value (Some t) e = cc
 
 some_points : (p : Option (ℕ × ℕ)) (q : ℕ × ℕ) → p ≡ Some q → with_option p ≡ Some (q.0, Some q.1)
 some_points p q e = ap with_option e
@@ -97,7 +94,7 @@ points_next into h _ p lawful e = cc
 can_did : (into : Receivers) (h : History) (t : RegistryContents) (c : Command) (vs : List Value) (a : Answer) → LegalBy [] into h → Lawful [] into h (Did c vs a) → ((r : ℕ) → callback t r ≡ callback_said h r)
     → CanChange t (change_by c vs a)
 can_did into h t (FinalizationRegistry to n) vs a legal lawful callbacks =
-    subst (λ a. CanChange t (registry_made_by n a)) (is_result [] h (FinalizationRegistry to n) vs a lawful.1) (callbacks (made h + 1) ∙ ap (option_and_then callback_in) (next_kind into h legal))
+    subst (λ a. CanChange t (registry_made_by n a)) (is_result [] h (FinalizationRegistry to n) vs a lawful.1) (callbacks (made h + 1) ∙ ap (option_and_then callback_in) (next_kind [] into h legal))
 can_did into h t (Register x y v k) vs a legal lawful callbacks = subst (CanChange t) (sym (registers_change x y v k vs a)) (at (registers_by (Register x y v k) vs))
   where
     at : (k : Option Cell) → CanChange t (option_map_or (λ k. Registers k.registry k.target k.held k.token) k Leaves)
@@ -143,6 +140,6 @@ can_apply into h s e f legal lawful stays says are = record {
   points = if_some (λ p. is_some (target s.weakrefs p.0)) f.points false (λ q is.
       let pointed' = sym are.points ∙ some_points f.points q is in
       let here = next_alive [] into h legal q.0 (points_next into h e (q.0, Some q.1) lawful pointed') in
-      no_value (target s.weakrefs q.0) (says.targets q.0 here ∙ ap (option_and_then (unless_gone (gone h))) (no_target into h e (q.0, Some q.1) legal lawful pointed')));
+      ap is_some (says.targets q.0 here ∙ ap (λ f. option_and_then identity (option_and_then (unless_gone (gone h)) f)) (no_target into h e (q.0, Some q.1) legal lawful pointed')));
   registry = subst (CanChange s.registries) (sym are.registry) (can_change into h s.registries e legal lawful says.callbacks says.cells);
 }

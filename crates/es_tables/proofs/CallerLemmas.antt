@@ -3,9 +3,8 @@ use Rattle.std.proofs.Common.{◌≡◌, ℕ, ◌<◌, ap, ◌∙◌, length, re
 use Rattle.std.proofs.lemmas.Bool.Decides.{nat_tests}
 use Rattle.std.specs.Prelude.{unwrap_or, is_some}
 use Rattle.std.specs.Map.{lookup}
-use Rattle.std.specs.Option.{option_map}
 use Rattle.std.specs.Str.{bytes_eq}
-use Rattle.es_value.specs.declared.value.Value.TheVariants.{Undefined, Object}
+use Rattle.es_value.specs.declared.value.Value.TheVariants.{Undefined}
 use Rattle.es_event.specs.History.{History}
 use Rattle.es_event.specs.Jobs.{Receivers}
 use Rattle.es_props.specs.Heap.{has, property, keys}
@@ -28,7 +27,7 @@ says_new into s new = record {
   objects = λ o. ap (λ t. has t o) new.heap;
   properties = λ o k here. ap (λ t. property t o k) new.heap;
   keys = λ o here. ap (λ t. keys t o) new.heap;
-  targets = λ w here. ap (λ ts. option_map Object (found ts w)) new.targets;
+  targets = λ w here. ap (λ ts. found ts w) new.targets;
   kept = ap (λ k. reverse k) new.kept;
   entries = λ m k. new.entries m k;
   members = λ m k. ap is_some (new.members m k);
@@ -46,7 +45,7 @@ says_same into h s t same says = record {
   objects = λ o. same.heap.objects o ∙ says.objects o;
   properties = λ o k here. same.heap.properties o k ∙ says.properties o k here;
   keys = λ o here. same.heap.keys o ∙ says.keys o here;
-  targets = λ w here. ap (option_map Object) (same.targets w) ∙ says.targets w here;
+  targets = λ w here. same.targets w ∙ says.targets w here;
   kept = ap (λ k. reverse k) same.kept ∙ says.kept;
   entries = λ m k. same.entries m k ∙ says.entries m k;
   members = λ m k. ap is_some (same.members m k) ∙ says.members m k;

@@ -1,10 +1,9 @@
 -- The tables still say what the history says after values were emptied.
 use Rattle.std.proofs.Common.{◌≡◌, ℕ, ◌+◌, ◌||◌, ◌&&◌, not, Bool, true, false, cond, nat_lt, nat_le, sym, ◌∙◌, ap, refl, arith, List, [], ◌∷◌, ◌++◌, map, length, Option, Some, None, if◌then◌else◌, reverse}
 use Rattle.std.specs.Prelude.{is_some}
-use Rattle.std.specs.Option.{option_map, option_map_or, option_and_then}
+use Rattle.std.specs.Option.{option_map_or, option_and_then}
 use Rattle.std.proofs.lemmas.Bool.Decides.{nat_tests}
 use Rattle.es_value.specs.declared.value.Value.{Value}
-use Rattle.es_value.specs.declared.value.Value.TheVariants.{Object}
 use Rattle.es_props.specs.Heap.{Properties, object, keys_of, value_at}
 use Rattle.es_weakref.specs.WeakRefs.{target, unless_among}
 use Rattle.es_ephemeron.specs.Ephemerons.{record_at}
@@ -32,11 +31,10 @@ left_of true false g o e = refl
 left_of false s g o e = e
 
 -- a target that was there stays unless it is among these
-aimed_still : (ids : List ℕ) (gone : List ℕ) (s : Option ℕ) (f : Option Value) → option_map Object s ≡ option_and_then (unless_gone gone) f
-    → option_map Object (option_and_then (unless_among ids) s) ≡ option_and_then (unless_gone (ids ++ gone)) f
-aimed_still ids gone None None e = refl
-aimed_still ids gone (Some t) None e = cc
-aimed_still ids gone s (Some v) e = at_value (identity v) (has_identity_in gone v) refl refl s e
+aimed_still : (ids : List ℕ) (gone : List ℕ) (s : Option ℕ) (f : Option Value) → s ≡ option_and_then identity (option_and_then (unless_gone gone) f)
+    → option_and_then (unless_among ids) s ≡ option_and_then identity (option_and_then (unless_gone (ids ++ gone)) f)
+aimed_still ids gone s None e = ap (option_and_then (unless_among ids)) e
+aimed_still ids gone s (Some v) e = ap (option_and_then (unless_among ids)) e ∙ at_value (identity v) (has_identity_in gone v) refl refl
   where
     there : (o : Option ℕ) (g : Bool) → identity v ≡ o → g ≡ has_identity_in gone v → has_identity_in (ids ++ gone) v ≡ (option_map_or (is_in ids) o false || g)
     there None g is e = ap (λ o. option_map_or (is_in (ids ++ gone)) o false) is ∙ sym (e ∙ ap (λ o. option_map_or (is_in gone) o false) is)
@@ -53,20 +51,24 @@ aimed_still ids gone s (Some v) e = at_value (identity v) (has_identity_in gone 
     or_false true = refl
     or_false false = refl
 
-    kept_target : (t : ℕ) (b : Bool) → v ≡ Object t → is_in ids t ≡ b → option_map Object (cond b None (Some t)) ≡ cond b None (Some v)
-    kept_target t true same is = refl
-    kept_target t false same is = ap Some (sym same)
+    unless : (b : Bool) (i : ℕ) → identity v ≡ Some i → cond b None (Some i) ≡ option_and_then identity (cond b None (Some v))
+    unless true i is = refl
+    unless false i is = sym is
 
-    at_value : (o : Option ℕ) (g : Bool) → identity v ≡ o → g ≡ has_identity_in gone v → (s : Option ℕ) → option_map Object s ≡ cond (has_identity_in gone v) None (Some v)
-        → option_map Object (option_and_then (unless_among ids) s) ≡ cond (has_identity_in (ids ++ gone) v) None (Some v)
-    at_value o true is g None e = ap (λ b. cond b None (Some v)) (sym (there o true is g ∙ or_true (option_map_or (is_in ids) o false)))
-    at_value o true is g (Some t) e = let none : Some (Object t) ≡ None = e ∙ ap (λ b. cond b None (Some v)) (sym g) in cc
-    at_value o false is g None e = let some : None ≡ Some v = e ∙ ap (λ b. cond b None (Some v)) (sym g) in cc
-    at_value o false is g (Some t) e =
-        let some : Some (Object t) ≡ Some v = e ∙ ap (λ b. cond b None (Some v)) (sym g) in
-        let same : v ≡ Object t = cc in
-        kept_target t (is_in ids t) same refl
-        ∙ ap (λ b. cond b None (Some v)) (sym (there (Some t) false (ap identity same) g ∙ or_false (is_in ids t)))
+    kept_target : (o : Option ℕ) → identity v ≡ o → option_and_then (unless_among ids) o ≡ option_and_then identity (cond (option_map_or (is_in ids) o false) None (Some v))
+    kept_target None is = sym is
+    kept_target (Some i) is = unless (is_in ids i) i is
+
+    at_value : (o : Option ℕ) (g : Bool) → identity v ≡ o → g ≡ has_identity_in gone v
+        → option_and_then (unless_among ids) (option_and_then identity (cond (has_identity_in gone v) None (Some v))) ≡ option_and_then identity (cond (has_identity_in (ids ++ gone) v) None (Some v))
+    at_value o true is g =
+        ap (λ b. option_and_then (unless_among ids) (option_and_then identity (cond b None (Some v)))) (sym g)
+        ∙ ap (λ b. option_and_then identity (cond b None (Some v))) (sym (there o true is g ∙ or_true (option_map_or (is_in ids) o false)))
+    at_value o false is g =
+        ap (λ b. option_and_then (unless_among ids) (option_and_then identity (cond b None (Some v)))) (sym g)
+        ∙ ap (option_and_then (unless_among ids)) is
+        ∙ kept_target o is
+        ∙ ap (λ b. option_and_then identity (cond b None (Some v))) (sym (there o false is g ∙ or_false (option_map_or (is_in ids) o false)))
 
 -- a tag stays unless its identity is among these
 shown_emptied : (b g : Bool) (i m : ℕ) (k : Option Kind)
@@ -89,7 +91,7 @@ says_emptied into h s t ids legal says new = record {
   keys = λ o here. let out = out_of_both ids (gone h) o here in
       ap (λ ps. option_map_or keys_of ps []) (new.objects o ∙ ap (λ b. cond b None (object s.heap o)) out.0) ∙ says.keys o out.1;
   targets = λ w here. let out = out_of_both ids (gone h) w here in
-      ap (option_map Object) (new.targets w ∙ ap (λ b. cond b None (option_and_then (unless_among ids) (target s.weakrefs w))) out.0)
+      new.targets w ∙ ap (λ b. cond b None (option_and_then (unless_among ids) (target s.weakrefs w))) out.0
       ∙ aimed_still ids (gone h) (target s.weakrefs w) (first_target h w) (says.targets w out.1);
   kept = ap (λ k. reverse k) new.kept ∙ says.kept;
   entries = λ m k. new.entries m k ∙ ap (cond (is_in ids m || is_in ids k) None) (says.entries m k) ∙ dropped None ids h m k (first_entry h m k);

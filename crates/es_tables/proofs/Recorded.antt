@@ -5,7 +5,6 @@ use Rattle.std.specs.Option.{option_map, option_map_or, option_and_then, option_
 use Rattle.std.specs.Str.{bytes_eq}
 use Rattle.std.proofs.lemmas.Bool.{eqb-true}
 use Rattle.es_value.specs.declared.value.Value.{Value}
-use Rattle.es_value.specs.declared.value.Value.TheVariants.{Object}
 use Rattle.es_props.specs.Heap.{has, property, keys}
 use Rattle.es_weakref.specs.WeakRefs.{target}
 use Rattle.es_ephemeron.specs.Ephemerons.{record_at}
@@ -18,7 +17,7 @@ use Rattle.es_event.specs.declared.command.Command.{Command}
 use Rattle.es_event.specs.declared.command.Command.TheVariants.{WeakRef}
 use Rattle.es_event.specs.Commands.{first, reads, Kind, weakref_to, kind_made}
 use Rattle.es_event.specs.History.{History, at_key}
-use Rattle.es_event.specs.Identities.{made, gone, is_gone, is_in, empties, has_identity_in, kind, born, object_of}
+use Rattle.es_event.specs.Identities.{identity, made, gone, is_gone, is_in, empties, has_identity_in, kind, born}
 use Rattle.es_event.specs.Jobs.{Receivers}
 use Rattle.es_event.specs.Variables.{assigned}
 use Rattle.es_event.specs.Properties.{put, same_key, keys_after}
@@ -30,11 +29,12 @@ use Rattle.es_event.proofs.Accepted.{accepted, first_holds}
 use Rattle.es_event.proofs.Alive.{Stays, Alive, next_alive}
 use Rattle.es_event.proofs.Births.{birth, born_some}
 use Rattle.es_event.proofs.Holds.{first_of}
-use Rattle.es_event.proofs.Targets.{held_weakly_object}
+use Rattle.es_event.proofs.Targets.{held_weakly_identity}
 use Rattle.es_tables.specs.declared.effects.Effects.{Effects}
 use Rattle.es_tables.specs.Effects.{AreEffects, Applied, object_born, points}
 use Rattle.es_tables.specs.Tables.{State, Says, bound}
-use Rattle.es_tables.proofs.Fresh.{next_target, born_next}
+use Rattle.es_event.proofs.Births.{born_next}
+use Rattle.es_tables.proofs.Fresh.{next_target}
 use Rattle.es_registry.specs.Registries.{callback}
 use Rattle.es_tables.specs.Registries.{change, callback_after, cells_after, queue_after, again_at}
 use Rattle.es_tables.proofs.Registering.{IsQuiet, quiet_empties, callback_next, cells_next, queue_next}
@@ -61,52 +61,51 @@ there (Some q) before g o some =
     new false g e f = cc
 
 born_alive : (into : Receivers) (h : History) (e : Event) (o : ℕ) → LegalBy [] into h → Lawful [] into h e → (q : ℕ × Option Kind) → born e ≡ Some q → (is_some q.1 ≡ true) × (q.0 ≡ o → is_gone h o ≡ false)
-born_alive into h e o legal lawful q is = (born_some e q is, λ same. next_alive [] into h legal o (sym (born_next into h e q lawful is ∙ same)))
+born_alive into h e o legal lawful q is = (born_some e q is, λ same. next_alive [] into h legal o (sym (born_next [] into h e q lawful is ∙ same)))
 
 -- Targets
 
--- what stands of the target of a WeakRef of this kind
-abbrev pub aimed_at : List ℕ → Option Kind → Option Value
-aimed_at ids k = option_and_then (unless_gone ids) (option_and_then aims k)
+-- the identity of what stands of the target of a WeakRef of this kind
+abbrev pub aimed_at : List ℕ → Option Kind → Option ℕ
+aimed_at ids k = option_and_then identity (option_and_then (unless_gone ids) (option_and_then aims k))
 
 -- an event that makes no WeakRef aims at nothing new
 plain_target : (ids : List ℕ) (s : Option ℕ) (before : Option Kind) (b : Option (ℕ × Option Kind)) (w : ℕ)
-    → option_map Object s ≡ aimed_at ids before
+    → s ≡ aimed_at ids before
     → ((q : ℕ × Option Kind) → b ≡ Some q → (option_and_then aims q.1 ≡ None) × (q.0 ≡ w → option_and_then aims before ≡ None))
-    → option_map Object s ≡ aimed_at ids (unwrap_or (at_key (λ i j. i == j) w b) before)
+    → s ≡ aimed_at ids (unwrap_or (at_key (λ i j. i == j) w b) before)
 plain_target ids s before None w same none = same
 plain_target ids s before (Some q) w same none =
-    elim (q.0 == w) as (λ t. q.0 == w ≡ t → option_map Object s ≡ aimed_at ids (unwrap_or (cond t (Some q.1) None) before))
-    [ true ↦ λ t. same ∙ ap (option_and_then (unless_gone ids)) ((none q refl).1 (eqb-true q.0 w t) ∙ sym (none q refl).0) | false ↦ λ t. same ] refl
+    elim (q.0 == w) as (λ t. q.0 == w ≡ t → s ≡ aimed_at ids (unwrap_or (cond t (Some q.1) None) before))
+    [ true ↦ λ t. same ∙ ap (λ v. option_and_then identity (option_and_then (unless_gone ids) v)) ((none q refl).1 (eqb-true q.0 w t) ∙ sym (none q refl).0) | false ↦ λ t. same ] refl
 
 -- the new WeakRef aims at its target, which is there
-new_target : (ids : List ℕ) (s : Option ℕ) (before : Option Kind) (n w t : ℕ) → is_in ids t ≡ false → option_map Object s ≡ aimed_at ids before
-    → option_map Object (unwrap_or (at_key (λ i j. i == j) w (Some (n, Some t))) s) ≡ aimed_at ids (unwrap_or (at_key (λ i j. i == j) w (Some (n, Some (weakref_to (Object t))))) before)
-new_target ids s before n w t here same =
-    elim (n == w) as (λ b. option_map Object (unwrap_or (cond b (Some (Some t)) None) s) ≡ aimed_at ids (unwrap_or (cond b (Some (Some (weakref_to (Object t)))) None) before))
-    [ true ↦ ap (λ b. cond b None (Some (Object t))) (sym here) | false ↦ same ]
+new_target : (ids : List ℕ) (s : Option ℕ) (before : Option Kind) (n w t : ℕ) (v : Value) → identity v ≡ Some t → has_identity_in ids v ≡ false → s ≡ aimed_at ids before
+    → unwrap_or (at_key (λ i j. i == j) w (option_map (λ t. (n, Some t)) (identity v))) s ≡ aimed_at ids (unwrap_or (at_key (λ i j. i == j) w (Some (n, Some (weakref_to v)))) before)
+new_target ids s before n w t v is here same =
+    subst (λ o. unwrap_or (at_key (λ i j. i == j) w (option_map (λ t. (n, Some t)) o)) s ≡ aimed_at ids (unwrap_or (at_key (λ i j. i == j) w (Some (n, Some (weakref_to v)))) before)) (sym is)
+    (elim (n == w) as (λ b. unwrap_or (cond b (Some (Some t)) None) s ≡ aimed_at ids (unwrap_or (cond b (Some (Some (weakref_to v))) None) before))
+    [ true ↦ sym is ∙ ap (λ b. option_and_then identity (cond b None (Some v))) (sym here) | false ↦ same ])
 
 aims_at_none : (into : Receivers) (h : History) (e : Event) (w : ℕ) → LegalBy [] into h → Lawful [] into h e
     → ((q : ℕ × Option Kind) → born e ≡ Some q → option_and_then aims q.1 ≡ None)
     → (q : ℕ × Option Kind) → born e ≡ Some q → (option_and_then aims q.1 ≡ None) × (q.0 ≡ w → option_and_then aims (kind h w) ≡ None)
 aims_at_none into h e w legal lawful none q is = (
   none q is,
-  λ same. subst (λ o. first_target h o ≡ None) (born_next into h e q lawful is ∙ same) (next_target into h legal),
+  λ same. subst (λ o. first_target h o ≡ None) (born_next [] into h e q lawful is ∙ same) (next_target into h legal),
 )
 
 ordinary_born : (c : Command) (vs : List Value) (r : Answer) → option_and_then aims (kind_made c vs) ≡ None → (q : ℕ × Option Kind) → born (Did c vs r) ≡ Some q → option_and_then aims q.1 ≡ None
 ordinary_born c vs r none q e = let b = birth c vs r q e in ap (option_and_then aims) (b.1 ∙ sym b.2) ∙ none
 
 target_step : (into : Receivers) (h : History) (e : Event) (s : Option ℕ) (w : ℕ) → LegalBy [] into h → Lawful [] into h e → Stays into h
-    → option_map Object s ≡ aimed_at (gone h) (kind h w) → option_map Object (unwrap_or (at_key (λ i j. i == j) w (points e)) s) ≡ aimed_at (gone h) (kind (e ∷ h) w)
+    → s ≡ aimed_at (gone h) (kind h w) → unwrap_or (at_key (λ i j. i == j) w (points e)) s ≡ aimed_at (gone h) (kind (e ∷ h) w)
 target_step into h (Did (WeakRef to y) vs r) s w legal lawful stays same =
     let ok = accepted (first_refusal (tests [] h (WeakRef to y) vs)) (result [] h (WeakRef to y) vs) r lawful.1 in
-    let object = held_weakly_object (first vs) (first_holds (is_held_weakly (first vs)) NotHeldWeakly (room h ∷ []) ok.0).0 in
+    let held = held_weakly_identity (first vs) (first_holds (is_held_weakly (first vs)) NotHeldWeakly (room h ∷ []) ok.0).0 in
     let read : Alive h (first vs) = subst (Alive h) (ap first (sym lawful.0)) (first_of (Alive h) into h (reads (WeakRef to y)) stays.held) in
-    let here : is_in (gone h) object.0 ≡ false = subst (λ v. has_identity_in (gone h) v ≡ false) object.1 read in
-    subst (λ r. option_map Object (unwrap_or (at_key (λ i j. i == j) w (points (Did (WeakRef to y) vs r))) s) ≡ aimed_at (gone h) (kind (Did (WeakRef to y) vs r ∷ h) w)) ok.1
-    (subst (λ v. option_map Object (unwrap_or (at_key (λ i j. i == j) w (option_map (λ t. (made h + 1, Some t)) (object_of v))) s) ≡ aimed_at (gone h) (unwrap_or (at_key (λ i j. i == j) w (Some (made h + 1, Some (weakref_to v)))) (kind h w)))
-    (sym object.1) (new_target (gone h) s (kind h w) (made h + 1) w object.0 here same))
+    subst (λ r. unwrap_or (at_key (λ i j. i == j) w (points (Did (WeakRef to y) vs r))) s ≡ aimed_at (gone h) (kind (Did (WeakRef to y) vs r ∷ h) w)) ok.1
+    (new_target (gone h) s (kind h w) (made h + 1) w held.0 (first vs) held.1 read same)
 target_step into h (Did c vs r) s w legal lawful stays same =
     plain_target (gone h) s (kind h w) (born (Did c vs r)) w same (aims_at_none into h (Did c vs r) w legal lawful (ordinary_born c vs r refl))
 target_step into h e s w legal lawful stays same =
@@ -131,7 +130,7 @@ says_after into h s t e f legal lawful stays silent says are applied = let quiet
   properties = λ o k here. applied.properties o k ∙ ap (λ p. unwrap_or (at_key same_key (o, k) p) (property s.heap o k)) are.put
       ∙ ap (unwrap_or (at_key same_key (o, k) (put e))) (says.properties o k (sym (same_gone h e o quiet) ∙ here));
   keys = λ o here. applied.keys o ∙ ap (λ p. keys_after o p (keys s.heap o)) are.put ∙ ap (keys_after o (put e)) (says.keys o (sym (same_gone h e o quiet) ∙ here));
-  targets = λ w here. ap (option_map Object) (applied.targets w ∙ ap (λ p. unwrap_or (at_key (λ i j. i == j) w p) (target s.weakrefs w)) are.points)
+  targets = λ w here. applied.targets w ∙ ap (λ p. unwrap_or (at_key (λ i j. i == j) w p) (target s.weakrefs w)) are.points
       ∙ target_step into h e (target s.weakrefs w) w legal lawful stays (says.targets w (sym (same_gone h e w quiet) ∙ here))
       ∙ ap (λ ids. aimed_at (ids ++ gone h) (kind (e ∷ h) w)) (sym quiet);
   callbacks = λ r. applied.callbacks r

@@ -27,7 +27,7 @@ use Rattle.es_event.proofs.Entries.{mapped}
 use Rattle.es_event.proofs.Holds.{second_of}
 use Rattle.es_tables.specs.declared.registries.RegistryChange.TheVariants.{Leaves, Registers, Unregisters, Queues}
 use Rattle.es_tables.specs.Registries.{change, change_by, made_by as registry_made_by, callback_after, cells_after, queue_after, again_at}
-use Rattle.es_tables.proofs.Fresh.{next_kind, born_next}
+use Rattle.es_event.proofs.Births.{next_kind, born_next}
 use Rattle.es_tables.proofs.Slots.{slots, slots_same, slots_registered, slots_unregistered, slots_taken}
 
 -- no emptying
@@ -151,7 +151,7 @@ none_called : (into : Receivers) (h : History) (e : Event) (r : ℕ) → LegalBy
     → (q : ℕ × Option Kind) → born e ≡ Some q → (option_and_then callback_in q.1 ≡ None) × (q.0 ≡ r → option_and_then callback_in (kind h r) ≡ None)
 none_called into h e r legal lawful none q is = (
   none q is,
-  λ same. subst (λ o. callback h o ≡ None) (born_next into h e q lawful is ∙ same) (ap (option_and_then callback_in) (next_kind into h legal)),
+  λ same. subst (λ o. callback h o ≡ None) (born_next [] into h e q lawful is ∙ same) (ap (option_and_then callback_in) (next_kind [] into h legal)),
 )
 
 uncalled : (c : Command) (vs : List Value) (r : Answer) → option_and_then callback_in (kind_made c vs) ≡ None → (q : ℕ × Option Kind) → born (Did c vs r) ≡ Some q → option_and_then callback_in q.1 ≡ None

@@ -20,7 +20,7 @@ use Rattle.es_event.proofs.Alive.{next_alive}
 use Rattle.es_event.proofs.Births.{birth}
 use Rattle.es_tables.specs.declared.tags.Tag.{Tag}
 use Rattle.es_tables.specs.Tags.{tag_at, tag_of, tag_said, tag_made, tag_made_at}
-use Rattle.es_tables.proofs.Fresh.{next_kind, born_next}
+use Rattle.es_event.proofs.Births.{next_kind, born_next}
 
 -- One place more
 
@@ -75,7 +75,7 @@ other_at (Some q) before i other =
 
 -- every other identity keeps its kind
 kind_other : (into : Receivers) (h : History) (e : Event) (i : ℕ) → Lawful [] into h e → (i ≡ made h + 1 → ⊥) → kind (e ∷ h) i ≡ kind h i
-kind_other into h e i lawful other = other_at (born e) (kind h i) i (λ q is same. other (sym (born_next into h e q lawful is ∙ same)))
+kind_other into h e i lawful other = other_at (born e) (kind h i) i (λ q is same. other (sym (born_next [] into h e q lawful is ∙ same)))
 
 kind_quiet : (h : History) (e : Event) (i : ℕ) → makes_at e ≡ 0 → kind (e ∷ h) i ≡ kind h i
 kind_quiet h e i none = other_at (born e) (kind h i) i (λ q is same. let one : makes_at e ≡ 1 = born_counted e q is in absurd (omega (arith, none, one)))
@@ -95,7 +95,7 @@ tag_new h _ vs t e none = cc
 tag_next : (into : Receivers) (h : History) (e : Event) (t : Tag) (i : ℕ) → LegalBy [] into h → Lawful [] into h e → tag_made_at e ≡ Some t → i ≡ made h + 1 → tag_of (kind (e ∷ h) i) ≡ t
 tag_next into h (Did c vs r) t i legal lawful is same =
     subst (λ r. tag_of (kind (Did c vs r ∷ h) i) ≡ t) (is_result [] h c vs r lawful.1)
-    (subst (λ j. tag_of (kind (Did c vs (result [] h c vs) ∷ h) j) ≡ t) (sym same) (tag_new h c vs t is (next_kind into h legal)))
+    (subst (λ j. tag_of (kind (Did c vs (result [] h c vs) ∷ h) j) ≡ t) (sym same) (tag_new h c vs t is (next_kind [] into h legal)))
 tag_next into h _ t i legal lawful is same = cc
 
 -- Tags

@@ -12,7 +12,7 @@ use Rattle.es_event.specs.declared.command.Command.{Command}
 use Rattle.es_event.specs.declared.command.Command.TheVariants.{WeakRef}
 use Rattle.es_event.specs.Commands.{first}
 use Rattle.es_event.specs.History.{History, at_key}
-use Rattle.es_event.specs.Identities.{born, object_of}
+use Rattle.es_event.specs.Identities.{identity, born}
 use Rattle.es_event.specs.Jobs.{Receivers}
 use Rattle.es_event.specs.Variables.{assigned}
 use Rattle.es_event.specs.Properties.{put, same_key, keys_after}
@@ -31,9 +31,9 @@ use Rattle.es_tables.specs.Tables.{State, bound}
 abbrev pub object_born : Event → Option ℕ
 object_born e = option_map (λ b. b.0) (born e)
 
--- the WeakRef that the command makes, with its target where that is an object; no other makes one
+-- the WeakRef that the command makes, with the identity of its target; no other makes one
 abbrev pub points_by : Command → List Value → Answer → Option (ℕ × Option ℕ)
-points_by (WeakRef to y) vs (Gives (Object w)) = option_map (λ t. (w, Some t)) (object_of (first vs))
+points_by (WeakRef to y) vs (Gives (Object w)) = option_map (λ t. (w, Some t)) (identity (first vs))
 points_by _ vs r = None
 
 -- the WeakRef that the event makes, with its target

@@ -1,12 +1,14 @@
 -- Internal: what the tables of an agent say, and that they say what its history says.
-use Rattle.std.specs.Prelude.{ℕ, ◌≡◌, ◌<◌, ◌&&◌, not, false, List, [], ◌++◌, map, Option, Some, None, unwrap_or, is_some, length, reverse, if◌then◌else◌}
+use Rattle.std.specs.Prelude.{ℕ, ◌≡◌, ◌<◌, ◌&&◌, not, false, List, [], ◌++◌, map, Some, None, unwrap_or, is_some, length, reverse, if◌then◌else◌}
 use Rattle.std.specs.Map.{lookup}
 use Rattle.std.specs.Option.{option_map, option_and_then}
 use Rattle.std.specs.Str.{bytes_eq}
 use Rattle.es_value.specs.declared.value.Value.{Value}
-use Rattle.es_value.specs.declared.value.Value.TheVariants.{Undefined, Object}
+use Rattle.es_value.specs.declared.value.Value.TheVariants.{Undefined}
+use Rattle.es_value.specs.Values.{identity}
 use Rattle.es_props.specs.Heap.{Store, object, has, property, keys}
-use Rattle.es_weakref.specs.WeakRefs.{Contents, target, unless_among}
+use Rattle.es_weakref.specs.WeakRefs.{Contents, unless_among}
+pub use Rattle.es_weakref.specs.WeakRefs.{target}
 use Rattle.es_ephemeron.specs.Ephemerons.{Contents as WeakContents, record_at, Unchanged, Empties}
 use Rattle.es_registry.specs.declared.slot.Slot.{Slot}
 use Rattle.es_registry.specs.declared.slot.Slot.TheVariants.{Present, Unregistered, Taken}
@@ -57,10 +59,6 @@ pub record IsNew (s : State) : Type 0 where
   pub cells : s.registries.cells ≡ []
   pub queue : s.registries.queue ≡ []
   pub tags : s.tags.all ≡ []
-
--- the target of w, as a value
-abbrev pub aimed : Contents → ℕ → Option Value
-aimed t w = option_map Object (target t w)
 
 -- the heaps say the same
 pub record SameHeap (s t : Store) : Type 0 where
@@ -115,7 +113,7 @@ pub record Says (into : Receivers) (h : History) (s : State) : Type 0 where
   pub objects : (o : ℕ) → has s.heap o ≡ (is_some (kind h o) && not (is_gone h o))
   pub properties : (o : ℕ) (k : List ℕ) → is_gone h o ≡ false → property s.heap o k ≡ prop h o k
   pub keys : (o : ℕ) → is_gone h o ≡ false → keys s.heap o ≡ keys_said h o
-  pub targets : (w : ℕ) → is_gone h w ≡ false → aimed s.weakrefs w ≡ target_said h w
+  pub targets : (w : ℕ) → is_gone h w ≡ false → target s.weakrefs w ≡ option_and_then identity (target_said h w)
   pub kept : reverse s.weakrefs.kept ≡ kept h
   pub entries : (m k : ℕ) → record_at s.weak.entries.all m k ≡ (if is_gone h m then None else entry h m k)
   pub members : (m k : ℕ) → is_some (record_at s.weak.members.all m k) ≡ (if is_gone h m then false else is_member h m k)

@@ -212,10 +212,9 @@ fn points_by(command: &Command, values: &[Value], answer: &Answer) -> Option<(Id
     ensures { with_option result ≡ points_by command.now values.now answer.now }
 {
     match (command, answer) {
-        (Command::WeakRef { .. }, Answer::Gives(Value::Object(weakref))) => match values.first() {
-            Some(Value::Object(target)) => Some((*weakref, *target)),
-            _ => None,
-        },
+        (Command::WeakRef { .. }, Answer::Gives(Value::Object(weakref))) => {
+            Some((*weakref, values.first()?.identity()?))
+        }
         // no other command makes a WeakRef
         _ => None,
     }

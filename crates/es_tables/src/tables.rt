@@ -5,7 +5,7 @@ ghost use Rattle.std.specs.List.{filter, list_any, range_with_len};
 ghost use Rattle.std.specs.Option.{option_copied};
 ghost use Rattle.es_value.specs.Limits.{most_identities};
 ghost use Rattle.es_mark.specs.Marks.{is_marked};
-ghost use Rattle.es_props.specs.Heap.{property, keys, HasProperties};
+ghost use Rattle.es_props.specs.Heap.{has, property, keys, HasProperties};
 ghost use Rattle.es_weakref.specs.WeakRefs.{target as target_of};
 ghost use Rattle.es_tables.specs.Effects.{Applied};
 ghost use Rattle.es_ephemeron.specs.Ephemerons.{record_at};
@@ -74,6 +74,13 @@ impl Tables {
         ensures { IfOk result (λ v. v ≡ bound self.now.variables name.now) }
     {
         self.variables.value(name)
+    }
+
+    /// Whether the identity is an object that is there.
+    pub fn has(&self, id: Id) -> bool
+        ensures { result ≡ has self.now.heap id }
+    {
+        self.heap.has(id)
     }
 
     /// The value under a key of an object, if the object has it (OrdinaryGet).

@@ -329,7 +329,7 @@ fn effects(alloc: Global, event: Event) -> Result<Effects, Fail> {
     Ok(effects?)
 }
 
-/// Whether the effects are those of making WeakRef 2 to object 1, and of nothing else.
+/// Whether the effects are those of making WeakRef 2 to what is numbered 1, and of nothing else.
 fn make_a_weakref(made: &Effects) -> bool {
     made.put.is_none()
         && made.born == Some(Id::of(2))
@@ -339,11 +339,10 @@ fn make_a_weakref(made: &Effects) -> bool {
         && made.assigned.is_some()
 }
 
-#[test]
-fn effects_are_those_of_the_event(rt: HostRuntime) -> Result<(), Fail> {
-    let alloc = rt.alloc();
+/// Whether a WeakRef to this value, which is numbered 1, has those effects.
+fn weakref_aims_at(alloc: Global, target: Value) -> Result<bool, Fail> {
+    let values = vec![in alloc; target]?;
     let to = Name::read(alloc, "w")?;
-    let values = vec![in alloc; Value::Object(Id::of(1))]?;
     let made = effects(
         alloc,
         Event::Did {
@@ -357,7 +356,15 @@ fn effects_are_those_of_the_event(rt: HostRuntime) -> Result<(), Fail> {
     )?;
     let as_expected = make_a_weakref(&made);
     drop(made);
-    assert!(rt; as_expected);
+    Ok(as_expected)
+}
+
+#[test]
+fn effects_are_those_of_the_event(rt: HostRuntime) -> Result<(), Fail> {
+    let object = weakref_aims_at(rt.alloc(), Value::Object(Id::of(1)))?;
+    let symbol = weakref_aims_at(rt.alloc(), Value::Symbol(Id::of(1)))?;
+    assert!(rt; object);
+    assert!(rt; symbol);
     Ok(())
 }
 

@@ -33,7 +33,7 @@ fn plan_of<R: Abort + AllocGlobal>(
 
 /// What an agent says that runs such a plan, and then how many registrations have each fate: live,
 /// awaiting, unregistered, taken.
-fn said_by<R: Abort + AllocGlobal>(
+pub(super) fn said_by<R: Abort + AllocGlobal>(
     rt: &R,
     callback: &[&[&str]],
     first: &[&[&str]],
