@@ -4,11 +4,13 @@
 mod command;
 mod event;
 mod laws;
+mod ledger_event;
 mod literal;
 mod log;
 mod operands;
 mod outcome;
 mod plan;
+mod row;
 mod sequence;
 
 pub use command::{Command, OperandNames};
@@ -22,11 +24,13 @@ pub use laws::{
     reached_is_led_to, some_event_comes_next, tests_lose_nothing, the_dead_are_one_list,
     the_dead_can_be_listed, what_a_cell_holds_is_live, what_is_held_is_live,
 };
+pub use ledger_event::{Body, LedgerEvent};
 pub use literal::Literal;
 pub use log::Log;
 pub use operands::Operands;
 pub use outcome::Outcome;
 pub use plan::{AgentPlan, Callback, Job, Plan};
+pub use row::{Entry, Holder, Row};
 pub use sequence::Sequence;
 
 #[cfg(test)]
