@@ -1,5 +1,5 @@
 -- To believe: which histories of the ledger of n agents are legal (Agent Clusters, Data Blocks, The Atomics Object).
-use Rattle.std.specs.Prelude.{ℕ, zero, suc, ◌≡◌, ◌≢◌, ◌+◌, ◌<◌, ◌&&◌, ◌||◌, not, ⊤, Bool, true, false, [], ◌∷◌, Option, Some, None, is_some, nat_lt}
+use Rattle.std.specs.Prelude.{ℕ, zero, suc, ◌≡◌, ◌≢◌, ◌+◌, ◌<◌, ◌^◌, ◌&&◌, ◌||◌, not, ⊤, Bool, true, false, [], ◌∷◌, Option, Some, None, is_some, nat_lt}
 use Rattle.std.specs.Option.{option_and_then, option_map_or}
 use Rattle.es_event.specs.declared.ledger_event.Body.{Body}
 use Rattle.es_event.specs.declared.ledger_event.Body.TheVariants.{Plain, Block}
@@ -60,9 +60,9 @@ MayCome n l (Posted a r m) = (a < n) × (r < n) × (a ≢ r) × IsPostable l a m
 MayCome n l (Taken r s) = has_message l s r ≡ true
 MayCome n l (Spent s) = is_some (holder_of l s) ≡ true
 MayCome n l (Loaded s i w) = Reaches (holder_of l s) i (λ r. w ≡ word l r.block i)
-MayCome n l (Stored s i w) = Reaches (holder_of l s) i (λ r. ⊤)
+MayCome n l (Stored s i w) = Reaches (holder_of l s) i (λ r. w < 2 ^ 32)
 MayCome n l (Added s i old m) = Reaches (holder_of l s) i (λ r. old ≡ word l r.block i)
-MayCome n l (Waiting a s) = (a < n) × (has_message l s a ≡ false) × (waits l a ≡ None) × (ended l a ≡ false)
+MayCome n l (Waiting a s) = (a < n) × (s < n) × (a ≢ s) × (has_message l s a ≡ false) × (waits l a ≡ None) × (ended l a ≡ false)
 MayCome n l (Passed a s) = (waits l a ≡ Some s) × (skips l n a s ≡ true)
 MayCome n l (Ended a) = (a < n) × (ended l a ≡ false)
 MayCome n l (Drained r s) = (all_ended l n ≡ true) × (has_message l s r ≡ true)

@@ -1,0 +1,60 @@
+-- An agent ends: one fewer is left.
+use Rattle.std.proofs.Common.{◌≡◌, ◌≢◌, ℕ, zero, suc, ◌+◌, ◌<◌, ◌≤◌, ◌==◌, ◌||◌, List, ◌∷◌, Bool, true, false, cond, refl, sym, ap, ◌∙◌, subst, arith, length-set, zero-add, eq-eqb, ne_eqb}
+use Rattle.std.proofs.lemmas.Bool.{eqb-true, false≢true}
+use Rattle.std.proofs.lemmas.List.{get_or-set_same, get_or-set_other}
+use Rattle.std.specs.Prelude.{slice_set, slice_index_or}
+use Rattle.es_event.specs.declared.ledger_event.LedgerEvent.TheVariants.{Ended}
+use Rattle.es_event.specs.declared.row.Entry.{Entry}
+use Rattle.es_event.specs.Ledger.{Ledger, opened, ended}
+use Rattle.es_ledger.specs.declared.blocks.Counted.{Counted}
+use Rattle.es_ledger.specs.Ties.{left, Ties}
+use Rattle.es_ledger.proofs.Tying.{next_legal}
+
+-- those below an agent are as they were
+left_below : (l : Ledger) (a n : ℕ) → n ≤ a → left (Ended a ∷ l) n ≡ left l n
+left_below l a zero below = refl
+left_below l a (suc n) below =
+    ap (λ b. cond (b || ended l n) 0 1 + left (Ended a ∷ l) n) (ne_eqb a n (λ same. absurd (omega (arith, same, below))))
+    ∙ ap (λ m. cond (ended l n) 0 1 + m) (left_below l a n (omega (arith, below)))
+
+-- and it was one of those that are left
+pub left_ended : (l : Ledger) (a n : ℕ) → a < n → ended l a ≡ false → left l n ≡ suc (left (Ended a ∷ l) n)
+left_ended l a zero below before = absurd (omega (arith, below))
+left_ended l a (suc n) below before = by_test (a == n) refl (λ smaller. left_ended l a n smaller before)
+  where
+    by_test : (s : Bool) → (a == n) ≡ s → (a < n → left l n ≡ suc (left (Ended a ∷ l) n)) → cond (ended l n) 0 1 + left l n ≡ suc (cond (s || ended l n) 0 1 + left (Ended a ∷ l) n)
+    by_test true is earlier =
+        let same = eqb-true a n is in
+        let one : ◌≡◌ {A = ℕ} (cond (ended l n) 0 1) 1 = ap (λ b. cond b 0 1) (subst (λ c. ended l c ≡ false) same before) in
+        let rest = left_below l a n (omega (arith, same)) in
+        omega (arith, one, rest)
+    by_test false is earlier =
+        let apart : a ≢ n = λ same. absurd (false≢true (sym is ∙ eq-eqb a n same)) in
+        let rest = earlier (omega (arith, apart, below)) in
+        omega (arith, rest)
+
+pub ended_ties : (n : ℕ) (l : Ledger) (lines : List Entry) (blocks : List Counted) (ends : List Bool) (places more a : ℕ)
+    → Ties n l lines blocks ends places → a < n → ended l a ≡ false → places ≤ more + 1 → Ties n (Ended a ∷ l) lines blocks (slice_set ends a true) more
+ended_ties n l lines blocks ends places more a ties below before room = record {
+  few = ties.few;
+  legal = next_legal n l (Ended a) ties.legal (below, before) refl;
+  tabled = ties.tabled;
+  made = ties.made ∙ sym (zero-add (opened l));
+  tickets = ties.tickets;
+  sizes = ties.sizes;
+  words = ties.words;
+  agents = length-set ends a true ∙ ties.agents;
+  over = λ c within. by_test c within (a == c) refl;
+  room = let fewer = left_ended l a n below before in let all = ties.room in omega (arith, room, fewer, all);
+}
+  where
+    by_test : (c : ℕ) → c < n → (s : Bool) → (a == c) ≡ s → slice_index_or (slice_set ends a true) c false ≡ (s || ended l c)
+    by_test c within true is =
+        subst (λ d. slice_index_or (slice_set ends a true) d false ≡ true) (eqb-true a c is)
+        (get_or-set_same ends a true false (let long = ties.agents in omega (arith, long, below)))
+    by_test c within false is = get_or-set_other ends a c true false (λ e. absurd (false≢true (sym is ∙ eq-eqb a c (sym e)))) ∙ ties.over c within
+
+-- there is room for the end of an agent that has not ended
+pub ended_room : (n : ℕ) (l : Ledger) (lines : List Entry) (blocks : List Counted) (ends : List Bool) (places a : ℕ)
+    → Ties n l lines blocks ends places → a < n → ended l a ≡ false → 0 < places
+ended_room n l lines blocks ends places a ties below before = let fewer = left_ended l a n below before in let room = ties.room in omega (arith, fewer, room)

@@ -1,0 +1,49 @@
+-- To believe: what is proved of every history of the ledger, a sentence each.
+use Rattle.std.specs.Prelude.{ℕ, zero, suc, ◌≡◌, ◌+◌, ◌↔◌, true, map, ◌∷◌, Option, Some, None}
+use Rattle.std.specs.List.{range_with_len}
+use Rattle.std.specs.Option.{option_map}
+use Rattle.es_event.specs.declared.ledger_event.LedgerEvent.{LedgerEvent}
+use Rattle.es_event.specs.declared.ledger_event.LedgerEvent.TheVariants.{Opened, Posted, Taken, Spent, Loaded, Stored, Added, Waiting, Passed, Ended, Drained}
+use Rattle.es_event.specs.Rows.{held, in_port, count_of}
+use Rattle.es_event.specs.Ledger.{Ledger, serials, table, count, is_opened, is_released, holder_of}
+use Rattle.es_event.specs.LegalLedger.{LegalSoFar}
+
+-- The table has one line for each ticket that was made, by rising serial, from 1.
+abbrev pub TicketsAreNumbered : Type 0
+TicketsAreNumbered = (n : ℕ) (l : Ledger) → LegalSoFar n l → map (λ e. e.row.serial) (table l) ≡ range_with_len 1 (serials l)
+
+-- the sum of f over the numbers below n
+abbrev pub sum_below : ℕ → (ℕ → ℕ) → ℕ
+sum_below zero f = 0
+sum_below (suc n) f = f n + sum_below n f
+
+-- How many tickets of a block there are is the sum over the agents and the ports.
+abbrev pub CountsAreSums : Type 0
+CountsAreSums =
+    (n : ℕ) (l : Ledger) (b : ℕ) → LegalSoFar n l
+    → count l b ≡ sum_below n (λ a. count_of (held a (table l)) b) + sum_below n (λ s. sum_below n (λ r. count_of (in_port s r (table l)) b))
+
+-- A block that was made is released exactly where no agent and no port holds a ticket of it.
+abbrev pub ReleasedWhereNobodyHolds : Type 0
+ReleasedWhereNobodyHolds =
+    (l : Ledger) (b : ℕ) → is_opened l b ≡ true
+    → (is_released l b ≡ true) ↔ (((a : ℕ) → count_of (held a (table l)) b ≡ 0) × ((s r : ℕ) → count_of (in_port s r (table l)) b ≡ 0))
+
+-- the agent whose list of tickets the event may change
+abbrev pub owner : Ledger → LedgerEvent → Option ℕ
+owner l (Opened b w s a) = Some a
+owner l (Posted a r m) = None
+owner l (Taken r s) = Some r
+owner l (Spent s) = option_map (λ p. p.0) (holder_of l s)
+owner l (Loaded s i w) = None
+owner l (Stored s i w) = None
+owner l (Added s i old m) = None
+owner l (Waiting a s) = None
+owner l (Passed a s) = None
+owner l (Ended a) = None
+owner l (Drained r s) = None
+
+-- What one agent does changes no other agent's list of tickets.
+abbrev pub WhatOneAgentDoesChangesNoOther : Type 0
+WhatOneAgentDoesChangesNoOther =
+    (n : ℕ) (l : Ledger) (e : LedgerEvent) (a : ℕ) → LegalSoFar n (e ∷ l) → (owner l e ≡ Some a → ⊥) → held a (table (e ∷ l)) ≡ held a (table l)

@@ -1,0 +1,4 @@
+pub mod Blocks
+pub mod Books
+pub mod Ties
+pub mod Laws

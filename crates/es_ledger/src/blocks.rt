@@ -1,0 +1,133 @@
+//! The blocks of a ledger: the words of each, and how many tickets of it are not spent.
+
+ghost use Rattle.std.specs.Prelude.{◌≡◌, ◌<◌, ◌^◌, ◌≤◌, ◌+◌, ◌-◌, ◌++◌, ◌∷◌, [], ◌↔◌, IsTrue, length, replicate, IfOk, OnOk, Some};
+ghost use Rattle.es_block.specs.Words.{word, with_word, sum};
+ghost use Rattle.es_ledger.specs.Blocks.{tickets_at, words_at, lost, rewritten};
+
+use es_block::Block;
+use es_value::NoMemory;
+use std::alloc::Global;
+use std::marker::Model;
+
+/// A block that was made: its words, until it is released, and how many tickets of it there are.
+#[derive(Drop, Debug)]
+pub(crate) struct Counted {
+    words: Option<Block>,
+    tickets: u64,
+}
+
+/// All blocks that were made, by number, from 1.
+#[derive(Drop, Debug)]
+pub(crate) struct Blocks {
+    all: Vec<Counted>,
+}
+
+impl Model for Blocks {
+    ghost use Rattle.std.specs.Prelude.{◌-◌, vec_len, vec_capacity};
+    ghost use Rattle.es_ledger.specs.Blocks.{Contents};
+
+    ghost Value = { Contents };
+
+    ghost view = { λ b. record { all = b.all.items; room = vec_capacity b.all - vec_len b.all } };
+}
+
+impl Blocks {
+    pub fn new(alloc: Global) -> Blocks
+        ensures { result.all ≡ [] }
+    {
+        Blocks {
+            all: Vec::new(alloc),
+        }
+    }
+
+    /// How many were made.
+    pub fn made(&self) -> usize
+        ensures count { result ≡ length self.now.all }
+        ensures small { result < 2 ^ 63 }
+    {
+        self.all.len()
+    }
+
+    /// Makes room for one more.
+    pub fn reserve(&mut self) -> Result<(), NoMemory>
+        ensures same { self.new.all ≡ self.old.all }
+        ensures room { OnOk result (0 < self.new.room) }
+    {
+        self.all.reserve(1)?;
+        Ok(())
+    }
+
+    /// One more, with one ticket.
+    pub fn push(&mut self, block: Block)
+        requires { 0 < self.old.room }
+        ensures { self.new.all ≡ self.old.all ++ (record { words = Some block; tickets = 1 }) ∷ [] }
+    {
+        self.all.push_reserved(Counted {
+            words: Some(block),
+            tickets: 1,
+        });
+    }
+
+    /// How many tickets there are of the block of this number, 0 where it was not made.
+    pub fn tickets(&self, number: u64) -> u64
+        ensures { result ≡ tickets_at self.now.all number }
+    {
+        if number == 0 {
+            return 0;
+        }
+        match self.all.get(number as usize - 1) {
+            Some(counted) => counted.tickets,
+            None => 0,
+        }
+    }
+
+    /// The word at an index of a block that is not released.
+    pub fn load(&self, number: u64, index: usize) -> u32
+        requires { index < length (words_at self.now.all number) }
+        ensures { result ≡ word (words_at self.now.all number) index }
+    {
+        match &self.all[number as usize - 1].words {
+            Some(words) => words.load(index),
+            None => unreachable!(),
+        }
+    }
+
+    /// Writes the word at an index of a block that is not released.
+    pub fn store(&mut self, number: u64, index: usize, word: u32)
+        requires { index < length (words_at self.old.all number) }
+        ensures { self.new.all ≡ rewritten self.old.all number (with_word (words_at self.old.all number) index word) }
+    {
+        match &mut self.all[number as usize - 1].words {
+            Some(words) => words.store(index, word),
+            None => unreachable!(),
+        }
+    }
+
+    /// Adds to the word at an index of a block that is not released, and gives what was there.
+    pub fn add(&mut self, number: u64, index: usize, addend: u32) -> u32
+        requires { index < length (words_at self.old.all number) }
+        ensures was { result ≡ word (words_at self.old.all number) index }
+        ensures now { self.new.all ≡ rewritten self.old.all number (with_word (words_at self.old.all number) index (sum (word (words_at self.old.all number) index) addend)) }
+    {
+        match &mut self.all[number as usize - 1].words {
+            Some(words) => words.add(index, addend),
+            None => unreachable!(),
+        }
+    }
+
+    /// One ticket less of a block that has one. With the last one its words are given back.
+    pub fn lose(&mut self, number: u64) -> bool
+        requires { 0 < tickets_at self.old.all number }
+        ensures now { self.new.all ≡ lost self.old.all number }
+        ensures released { IsTrue result ↔ (tickets_at self.old.all number ≡ 1) }
+    {
+        let counted = &mut self.all[number as usize - 1];
+        counted.tickets -= 1;
+        if counted.tickets == 0 {
+            counted.words = None;
+            true
+        } else {
+            false
+        }
+    }
+}

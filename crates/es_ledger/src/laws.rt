@@ -1,0 +1,24 @@
+//! What holds of every history of the ledger. Each law is the contract of a function that does nothing.
+
+ghost use Rattle.es_ledger.specs.Laws.{TicketsAreNumbered, CountsAreSums, ReleasedWhereNobodyHolds, WhatOneAgentDoesChangesNoOther};
+
+/// The ledger's table has one line for each ticket that was made, in order of making.
+pub fn tickets_are_numbered()
+    ensures { TicketsAreNumbered }
+{}
+
+/// How many tickets of a block there are is the sum over all agents and all ports (ECMA-262, Agent
+/// Clusters; that blocks are counted by tickets is this host's).
+pub fn counts_are_sums()
+    ensures { CountsAreSums }
+{}
+
+/// A block is released exactly where no agent and no message holds a ticket of it.
+pub fn released_where_nobody_holds()
+    ensures { ReleasedWhereNobodyHolds }
+{}
+
+/// What one agent does changes no other agent's list of tickets.
+pub fn what_one_agent_does_changes_no_other()
+    ensures { WhatOneAgentDoesChangesNoOther }
+{}

@@ -1,0 +1,252 @@
+//! The ledger of an agent cluster.
+
+ghost use Rattle.std.specs.Prelude.{◌≡◌, ◌<◌, ◌+◌, ◌∷◌, [], ◌++◌, ◌↔◌, ℕ, Bool, List, IsTrue, IfOk, OnOk, OnErr, false, length, Some, slice_get, reverse, count_by, if◌then◌else◌};
+ghost use Rattle.std.specs.List.{Contains};
+ghost use Rattle.es_ticket.specs.Shares.{Share, erase};
+ghost use Rattle.es_event.specs.declared.row.Row.{Row};
+ghost use Rattle.es_event.specs.Rows.{row, held};
+ghost use Rattle.es_event.specs.Ledger.{opened, serials, table, count, word, ended};
+ghost use Rattle.es_event.specs.LegalLedger.{LegalLedger};
+ghost use Rattle.es_event.specs.declared.ledger_event.LedgerEvent.TheVariants.{Opened as OpenedEvent, Spent as SpentEvent, Loaded, Stored, Added, Ended as EndedEvent};
+
+use crate::blocks::Blocks;
+use es_block::Block;
+use es_event::{LedgerEvent, Log};
+use es_ticket::{Opened, Rows, Run, Stake, Ticket};
+use es_value::NoMemory;
+use std::alloc::Global;
+use std::marker::Model;
+
+/// What the spending of a ticket did.
+#[derive(Clone, Copy, Debug, PartialEq, Eq)]
+pub struct Spent {
+    /// It was the last ticket of its block, whose words are given back.
+    pub released: bool,
+}
+
+/// The ledger of the run L: which blocks there are, who holds a ticket of which, and its history.
+#[derive(Drop)]
+pub struct LedgerCore<L: Run> {
+    rows: Rows<L>,
+    blocks: Blocks,
+    // whether each agent ended
+    ended: Vec<bool>,
+    history: Log<LedgerEvent>,
+    alloc: Global,
+}
+
+impl<L: Run> Model for LedgerCore<L> {
+    ghost use Rattle.es_ledger.specs.Books.{Books};
+    ghost use Rattle.es_ledger.specs.Ties.{Ties};
+
+    ghost Value = { Books };
+
+    ghost view = { λ c. record { agents = c.rows.agents; history = c.history.events } };
+
+    ghost invariant = { λ c. Ties c.rows.agents c.history.events c.rows.rows c.blocks.all c.ended.items c.history.room };
+}
+
+impl<L: Run> LedgerCore<L> {
+    /// The ledger of so many agents, and a stake for each, by rising number.
+    pub fn new(
+        alloc: Global,
+        opened: Opened,
+        agents: usize,
+    ) -> Result<(LedgerCore<L>, Vec<Stake<L>>), NoMemory>
+        requires name { opened ≡ L.table }
+        requires few { agents < 9 }
+        ensures ledger { IfOk result (λ r. (r.0.agents ≡ agents) × (r.0.history ≡ [])) }
+        ensures stakes { IfOk result (λ r. length r.1.items ≡ agents) }
+        ensures empty { IfOk result (λ r. (i : ℕ) (s : Share) → slice_get r.1.items i ≡ Some s → (s.agent ≡ i) × (s.rows ≡ [])) }
+    {
+        let mut stakes = Vec::with_capacity(alloc, agents)?;
+        let mut ended = Vec::with_capacity(alloc, agents)?;
+        let mut history = Log::new(alloc);
+        history.reserve(agents)?;
+        let mut rows = opened.named::<L>(alloc);
+        for _ in 0..agents {
+            stakes.push_reserved(rows.deal());
+            ended.push_reserved(false);
+        }
+        let ledger = LedgerCore {
+            rows,
+            blocks: Blocks::new(alloc),
+            ended,
+            history,
+            alloc,
+        };
+        Ok((ledger, stakes))
+    }
+
+    /// Makes a block of so many words, each 0, and its first ticket, which the stake's agent holds.
+    /// Where there is no memory nothing has changed.
+    pub fn open_block(&mut self, stake: &mut Stake<L>, words: usize) -> Result<Ticket<L>, NoMemory>
+        requires { stake.old.agent < self.old.agents }
+        ensures ticket { IfOk result (λ t. t ≡ row (serials self.old.history + 1) (opened self.old.history + 1) words) }
+        ensures history { IfOk result (λ t. self.new.history ≡ OpenedEvent t.block words t.serial stake.old.agent ∷ self.old.history) }
+        ensures agents { self.new.agents ≡ self.old.agents }
+        ensures stake { IfOk result (λ t. (stake.new.agent ≡ stake.old.agent) × (stake.new.rows ≡ stake.old.rows ++ t ∷ [])) }
+        ensures err { OnErr result ((self.new ≡ self.old) × (stake.new ≡ stake.old)) }
+    {
+        let block = Block::new(self.alloc, words)?;
+        self.blocks.reserve()?;
+        self.history
+            .reserve(self.rows.made() + self.ended.as_slice().len() + 2)?;
+        let number = self.blocks.made() as u64 + 1;
+        let ticket = self.rows.open(stake, number, words)?;
+        self.blocks.push(block);
+        self.history.append(LedgerEvent::Opened {
+            block: number,
+            words,
+            serial: ticket.serial(),
+            agent: stake.number(),
+        });
+        Ok(ticket)
+    }
+
+    /// Spends a ticket of the stake's agent. It takes no memory, and always succeeds.
+    pub fn spend(&mut self, stake: &mut Stake<L>, ticket: Ticket<L>) -> Spent
+        requires { Contains stake.old.rows ticket }
+        ensures history { (self.new.agents ≡ self.old.agents) × (self.new.history ≡ SpentEvent ticket.serial ∷ self.old.history) }
+        ensures released { IsTrue result.released ↔ (count self.new.history ticket.block ≡ 0) }
+        ensures stake { (stake.new.agent ≡ stake.old.agent) × (stake.new.rows ≡ erase ticket.serial stake.old.rows) }
+        ensures place { (xs ys : List Row) → stake.old.rows ≡ xs ++ ticket ∷ ys → stake.new.rows ≡ xs ++ ys }
+        ensures counts { (p : Row → Bool) → count_by p stake.old.rows ≡ count_by p stake.new.rows + (if p ticket then 1 else 0) }
+    {
+        let serial = ticket.serial();
+        let block = ticket.block();
+        self.rows.look(stake);
+        self.rows.spend(stake, ticket);
+        let released = self.blocks.lose(block);
+        self.history.append(LedgerEvent::Spent { serial });
+        Spent { released }
+    }
+
+    /// Changes nothing, and tells that the stake's tickets are those that the history says its agent
+    /// holds.
+    pub fn look(&mut self, stake: &mut Stake<L>)
+        ensures same { (self.new ≡ self.old) × (stake.new ≡ stake.old) }
+        ensures told { stake.old.rows ≡ held stake.old.agent (table self.old.history) }
+    {
+        self.rows.look(stake);
+    }
+
+    /// Reads a word through a ticket (ECMA-262, Atomics.load). Where there is no memory nothing has
+    /// changed. The block is never found gone.
+    pub fn load(
+        &mut self,
+        stake: &mut Stake<L>,
+        ticket: &Ticket<L>,
+        index: usize,
+    ) -> Result<u32, NoMemory>
+        requires here { Contains stake.old.rows ticket.now }
+        requires inside { index < ticket.now.words }
+        ensures word { IfOk result (λ w. w ≡ word self.old.history ticket.now.block index) }
+        ensures history { IfOk result (λ w. (self.new.agents ≡ self.old.agents) × (self.new.history ≡ Loaded ticket.now.serial index w ∷ self.old.history)) }
+        ensures there { 0 < count self.old.history ticket.now.block }
+        ensures stake { stake.new ≡ stake.old }
+        ensures err { OnErr result (self.new ≡ self.old) }
+    {
+        self.rows.look(stake);
+        self.history
+            .reserve(self.rows.made() + self.ended.as_slice().len() + 1)?;
+        let word = self.blocks.load(ticket.block(), index);
+        self.history.append(LedgerEvent::Loaded {
+            serial: ticket.serial(),
+            index,
+            word,
+        });
+        Ok(word)
+    }
+
+    /// Writes a word through a ticket (ECMA-262, Atomics.store). Where there is no memory nothing has
+    /// changed. The block is never found gone.
+    pub fn store(
+        &mut self,
+        stake: &mut Stake<L>,
+        ticket: &Ticket<L>,
+        index: usize,
+        word: u32,
+    ) -> Result<(), NoMemory>
+        requires here { Contains stake.old.rows ticket.now }
+        requires inside { index < ticket.now.words }
+        ensures history { OnOk result ((self.new.agents ≡ self.old.agents) × (self.new.history ≡ Stored ticket.now.serial index word ∷ self.old.history)) }
+        ensures there { 0 < count self.old.history ticket.now.block }
+        ensures stake { stake.new ≡ stake.old }
+        ensures err { OnErr result (self.new ≡ self.old) }
+    {
+        self.rows.look(stake);
+        self.history
+            .reserve(self.rows.made() + self.ended.as_slice().len() + 1)?;
+        self.blocks.store(ticket.block(), index, word);
+        self.history.append(LedgerEvent::Stored {
+            serial: ticket.serial(),
+            index,
+            word,
+        });
+        Ok(())
+    }
+
+    /// Adds to a word through a ticket, modulo 2^32, and gives the word that was there (ECMA-262,
+    /// Atomics.add). Where there is no memory nothing has changed. The block is never found gone.
+    pub fn add(
+        &mut self,
+        stake: &mut Stake<L>,
+        ticket: &Ticket<L>,
+        index: usize,
+        addend: u32,
+    ) -> Result<u32, NoMemory>
+        requires here { Contains stake.old.rows ticket.now }
+        requires inside { index < ticket.now.words }
+        ensures word { IfOk result (λ w. w ≡ word self.old.history ticket.now.block index) }
+        ensures history { IfOk result (λ w. (self.new.agents ≡ self.old.agents) × (self.new.history ≡ Added ticket.now.serial index w addend ∷ self.old.history)) }
+        ensures there { 0 < count self.old.history ticket.now.block }
+        ensures stake { stake.new ≡ stake.old }
+        ensures err { OnErr result (self.new ≡ self.old) }
+    {
+        self.rows.look(stake);
+        self.history
+            .reserve(self.rows.made() + self.ended.as_slice().len() + 1)?;
+        let old = self.blocks.add(ticket.block(), index, addend);
+        self.history.append(LedgerEvent::Added {
+            serial: ticket.serial(),
+            index,
+            old,
+            addend,
+        });
+        Ok(old)
+    }
+
+    /// An agent that has not ended ends. It takes no memory.
+    pub fn ended(&mut self, agent: usize)
+        requires known { agent < self.old.agents }
+        requires before { ended self.old.history agent ≡ false }
+        ensures { (self.new.agents ≡ self.old.agents) × (self.new.history ≡ EndedEvent agent ∷ self.old.history) }
+    {
+        self.ended[agent] = true;
+        self.history.append(LedgerEvent::Ended { agent });
+    }
+
+    /// Whether an agent ended.
+    pub fn has_ended(&self, agent: usize) -> bool
+        requires { agent < self.now.agents }
+        ensures { result ≡ ended self.now.history agent }
+    {
+        self.ended[agent]
+    }
+
+    /// How many tickets of a block there are, 0 where it was not made.
+    pub fn count(&self, block: u64) -> u64
+        ensures { result ≡ count self.now.history block }
+    {
+        self.blocks.tickets(block)
+    }
+
+    /// What happened, the oldest first.
+    pub fn history(&self) -> &[LedgerEvent]
+        ensures value { reverse result.now ≡ self.now.history }
+        ensures legal { LegalLedger self.now.agents self.now.history }
+    {
+        self.history.as_slice()
+    }
+}

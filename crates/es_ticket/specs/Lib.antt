@@ -1,0 +1,4 @@
+pub mod NoTable
+pub mod Numbered
+pub mod Views
+pub mod Shares

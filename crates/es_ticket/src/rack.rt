@@ -1,0 +1,135 @@
+//! Racks of tickets.
+
+ghost use Rattle.std.specs.Prelude.{◌≡◌, ◌<◌, ◌≤◌, ◌+◌, ℕ, true, [], ◌∷◌, ◌++◌, Some, None, is_some, length, slice_index_or, IfOk, IfErr, OnOk, IsOk, IfSome, IfNone};
+ghost use Rattle.std.specs.List.{insert, remove};
+ghost use Rattle.es_ticket.specs.Shares.{at, placed, removed, is_rising_from};
+ghost use Rattle.es_event.specs.declared.row.Row.{Row};
+
+use crate::kept::Kept;
+use crate::run::Run;
+use crate::ticket::Ticket;
+use es_value::{Id, NoMemory};
+use std::alloc::Global;
+use std::marker::Model;
+
+/// The tickets of an agent, by buffer object (the SharedArrayBuffer objects over their blocks).
+/// They lie by rising identity.
+pub struct Rack<L: Run> {
+    kept: Vec<Kept<L>>,
+}
+
+impl<L: Run> Model for Rack<L> {
+    ghost use Rattle.std.specs.Prelude.{◌≡◌, ◌-◌, true, vec_len, vec_capacity};
+    ghost use Rattle.es_ticket.specs.Shares.{Racked, is_rising_from};
+
+    ghost Value = { Racked };
+
+    ghost view = { λ r. record { tickets = r.kept.items; room = vec_capacity r.kept - vec_len r.kept } };
+
+    ghost invariant = { λ r. is_rising_from 0 r.kept.items ≡ true };
+}
+
+impl<L: Run> Rack<L> {
+    /// An empty rack. It takes no memory.
+    pub fn new(alloc: Global) -> Rack<L>
+        ensures { result.tickets ≡ [] }
+    {
+        Rack {
+            kept: Vec::new(alloc),
+        }
+    }
+
+    /// Makes room, so that the next `more` puts succeed.
+    pub fn reserve(&mut self, more: usize) -> Result<(), NoMemory>
+        ensures same { self.new.tickets ≡ self.old.tickets }
+        ensures grown { self.old.room ≤ self.new.room }
+        ensures room { OnOk result (more ≤ self.new.room) }
+    {
+        self.kept.reserve(more)?;
+        Ok(())
+    }
+
+    /// Puts the ticket of a buffer object, which has none yet, in its place. It comes back where
+    /// there is no memory.
+    pub fn put(&mut self, id: Id, ticket: Ticket<L>) -> Result<(), (Ticket<L>, NoMemory)>
+        requires { at id self.old.tickets ≡ None }
+        ensures ok { OnOk result (self.new.tickets ≡ placed id ticket self.old.tickets) }
+        ensures err { IfErr result (λ e. (e.0 ≡ ticket) × (self.new.tickets ≡ self.old.tickets)) }
+        ensures roomy { 0 < self.old.room → IsOk result × (self.new.room + 1 ≡ self.old.room) }
+    {
+        let Err(place) = place_of(&self.kept, id) else {
+            unreachable!()
+        };
+        match self.kept.insert(place, Kept { id, ticket }) {
+            Ok(()) => Ok(()),
+            Err(failed) => {
+                let Kept { id: _, ticket } = failed.value;
+                Err((ticket, NoMemory))
+            }
+        }
+    }
+
+    /// The ticket of a buffer object that has one.
+    pub fn get(&self, id: Id) -> &Ticket<L>
+        requires { is_some (at id self.now.tickets) ≡ true }
+        ensures { Some result.now ≡ at id self.now.tickets }
+    {
+        let Ok(place) = place_of(&self.kept, id) else {
+            unreachable!()
+        };
+        self.kept[place].ticket()
+    }
+
+    /// Takes the ticket of a buffer object that has one. It takes no memory.
+    pub fn take(&mut self, id: Id) -> Ticket<L>
+        requires { is_some (at id self.old.tickets) ≡ true }
+        ensures ticket { Some result ≡ at id self.old.tickets }
+        ensures rest { self.new.tickets ≡ removed id self.old.tickets }
+        ensures room { self.new.room ≡ self.old.room + 1 }
+    {
+        let Ok(place) = place_of(&self.kept, id) else {
+            unreachable!()
+        };
+        let Kept { id: _, ticket } = self.kept.remove(place);
+        ticket
+    }
+
+    /// Takes the ticket of the newest buffer object. It takes no memory.
+    pub fn pop(&mut self) -> Option<Ticket<L>>
+        ensures some { IfSome result (λ t. (i : ℕ) × (self.old.tickets ≡ self.new.tickets ++ (i, t) ∷ []) × (self.new.room ≡ self.old.room + 1)) }
+        ensures none { IfNone result ((self.old.tickets ≡ []) × (self.new.tickets ≡ []) × (self.new.room ≡ self.old.room)) }
+    {
+        match self.kept.pop() {
+            Some(kept) => {
+                let Kept { id: _, ticket } = kept;
+                Some(ticket)
+            }
+            None => None,
+        }
+    }
+
+    /// How many tickets there are.
+    pub fn len(&self) -> usize
+        ensures { result ≡ length self.now.tickets }
+    {
+        self.kept.len()
+    }
+
+    /// Ends an empty rack.
+    pub fn end(self)
+        requires { self.tickets ≡ [] }
+    {
+        let Rack { kept } = self;
+        kept.destroy_empty();
+    }
+}
+
+// The place of a buffer object, or the one where it would come.
+fn place_of<L: Run>(kept: &[Kept<L>], id: Id) -> Result<usize, usize>
+    requires { is_rising_from 0 kept.now ≡ true }
+    ensures found { IfOk result (λ i. (i < length kept.now) × (removed id kept.now ≡ remove kept.now i) × ((d : ℕ × Row) → at id kept.now ≡ Some (slice_index_or kept.now i d).1)) }
+    ensures positive { 0 < id }
+    ensures missing { IfErr result (λ i. (i ≤ length kept.now) × (at id kept.now ≡ None) × ((r : Row) → placed id r kept.now ≡ insert kept.now i (id, r))) }
+{
+    kept.binary_search_by_key(&id.number(), |one| one.number())
+}
