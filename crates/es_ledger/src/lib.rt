@@ -1,4 +1,5 @@
-//! The ledger of an agent cluster: which Shared Data Blocks there are, who holds a ticket of which, and what happened.
+//! The ledger of an agent cluster: which Shared Data Blocks there are, who holds a ticket of which,
+//! and what happened.
 #![tactic(auto)]
 
 mod blocks;
