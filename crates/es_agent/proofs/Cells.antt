@@ -14,7 +14,7 @@ use Rattle.es_event.specs.declared.event.Event.{Event}
 use Rattle.es_event.specs.declared.event.Event.TheVariants.{CleanupBegun, Taken}
 use Rattle.es_event.specs.declared.plan.AgentPlan.{AgentPlan}
 use Rattle.es_event.specs.Jobs.{receivers, job, cleaning}
-use Rattle.es_event.specs.Order.{Phase, between, inside, stopped, ended, phase, left, queue, clean, take_cell, end_job, due, due_at, due_after, due_inside, due_between, due_job}
+use Rattle.es_event.specs.Order.{Phase, between, handed, inside, stopped, ended, phase, left, queue, clean, take_cell, end_job, due, due_at, due_after, due_inside, due_between, due_job}
 use Rattle.es_event.specs.Follows.{Permits}
 use Rattle.es_agent.specs.Book.{Book, IsNext}
 use Rattle.es_agent.specs.NextCell.{next_taken, IsNextCell, FindsNextCell}
@@ -150,6 +150,7 @@ takes_between plan h (r ∷ rs) n e = cc
 
 pub takes_next : (plan : AgentPlan) (h : History) (p : Phase) (n : ℕ) → due_at plan h p ≡ take_cell n → next_taken h ≡ Some n
 takes_next plan h between n e = absurd (takes_between plan h (queue h) n e)
+takes_next plan h handed n e = cc
 takes_next plan h inside n e = takes_inside h (left plan h) n e
 takes_next plan h stopped n e = cc
 takes_next plan h ended n e = cc
@@ -161,7 +162,7 @@ pub taking_next : (b : Book) (c : KeptCell) (n : ℕ) (e : Event) → due b.plan
 taking_next b c n e is found event =
     subst (IsNext b) (sym event) (record {
       lawful = (found.held, found.awaits);
-      permitted = subst (λ d. Permits [] (receivers b.plan.jobs) b.history d (Taken c.registration c.held)) (sym is) (sym (number_is b.history c n (takes_next b.plan b.history (phase b.history) n is) found));
+      permitted = subst (λ d. Permits b.over (receivers b.plan.jobs) b.history d (Taken c.registration c.held)) (sym is) (sym (number_is b.history c n (takes_next b.plan b.history (phase b.history) n is) found));
     })
 
 pub some_found : (b : Book) (n : ℕ) → due b.plan b.history ≡ take_cell n → FindsNextCell b.history None → ⊥
@@ -191,6 +192,7 @@ cleans_inside h (c ∷ cs) r e = cc
 
 cleans_next : (plan : AgentPlan) (h : History) (p : Phase) (r : ℕ) → due_at plan h p ≡ clean r → slice_get (queue h) 0 ≡ Some r
 cleans_next plan h between r e = cleans_between plan h (queue h) r e
+cleans_next plan h handed r e = cc
 cleans_next plan h inside r e = absurd (cleans_inside h (left plan h) r e)
 cleans_next plan h stopped r e = cc
 cleans_next plan h ended r e = cc
@@ -199,7 +201,7 @@ pub cleaning_next : (b : Book) (q r : ℕ) (kept : List ℕ) → due b.plan b.hi
 cleaning_next b q r kept is says first =
     let f : Some q ≡ Some r = first ∙ (ap (λ k. slice_get k 0) says ∙ cleans_next b.plan b.history (phase b.history) r is) in
     let same : q ≡ r = cc in
-    record { lawful = tt; permitted = subst (λ d. Permits [] (receivers b.plan.jobs) b.history d (CleanupBegun q)) (sym is) same }
+    record { lawful = tt; permitted = subst (λ d. Permits b.over (receivers b.plan.jobs) b.history d (CleanupBegun q)) (sym is) same }
 
 pub some_queued : (b : Book) (r : ℕ) (kept : List ℕ) → due b.plan b.history ≡ clean r → kept ≡ queue b.history → None ≡ slice_get kept 0 → ⊥
 some_queued b r kept is says none =

@@ -10,7 +10,7 @@ use Rattle.es_event.specs.History.{History}
 use Rattle.es_event.specs.Identities.{identity, gone, is_gone, is_in, kind}
 use Rattle.es_event.specs.Jobs.{Receivers}
 use Rattle.es_event.specs.WeakRefs.{first_target, target as target_said}
-use Rattle.es_event.specs.Rules.{Buffers}
+use Rattle.es_event.specs.Sharing.{Buffers}
 use Rattle.es_event.specs.Legal.{LegalBy}
 use Rattle.es_event.proofs.Objects.{with_identity, target_told, target_identity}
 use Rattle.es_event.proofs.Targets.{target_from}

@@ -8,7 +8,6 @@ ghost use Rattle.es_event.specs.Live.{Honest};
 ghost use Rattle.es_event.specs.Order.{due};
 ghost use Rattle.es_event.specs.Runs.{IsRun};
 ghost use Rattle.es_agent.specs.Book.{Book, need, IsNext, Records, RecordsNext, EmptiesDead};
-ghost use Rattle.es_event.specs.Jobs.{waits_for_nobody};
 ghost use Rattle.es_cursor.specs.Cursor.{IsAt};
 ghost use Rattle.es_cursor.specs.Due.{shown};
 ghost use Rattle.es_tables.specs.Effects.{AreEffects};
@@ -52,17 +51,17 @@ pub struct AgentCore {
 }
 
 impl Model for AgentCore {
-    ghost use Rattle.std.specs.Prelude.{◌≡◌, ◌≢◌, ◌<◌, codes};
+    ghost use Rattle.std.specs.Prelude.{◌≡◌, ◌≢◌, ◌<◌, [], codes};
     ghost use Rattle.es_event.specs.Order.{phase, ended};
     ghost use Rattle.es_agent.specs.Book.{Book};
     ghost use Rattle.es_agent.specs.Ties.{Ties};
 
     ghost Value = { Book };
 
-    ghost view = { λ a. record { plan = a.plan; number = a.number; agents = a.agents; history = a.events.events } };
+    ghost view = { λ a. record { plan = a.plan; number = a.number; agents = a.agents; over = []; history = a.events.events } };
 
     // there is room for the closing event, until it stands
-    ghost invariant = { λ a. Ties a.plan a.events.events a.tables a.cursor × (a.held ≡ codes "held") × (phase a.events.events ≢ ended → 0 < a.events.room) };
+    ghost invariant = { λ a. Ties [] a.plan a.events.events a.tables a.cursor × (a.held ≡ codes "held") × (phase a.events.events ≢ ended → 0 < a.events.room) };
 }
 
 impl AgentCore {
@@ -73,8 +72,7 @@ impl AgentCore {
         number: usize,
         agents: usize,
     ) -> Result<AgentCore, NoMemory>
-        requires { waits_for_nobody plan ≡ true }
-        ensures { IfOk result (λ a. a ≡ record { plan = plan; number = number; agents = agents; history = [] }) }
+        ensures { IfOk result (λ a. a ≡ record { plan = plan; number = number; agents = agents; over = []; history = [] }) }
     {
         let held = held_name(alloc)?;
         let mut events = Log::new(alloc);
@@ -181,6 +179,7 @@ impl AgentCore {
     {
         match self.cursor.position {
             Position::Between => self.due_between(),
+            Position::Handed => Due::Begin(self.cursor.job),
             Position::Inside(at) => due_command(commands(&self.plan, self.cursor.job), at),
             Position::Cleaning(cleanup) => self.due_cleaning(cleanup),
             Position::Stopped | Position::CleanupStopped(_) => Due::EndJob,
@@ -215,7 +214,7 @@ impl AgentCore {
     fn record(&mut self, step: Step) -> Result<(), NoMemory>
         requires need { need self.old ≡ Need.Local }
         requires next { IsNext self.old step.event }
-        requires effects { AreEffects (again_at self.old.history) step.event step.effects }
+        requires effects { AreEffects (codes "held") (again_at self.old.history) step.event step.effects }
         ensures ok { OnOk result (Records self.old step.event self.new) }
         ensures err { OnErr result (self.new ≡ self.old) }
     {

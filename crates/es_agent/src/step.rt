@@ -20,9 +20,9 @@ impl Step {
     pub fn of(event: Event, held: &Name, again: Option<Id>) -> Result<Step, NoMemory>
         requires { held.now ≡ codes "held" }
         ensures event { IfOk result (λ s. s.event ≡ event) }
-        ensures effects { IfOk result (λ s. AreEffects again event s.effects) }
+        ensures effects { IfOk result (λ s. AreEffects held.now again event s.effects) }
     {
-        match effects_of(&event, held, again) {
+        match effects_of(&event, held, held, again) {
             Ok(effects) => Ok(Step { event, effects }),
             Err(error) => Err(error),
         }

@@ -11,12 +11,13 @@ use Rattle.es_event.specs.declared.event.Event.TheVariants.{Did, Emptied, Closed
 use Rattle.es_event.specs.declared.plan.AgentPlan.{AgentPlan}
 use Rattle.es_event.specs.History.{History}
 use Rattle.es_event.specs.Jobs.{Receivers, job, cleaning}
+use Rattle.es_event.specs.Sharing.{Buffers}
 use Rattle.es_event.specs.Order.{phase, left, job_commands}
 use Rattle.es_event.proofs.Awaiting.{between_clean}
 use Rattle.es_event.proofs.Coming.{Comes, closes}
 use Rattle.es_cursor.specs.declared.cursor.Cursor.{Cursor}
 use Rattle.es_cursor.specs.declared.cursor.Position.{Position}
-use Rattle.es_cursor.specs.declared.cursor.Position.TheVariants.{Between, Inside, Stopped, Cleaning, CleanupStopped, Ended}
+use Rattle.es_cursor.specs.declared.cursor.Position.TheVariants.{Between, Handed, Inside, Stopped, Cleaning, CleanupStopped, Ended}
 use Rattle.es_cursor.specs.Cursor.{IsAt, IsCursorOf, commands_of, position_after}
 
 -- Commands
@@ -37,6 +38,7 @@ pub record OfCommand (plan : AgentPlan) (h : History) (e : Event) : Type 0 where
 
 place_after_command : (plan : AgentPlan) (h : History) (e : Event) (n : ℕ) (p : Position) → OfCommand plan h e → n ≡ job h → IsAt plan h p → IsAt plan (e ∷ h) (position_after plan n p)
 place_after_command plan h e n Between of is at = (of.phase ∙ at.0, of.cleaning ∙ at.1)
+place_after_command plan h e n Handed of is at = (of.phase ∙ at.0, of.cleaning ∙ at.1, subst (λ j. j ≤ length plan.jobs) of.job at.2)
 place_after_command plan h e n (Inside k) of is at = (
   of.phase ∙ at.0,
   of.cleaning ∙ at.1,
@@ -71,6 +73,6 @@ after_emptied plan h ids cursor p is stands = after_command plan h (Emptied ids)
 
 -- The end of an agent
 
-pub after_closed : (into : Receivers) (plan : AgentPlan) (h : History) (c : Cursor) → Comes [] into plan h (phase h) Closed → IsCursorOf plan h c
+pub after_closed : (over : Buffers) (into : Receivers) (plan : AgentPlan) (h : History) (c : Cursor) → Comes over into plan h (phase h) Closed → IsCursorOf plan h c
     → IsCursorOf plan (Closed ∷ h) (record { job = c.job; position = Ended })
-after_closed into plan h c (closes at none) stands = record { job = omega (arith, stands.job); position = (refl, between_clean h at) }
+after_closed over into plan h c (closes at none) stands = record { job = omega (arith, stands.job); position = (refl, between_clean h at) }

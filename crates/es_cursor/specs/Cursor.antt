@@ -5,11 +5,11 @@ use Rattle.es_event.specs.declared.command.Command.{Command}
 use Rattle.es_event.specs.declared.plan.AgentPlan.{AgentPlan}
 use Rattle.es_event.specs.History.{History}
 use Rattle.es_event.specs.Jobs.{job, cleaning}
-use Rattle.es_event.specs.Order.{phase, between, inside, stopped, ended, job_commands, callback_commands, left}
+use Rattle.es_event.specs.Order.{phase, between, inside, stopped, ended, job_commands, callback_commands, left, handed}
 use Rattle.es_cursor.specs.declared.cursor.Cursor.{Cursor}
 use Rattle.es_cursor.specs.declared.cursor.Cleanup.{Cleanup}
 use Rattle.es_cursor.specs.declared.cursor.Position.{Position}
-use Rattle.es_cursor.specs.declared.cursor.Position.TheVariants.{Between, Inside, Stopped, Cleaning, CleanupStopped, Ended}
+use Rattle.es_cursor.specs.declared.cursor.Position.TheVariants.{Between, Handed, Inside, Stopped, Cleaning, CleanupStopped, Ended}
 
 -- the commands of this callback, none where there is no callback
 abbrev pub commands_of : AgentPlan → Option ℕ → List Command
@@ -24,6 +24,7 @@ pub record IsCleaning (plan : AgentPlan) (h : History) (c : Cleanup) : Type 0 wh
 -- the history leads to this place
 abbrev pub IsAt : AgentPlan → History → Position → Type 0
 IsAt plan h Between = (phase h ≡ between) × (cleaning h ≡ None)
+IsAt plan h Handed = (phase h ≡ handed) × (cleaning h ≡ None) × (job h ≤ length plan.jobs)
 IsAt plan h (Inside at) = (phase h ≡ inside) × (cleaning h ≡ None) × (left plan h ≡ drop at (job_commands plan (job h))) × (job h ≤ length plan.jobs)
 IsAt plan h Stopped = (phase h ≡ stopped) × (cleaning h ≡ None) × (job h ≤ length plan.jobs)
 IsAt plan h (Cleaning c) = IsCleaning plan h c

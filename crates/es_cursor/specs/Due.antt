@@ -1,12 +1,13 @@
 -- Internal: what is due, as the code has it.
 use Rattle.std.specs.Prelude.{List, [], ◌∷◌}
 use Rattle.es_event.specs.declared.command.Command.{Command}
-use Rattle.es_event.specs.Order.{Due as DueSaid, begin, run, clean, take_cell, end_job, close, nothing}
+use Rattle.es_event.specs.Order.{Due as DueSaid, begin, run, clean, take_cell, end_job, close, nothing, receive}
 use Rattle.es_cursor.specs.declared.due.Due.{Due}
-use Rattle.es_cursor.specs.declared.due.Due.TheVariants.{Begin, Run, Clean, Take, EndJob, Close, Nothing}
+use Rattle.es_cursor.specs.declared.due.Due.TheVariants.{Begin, Receive, Run, Clean, Take, EndJob, Close, Nothing}
 
 abbrev pub shown : Due → DueSaid
 shown (Begin n) = begin n
+shown (Receive n s) = receive n s
 shown (Run c) = run c.now
 shown (Clean r) = clean r
 shown (Take n) = take_cell n

@@ -8,7 +8,7 @@ ghost use Rattle.es_event.specs.Jobs.{receivers, cleaning, job as job_said};
 ghost use Rattle.es_event.specs.Order.{due, due_between, job_commands, callback_commands};
 ghost use Rattle.es_event.specs.Registrations.{callback as callback_said};
 ghost use Rattle.es_event.specs.Follows.{Permits};
-ghost use Rattle.es_event.specs.Jobs.{waits_for_nobody};
+ghost use Rattle.es_event.specs.Sharing.{Buffers};
 ghost use Rattle.es_cursor.specs.Due.{shown};
 ghost use Rattle.es_cursor.specs.Cursor.{IsCursorOf, commands_of, at_after, job_passed, position_after, position_stopped, position_taken};
 
@@ -30,6 +30,8 @@ pub struct Cursor {
 pub enum Position {
     /// Between two jobs.
     Between,
+    /// Before a job that was handed the message that it waited for.
+    Handed,
     /// Inside a job of the plan, with this many commands done.
     Inside(usize),
     /// Inside a job of the plan that a refusal stopped.
@@ -60,15 +62,20 @@ impl Cursor {
         position: Position::Between,
     };
 
-    /// The job of the plan that comes next, or the closing.
+    /// The job of the plan that comes next, or its message, or the closing.
     pub fn due_job<'a>(&self, plan: &'a AgentPlan) -> Due<'a>
         requires { 0 < self.now.job }
-        ensures { (h : History) → waits_for_nobody plan.now ≡ true → self.now.job ≡ job_said h → shown result ≡ due_between plan.now h [] }
+        ensures { (h : History) → self.now.job ≡ job_said h → shown result ≡ due_between plan.now h [] }
     {
-        if self.job > plan.jobs.as_slice().len() {
-            Due::Close
-        } else {
-            Due::Begin(self.job)
+        match plan.jobs.as_slice().get(self.job - 1) {
+            Some(job) => match &job.on {
+                Some((sender, _)) => Due::Receive {
+                    job: self.job,
+                    sender: *sender,
+                },
+                None => Due::Begin(self.job),
+            },
+            None => Due::Close,
         }
     }
 
@@ -76,7 +83,7 @@ impl Cursor {
     /// `callback` is the number of its registry's callback.
     pub fn after(&self, event: &Event, plan: &AgentPlan, callback: Option<usize>) -> Cursor
         requires { 0 < self.now.job }
-        ensures { (h : History) → IsCursorOf plan.now h self.now → Permits [] (receivers plan.now.jobs) h (due plan.now h) event.now → ((n : ℕ) (held : HeldValue) → event.now ≡ Event.Taken n held → option_and_then (callback_said h) (cleaning h) ≡ callback) → IsCursorOf plan.now (event.now ∷ h) result }
+        ensures { (h : History) → IsCursorOf plan.now h self.now → (over : Buffers) → Permits over (receivers plan.now.jobs) h (due plan.now h) event.now → ((n : ℕ) (held : HeldValue) → event.now ≡ Event.Taken n held → option_and_then (callback_said h) (cleaning h) ≡ callback) → IsCursorOf plan.now (event.now ∷ h) result }
     {
         let job = self.job;
         match event {
@@ -92,6 +99,10 @@ impl Cursor {
                     at: 0,
                 }),
             },
+            Event::Received { .. } => Cursor {
+                job,
+                position: Position::Handed,
+            },
             Event::Did { .. } | Event::Emptied { .. } => Cursor {
                 job,
                 position: self.position.after_command(plan, job),
@@ -106,6 +117,10 @@ impl Cursor {
             },
             Event::JobEnded => Cursor {
                 job: self.job_after(plan),
+                position: Position::Between,
+            },
+            Event::Skipped { .. } => Cursor {
+                job: next_below(job, plan.jobs.as_slice().len() + 1),
                 position: Position::Between,
             },
             Event::Closed => Cursor {

@@ -10,6 +10,8 @@ use es_event::Command;
 pub enum Due<'a> {
     /// The job of this number, counted from 1, begins.
     Begin(usize),
+    /// The job of this number, counted from 1, takes a message of its sender, or is skipped.
+    Receive { job: usize, sender: usize },
     /// A command is run.
     Run(&'a Command),
     /// The cleanup job of the registry that is first in the queue begins: the number of its identity.

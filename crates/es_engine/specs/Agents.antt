@@ -2,6 +2,7 @@
 use Rattle.std.specs.Prelude.{ℕ, ◌≡◌, false}
 use Rattle.es_event.specs.declared.plan.AgentPlan.{AgentPlan}
 use Rattle.es_event.specs.Order.{phase, ended, is_cleaning_up}
+use Rattle.es_event.specs.Runs.{IsRun}
 use Rattle.es_event.proofs.Work.{plan_work}
 use Rattle.es_agent.specs.Book.{Book}
 
@@ -19,3 +20,4 @@ pub record HasCleanedUp (old new : Book) : Type 0 where
   pub agents_is : new.agents ≡ old.agents
   pub work : plan_work new.plan new.history ≡ plan_work old.plan old.history
   pub done : is_cleaning_up new.history ≡ false
+  pub run : IsRun new.plan new.history

@@ -3,7 +3,7 @@ use Rattle.std.specs.Prelude.{ℕ, ◌≡◌, ◌≤◌, ⊤, Bool, true, false,
 use Rattle.std.specs.Io.KnownBytes.{Appends, Consumes, IsAtEnd}
 use Rattle.std.specs.List.{list_all}
 use Rattle.es_value.specs.Limits.{longest_plan}
-use Rattle.es_event.specs.Jobs.{waits_for_nobody}
+use Rattle.es_event.specs.Jobs.{stays_alone}
 use Rattle.es_event.specs.declared.outcome.Outcome.{Outcome}
 use Rattle.es_event.specs.declared.plan.Plan.{Plan}
 use Rattle.es_event.specs.Report.{report}
@@ -12,9 +12,9 @@ use Rattle.es_engine.specs.declared.run_fault.RunFault.{RunFault}
 use Rattle.es_engine.specs.declared.run_fault.RunFault.TheVariants.{Script, NoMemory, Read, Write}
 use Rattle.es_script.specs.Fault.{IsPlanOf, fault_of}
 
--- no job of any agent waits for a message
-abbrev pub has_no_message_job : Plan → Bool
-has_no_message_job p = list_all waits_for_nobody p.agents
+-- each agent stays alone
+abbrev pub stay_alone : Plan → Bool
+stay_alone p = list_all stays_alone p.agents
 
 -- the reader gave these bytes and then its end, and they are no more than a plan has at most
 pub record GaveAll (old new : Option (List ℕ)) (bytes : List ℕ) : Type 0 where

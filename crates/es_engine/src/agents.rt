@@ -3,10 +3,10 @@
 ghost use Rattle.std.specs.Prelude.{◌≡◌, IfOk, OnOk, OnErr, true};
 ghost use Rattle.es_event.specs.Runs.{IsOutcome};
 ghost use Rattle.es_agent.specs.Book.{need, EmptiesDead};
-ghost use Rattle.es_event.specs.Jobs.{waits_for_nobody, callbacks_collect_nothing};
+ghost use Rattle.es_event.specs.Jobs.{stays_alone, callbacks_collect_nothing};
 ghost use Rattle.es_script.specs.Grammar.{no_callback_collects};
 ghost use Rattle.es_report.specs.Tallies.{AreTallies};
-ghost use Rattle.es_engine.specs.Engine.{has_no_message_job};
+ghost use Rattle.es_engine.specs.Engine.{stay_alone};
 ghost use Rattle.es_engine.specs.Agents.{IsClosed, HasCleanedUp};
 
 use es_agent::{AgentCore, Need};
@@ -24,7 +24,7 @@ pub(crate) struct Ended {
 
 /// Runs the agents of a plan by rising number, each from its first job to its closing.
 pub(crate) fn run_plan(alloc: Global, plan: Plan) -> Result<Ended, NoMemory>
-    requires waits { has_no_message_job plan ≡ true }
+    requires alone { stay_alone plan ≡ true }
     requires collects { no_callback_collects plan ≡ true }
     ensures outcome { IfOk result (λ r. IsOutcome plan r.outcome) }
     ensures tallies { IfOk result (λ r. AreTallies r.outcome.histories r.tallies.items) }
@@ -55,7 +55,7 @@ fn run_agent(
     number: usize,
     agents: usize,
 ) -> Result<AgentCore, NoMemory>
-    requires waits { waits_for_nobody plan ≡ true }
+    requires alone { stays_alone plan ≡ true }
     requires collects { callbacks_collect_nothing plan ≡ true }
     ensures { IfOk result (IsClosed plan number agents) }
 {
@@ -66,7 +66,7 @@ fn run_agent(
 
 /// Takes an agent's steps until it has closed.
 fn run_to_end(core: &mut AgentCore) -> Result<(), NoMemory>
-    requires waits { waits_for_nobody core.old.plan ≡ true }
+    requires alone { stays_alone core.old.plan ≡ true }
     requires collects { callbacks_collect_nothing core.old.plan ≡ true }
     ensures { OnOk result (IsClosed core.old.plan core.old.number core.old.agents core.new) }
 {
@@ -76,6 +76,8 @@ fn run_to_end(core: &mut AgentCore) -> Result<(), NoMemory>
             Need::Local => core.perform()?,
             Need::Collect => collect(core)?,
             Need::Close => core.close(),
+            // an agent that stays alone asks for neither
+            Need::Ledger | Need::Message(_) => unreachable!(),
             Need::Ended => return Ok(()),
         }
     }
@@ -83,7 +85,8 @@ fn run_to_end(core: &mut AgentCore) -> Result<(), NoMemory>
 
 /// Works the cleanup queue off: takes an agent's steps until no cleanup job is under way or due.
 fn clean_up(core: &mut AgentCore) -> Result<(), NoMemory>
-    requires { callbacks_collect_nothing core.old.plan ≡ true }
+    requires collects { callbacks_collect_nothing core.old.plan ≡ true }
+    requires alone { stays_alone core.old.plan ≡ true }
     ensures { OnOk result (HasCleanedUp core.old core.new) }
 {
     while core.is_cleaning_up() {

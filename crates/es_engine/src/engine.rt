@@ -2,7 +2,7 @@
 
 ghost use Rattle.std.specs.Prelude.{◌≡◌, ◌≢◌, IfOk, IfErr, OnOk, OnErr, true};
 ghost use Rattle.es_script.specs.Grammar.{no_callback_collects};
-ghost use Rattle.es_engine.specs.Engine.{has_no_message_job, Answers, IsAnswerFault, ReadsPlan, RunsTo};
+ghost use Rattle.es_engine.specs.Engine.{stay_alone, Answers, IsAnswerFault, ReadsPlan, RunsTo};
 
 use crate::agents::run_plan;
 use crate::input::read_all;
@@ -36,7 +36,7 @@ pub fn run<H: AllocGlobal, R: Read, W: Write>(
 /// The plan that the reader's bytes stand for.
 fn plan_from<R: Read>(alloc: Global, reader: &mut R) -> Result<Plan, RunFault>
     ensures reads { ReadsPlan (R.remaining reader.old) (R.remaining reader.new) result }
-    ensures built { IfOk result (λ p. has_no_message_job p ≡ true) }
+    ensures alone { IfOk result (λ p. stay_alone p ≡ true) }
     ensures quiet { IfOk result (λ p. no_callback_collects p ≡ true) }
 {
     let bytes = read_all(alloc, reader)?;
@@ -46,7 +46,7 @@ fn plan_from<R: Read>(alloc: Global, reader: &mut R) -> Result<Plan, RunFault>
 
 /// Writes what there is to say of a plan.
 fn answer<W: Write>(alloc: Global, plan: Plan, check: bool, writer: &mut W) -> Result<(), RunFault>
-    requires waits { has_no_message_job plan ≡ true }
+    requires alone { stay_alone plan ≡ true }
     requires collects { no_callback_collects plan ≡ true }
     ensures answers { OnOk result (Answers check plan (W.contents writer.old) (W.contents writer.new)) }
     ensures fault { IfErr result IsAnswerFault }

@@ -1,25 +1,26 @@
 -- In a run each registration that awaits its cleanup is of a registry that is queued, or that is being cleaned.
-use Rattle.std.proofs.Common.{◌≡◌, ℕ, ◌<◌, ◌≤◌, ◌==◌, ◌&&◌, not, Bool, true, false, cond, sym, ◌∙◌, ap, refl, subst, arith, List, [], ◌∷◌, ◌++◌, drop, Option, Some, None, ◌⊎◌, inl, inr}
-use Rattle.std.specs.Prelude.{is_some}
+use Rattle.std.proofs.Common.{◌≡◌, ℕ, ◌-◌, ◌<◌, ◌≤◌, ◌==◌, ◌&&◌, not, Bool, true, false, cond, sym, ◌∙◌, ap, refl, subst, arith, List, [], ◌∷◌, ◌++◌, drop, Option, Some, None, ◌⊎◌, inl, inr}
+use Rattle.std.specs.Prelude.{is_some, slice_get}
 use Rattle.std.specs.List.{filter, range_with_len}
 use Rattle.std.specs.Option.{option_map_or, option_and_then, option_to_list}
 use Rattle.std.proofs.lemmas.Bool.{and_parts, cases_Bool, eqb-true, eq-eqb, false≢true, and_from, or_cases, or_left, or_right}
 use Rattle.es_event.specs.declared.event.Event.{Event}
-use Rattle.es_event.specs.declared.event.Event.TheVariants.{JobBegun, CleanupBegun, Did, Refused, Emptied, Taken, JobEnded, Closed}
+use Rattle.es_event.specs.declared.event.Event.TheVariants.{JobBegun, CleanupBegun, Received, Did, Refused, Emptied, Taken, JobEnded, Skipped, Closed}
 use Rattle.es_event.specs.declared.plan.AgentPlan.{AgentPlan}
+use Rattle.es_event.specs.declared.plan.Job.{Job}
 use Rattle.es_event.specs.Commands.{second, reads}
 use Rattle.es_event.specs.History.{History}
 use Rattle.es_event.specs.Identities.{is_in, made, is_gone, empties}
-use Rattle.es_event.specs.Jobs.{Receivers, receivers, cleaning}
+use Rattle.es_event.specs.Jobs.{Receivers, receivers, job, cleaning}
 use Rattle.es_event.specs.Registrations.{Cell, Fate, registers, registered, cell, live, awaiting, same_fate, fate, is_of, registrations, first_awaiting, tally}
-use Rattle.es_event.specs.Rules.{Buffers}
+use Rattle.es_event.specs.Sharing.{Buffers}
 use Rattle.es_event.specs.Legal.{Lawful, LegalBy}
-use Rattle.es_event.specs.Order.{Phase, between, stopped, ended, phase, loses, queues, is_stopped, queues_again, queue}
+use Rattle.es_event.specs.Order.{Phase, between, handed, inside, stopped, ended, phase, loses, queues, is_stopped, queues_again, queue}
 use Rattle.es_event.specs.Follows.{Follows}
 use Rattle.es_event.specs.Runs.{IsWholeRunOver}
 use Rattle.es_event.proofs.Alive.{Alive, alive_at, stays_along}
 use Rattle.es_event.proofs.Cells.{made_by, cell_within, fate_emptied}
-use Rattle.es_event.proofs.Coming.{next_cell, Comes, begins_job, begins_cleanup, does, refuses, empties_dead, takes, ends, stops, closes, comes}
+use Rattle.es_event.proofs.Coming.{next_cell, Comes, begins_job, begins_handed, receives, skips, refuses_message, begins_cleanup, does, refuses, empties_dead, takes, ends, stops, closes, comes}
 use Rattle.es_event.proofs.Counting.{is_found, any_from}
 use Rattle.es_event.proofs.Fates.{same_from, Awaits, awaited, AwaitedBefore, none_awaits}
 use Rattle.es_event.proofs.Holds.{second_of}
@@ -49,12 +50,41 @@ pub between_clean : (h : History) → phase h ≡ between → cleaning h ≡ Non
 between_clean [] e = refl
 between_clean (JobBegun j ∷ h) e = cc
 between_clean (CleanupBegun q ∷ h) e = cc
+between_clean (Received t v ∷ h) e = cc
 between_clean (Did c vs r ∷ h) e = between_clean h e
 between_clean (Refused code ∷ h) e = cc
 between_clean (Emptied ids ∷ h) e = between_clean h e
 between_clean (Taken n held ∷ h) e = between_clean h e
 between_clean (JobEnded ∷ h) e = refl
+between_clean (Skipped j t ∷ h) e = between_clean h e
 between_clean (Closed ∷ h) e = cc
+
+-- before a job whose message it was handed there is that job, and no cleanup job is queued or runs
+pub record Handed (plan : AgentPlan) (h : History) : Type 0 where
+  pub job_there : (j : Job) × (slice_get plan.jobs (job h - 1) ≡ Some j)
+  pub none_queued : queue h ≡ []
+  pub clean : cleaning h ≡ None
+
+handed_next : (over : Buffers) (plan : AgentPlan) (h : History) (at : Phase) (e : Event) → Comes over (receivers plan.jobs) plan h at e → phase h ≡ at → phase (e ∷ h) ≡ handed → Handed plan (e ∷ h)
+handed_next over plan h at _ (begins_job k j b none is same) here end = cc
+handed_next over plan h at _ (begins_handed k i same) here end = cc
+handed_next over plan h at _ (receives j s v b none is on room) here end =
+    let same : job (Received s v ∷ h) ≡ job h = omega arith in
+    record { job_there = (j, ap (λ n. slice_get plan.jobs (n - 1)) same ∙ is); none_queued = none; clean = between_clean h (here ∙ b) }
+handed_next over plan h at _ (skips k j s b none is on same) here end = let now : between ≡ handed = sym (here ∙ b) ∙ end in cc
+handed_next over plan h at _ (refuses_message j code b none is on same) here end = cc
+handed_next over plan h at _ (begins_cleanup r rs b is) here end = cc
+handed_next over plan h at _ (does d cs vs r i is) here end = let now : inside ≡ handed = sym (here ∙ i) ∙ end in cc
+handed_next over plan h at _ (refuses d cs code i is) here end = cc
+handed_next over plan h at _ (empties_dead d cs ids i is co dead) here end = let now : inside ≡ handed = sym (here ∙ i) ∙ end in cc
+handed_next over plan h at _ (takes m v i is next) here end = let now : inside ≡ handed = sym (here ∙ i) ∙ end in cc
+handed_next over plan h at _ (ends i is none) here end = cc
+handed_next over plan h at _ (stops s) here end = cc
+handed_next over plan h at _ (closes b none) here end = cc
+
+pub handed_at : (over : Buffers) (plan : AgentPlan) (h : History) → Follows over plan h → phase h ≡ handed → Handed plan h
+handed_at over plan [] f end = cc
+handed_at over plan (e ∷ h) f end = handed_next over plan h (phase h) e (comes over plan h e f.0) refl end
 
 -- Served
 
@@ -159,6 +189,10 @@ served_stopped h at served n c a =
 served_next : (over : Buffers) (plan : AgentPlan) (h : History) (at : Phase) (e : Event) → Comes over (receivers plan.jobs) plan h at e → phase h ≡ at
     → LegalBy over (receivers plan.jobs) (e ∷ h) → Follows over plan h → Served h → Served (e ∷ h)
 served_next over plan h at _ (begins_job k j b none is same) here l f served n c a = served n c (awaited_before over over plan (JobBegun k) h l.0 l.1 f refl n c a)
+served_next over plan h at _ (begins_handed k i same) here l f served n c a = served n c (awaited_before over over plan (JobBegun k) h l.0 l.1 f refl n c a)
+served_next over plan h at _ (receives j s v b none is on room) here l f served n c a = served n c (awaited_before over over plan (Received s v) h l.0 l.1 f refl n c a)
+served_next over plan h at _ (skips k j s b none is on same) here l f served n c a = served n c (awaited_before over over plan (Skipped k s) h l.0 l.1 f refl n c a)
+served_next over plan h at _ (refuses_message j code b none is on same) here l f served n c a = served n c (awaited_before over over plan (Refused code) h l.0 l.1 f refl n c a)
 served_next over plan h at _ (begins_cleanup r rs b is) here l f served n c a = served_begun r rs h c.registry (here ∙ b) is (served n c (awaited_before over over plan (CleanupBegun r) h l.0 l.1 f refl n c a))
 served_next over plan h at _ (does d cs vs r i is) here l f served n c a = served n c (awaited_before over over plan (Did d vs r) h l.0 l.1 f refl n c a)
 served_next over plan h at _ (refuses d cs code i is) here l f served n c a = served n c (awaited_before over over plan (Refused code) h l.0 l.1 f refl n c a)
@@ -180,6 +214,10 @@ served_along over plan (e ∷ h) l f n c a = served_next over plan h (phase h) e
 closed_next : (over : Buffers) (plan : AgentPlan) (h : History) (at : Phase) (e : Event) → Comes over (receivers plan.jobs) plan h at e → phase h ≡ at → phase (e ∷ h) ≡ ended
     → (queue (e ∷ h) ≡ []) × (cleaning (e ∷ h) ≡ None)
 closed_next over plan h at _ (begins_job k j b none is same) here end = cc
+closed_next over plan h at _ (begins_handed k i same) here end = cc
+closed_next over plan h at _ (receives j s v b none is on room) here end = cc
+closed_next over plan h at _ (skips k j s b none is on same) here end = cc
+closed_next over plan h at _ (refuses_message j code b none is on same) here end = cc
 closed_next over plan h at _ (begins_cleanup r rs b is) here end = cc
 closed_next over plan h at _ (does d cs vs r i is) here end = cc
 closed_next over plan h at _ (refuses d cs code i is) here end = cc

@@ -16,7 +16,7 @@ use Rattle.es_event.specs.History.{History, earliest, at_key}
 use Rattle.es_event.specs.Identities.{identity, is_in, is_gone, empties, gone}
 use Rattle.es_event.specs.Jobs.{Receivers}
 use Rattle.es_event.specs.Registrations.{Cell, registers, registered, is_registered, numbered_cell, cell, Fate, live, awaiting, unregistered, taken, same_fate, has_token, is_under, unregisters_by, removes, present_fate, fate, is_present}
-use Rattle.es_event.specs.Rules.{Buffers}
+use Rattle.es_event.specs.Sharing.{Buffers}
 use Rattle.es_event.specs.Legal.{Lawful, LegalBy}
 use Rattle.es_event.proofs.Entries.{mapped, inner}
 use Rattle.es_event.proofs.Lists.{in_both}

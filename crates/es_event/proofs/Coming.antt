@@ -1,23 +1,25 @@
 -- What an event that comes next is, by where the agent is in its plan.
-use Rattle.std.proofs.Common.{◌≡◌, ℕ, ◌-◌, true, refl, sym, subst, List, [], ◌∷◌, Option, Some, None}
-use Rattle.std.specs.Prelude.{slice_get}
+use Rattle.std.proofs.Common.{◌≡◌, ℕ, ◌-◌, true, refl, ◌∙◌, ap, sym, subst, List, [], ◌∷◌, Option, Some, None}
+use Rattle.std.specs.Prelude.{slice_get, is_some}
 use Rattle.std.specs.Option.{option_map, option_and_then}
 use Rattle.es_value.specs.declared.value.Value.{Value}
 use Rattle.es_event.specs.declared.event.Answer.{Answer}
 use Rattle.es_event.specs.declared.event.Event.{Event}
-use Rattle.es_event.specs.declared.event.Event.TheVariants.{JobBegun, CleanupBegun, Did, Refused, Emptied, Taken, JobEnded, Closed}
+use Rattle.es_event.specs.declared.event.Event.TheVariants.{JobBegun, CleanupBegun, Received, Did, Refused, Emptied, Taken, JobEnded, Skipped, Closed}
 use Rattle.es_event.specs.declared.event.Refusal.{Refusal}
+use Rattle.es_event.specs.declared.event.Refusal.TheVariants.{TooManyValues}
 use Rattle.es_event.specs.declared.command.Command.{Command}
 use Rattle.es_event.specs.declared.plan.AgentPlan.{AgentPlan}
 use Rattle.es_event.specs.declared.plan.Job.{Job}
 use Rattle.es_event.specs.Commands.{collects}
 use Rattle.es_event.specs.History.{History}
+use Rattle.es_event.specs.Identities.{object_of}
 use Rattle.es_event.specs.Jobs.{Receivers, receivers, job, cleaning}
 use Rattle.es_event.specs.Registrations.{first_awaiting}
-use Rattle.es_event.specs.Rules.{Buffers}
+use Rattle.es_event.specs.Sharing.{Buffers}
 use Rattle.es_event.specs.Reach.{AreDead}
-use Rattle.es_event.specs.Order.{Phase, between, inside, stopped, ended, phase, left, queue, run, due_after, due_inside, due_job, due_between, due_at, due}
-use Rattle.es_event.specs.Follows.{Permits}
+use Rattle.es_event.specs.Order.{Phase, between, handed, inside, stopped, ended, phase, left, queue, receive, run, due_after, due_inside, due_job, due_between, due_at, due}
+use Rattle.es_event.specs.Follows.{HasRoom, Permits}
 
 -- the cell that the running cleanup job takes next
 abbrev pub next_cell : History → Option ℕ
@@ -25,6 +27,10 @@ next_cell h = option_and_then (first_awaiting h) (cleaning h)
 
 pub data Comes (over : Buffers) (into : Receivers) (plan : AgentPlan) (h : History) (at : Phase) : Event → Type 0 where
   begins_job : (k : ℕ) (j : Job) → at ≡ between → queue h ≡ [] → slice_get plan.jobs (job h - 1) ≡ Some j → k ≡ job h → Comes over into plan h at (JobBegun k)
+  begins_handed : (k : ℕ) → at ≡ handed → k ≡ job h → Comes over into plan h at (JobBegun k)
+  receives : (j : Job) (s : ℕ) (v : Value) → at ≡ between → queue h ≡ [] → slice_get plan.jobs (job h - 1) ≡ Some j → is_some j.on ≡ true → HasRoom h (object_of v) → Comes over into plan h at (Received s v)
+  skips : (k : ℕ) (j : Job) (s : ℕ) → at ≡ between → queue h ≡ [] → slice_get plan.jobs (job h - 1) ≡ Some j → is_some j.on ≡ true → k ≡ job h → Comes over into plan h at (Skipped k s)
+  refuses_message : (j : Job) (code : Refusal) → at ≡ between → queue h ≡ [] → slice_get plan.jobs (job h - 1) ≡ Some j → is_some j.on ≡ true → code ≡ TooManyValues → Comes over into plan h at (Refused code)
   begins_cleanup : (r : ℕ) (rs : List ℕ) → at ≡ between → queue h ≡ r ∷ rs → Comes over into plan h at (CleanupBegun r)
   does : (c : Command) (cs : List Command) (vs : List Value) (r : Answer) → at ≡ inside → left plan h ≡ c ∷ cs → Comes over into plan h at (Did c vs r)
   refuses : (c : Command) (cs : List Command) (code : Refusal) → at ≡ inside → left plan h ≡ c ∷ cs → Comes over into plan h at (Refused code)
@@ -53,17 +59,24 @@ comes_inside : (over : Buffers) (into : Receivers) (plan : AgentPlan) (h : Histo
 comes_inside over into plan h [] e is p = comes_after over into plan h (next_cell h) e is refl p
 comes_inside over into plan h (c ∷ cs) e is p = comes_command over into plan h c cs e is p
 
-comes_begin : (over : Buffers) (into : Receivers) (plan : AgentPlan) (h : History) (j : Job) (on : Option (ℕ × List ℕ)) (e : Event) → queue h ≡ [] → slice_get plan.jobs (job h - 1) ≡ Some j
+comes_message : (over : Buffers) (into : Receivers) (plan : AgentPlan) (h : History) (j : Job) (n s : ℕ) (e : Event) → queue h ≡ [] → slice_get plan.jobs (job h - 1) ≡ Some j → is_some j.on ≡ true
+    → n ≡ job h → Permits over into h (receive n s) e → Comes over into plan h between e
+comes_message over into plan h j n s (Received t v) none is on same p = receives j t v refl none is on p.1
+comes_message over into plan h j n s (Skipped k t) none is on same p = skips k j t refl none is on (p.0 ∙ same)
+comes_message over into plan h j n s (Refused code) none is on same p = refuses_message j code refl none is on p.0
+comes_message over into plan h j n s _ none is on same p = absurd p
+
+comes_begin : (over : Buffers) (into : Receivers) (plan : AgentPlan) (h : History) (j : Job) (on : Option (ℕ × List ℕ)) (e : Event) → queue h ≡ [] → slice_get plan.jobs (job h - 1) ≡ Some j → j.on ≡ on
     → Permits over into h (due_job (job h) (Some on)) e → Comes over into plan h between e
-comes_begin over into plan h j None (JobBegun k) none is p = begins_job k j refl none is p
-comes_begin over into plan h j None _ none is p = absurd p
-comes_begin over into plan h j (Some on) e none is p = absurd p
+comes_begin over into plan h j None (JobBegun k) none is at p = begins_job k j refl none is p
+comes_begin over into plan h j None _ none is at p = absurd p
+comes_begin over into plan h j (Some on) e none is at p = comes_message over into plan h j (job h) on.0 e none is (ap is_some at) refl p
 
 comes_job : (over : Buffers) (into : Receivers) (plan : AgentPlan) (h : History) (o : Option Job) (e : Event) → queue h ≡ [] → slice_get plan.jobs (job h - 1) ≡ o
     → Permits over into h (due_job (job h) (option_map (λ j. j.on) o)) e → Comes over into plan h between e
 comes_job over into plan h None Closed none is p = closes refl none
 comes_job over into plan h None _ none is p = absurd p
-comes_job over into plan h (Some j) e none is p = comes_begin over into plan h j j.on e none is p
+comes_job over into plan h (Some j) e none is p = comes_begin over into plan h j j.on e none is refl p
 
 comes_between : (over : Buffers) (into : Receivers) (plan : AgentPlan) (h : History) (rs : List ℕ) (e : Event) → queue h ≡ rs
     → Permits over into h (due_between plan h rs) e → Comes over into plan h between e
@@ -77,6 +90,8 @@ comes_stopped over into plan h _ p = absurd p
 
 comes_at : (over : Buffers) (into : Receivers) (plan : AgentPlan) (h : History) (at : Phase) (e : Event) → Permits over into h (due_at plan h at) e → Comes over into plan h at e
 comes_at over into plan h between e p = comes_between over into plan h (queue h) e refl p
+comes_at over into plan h handed (JobBegun k) p = begins_handed k refl p
+comes_at over into plan h handed _ p = absurd p
 comes_at over into plan h inside e p = comes_inside over into plan h (left plan h) e refl p
 comes_at over into plan h stopped e p = comes_stopped over into plan h e p
 comes_at over into plan h ended e p = absurd p

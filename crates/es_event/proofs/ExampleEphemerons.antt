@@ -289,7 +289,7 @@ pub other_member_stays : is_member emptied_member 3 2 ≡ true
 other_member_stays = refl
 
 -- so the answer is false even to one who still had the value
-emptied_is_no_member : completion [] emptied_member (WeakSetHas (codes "x") (codes "s") (codes "a")) (Object 3 ∷ Object 1 ∷ []) ≡ Ok (Gives (Boolean false))
+emptied_is_no_member : completion [] emptied_member (WeakSetHas (codes "x") (codes "s") (codes "a")) (Object 3 ∷ Object 1 ∷ []) 0 ≡ Ok (Gives (Boolean false))
 emptied_is_no_member = refl
 
 -- What can't be held weakly is no key and no member; what is no WeakMap or no WeakSet is refused first

@@ -13,7 +13,7 @@ use Rattle.es_event.specs.History.{History}
 use Rattle.es_event.specs.Identities.{is_in, gone, is_gone, empties}
 use Rattle.es_event.specs.Jobs.{Receivers}
 use Rattle.es_event.specs.Registrations.{Cell, registers, registered, is_registered, cell, Fate, live, awaiting, unregistered, taken, same_fate, present_fate, fate, is_present, registrations, tally}
-use Rattle.es_event.specs.Rules.{Buffers}
+use Rattle.es_event.specs.Sharing.{Buffers}
 use Rattle.es_event.specs.Legal.{LegalBy}
 use Rattle.es_event.specs.Laws.{may_become}
 use Rattle.es_event.proofs.Cells.{cell_either, cell_before, cell_within, has_cell, registered_more, registered_same, unremoved, still_present, awaiting_present, live_target, awaiting_target, fate_absent, fate_taken}

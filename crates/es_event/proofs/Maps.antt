@@ -1,48 +1,36 @@
 -- In a legal history what has an entry is a WeakMap.
-use Rattle.std.proofs.Common.{◌≡◌, ℕ, ◌+◌, ◌<◌, ◌==◌, true, ◌∙◌, ap, refl, subst, arith, List, [], ◌∷◌, Option, Some, None}
+use Rattle.std.proofs.Common.{◌≡◌, ℕ, ◌+◌, ◌==◌, true, ◌∙◌, ap, refl, subst, arith, List, [], ◌∷◌, Option, Some, None}
 use Rattle.std.specs.Prelude.{is_some}
 use Rattle.std.proofs.lemmas.Bool.{eqb-true, and_parts}
 use Rattle.es_value.specs.declared.value.Value.{Value}
 use Rattle.es_value.specs.declared.value.Value.TheVariants.{Object}
-use Rattle.es_event.specs.declared.event.Answer.TheVariants.{Gives}
 use Rattle.es_event.specs.declared.event.Event.{Event}
 use Rattle.es_event.specs.declared.event.Event.TheVariants.{Did}
 use Rattle.es_event.specs.declared.event.Refusal.TheVariants.{NotAWeakMap}
 use Rattle.es_event.specs.declared.command.Command.{Command}
-use Rattle.es_event.specs.declared.command.Command.TheVariants.{New, WeakRef, WeakMap, WeakMapSet, WeakMapDelete, WeakSet, FinalizationRegistry}
-use Rattle.es_event.specs.Commands.{first, second, Kind, kind_made}
+use Rattle.es_event.specs.declared.command.Command.TheVariants.{WeakMapSet, WeakMapDelete}
+use Rattle.es_event.specs.Commands.{first, second, Kind}
 use Rattle.es_event.specs.History.{History}
 use Rattle.es_event.specs.Identities.{made, kind, born}
 use Rattle.es_event.specs.Jobs.{Receivers}
 use Rattle.es_event.specs.Ephemerons.{same_pair, entered, entered_by, first_entry}
-use Rattle.es_event.specs.Rules.{Buffers, is_weakmap, kind_of, of_held_weakly, tests, first_refusal, result}
-use Rattle.es_event.specs.Legal.{LegalBy}
-use Rattle.es_event.proofs.Accepted.{accepted, first_holds, is_result}
+use Rattle.es_event.specs.Sharing.{Buffers}
+use Rattle.es_event.specs.Rules.{is_weakmap, kind_of, of_held_weakly, tests, first_refusal}
+use Rattle.es_event.specs.Legal.{word_in, LegalBy}
+use Rattle.es_event.proofs.Accepted.{is_accepted, first_holds}
 use Rattle.es_event.proofs.LookBacks.{at_either}
-use Rattle.es_event.proofs.Births.{birth}
+use Rattle.es_event.proofs.Births.{born_next}
 use Rattle.es_event.proofs.Objects.{object_within}
 use Rattle.es_event.proofs.Entries.{wrote}
 
--- What is made is none of what was made
-
-made_after : (over : Buffers) (h : History) (c : Command) (vs : List Value) (kd : Kind) (o : ℕ) → kind_made c vs ≡ Some kd → result over h c vs ≡ Gives (Object o) → made h < o
-made_after over h (New to) vs kd o k e = let next : made h + 1 ≡ o = cc in omega (arith, next)
-made_after over h (WeakRef to y) vs kd o k e = let next : made h + 1 ≡ o = cc in omega (arith, next)
-made_after over h (WeakMap to) vs kd o k e = let next : made h + 1 ≡ o = cc in omega (arith, next)
-made_after over h (WeakSet to) vs kd o k e = let next : made h + 1 ≡ o = cc in omega (arith, next)
-made_after over h (FinalizationRegistry to n) vs kd o k e = let next : made h + 1 ≡ o = cc in omega (arith, next)
-made_after over h _ vs kd o k e = cc
-
--- so an object keeps its kind
+-- what is made is none of what was made, so an object keeps its kind
 pub kind_same : (over : Buffers) (into : Receivers) (e : Event) (h : History) → LegalBy over into (e ∷ h) → (o : ℕ) → is_some (kind h o) ≡ true → kind (e ∷ h) o ≡ kind h o
-kind_same over into (Did c vs r) h l o is =
-    at_either (λ k. k ≡ kind h o) (λ i j. i == j) o (born (Did c vs r)) (kind h o)
+kind_same over into e h l o is =
+    at_either (λ k. k ≡ kind h o) (λ i j. i == j) o (born e) (kind h o)
     (λ q s t.
-    let b = birth c vs r q s in
-    let late : made h < q.0 = made_after over h c vs b.0 q.0 b.2 (is_result over h c vs r l.0.1 ∙ b.3) in
+    let late : made h + 1 ≡ q.0 = born_next over into h e q l.0 s in
     let early = object_within over into h l.1 o is in
     absurd (omega (arith, late, early.1, eqb-true q.0 o t))) refl
-kind_same over into _ h l o is = refl
 
 a_kind : (k : Option Kind) → is_weakmap k ≡ true → is_some k ≡ true
 a_kind None e = cc
@@ -65,6 +53,6 @@ entry_in_map over into (Did c vs r ∷ h) l m k v e =
     (at_either (λ a. a ≡ Some v → is_weakmap (kind h m) ≡ true) same_pair (m, k) (entered (Did c vs r)) (first_entry h m k)
     (λ q s t f.
     let at : first vs ≡ Object m = (wrote c vs r q s).map ∙ ap Object (eqb-true q.0.0 m (and_parts (q.0.0 == m) (q.0.1 == k) t).0) in
-    subst (λ w. is_weakmap (kind_of h w) ≡ true) at (map_test over h c vs q s (accepted (first_refusal (tests over h c vs)) (result over h c vs) r l.0.1).0))
+    subst (λ w. is_weakmap (kind_of h w) ≡ true) at (map_test over h c vs q s (is_accepted over h c vs (word_in r) r l.0.1)))
     (λ f. entry_in_map over into h l.1 m k v f) e)
 entry_in_map over into (x ∷ h) l m k v e = map_stays over into x h l m (entry_in_map over into h l.1 m k v e)

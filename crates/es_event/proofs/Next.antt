@@ -1,25 +1,34 @@
--- What may come next: one event, and some event wherever something is due that waits for no message.
-use Rattle.std.proofs.Common.{◌≡◌, ℕ, ◌-◌, ◌==◌, ◌&&◌, Bool, true, false, sym, ◌∙◌, ap, refl, subst, List, [], ◌∷◌, Option, Some, None, Result, Ok, Err}
-use Rattle.std.specs.Prelude.{slice_get}
+-- What may come next: one event, but for what it hears from outside, and some event wherever something is due.
+use Rattle.std.proofs.Common.{◌≡◌, ℕ, ◌+◌, cond, ◌-◌, ◌==◌, ◌&&◌, Bool, true, false, sym, ◌∙◌, ap, refl, subst, List, [], ◌∷◌, Option, Some, None, Result, Ok, Err}
+use Rattle.std.specs.Prelude.{slice_get, is_some, nat_lt}
 use Rattle.std.specs.Option.{option_map, option_map_or, option_and_then}
-use Rattle.std.proofs.lemmas.Bool.{false≢true, and_parts}
+use Rattle.std.proofs.lemmas.Bool.{false≢true, and_parts, eq-eqb}
+use Rattle.es_value.specs.Limits.{most_identities}
 use Rattle.es_value.specs.declared.value.Value.{Value}
+use Rattle.es_value.specs.declared.value.Value.TheVariants.{Object}
+use Rattle.es_event.specs.declared.row.Row.{Row}
 use Rattle.es_event.specs.declared.event.Answer.{Answer}
+use Rattle.es_event.specs.declared.event.Answer.TheVariants.{Gives}
 use Rattle.es_event.specs.declared.event.Event.{Event}
-use Rattle.es_event.specs.declared.event.Event.TheVariants.{JobBegun, CleanupBegun, Did, Refused, Emptied, Taken, JobEnded, Closed}
+use Rattle.es_event.specs.declared.event.Event.TheVariants.{JobBegun, CleanupBegun, Received, Did, Refused, Emptied, Taken, JobEnded, Skipped, Closed}
 use Rattle.es_event.specs.declared.event.Refusal.{Refusal}
 use Rattle.es_event.specs.declared.command.Command.{Command}
-use Rattle.es_event.specs.declared.command.Command.TheVariants.{Collect}
+use Rattle.es_event.specs.declared.command.Command.TheVariants.{Load, Add, Collect}
 use Rattle.es_event.specs.declared.plan.AgentPlan.{AgentPlan}
-use Rattle.es_event.specs.Commands.{reads, collects}
+use Rattle.es_event.specs.Commands.{reads, opens_words, collects}
 use Rattle.es_event.specs.History.{History}
+use Rattle.es_event.specs.Identities.{identity, object_of, made}
 use Rattle.es_event.specs.Jobs.{Receivers, receivers, job, cleaning}
 use Rattle.es_event.specs.Registrations.{Cell, cell, Fate, fate, awaiting, same_fate, is_of, registrations, first_awaiting}
-use Rattle.es_event.specs.Rules.{Buffers, completion}
-use Rattle.es_event.specs.Legal.{Lawful, values_of}
-use Rattle.es_event.specs.Order.{Phase, between, inside, stopped, ended, phase, left, queue, Due, begin, receive, run, clean, take_cell, due_after, due_inside, due_job, due_between, due_at, end_job, close, nothing, due}
-use Rattle.es_event.specs.Follows.{AtCommand, Permits}
-use Rattle.es_event.specs.Runs.{ComesNext}
+use Rattle.es_event.specs.Rows.{row}
+use Rattle.es_event.specs.Sharing.{Buffers, row_at, AgreeSoFar}
+use Rattle.es_event.specs.Rules.{number_of_word, refusal, result, refuse_or, completion}
+use Rattle.es_event.specs.Legal.{word_in, HasWords, Arrives, Lawful, values_of}
+use Rattle.es_event.specs.Order.{Phase, between, handed, inside, stopped, ended, phase, left, queue, Due, begin, receive, run, clean, take_cell, due_after, due_inside, due_job, due_between, due_at, end_job, close, nothing, due}
+use Rattle.es_event.specs.Follows.{AtCommand, HasRoom, Permits}
+use Rattle.es_event.specs.Runs.{ComesNext, a_word, a_message, heard_by, heard}
+use Rattle.es_event.proofs.Accepted.{is_result}
+use Rattle.es_event.proofs.Extending.{agrees_with_itself, agrees_longer, refuses_so}
 use Rattle.es_event.proofs.Counting.{found_passes}
 use Rattle.es_event.proofs.Entries.{inner}
 use Rattle.es_event.proofs.Fates.{awaits, is_same}
@@ -41,36 +50,72 @@ not_both (Err code) r a e f = cc
 
 -- a command that is done
 done : (over : Buffers) (into : Receivers) (h : History) (c d : Command) (vs : List Value) (r : Answer) → Lawful over into h (Did d vs r) → d ≡ c
-    → (vs ≡ values_of into h (reads c)) × (completion over h c (values_of into h (reads c)) ≡ Ok r) × (collects c ≡ false)
+    → (vs ≡ values_of into h (reads c)) × (completion over h c (values_of into h (reads c)) (word_in r) ≡ Ok r) × (collects c ≡ false)
 done over into h c d vs r l e =
     let read : vs ≡ values_of into h (reads c) = l.0 ∙ ap (λ c. values_of into h (reads c)) e in
-    let gave : completion over h c vs ≡ Ok r = subst (λ c. completion over h c vs ≡ Ok r) e l.1 in
-    (read, subst (λ ws. completion over h c ws ≡ Ok r) read gave, subst (λ c. collects c ≡ false) e l.2)
+    let gave : completion over h c vs (word_in r) ≡ Ok r = subst (λ c. completion over h c vs (word_in r) ≡ Ok r) e l.1 in
+    (read, subst (λ ws. completion over h c ws (word_in r) ≡ Ok r) read gave, subst (λ c. collects c ≡ false) e l.2)
 
 same_done : (c d b : Command) (vs ws : List Value) (r q : Answer) → d ≡ c → b ≡ c → vs ≡ ws → r ≡ q → ◌≡◌ {A = Event} (Did d vs r) (Did b ws q)
 same_done c d b vs ws r q e f g k = ap (λ x. Did x vs r) (e ∙ sym f) ∙ (ap (λ x. Did b x r) g ∙ ap (Did b ws) k)
 
-never_refused : (over : Buffers) (h : History) (c : Command) (vs : List Value) (code : Refusal) → collects c ≡ true → completion over h c vs ≡ Err code → ⊥
+-- the word matters only to a command that reads one
+a_word_of : (v w : ℕ) → a_word v ≡ a_word w → v ≡ w
+a_word_of v w e = cc
+
+same_word : (over : Buffers) (h : History) (c : Command) (vs : List Value) (r q : Answer) → heard_by c r ≡ heard_by c q → completion over h c vs (word_in r) ≡ completion over h c vs (word_in q)
+same_word over h (Load to b i) vs r q e = ap (completion over h (Load to b i) vs) (a_word_of (word_in r) (word_in q) e)
+same_word over h (Add to b i n) vs r q e = ap (completion over h (Add to b i n) vs) (a_word_of (word_in r) (word_in q) e)
+same_word over h _ vs r q e = refl
+
+never_refused : (over : Buffers) (h : History) (c : Command) (vs : List Value) (code : Refusal) → collects c ≡ true → refusal over h c vs ≡ Some code → ⊥
 never_refused over h Collect vs code e f = cc
 never_refused over h _ vs code e f = cc
 
-one_at_command : (over : Buffers) (into : Receivers) (h : History) (c : Command) (e f : Event) → Lawful over into h e → AtCommand over into h c e → Lawful over into h f → AtCommand over into h c f → e ≡ f
-one_at_command over into h c (Did d vs r) (Did b ws q) l p m o =
+-- what is refused is not done
+refused_not : (over : Buffers) (h : History) (c : Command) (vs : List Value) (r : Answer) (code : Refusal) → completion over h c vs (word_in r) ≡ Ok r → refusal over h c vs ≡ Some code → ⊥
+refused_not over h c vs r code e f = not_both (completion over h c vs (word_in r)) r code e (ap (λ f. refuse_or f (result over h c vs (word_in r))) f)
+
+inner_code : (a b : Refusal) → ◌≡◌ {A = Option Refusal} (Some a) (Some b) → a ≡ b
+inner_code a b e = cc
+
+one_at_command : (over : Buffers) (into : Receivers) (h : History) (c : Command) (e f : Event) → Lawful over into h e → AtCommand over into h c e → Lawful over into h f → AtCommand over into h c f → heard e ≡ heard f → e ≡ f
+one_at_command over into h c (Did d vs r) (Did b ws q) l p m o s =
     let x = done over into h c d vs r l p in
     let y = done over into h c b ws q m o in
-    same_done c d b vs ws r q p o (x.0 ∙ sym y.0) (same_answer (completion over h c (values_of into h (reads c))) r q x.1 y.1)
-one_at_command over into h c (Did d vs r) (Refused code) l p m o = absurd (not_both (completion over h c (values_of into h (reads c))) r code (done over into h c d vs r l p).1 o)
-one_at_command over into h c (Did d vs r) (Emptied ids) l p m o = absurd (false≢true (sym (done over into h c d vs r l p).2 ∙ o.0))
-one_at_command over into h c (Refused code) (Did b ws q) l p m o = absurd (not_both (completion over h c (values_of into h (reads c))) q code (done over into h c b ws q m o).1 p)
-one_at_command over into h c (Refused a) (Refused b) l p m o = ap Refused (same_code (completion over h c (values_of into h (reads c))) a b p o)
-one_at_command over into h c (Refused code) (Emptied ids) l p m o = absurd (never_refused over h c (values_of into h (reads c)) code o.0 p)
-one_at_command over into h c (Emptied ids) (Did b ws q) l p m o = absurd (false≢true (sym (done over into h c b ws q m o).2 ∙ p.0))
-one_at_command over into h c (Emptied ids) (Refused code) l p m o = absurd (never_refused over h c (values_of into h (reads c)) code p.0 o)
-one_at_command over into h c (Emptied ids) (Emptied jds) l p m o = ap Emptied (one_list into h ids jds p.1 o.1 l.1 m.1)
-one_at_command over into h c (Did d vs r) _ l p m o = absurd o
-one_at_command over into h c (Refused code) _ l p m o = absurd o
-one_at_command over into h c (Emptied ids) _ l p m o = absurd o
-one_at_command over into h c _ f l p m o = absurd p
+    let alike : heard_by c r ≡ heard_by c q = ap (λ c. heard_by c r) (sym p) ∙ (s ∙ ap (λ c. heard_by c q) o) in
+    same_done c d b vs ws r q p o (x.0 ∙ sym y.0) (same_answer (completion over h c (values_of into h (reads c)) (word_in r)) r q x.1 (same_word over h c (values_of into h (reads c)) r q alike ∙ y.1))
+one_at_command over into h c (Did d vs r) (Refused code) l p m o s = absurd (refused_not over h c (values_of into h (reads c)) r code (done over into h c d vs r l p).1 o)
+one_at_command over into h c (Did d vs r) (Emptied ids) l p m o s = absurd (false≢true (sym (done over into h c d vs r l p).2 ∙ o.0))
+one_at_command over into h c (Refused code) (Did b ws q) l p m o s = absurd (refused_not over h c (values_of into h (reads c)) q code (done over into h c b ws q m o).1 p)
+one_at_command over into h c (Refused a) (Refused b) l p m o s = ap Refused (inner_code a b (sym p ∙ o))
+one_at_command over into h c (Refused code) (Emptied ids) l p m o s = absurd (never_refused over h c (values_of into h (reads c)) code o.0 p)
+one_at_command over into h c (Emptied ids) (Did b ws q) l p m o s = absurd (false≢true (sym (done over into h c b ws q m o).2 ∙ p.0))
+one_at_command over into h c (Emptied ids) (Refused code) l p m o s = absurd (never_refused over h c (values_of into h (reads c)) code p.0 o)
+one_at_command over into h c (Emptied ids) (Emptied jds) l p m o s = ap Emptied (one_list into h ids jds p.1 o.1 l.1 m.1)
+one_at_command over into h c (Did d vs r) _ l p m o s = absurd o
+one_at_command over into h c (Refused code) _ l p m o s = absurd o
+one_at_command over into h c (Emptied ids) _ l p m o s = absurd o
+one_at_command over into h c _ f l p m o s = absurd p
+
+-- a message, a skip, or a refusal
+a_message_of : (v w : Value) → a_message v ≡ a_message w → v ≡ w
+a_message_of v w e = cc
+
+one_at_receive : (over : Buffers) (into : Receivers) (h : History) (n t : ℕ) (e f : Event) → Permits over into h (receive n t) e → Permits over into h (receive n t) f → heard e ≡ heard f → e ≡ f
+one_at_receive over into h n t (Received a v) (Received b w) p o s = ap (λ a. Received a v) (p.0 ∙ sym o.0) ∙ ap (Received b) (a_message_of v w s)
+one_at_receive over into h n t (Received a v) (Skipped j b) p o s = cc
+one_at_receive over into h n t (Received a v) (Refused code) p o s = cc
+one_at_receive over into h n t (Skipped j a) (Received b w) p o s = cc
+one_at_receive over into h n t (Skipped j a) (Skipped k b) p o s = ap (λ j. Skipped j a) (p.0 ∙ sym o.0) ∙ ap (Skipped k) (p.1 ∙ sym o.1)
+one_at_receive over into h n t (Skipped j a) (Refused code) p o s = cc
+one_at_receive over into h n t (Refused code) (Received b w) p o s = cc
+one_at_receive over into h n t (Refused code) (Skipped k b) p o s = cc
+one_at_receive over into h n t (Refused a) (Refused b) p o s = ap Refused (p.0 ∙ sym o.0)
+one_at_receive over into h n t (Received a v) _ p o s = absurd o
+one_at_receive over into h n t (Skipped j a) _ p o s = absurd o
+one_at_receive over into h n t (Refused a) _ p o s = absurd o
+one_at_receive over into h n t _ f p o s = absurd p
 
 pub begins : (over : Buffers) (into : Receivers) (h : History) (n : ℕ) (e : Event) → Permits over into h (begin n) e → e ≡ JobBegun n
 begins over into h n (JobBegun j) p = ap JobBegun p
@@ -104,39 +149,83 @@ pub closes : (over : Buffers) (into : Receivers) (h : History) (e : Event) → P
 closes over into h Closed p = refl
 closes over into h _ p = absurd p
 
-one_at : (over : Buffers) (into : Receivers) (h : History) (d : Due) (e f : Event) → Lawful over into h e → Permits over into h d e → Lawful over into h f → Permits over into h d f → e ≡ f
-one_at over into h (begin n) e f l p m o = begins over into h n e p ∙ sym (begins over into h n f o)
-one_at over into h (receive n) e f l p m o = absurd p
-one_at over into h (run c) e f l p m o = one_at_command over into h c e f l p m o
-one_at over into h (clean r) e f l p m o = cleans_next over into h r e p ∙ sym (cleans_next over into h r f o)
-one_at over into h (take_cell n) e f l p m o =
+one_at : (over : Buffers) (into : Receivers) (h : History) (d : Due) (e f : Event) → Lawful over into h e → Permits over into h d e → Lawful over into h f → Permits over into h d f → heard e ≡ heard f → e ≡ f
+one_at over into h (begin n) e f l p m o s = begins over into h n e p ∙ sym (begins over into h n f o)
+one_at over into h (receive n t) e f l p m o s = one_at_receive over into h n t e f p o s
+one_at over into h (run c) e f l p m o s = one_at_command over into h c e f l p m o s
+one_at over into h (clean r) e f l p m o s = cleans_next over into h r e p ∙ sym (cleans_next over into h r f o)
+one_at over into h (take_cell n) e f l p m o s =
     let a : Takes h n e = takes_next over into h n e l p in
     let b : Takes h n f = takes_next over into h n f m o in
     a.is ∙ (ap (Taken n) (inner (sym a.held_is ∙ b.held_is)) ∙ sym b.is)
-one_at over into h end_job e f l p m o = ends over into h e p ∙ sym (ends over into h f o)
-one_at over into h close e f l p m o = closes over into h e p ∙ sym (closes over into h f o)
-one_at over into h nothing e f l p m o = absurd p
+one_at over into h end_job e f l p m o s = ends over into h e p ∙ sym (ends over into h f o)
+one_at over into h close e f l p m o s = closes over into h e p ∙ sym (closes over into h f o)
+one_at over into h nothing e f l p m o s = absurd p
 
-pub one_next : (over : Buffers) (plan : AgentPlan) (h : History) (e f : Event) → ComesNext over plan h e → ComesNext over plan h f → e ≡ f
-one_next over plan h e f a b = one_at over (receivers plan.jobs) h (due plan h) e f a.0 a.1 b.0 b.1
+pub one_next : (over : Buffers) (plan : AgentPlan) (h : History) (e f : Event) → ComesNext over plan h e → ComesNext over plan h f → heard e ≡ heard f → e ≡ f
+one_next over plan h e f a b s = one_at over (receivers plan.jobs) h (due plan h) e f a.0 a.1 b.0 b.1 s
 
 -- Some event
 
-abbrev Some_at : Buffers → Receivers → History → Due → Type 0
-Some_at over into h d = (e : Event) × Lawful over into h e × Permits over into h d e
+-- over a table that says the same so far
+pub record SomeAt (over : Buffers) (into : Receivers) (h : History) (d : Due) : Type 0 where
+  pub more : Buffers
+  pub agrees : AgreeSoFar h over more
+  pub event : Event
+  pub lawful : Lawful more into h event
+  pub permitted : Permits more into h d event
 
-answered : (over : Buffers) (into : Receivers) (h : History) (c : Command) → collects c ≡ false → (o : Result Answer Refusal) → completion over h c (values_of into h (reads c)) ≡ o → Some_at over into h (run c)
-answered over into h c e (Ok r) is = (Did c (values_of into h (reads c)) r, (refl, is, e), refl)
-answered over into h c e (Err code) is = (Refused code, tt, is)
+at_hand : (over : Buffers) (into : Receivers) (h : History) (d : Due) (e : Event) → Lawful over into h e → Permits over into h d e → SomeAt over into h d
+at_hand over into h d e l p = record { more = over; agrees = agrees_with_itself h over; event = e; lawful = l; permitted = p }
 
-emptied : (over : Buffers) (into : Receivers) (h : History) (c : Command) → collects c ≡ true → Some_at over into h (run c)
+-- a table that has the block that a command opens
+abbrev with_block : Buffers → History → Option ℕ → Buffers
+with_block over h None = over
+with_block over h (Some n) = (made h + 1, row 0 0 n) ∷ over
+
+block_agrees : (over : Buffers) (h : History) (n : Option ℕ) → AgreeSoFar h over (with_block over h n)
+block_agrees over h None = agrees_with_itself h over
+block_agrees over h (Some n) = agrees_longer h over (row 0 0 n)
+
+block_there : (over : Buffers) (h : History) (n : Option ℕ) → HasWords (with_block over h n) (made h + 1) n
+block_there over h None = tt
+block_there over h (Some n) = ap (λ b. option_map (λ r. r.words) (cond b (Some (row 0 0 n)) (row_at over (made h + 1)))) (eq-eqb (made h + 1) (made h + 1) refl)
+
+-- the answer that is a word is that of its own word
+its_word : (over : Buffers) (h : History) (c : Command) (vs : List Value) (r : Answer) → Gives (number_of_word 0) ≡ r → completion over h c vs 0 ≡ Ok r → completion over h c vs (word_in r) ≡ Ok r
+its_word over h c vs r same e = ap (λ a. completion over h c vs (word_in a)) (sym same) ∙ e
+
+-- what is answered where the word is 0 is answered where it is the answer's word
+its_own_word : (over : Buffers) (h : History) (c : Command) (vs : List Value) (r : Answer) → completion over h c vs 0 ≡ Ok r → completion over h c vs (word_in r) ≡ Ok r
+its_own_word over h (Load to b i) vs r e = its_word over h (Load to b i) vs r (is_result over h (Load to b i) vs 0 r e) e
+its_own_word over h (Add to b i n) vs r e = its_word over h (Add to b i n) vs r (is_result over h (Add to b i n) vs 0 r e) e
+its_own_word over h _ vs r e = e
+
+answered : (over : Buffers) (into : Receivers) (h : History) (c : Command) → collects c ≡ false → (o : Result Answer Refusal)
+    → completion (with_block over h (opens_words c)) h c (values_of into h (reads c)) 0 ≡ o → SomeAt over into h (run c)
+answered over into h c e (Ok r) is = record {
+  more = with_block over h (opens_words c);
+  agrees = block_agrees over h (opens_words c);
+  event = Did c (values_of into h (reads c)) r;
+  lawful = (refl, its_own_word (with_block over h (opens_words c)) h c (values_of into h (reads c)) r is, e, block_there over h (opens_words c));
+  permitted = refl;
+}
+answered over into h c e (Err code) is = record {
+  more = with_block over h (opens_words c);
+  agrees = block_agrees over h (opens_words c);
+  event = Refused code;
+  lawful = tt;
+  permitted = refuses_so (refusal (with_block over h (opens_words c)) h c (values_of into h (reads c))) _ code is;
+}
+
+emptied : (over : Buffers) (into : Receivers) (h : History) (c : Command) → collects c ≡ true → SomeAt over into h (run c)
 emptied over into h c e =
     let all : TheDead into h = the_dead into h in
-    (Emptied all.list, (dead_there into h all.list all.dead, all.rising), (e, all.dead))
+    at_hand over into h (run c) (Emptied all.list) (dead_there into h all.list all.dead, all.rising) (e, all.dead)
 
-at_command : (over : Buffers) (into : Receivers) (h : History) (c : Command) (b : Bool) → collects c ≡ b → Some_at over into h (run c)
+at_command : (over : Buffers) (into : Receivers) (h : History) (c : Command) (b : Bool) → collects c ≡ b → SomeAt over into h (run c)
 at_command over into h c true e = emptied over into h c e
-at_command over into h c false e = answered over into h c e (completion over h c (values_of into h (reads c))) refl
+at_command over into h c false e = answered over into h c e (completion (with_block over h (opens_words c)) h c (values_of into h (reads c)) 0) refl
 
 awaiting_held : (h : History) (n : ℕ) → fate h n ≡ awaiting → (v : Value) × (option_map (λ c. c.held) (cell h n) ≡ Some v)
 awaiting_held h n e = let found = awaits h n e in (found.0.held, ap (option_map (λ c. c.held)) found.1.is)
@@ -145,18 +234,18 @@ awaiting_held h n e = let found = awaits h n e in (found.0.held, ap (option_map 
 abbrev IsReady : History → Due → Type 0
 IsReady h d = (n : ℕ) → d ≡ take_cell n → fate h n ≡ awaiting
 
-some_at : (over : Buffers) (into : Receivers) (h : History) (d : Due) → IsReady h d → (d ≡ nothing → ⊥) → ((n : ℕ) → d ≡ receive n → ⊥) → Some_at over into h d
-some_at over into h (begin n) ready on awake = (JobBegun n, tt, refl)
-some_at over into h (receive n) ready on awake = absurd (awake n refl)
-some_at over into h (run c) ready on awake = at_command over into h c (collects c) refl
-some_at over into h (clean r) ready on awake = (CleanupBegun r, tt, refl)
-some_at over into h (take_cell n) ready on awake =
+some_at : (over : Buffers) (into : Receivers) (h : History) (d : Due) → IsReady h d → (d ≡ nothing → ⊥) → SomeAt over into h d
+some_at over into h (begin n) ready on = at_hand over into h (begin n) (JobBegun n) tt refl
+some_at over into h (receive n t) ready on = at_hand over into h (receive n t) (Skipped n t) tt (refl, refl)
+some_at over into h (run c) ready on = at_command over into h c (collects c) refl
+some_at over into h (clean r) ready on = at_hand over into h (clean r) (CleanupBegun r) tt refl
+some_at over into h (take_cell n) ready on =
     let waits = ready n refl in
     let held = awaiting_held h n waits in
-    (Taken n held.0, (held.1, waits), refl)
-some_at over into h end_job ready on awake = (JobEnded, tt, tt)
-some_at over into h close ready on awake = (Closed, tt, tt)
-some_at over into h nothing ready on awake = absurd (on refl)
+    at_hand over into h (take_cell n) (Taken n held.0) (held.1, waits) refl
+some_at over into h end_job ready on = at_hand over into h end_job JobEnded tt tt
+some_at over into h close ready on = at_hand over into h close Closed tt tt
+some_at over into h nothing ready on = absurd (on refl)
 
 is_of_awaiting : (o : Option Cell) (r : ℕ) (f : Fate) → (option_map_or (λ c. c.registry == r) o false && same_fate f awaiting) ≡ true → f ≡ awaiting
 is_of_awaiting o r f e = is_same f (and_parts (option_map_or (λ c. c.registry == r) o false) (same_fate f awaiting) e).1
@@ -184,6 +273,7 @@ ready_between plan h (r ∷ rs) n e = cc
 
 ready_at : (plan : AgentPlan) (h : History) (at : Phase) → IsReady h (due_at plan h at)
 ready_at plan h between n e = ready_between plan h (queue h) n e
+ready_at plan h handed n e = cc
 ready_at plan h inside n e = ready_inside h (left plan h) n e
 ready_at plan h stopped n e = cc
 ready_at plan h ended n e = cc
@@ -191,5 +281,28 @@ ready_at plan h ended n e = cc
 ready : (plan : AgentPlan) (h : History) → IsReady h (due plan h)
 ready plan h = ready_at plan h (phase h)
 
-pub some_next : (over : Buffers) (plan : AgentPlan) (h : History) → (due plan h ≡ nothing → ⊥) → ((n : ℕ) → due plan h ≡ receive n → ⊥) → (e : Event) × ComesNext over plan h e
-some_next over plan h on awake = let found = some_at over (receivers plan.jobs) h (due plan h) (ready plan h) on awake in (found.0, (found.1, found.2))
+pub some_next : (over : Buffers) (plan : AgentPlan) (h : History) → (due plan h ≡ nothing → ⊥) → SomeAt over (receivers plan.jobs) h (due plan h)
+some_next over plan h on = some_at over (receivers plan.jobs) h (due plan h) (ready plan h) on
+
+-- A message
+
+arrives_plain : (over : Buffers) (h : History) (v : Value) → identity v ≡ None → Arrives over h v
+arrives_plain over h (Object o) e = cc
+arrives_plain over h v e = e
+
+no_object : (v : Value) → identity v ≡ None → object_of v ≡ None
+no_object (Object o) e = cc
+no_object _ e = refl
+
+pub may_be_received : (over : Buffers) (plan : AgentPlan) (h : History) (job sender : ℕ) → due plan h ≡ receive job sender → (v : Value) → identity v ≡ None → ComesNext over plan h (Received sender v)
+may_be_received over plan h job sender at v e = (
+  arrives_plain over h v e,
+  subst (λ d. Permits over (receivers plan.jobs) h d (Received sender v)) (sym at) (refl, subst (HasRoom h) (sym (no_object v e)) tt),
+)
+
+pub may_be_new : (over : Buffers) (plan : AgentPlan) (h : History) (job sender : ℕ) → due plan h ≡ receive job sender → (r : Row) → nat_lt (made h) most_identities ≡ true
+    → ComesNext ((made h + 1, r) ∷ over) plan h (Received sender (Object (made h + 1)))
+may_be_new over plan h job sender at r room = (
+  (refl, ap (λ b. is_some (cond b (Some r) (row_at over (made h + 1)))) (eq-eqb (made h + 1) (made h + 1) refl)),
+  subst (λ d. Permits ((made h + 1, r) ∷ over) (receivers plan.jobs) h d (Received sender (Object (made h + 1)))) (sym at) (refl, room),
+)

@@ -21,7 +21,8 @@ use Rattle.es_event.specs.Variables.{var}
 use Rattle.es_event.specs.Properties.{prop, put_by, same_key}
 use Rattle.es_event.specs.Ephemerons.{same_pair, entered_by, first_entry, entry}
 use Rattle.es_event.specs.Registrations.{Cell, cell, fate, is_present}
-use Rattle.es_event.specs.Rules.{Buffers, is_weakmap, refuse_or, or_undefined}
+use Rattle.es_event.specs.Sharing.{Buffers}
+use Rattle.es_event.specs.Rules.{is_weakmap, refuse_or, or_undefined}
 use Rattle.es_event.specs.Legal.{LegalBy}
 use Rattle.es_event.specs.Live.{AgreeAlong, ObliviousDid, Oblivious, Live}
 use Rattle.es_event.specs.Reach.{IsHeld, in_variable, in_property, in_entry}
@@ -113,7 +114,7 @@ property_next : (over : Buffers) (into : Receivers) (h : History) (s : List ℕ)
 property_next over into h s b n now above o k v r e =
     let gives : or_undefined (prop (r.later ++ h) o k) ≡ Gives v = ap or_undefined (r.reading.properties o k ∙ e) in
     read_next over into h s b n now r.later (Get (word n) r.place k) (Object o ∷ []) v above refl refl refl refl
-    (ap (λ a. a ∷ []) (sym r.there), ap Ok gives, refl) r.reading r.others
+    (ap (λ a. a ∷ []) (sym r.there), ap Ok gives, refl, tt) r.reading r.others
 
 -- the WeakMap first, and then the key into another variable
 entry_next : (over : Buffers) (into : Receivers) (h : History) (s : List ℕ) (b n : ℕ) (now : History) → b ≤ n → LegalBy over into h → (m k : ℕ) (w v : Value)
@@ -127,6 +128,7 @@ entry_next over into h s b n now above legal m k w v r q is e =
       ap (λ t. refuse_or (cond t None (Some NotAWeakMap)) (or_undefined (option_and_then (entry g m) (identity w)))) kind_there
           ∙ ap (λ t. Ok (or_undefined (option_and_then (entry g m) t))) is ∙ ap (λ t. Ok (or_undefined t)) (q.reading.entries m k ∙ e),
       refl,
+      tt,
     )
     q.reading (λ x short. q.others x (omega (arith, short)) ∙ r.others x short)
 
@@ -152,7 +154,7 @@ held_live over into h s v l held e =
       agree = agrees into h;
       before = r.later;
       event = Did (Say r.place) (v ∷ []) Nothing;
-      oblivious = ((ap (λ a. a ∷ []) (sym r.there), refl, refl), r.reading.oblivious);
+      oblivious = ((ap (λ a. a ∷ []) (sym r.there), refl, refl, tt), r.reading.oblivious);
       observed = or_left (has_identity_in s v) false e;
     })
 

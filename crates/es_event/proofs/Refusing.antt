@@ -48,5 +48,7 @@ alike_refused into h code = record {
   kinds = λ o. refl;
   made = omega arith;
   job = omega arith;
+  blocks = omega arith;
+  messages = omega arith;
   reached = λ i. (λ r m c. r m (closed_after into h code (λ j. m j ≡ true) c), λ r m c. r m (closed_before into h code (λ j. m j ≡ true) c));
 }

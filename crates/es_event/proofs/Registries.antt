@@ -11,15 +11,16 @@ use Rattle.es_event.specs.declared.event.Refusal.TheVariants.{NotAFinalizationRe
 use Rattle.es_event.specs.declared.command.Command.{Command}
 use Rattle.es_event.specs.declared.command.Command.TheVariants.{Register}
 use Rattle.es_event.specs.declared.plan.AgentPlan.{AgentPlan}
-use Rattle.es_event.specs.Commands.{first, second, third, fourth, reads, Kind, ordinary, weakref_to, weak_map, weak_set, registry_of}
+use Rattle.es_event.specs.Commands.{first, second, third, fourth, reads, Kind, ordinary, weakref_to, weak_map, weak_set, registry_of, shared_buffer}
 use Rattle.es_event.specs.History.{History}
 use Rattle.es_event.specs.Identities.{identity, made, kind, is_gone, is_there}
 use Rattle.es_event.specs.Jobs.{Receivers, receivers}
 use Rattle.es_event.specs.Registrations.{callback_in, callback, Cell, registers, registers_by, registered, cell, live, fate}
-use Rattle.es_event.specs.Rules.{Buffers, is_registry, kind_of, of_held_weakly, of_other, of_token, tests, first_refusal, result}
-use Rattle.es_event.specs.Legal.{LegalBy}
+use Rattle.es_event.specs.Sharing.{Buffers}
+use Rattle.es_event.specs.Rules.{is_registry, kind_of, of_held_weakly, of_other, of_token, tests, first_refusal}
+use Rattle.es_event.specs.Legal.{word_in, LegalBy}
 use Rattle.es_event.specs.Follows.{Follows}
-use Rattle.es_event.proofs.Accepted.{accepted, first_holds}
+use Rattle.es_event.proofs.Accepted.{is_accepted, first_holds}
 use Rattle.es_event.proofs.Alive.{Alive, alive_at, stays_along}
 use Rattle.es_event.proofs.Cells.{made_by, cell_either, live_target, fate_new}
 use Rattle.es_event.proofs.Holds.{second_of}
@@ -57,7 +58,7 @@ cell_registry over into (Did c vs r ∷ h) l n k e =
     registry_stays over into (Did c vs r) h l k.registry
     (cell_either (is_registry (kind h k.registry) ≡ true) (Did c vs r) h n k
     (λ s t. subst (λ w. is_registry (kind_of h w) ≡ true) (made_by c vs r k s).registry
-    (registry_test over h c vs k s (accepted (first_refusal (tests over h c vs)) (result over h c vs) r l.0.1).0))
+    (registry_test over h c vs k s (is_accepted over h c vs (word_in r) r l.0.1)))
     (λ before. cell_registry over into h l.1 n k before) e)
 cell_registry over into (x ∷ h) l n k e = registry_stays over into x h l k.registry (cell_registry over into h l.1 n k e)
 
@@ -68,6 +69,7 @@ called (Some (weakref_to v)) e = cc
 called (Some weak_map) e = cc
 called (Some weak_set) e = cc
 called (Some (registry_of c)) e = (c, refl)
+called (Some shared_buffer) e = cc
 
 pub callback_of : (over : Buffers) (into : Receivers) (h : History) → LegalBy over into h → (n : ℕ) (k : Cell) → cell h n ≡ Some k → (c : ℕ) × (callback h k.registry ≡ Some c)
 callback_of over into h l n k e = called (kind h k.registry) (cell_registry over into h l n k e)

@@ -10,7 +10,7 @@ use Rattle.std.proofs.Math.Seq.{drop-cons}
 use Rattle.es_value.specs.declared.value.Value.{Value}
 use Rattle.es_event.specs.declared.event.Answer.{Answer}
 use Rattle.es_event.specs.declared.event.Event.{Event}
-use Rattle.es_event.specs.declared.event.Event.TheVariants.{JobBegun, CleanupBegun, Did, Refused, Emptied, Taken, JobEnded, Closed}
+use Rattle.es_event.specs.declared.event.Event.TheVariants.{JobBegun, CleanupBegun, Received, Did, Refused, Emptied, Taken, JobEnded, Skipped, Closed}
 use Rattle.es_event.specs.declared.event.Refusal.{Refusal}
 use Rattle.es_event.specs.declared.command.Command.{Command}
 use Rattle.es_event.specs.declared.plan.AgentPlan.{AgentPlan}
@@ -20,30 +20,31 @@ use Rattle.es_event.specs.Commands.{collects}
 use Rattle.es_event.specs.History.{History}
 use Rattle.es_event.specs.Jobs.{receivers, job, cleans, cleaning, callbacks_collect_nothing}
 use Rattle.es_event.specs.Registrations.{callback, awaiting, fate, tally, first_awaiting}
-use Rattle.es_event.specs.Rules.{Buffers}
+use Rattle.es_event.specs.Sharing.{Buffers}
 use Rattle.es_event.specs.Legal.{Lawful, LegalBy}
-use Rattle.es_event.specs.Order.{Phase, between, inside, stopped, ended, phase_after, phase, left, job_commands, callback_commands, cleanup_commands, is_stopped, queues_again, queue, cleans_up, is_cleaning_up}
+use Rattle.es_event.specs.Order.{Phase, between, handed, inside, stopped, ended, phase_after, phase, left, job_commands, callback_commands, cleanup_commands, is_stopped, queues_again, queue, cleans_up, is_cleaning_up}
 use Rattle.es_event.specs.Follows.{Follows}
 use Rattle.es_event.specs.Runs.{ComesNext}
-use Rattle.es_event.proofs.Awaiting.{awaited_before, between_clean}
-use Rattle.es_event.proofs.Coming.{next_cell, Comes, begins_job, begins_cleanup, does, refuses, empties_dead, takes, ends, stops, closes, comes}
+use Rattle.es_event.proofs.Awaiting.{awaited_before, between_clean, handed_at}
+use Rattle.es_event.proofs.Coming.{next_cell, Comes, begins_job, begins_handed, receives, skips, refuses_message, begins_cleanup, does, refuses, empties_dead, takes, ends, stops, closes, comes}
 use Rattle.es_event.proofs.Fates.{AwaitedBefore, no_more, fewer}
 
 -- The work in the jobs of the plan
 
 abbrev pub cost : List Job → ℕ
 cost [] = 0
-cost (j ∷ js) = (length j.run + 2) + cost js
+cost (j ∷ js) = (length j.run + 3) + cost js
 
-cost_at : (jobs : List Job) (n : ℕ) (j : Job) → slice_get jobs n ≡ Some j → cost (drop n jobs) ≡ (length j.run + 2) + cost (drop (n + 1) jobs)
+cost_at : (jobs : List Job) (n : ℕ) (j : Job) → slice_get jobs n ≡ Some j → cost (drop n jobs) ≡ (length j.run + 3) + cost (drop (n + 1) jobs)
 cost_at jobs n j e =
     let next : suc n ≡ n + 1 = omega arith in
     ap cost (drop-cons jobs n j (slice_get_within jobs n j e))
-    ∙ (ap (λ x. (length x.run + 2) + cost (drop (suc n) jobs)) (get_or_from_slice_get jobs n j j e)
-    ∙ ap (λ m. (length j.run + 2) + cost (drop m jobs)) next)
+    ∙ (ap (λ x. (length x.run + 3) + cost (drop (suc n) jobs)) (get_or_from_slice_get jobs n j j e)
+    ∙ ap (λ m. (length j.run + 3) + cost (drop m jobs)) next)
 
 abbrev pub job_work : AgentPlan → History → Phase → ℕ
 job_work plan h between = 1 + cost (drop (job h - 1) plan.jobs)
+job_work plan h handed = cost (drop (job h - 1) plan.jobs)
 job_work plan h inside = (2 + length (left plan h)) + cost (drop (job h) plan.jobs)
 job_work plan h stopped = 2 + cost (drop (job h) plan.jobs)
 job_work plan h ended = 0
@@ -71,6 +72,7 @@ cells_work plan h = tally h awaiting * cell_cost plan + 2 * length (queue h)
 
 abbrev pub cleanup_work_at : AgentPlan → History → Phase → ℕ
 cleanup_work_at plan h between = cells_work plan h
+cleanup_work_at plan h handed = cells_work plan h
 cleanup_work_at plan h inside = (1 + 4 * length (left plan h)) + cells_work plan h
 cleanup_work_at plan h stopped = 4 + cells_work plan h
 cleanup_work_at plan h ended = 0
@@ -102,7 +104,7 @@ of_number : (P : List Command → Type 0) (plan : AgentPlan) (o : Option ℕ) �
 of_number P plan None none each = none
 of_number P plan (Some n) none each = of_callback P (slice_get plan.callbacks (n - 1)) none (each (n - 1))
 
-of_cleanup : (P : List Command → Type 0) (plan : AgentPlan) (h : History) → P [] → ((i : ℕ) (c : Callback) → slice_get plan.callbacks i ≡ Some c → P c.run) → P (cleanup_commands plan h)
+pub of_cleanup : (P : List Command → Type 0) (plan : AgentPlan) (h : History) → P [] → ((i : ℕ) (c : Callback) → slice_get plan.callbacks i ≡ Some c → P c.run) → P (cleanup_commands plan h)
 of_cleanup P plan h none each = of_number P plan (option_and_then (callback h) (cleaning h)) none each
 
 rest_quiet : (cs : List Command) → list_any collects cs ≡ false → list_any collects (drop 1 cs) ≡ false
@@ -110,22 +112,26 @@ rest_quiet [] e = refl
 rest_quiet (c ∷ cs) e = (or_parts (collects c) (list_any collects cs) e).1
 
 quiet_next : (over : Buffers) (plan : AgentPlan) (h : History) (at : Phase) (e : Event) → Comes over (receivers plan.jobs) plan h at e → phase h ≡ at
-    → list_all (λ c. not (list_any collects c.run)) plan.callbacks ≡ true → ((r : ℕ) → cleaning h ≡ Some r → list_any collects (left plan h) ≡ false)
+    → Follows over plan h → list_all (λ c. not (list_any collects c.run)) plan.callbacks ≡ true → ((r : ℕ) → cleaning h ≡ Some r → list_any collects (left plan h) ≡ false)
     → (r : ℕ) → cleaning (e ∷ h) ≡ Some r → list_any collects (left plan (e ∷ h)) ≡ false
-quiet_next over plan h at _ (begins_job k j b none is same) here all before r e = let clean : cleaning h ≡ None = between_clean h (here ∙ b) in cc
-quiet_next over plan h at _ (begins_cleanup q rs b is) here all before r e = refl
-quiet_next over plan h at _ (does d cs vs a i is) here all before r e = rest_quiet (left plan h) (before r e)
-quiet_next over plan h at _ (refuses d cs code i is) here all before r e = refl
-quiet_next over plan h at _ (empties_dead d cs ids i is co dead) here all before r e = rest_quiet (left plan h) (before r e)
-quiet_next over plan h at _ (takes m v i is next) here all before r e = of_cleanup (λ cs. list_any collects cs ≡ false) plan h refl (λ i c is. callback_quiet plan.callbacks i c all is)
-quiet_next over plan h at _ (ends i is none) here all before r e = cc
-quiet_next over plan h at _ (stops s) here all before r e = cc
-quiet_next over plan h at _ (closes b none) here all before r e = refl
+quiet_next over plan h at _ (begins_job k j b none is same) here f all before r e = let clean : cleaning h ≡ None = between_clean h (here ∙ b) in cc
+quiet_next over plan h at _ (begins_handed k i same) here f all before r e = let clean : cleaning h ≡ None = (handed_at over plan h f (here ∙ i)).clean in cc
+quiet_next over plan h at _ (receives j s v b none is on room) here f all before r e = refl
+quiet_next over plan h at _ (skips k j s b none is on same) here f all before r e = refl
+quiet_next over plan h at _ (refuses_message j code b none is on same) here f all before r e = refl
+quiet_next over plan h at _ (begins_cleanup q rs b is) here f all before r e = refl
+quiet_next over plan h at _ (does d cs vs a i is) here f all before r e = rest_quiet (left plan h) (before r e)
+quiet_next over plan h at _ (refuses d cs code i is) here f all before r e = refl
+quiet_next over plan h at _ (empties_dead d cs ids i is co dead) here f all before r e = rest_quiet (left plan h) (before r e)
+quiet_next over plan h at _ (takes m v i is next) here f all before r e = of_cleanup (λ cs. list_any collects cs ≡ false) plan h refl (λ i c is. callback_quiet plan.callbacks i c all is)
+quiet_next over plan h at _ (ends i is none) here f all before r e = cc
+quiet_next over plan h at _ (stops s) here f all before r e = cc
+quiet_next over plan h at _ (closes b none) here f all before r e = refl
 
 -- in a cleanup job no command is left that collects
 pub quiet : (over : Buffers) (plan : AgentPlan) (h : History) → callbacks_collect_nothing plan ≡ true → Follows over plan h → (r : ℕ) → cleaning h ≡ Some r → list_any collects (left plan h) ≡ false
 quiet over plan [] all f r e = cc
-quiet over plan (e ∷ h) all f r is = quiet_next over plan h (phase h) e (comes over plan h e f.0) refl all (quiet over plan h all f.1) r is
+quiet over plan (e ∷ h) all f r is = quiet_next over plan h (phase h) e (comes over plan h e f.0) refl f.1 all (quiet over plan h all f.1) r is
 
 -- An event of a cleanup job leaves less on the queue, and the jobs of the plan as they are
 
@@ -191,6 +197,7 @@ falls_stopped plan h q clean cells =
 cleaned : (o : Option ℕ) (at : Phase) (rs : List ℕ) → cleans_up o at rs ≡ true → (at ≡ between → ⊥) → (q : ℕ) × (o ≡ Some q)
 cleaned (Some q) at rs e un = (q, refl)
 cleaned None between rs e un = absurd (un refl)
+cleaned None handed rs e un = cc
 cleaned None inside rs e un = cc
 cleaned None stopped rs e un = cc
 cleaned None ended rs e un = cc
@@ -198,6 +205,12 @@ cleaned None ended rs e un = cc
 pub not_due : (h : History) → phase h ≡ between → queue h ≡ [] → is_cleaning_up h ≡ true → ⊥
 not_due h at none e =
     let no : is_cleaning_up h ≡ false = ap (λ o. cleans_up o (phase h) (queue h)) (between_clean h at) ∙ (ap (λ at. cleans_up None at (queue h)) at ∙ ap (cleans_up None between) none) in
+    false≢true (sym no ∙ e)
+
+-- nor before a job whose message it was handed
+pub not_handed : (over : Buffers) (plan : AgentPlan) (h : History) → Follows over plan h → phase h ≡ handed → is_cleaning_up h ≡ true → ⊥
+not_handed over plan h f at e =
+    let no : is_cleaning_up h ≡ false = ap (λ o. cleans_up o (phase h) (queue h)) (handed_at over plan h f at).clean ∙ ap (λ at. cleans_up None at (queue h)) at in
     false≢true (sym no ∙ e)
 
 -- where the agent is
@@ -210,6 +223,10 @@ in_cleanup h at up p un = cleaned (cleaning h) (phase h) (queue h) up (λ b. un 
 falls_next : (over other : Buffers) (plan : AgentPlan) (h : History) (at : Phase) (e : Event) → Comes other (receivers plan.jobs) plan h at e → phase h ≡ at → callbacks_collect_nothing plan ≡ true
     → Lawful other (receivers plan.jobs) h e → LegalBy over (receivers plan.jobs) h → Follows over plan h → is_cleaning_up h ≡ true → Falls plan h e (cleaning h) (phase h)
 falls_next over other plan h at _ (begins_job k j b none is same) here all now l f up = absurd (not_due h (here ∙ b) none up)
+falls_next over other plan h at _ (begins_handed k i same) here all now l f up = absurd (not_handed over plan h f (here ∙ i) up)
+falls_next over other plan h at _ (receives j s v b none is on room) here all now l f up = absurd (not_due h (here ∙ b) none up)
+falls_next over other plan h at _ (skips k j s b none is on same) here all now l f up = absurd (not_due h (here ∙ b) none up)
+falls_next over other plan h at _ (refuses_message j code b none is on same) here all now l f up = absurd (not_due h (here ∙ b) none up)
 falls_next over other plan h at _ (begins_cleanup r rs b is) here all now l f up =
     moved plan h (CleanupBegun r) None between (between_clean h (here ∙ b)) (here ∙ b)
     (falls_begun plan h r rs is (cells_fall plan (CleanupBegun r) h (awaited_before over other plan (CleanupBegun r) h now l f refl)))
@@ -254,10 +271,46 @@ drops_begun plan h k j at e =
     let same : job (JobBegun k ∷ h) ≡ job h = omega arith in
     let positive : (job h - 1) + 1 ≡ job h = omega arith in
     let run : job_commands plan k ≡ j.run = ap (job_commands plan) e ∙ ap (λ o. option_map_or (λ j. j.run) o []) at in
-    let before : cost (drop (job h - 1) plan.jobs) ≡ (length j.run + 2) + cost (drop (job h) plan.jobs) =
-    cost_at plan.jobs (job h - 1) j at ∙ ap (λ m. (length j.run + 2) + cost (drop m plan.jobs)) positive in
+    let before : cost (drop (job h - 1) plan.jobs) ≡ (length j.run + 3) + cost (drop (job h) plan.jobs) =
+    cost_at plan.jobs (job h - 1) j at ∙ ap (λ m. (length j.run + 3) + cost (drop m plan.jobs)) positive in
     let after : job_work plan (JobBegun k ∷ h) inside ≡ (2 + length j.run) + cost (drop (job h) plan.jobs) =
     ap (λ cs. (2 + length cs) + cost (drop (job (JobBegun k ∷ h)) plan.jobs)) run ∙ ap (λ m. (2 + length j.run) + cost (drop m plan.jobs)) same in
+    omega (arith, before, after)
+
+-- the job after it was handed a message
+drops_handed : (plan : AgentPlan) (h : History) (k : ℕ) (j : Job) → slice_get plan.jobs (job h - 1) ≡ Some j → k ≡ job h → Drops plan h (JobBegun k) None handed
+drops_handed plan h k j at e =
+    let same : job (JobBegun k ∷ h) ≡ job h = omega arith in
+    let positive : (job h - 1) + 1 ≡ job h = omega arith in
+    let run : job_commands plan k ≡ j.run = ap (job_commands plan) e ∙ ap (λ o. option_map_or (λ j. j.run) o []) at in
+    let before : cost (drop (job h - 1) plan.jobs) ≡ (length j.run + 3) + cost (drop (job h) plan.jobs) =
+    cost_at plan.jobs (job h - 1) j at ∙ ap (λ m. (length j.run + 3) + cost (drop m plan.jobs)) positive in
+    let after : job_work plan (JobBegun k ∷ h) inside ≡ (2 + length j.run) + cost (drop (job h) plan.jobs) =
+    ap (λ cs. (2 + length cs) + cost (drop (job (JobBegun k ∷ h)) plan.jobs)) run ∙ ap (λ m. (2 + length j.run) + cost (drop m plan.jobs)) same in
+    omega (arith, before, after)
+
+drops_received : (plan : AgentPlan) (h : History) (s : ℕ) (v : Value) → Drops plan h (Received s v) None between
+drops_received plan h s v =
+    let same : job (Received s v ∷ h) ≡ job h = omega arith in
+    let jobs : cost (drop (job (Received s v ∷ h) - 1) plan.jobs) ≡ cost (drop (job h - 1) plan.jobs) = ap (λ n. cost (drop (n - 1) plan.jobs)) same in
+    omega (arith, jobs)
+
+drops_skipped : (plan : AgentPlan) (h : History) (k s : ℕ) (j : Job) → slice_get plan.jobs (job h - 1) ≡ Some j → Drops plan h (Skipped k s) None between
+drops_skipped plan h k s j at =
+    let next : job (Skipped k s ∷ h) - 1 ≡ job h = omega arith in
+    let positive : (job h - 1) + 1 ≡ job h = omega arith in
+    let before : cost (drop (job h - 1) plan.jobs) ≡ (length j.run + 3) + cost (drop (job h) plan.jobs) =
+    cost_at plan.jobs (job h - 1) j at ∙ ap (λ m. (length j.run + 3) + cost (drop m plan.jobs)) positive in
+    let after : cost (drop (job (Skipped k s ∷ h) - 1) plan.jobs) ≡ cost (drop (job h) plan.jobs) = ap (λ n. cost (drop n plan.jobs)) next in
+    omega (arith, before, after)
+
+drops_unreceived : (plan : AgentPlan) (h : History) (code : Refusal) (j : Job) → slice_get plan.jobs (job h - 1) ≡ Some j → Drops plan h (Refused code) None between
+drops_unreceived plan h code j at =
+    let same : job (Refused code ∷ h) ≡ job h = omega arith in
+    let positive : (job h - 1) + 1 ≡ job h = omega arith in
+    let before : cost (drop (job h - 1) plan.jobs) ≡ (length j.run + 3) + cost (drop (job h) plan.jobs) =
+    cost_at plan.jobs (job h - 1) j at ∙ ap (λ m. (length j.run + 3) + cost (drop m plan.jobs)) positive in
+    let after : cost (drop (job (Refused code ∷ h)) plan.jobs) ≡ cost (drop (job h) plan.jobs) = ap (λ n. cost (drop n plan.jobs)) same in
     omega (arith, before, after)
 
 -- the job's number stays
@@ -300,20 +353,26 @@ settled plan h e at c p drops = subst (λ o. Drops plan h e o (phase h)) (sym c)
 taken_none : (n : ℕ) → ◌≡◌ {A = Option ℕ} None (Some n) → ⊥
 taken_none n e = cc
 
-drops_next : (over : Buffers) (plan : AgentPlan) (h : History) (at : Phase) (e : Event) → Comes over (receivers plan.jobs) plan h at e → phase h ≡ at
-    → cleaning h ≡ None → is_cleaning_up h ≡ false → Drops plan h e (cleaning h) (phase h)
-drops_next over plan h at _ (begins_job k j b none is same) here clean up = settled plan h (JobBegun k) between clean (here ∙ b) (drops_begun plan h k j is same)
-drops_next over plan h at _ (begins_cleanup r rs b is) here clean up =
+drops_next : (over other : Buffers) (plan : AgentPlan) (h : History) (at : Phase) (e : Event) → Comes other (receivers plan.jobs) plan h at e → phase h ≡ at
+    → Follows over plan h → cleaning h ≡ None → is_cleaning_up h ≡ false → Drops plan h e (cleaning h) (phase h)
+drops_next over other plan h at _ (begins_job k j b none is same) here f clean up = settled plan h (JobBegun k) between clean (here ∙ b) (drops_begun plan h k j is same)
+drops_next over other plan h at _ (begins_handed k i same) here f clean up =
+    let j = (handed_at over plan h f (here ∙ i)).job_there in
+    settled plan h (JobBegun k) handed clean (here ∙ i) (drops_handed plan h k j.0 j.1 same)
+drops_next over other plan h at _ (receives j s v b none is on room) here f clean up = settled plan h (Received s v) between clean (here ∙ b) (drops_received plan h s v)
+drops_next over other plan h at _ (skips k j s b none is on same) here f clean up = settled plan h (Skipped k s) between clean (here ∙ b) (drops_skipped plan h k s j is)
+drops_next over other plan h at _ (refuses_message j code b none is on same) here f clean up = settled plan h (Refused code) between clean (here ∙ b) (drops_unreceived plan h code j is)
+drops_next over other plan h at _ (begins_cleanup r rs b is) here f clean up =
     let due : is_cleaning_up h ≡ true = ap (λ o. cleans_up o (phase h) (queue h)) clean ∙ (ap (λ at. cleans_up None at (queue h)) (here ∙ b) ∙ ap (cleans_up None between) is) in
     absurd (false≢true (sym up ∙ due))
-drops_next over plan h at _ (does c cs vs r i is) here clean up = settled plan h (Did c vs r) inside clean (here ∙ i) (drops_did plan h c c cs vs r is)
-drops_next over plan h at _ (refuses c cs code i is) here clean up = settled plan h (Refused code) inside clean (here ∙ i) (drops_refused plan h code c cs is)
-drops_next over plan h at _ (empties_dead c cs ids i is co dead) here clean up = settled plan h (Emptied ids) inside clean (here ∙ i) (drops_emptied plan h ids c cs is)
-drops_next over plan h at _ (takes n v i is next) here clean up = let none : next_cell h ≡ None = ap (option_and_then (first_awaiting h)) clean in absurd (taken_none n (sym none ∙ next))
-drops_next over plan h at _ (ends i is none) here clean up = settled plan h JobEnded inside clean (here ∙ i) (omega (arith, ended_cost plan h clean))
-drops_next over plan h at _ (stops s) here clean up = settled plan h JobEnded stopped clean (here ∙ s) (omega (arith, ended_cost plan h clean))
-drops_next over plan h at _ (closes b none) here clean up = settled plan h Closed between clean (here ∙ b) (omega arith)
+drops_next over other plan h at _ (does c cs vs r i is) here f clean up = settled plan h (Did c vs r) inside clean (here ∙ i) (drops_did plan h c c cs vs r is)
+drops_next over other plan h at _ (refuses c cs code i is) here f clean up = settled plan h (Refused code) inside clean (here ∙ i) (drops_refused plan h code c cs is)
+drops_next over other plan h at _ (empties_dead c cs ids i is co dead) here f clean up = settled plan h (Emptied ids) inside clean (here ∙ i) (drops_emptied plan h ids c cs is)
+drops_next over other plan h at _ (takes n v i is next) here f clean up = let none : next_cell h ≡ None = ap (option_and_then (first_awaiting h)) clean in absurd (taken_none n (sym none ∙ next))
+drops_next over other plan h at _ (ends i is none) here f clean up = settled plan h JobEnded inside clean (here ∙ i) (omega (arith, ended_cost plan h clean))
+drops_next over other plan h at _ (stops s) here f clean up = settled plan h JobEnded stopped clean (here ∙ s) (omega (arith, ended_cost plan h clean))
+drops_next over other plan h at _ (closes b none) here f clean up = settled plan h Closed between clean (here ∙ b) (omega arith)
 
 -- while it does not, an event leaves less of the jobs of the plan
-pub plan_less : (over : Buffers) (plan : AgentPlan) (h : History) (e : Event) → is_cleaning_up h ≡ false → ComesNext over plan h e → plan_work plan (e ∷ h) < plan_work plan h
-plan_less over plan h e up next = drops_next over plan h (phase h) e (comes over plan h e next.1) refl (no_cleanup (cleaning h) (phase h) (queue h) up) up
+pub plan_less : (over other : Buffers) (plan : AgentPlan) (h : History) (e : Event) → Follows over plan h → is_cleaning_up h ≡ false → ComesNext other plan h e → plan_work plan (e ∷ h) < plan_work plan h
+plan_less over other plan h e f up next = drops_next over other plan h (phase h) e (comes other plan h e next.1) refl f (no_cleanup (cleaning h) (phase h) (queue h) up) up

@@ -4,7 +4,7 @@ use Rattle.std.specs.Option.{option_map}
 use Rattle.es_value.specs.declared.value.Value.{Value}
 use Rattle.es_value.specs.declared.value.Value.TheVariants.{Object}
 use Rattle.es_event.specs.declared.event.Event.{Event}
-use Rattle.es_event.specs.declared.event.Event.TheVariants.{JobBegun, CleanupBegun, Did, Refused, Emptied, Taken, JobEnded, Closed}
+use Rattle.es_event.specs.declared.event.Event.TheVariants.{JobBegun, CleanupBegun, Received, Did, Refused, Emptied, Taken, JobEnded, Skipped, Closed}
 use Rattle.es_event.specs.declared.command.Command.{Command}
 use Rattle.es_event.specs.declared.command.Command.TheVariants.{WeakMapSet, WeakMapDelete, WeakSetAdd, WeakSetDelete}
 use Rattle.es_event.specs.History.{History, latest_at}
@@ -27,11 +27,13 @@ entered_by _ vs = None
 abbrev pub entered : Event → Option ((ℕ × ℕ) × Option Value)
 entered (JobBegun j) = None
 entered (CleanupBegun q) = None
+entered (Received t v) = None
 entered (Did c vs r) = entered_by c vs
 entered (Refused code) = None
 entered (Emptied ids) = None
 entered (Taken n held) = None
 entered JobEnded = None
+entered (Skipped j t) = None
 entered Closed = None
 
 -- that of the newest set or delete of key k in the WeakMap m
@@ -55,11 +57,13 @@ joined_by _ vs = None
 abbrev pub joined : Event → Option ((ℕ × ℕ) × Bool)
 joined (JobBegun j) = None
 joined (CleanupBegun q) = None
+joined (Received t v) = None
 joined (Did c vs r) = joined_by c vs
 joined (Refused code) = None
 joined (Emptied ids) = None
 joined (Taken n held) = None
 joined JobEnded = None
+joined (Skipped j t) = None
 joined Closed = None
 
 -- by the newest add or delete of v in the WeakSet s

@@ -1,56 +1,70 @@
 -- To believe: what is said of the definitions as a whole. Each is the contract of a function of its name that does
 -- nothing, so it is proved; none of them adds to what the definitions mean.
-use Rattle.std.specs.Prelude.{ℕ, ◌≡◌, ◌↔◌, ◌+◌, Bool, true, false, List, ◌∷◌, ◌++◌, Some, is_some}
+use Rattle.std.specs.Prelude.{ℕ, ◌≡◌, ◌↔◌, ◌+◌, Bool, true, false, List, ◌∷◌, ◌++◌, Some, None, is_some, map, nat_lt}
+use Rattle.std.specs.List.{list_all}
+use Rattle.es_value.specs.Limits.{most_identities}
 use Rattle.es_value.specs.declared.value.Value.{Value}
+use Rattle.es_value.specs.declared.value.Value.TheVariants.{Object}
+use Rattle.es_event.specs.declared.row.Row.{Row}
 use Rattle.es_event.specs.declared.event.Event.{Event}
-use Rattle.es_event.specs.declared.event.Event.TheVariants.{Refused, Taken}
+use Rattle.es_event.specs.declared.event.Event.TheVariants.{Received, Refused, Taken}
 use Rattle.es_event.specs.declared.event.Refusal.{Refusal}
 use Rattle.es_event.specs.declared.outcome.Outcome.{Outcome}
 use Rattle.es_event.specs.declared.plan.AgentPlan.{AgentPlan}
 use Rattle.es_event.specs.declared.plan.Plan.{Plan}
 use Rattle.es_event.specs.History.{History}
-use Rattle.es_event.specs.Identities.{is_in, is_made, has_identity_in, gone}
-use Rattle.es_event.specs.Jobs.{Receivers, receivers, waits_for_nobody, callbacks_collect_nothing}
+use Rattle.es_event.specs.Identities.{identity, is_in, made, is_made, has_identity_in, gone}
+use Rattle.es_event.specs.Jobs.{Receivers, receivers, stays_alone, callbacks_collect_nothing}
 use Rattle.es_event.specs.LookBacks.{LookAlike}
 use Rattle.es_event.specs.Properties.{prop, keys, has_key}
 use Rattle.es_event.specs.WeakRefs.{kept}
 use Rattle.es_event.specs.Registrations.{Cell, Fate, live, awaiting, unregistered, taken, registered, is_registered, cell, fate, is_present, tally}
-use Rattle.es_event.specs.Rules.{Buffers}
+use Rattle.es_event.specs.Sharing.{Buffers, AgreeSoFar}
 use Rattle.es_event.specs.Legal.{is_rising, LegalBy}
 use Rattle.es_event.specs.Reach.{IsClosed, IsReached, LedTo, IsHeld, AreDead, IsClosedBeside, with_later}
 use Rattle.es_event.specs.Live.{AgreeAlong, Oblivious, Live, Honest}
 use Rattle.es_event.specs.Order.{receive, nothing, due}
-use Rattle.es_event.specs.Follows.{Follows}
-use Rattle.es_event.specs.Runs.{ComesNext, IsRun, IsWholeRunOver, IsOutcome}
+use Rattle.es_event.specs.Runs.{ComesNext, heard, IsRun, IsRunOver, IsWholeRunOver, IsOutcome}
 
 -- Runs
 
--- Of two events that may come next, over the same buffers, each is the other. Once words of shared blocks are read
--- it will say: but for the word.
+-- Of two events that may come next, over the same buffers, and that hear the same from outside, each is the other.
 abbrev pub OneEventComesNext : Type 0
-OneEventComesNext = (over : Buffers) (plan : AgentPlan) (h : History) (e f : Event) → ComesNext over plan h e → ComesNext over plan h f → e ≡ f
+OneEventComesNext = (over : Buffers) (plan : AgentPlan) (h : History) (e f : Event) → ComesNext over plan h e → ComesNext over plan h f → heard e ≡ heard f → e ≡ f
 
--- No history is stuck: where something is due, and it is no message, an event may come next. Once buffers are made it
--- will say: over a table that has the same rows for what was made so far.
+-- No history is stuck: where something is due, an event may come next, over a table that says the same of what was made so
+-- far. A job that waits for a message may be skipped.
 abbrev pub SomeEventComesNext : Type 0
-SomeEventComesNext = (over : Buffers) (plan : AgentPlan) (h : History) → (due plan h ≡ nothing → ⊥) → ((sender : ℕ) → due plan h ≡ receive sender → ⊥) → (e : Event) × ComesNext over plan h e
+SomeEventComesNext =
+    (over : Buffers) (plan : AgentPlan) (h : History) → (due plan h ≡ nothing → ⊥) → (more : Buffers) × AgreeSoFar h over more × (e : Event) × ComesNext more plan h e
 
--- Each run so far of a plan in which no job waits for a message and no callback collects comes to its end: the work on the
--- cleanup queue ends too. It will change as the last did.
+-- And where a job waits for a message, each value without an identity may be received, and where there is room so may a buffer.
+abbrev pub AMessageMayCome : Type 0
+AMessageMayCome =
+    (over : Buffers) (plan : AgentPlan) (h : History) (job sender : ℕ) → due plan h ≡ receive job sender
+    → ((v : Value) → identity v ≡ None → ComesNext over plan h (Received sender v))
+    × ((row : Row) → nat_lt (made h) most_identities ≡ true → ComesNext ((made h + 1, row) ∷ over) plan h (Received sender (Object (made h + 1))))
+
+-- Each run so far of a plan in which no callback collects comes to its end, if nothing else by skips: the work on the cleanup
+-- queue ends too.
 abbrev pub EachRunComesToItsEnd : Type 0
 EachRunComesToItsEnd =
-    (over : Buffers) (plan : AgentPlan) (h : History) → waits_for_nobody plan ≡ true → callbacks_collect_nothing plan ≡ true
-    → LegalBy over (receivers plan.jobs) h → Follows over plan h
-    → (f : History) × IsWholeRunOver over plan (f ++ h)
+    (over : Buffers) (plan : AgentPlan) (h : History) → callbacks_collect_nothing plan ≡ true
+    → IsRunOver over plan h
+    → (more : Buffers) × AgreeSoFar h over more × (f : History) × IsWholeRunOver more plan (f ++ h)
 
--- An agent's plan has one whole run, over the same buffers.
+-- What a run hears from outside settles it: two runs of a plan so far, over the same buffers, that hear the same are the same.
+abbrev pub WhatIsHeardSettlesARun : Type 0
+WhatIsHeardSettlesARun = (over : Buffers) (plan : AgentPlan) (g h : History) → IsRunOver over plan g → IsRunOver over plan h → map heard g ≡ map heard h → g ≡ h
+
+-- An agent's plan has one whole run, if the agent stays alone.
 abbrev pub APlanHasOneWholeRun : Type 0
-APlanHasOneWholeRun = (over : Buffers) (plan : AgentPlan) (g h : History) → IsWholeRunOver over plan g → IsWholeRunOver over plan h → g ≡ h
+APlanHasOneWholeRun =
+    (over other : Buffers) (plan : AgentPlan) (g h : History) → stays_alone plan ≡ true → IsWholeRunOver over plan g → IsWholeRunOver other plan h → g ≡ h
 
--- A plan has one outcome, and so one report. Once a command tells whether two buffers are over one block, outcomes
--- will carry the tables of their buffers.
+-- A plan has one outcome, and so one report, if each agent stays alone.
 abbrev pub APlanHasOneOutcome : Type 0
-APlanHasOneOutcome = (plan : Plan) (a b : Outcome) → IsOutcome plan a → IsOutcome plan b → a ≡ b
+APlanHasOneOutcome = (plan : Plan) (a b : Outcome) → list_all stays_alone plan.agents ≡ true → IsOutcome plan a → IsOutcome plan b → a ≡ b
 
 -- Look-backs
 

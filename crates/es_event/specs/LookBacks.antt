@@ -8,6 +8,7 @@ use Rattle.es_event.specs.Properties.{prop, keys}
 use Rattle.es_event.specs.WeakRefs.{kept, target}
 use Rattle.es_event.specs.Ephemerons.{entry, is_member}
 use Rattle.es_event.specs.Registrations.{registered, cell, fate}
+use Rattle.es_event.specs.Sharing.{blocks_opened, messages_posted}
 use Rattle.es_event.specs.Reach.{IsReached}
 
 -- the look-backs of two histories are the same, but for where the agent stands in its plan
@@ -26,4 +27,6 @@ pub record LookAlike (into : Receivers) (g h : History) : Type 0 where
   pub kinds : (o : ℕ) → kind g o ≡ kind h o
   pub made : made g ≡ made h
   pub job : job g ≡ job h
+  pub blocks : blocks_opened g ≡ blocks_opened h
+  pub messages : messages_posted g ≡ messages_posted h
   pub reached : (i : ℕ) → IsReached into g i ↔ IsReached into h i

@@ -5,10 +5,10 @@ use Rattle.std.specs.Option.{option_map, option_map_or, option_and_then}
 use Rattle.es_value.specs.declared.value.Value.{Value}
 use Rattle.es_value.specs.declared.value.Value.TheVariants.{Object}
 use Rattle.es_event.specs.declared.event.Event.{Event}
-use Rattle.es_event.specs.declared.event.Event.TheVariants.{JobBegun, CleanupBegun, Did, Refused, Emptied, Taken, JobEnded, Closed}
+use Rattle.es_event.specs.declared.event.Event.TheVariants.{JobBegun, CleanupBegun, Received, Did, Refused, Emptied, Taken, JobEnded, Skipped, Closed}
 use Rattle.es_event.specs.declared.command.Command.{Command}
 use Rattle.es_event.specs.declared.command.Command.TheVariants.{Register, Unregister}
-use Rattle.es_event.specs.Commands.{first, Kind, ordinary, weakref_to, weak_map, weak_set, registry_of}
+use Rattle.es_event.specs.Commands.{first, Kind, ordinary, weakref_to, weak_map, weak_set, registry_of, shared_buffer}
 use Rattle.es_event.specs.History.{History, total, earliest, latest_at}
 use Rattle.es_event.specs.Identities.{identity, is_gone, kind}
 
@@ -20,6 +20,7 @@ callback_in (weakref_to v) = None
 callback_in weak_map = None
 callback_in weak_set = None
 callback_in (registry_of c) = Some c
+callback_in shared_buffer = None
 
 -- the number of the callback of the registry r
 abbrev pub callback : History → ℕ → Option ℕ
@@ -43,11 +44,13 @@ registers_by _ vs = None
 abbrev pub registers : Event → Option Cell
 registers (JobBegun j) = None
 registers (CleanupBegun q) = None
+registers (Received t v) = None
 registers (Did c vs r) = registers_by c vs
 registers (Refused code) = None
 registers (Emptied ids) = None
 registers (Taken n held) = None
 registers JobEnded = None
+registers (Skipped j t) = None
 registers Closed = None
 
 -- how many registrations were made; they are numbered from 1 in order of making
@@ -99,11 +102,13 @@ unregisters_by _ vs h n = false
 abbrev pub removes : ℕ → History → Event → Option Fate
 removes n earlier (JobBegun j) = None
 removes n earlier (CleanupBegun q) = None
+removes n earlier (Received t v) = None
 removes n earlier (Did c vs r) = if unregisters_by c vs earlier n then Some unregistered else None
 removes n earlier (Refused code) = None
 removes n earlier (Emptied ids) = None
 removes n earlier (Taken m held) = if m == n then Some taken else None
 removes n earlier JobEnded = None
+removes n earlier (Skipped j t) = None
 removes n earlier Closed = None
 
 -- of a registration that no event took out

@@ -58,10 +58,10 @@ holder_here n l a r legal in_list = (held_here a 1 (serials l) r (table l) (numb
 -- A ticket that is spent leaves, and nothing else does
 
 -- the second list is the first without this row
-abbrev Without : Row → List Row → List Row → Type 0
+abbrev pub Without : Row → List Row → List Row → Type 0
 Without r old new = (xs : List Row) × (ys : List Row) × (old ≡ xs ++ r ∷ ys) × (new ≡ xs ++ ys)
 
-without_more : (x r : Row) (b : Bool) (old new : List Row) → Without r old new → Without r (cond b (x ∷ old) old) (cond b (x ∷ new) new)
+pub without_more : (x r : Row) (b : Bool) (old new : List Row) → Without r old new → Without r (cond b (x ∷ old) old) (cond b (x ∷ new) new)
 without_more x r true old new w = (x ∷ w.0, w.1, ap (λ l. x ∷ l) w.2, ap (λ l. x ∷ l) w.3)
 without_more x r false old new w = w
 
@@ -90,12 +90,12 @@ spent_leaves s a i (suc m) r (e ∷ es) is by =
         )
     step false other by first rest ih = without_more e.row r (is_somebody e.holder) _ _ (ih by)
 
-count_without : (b : ℕ) (r : Row) (old new : List Row) → Without r old new → count_of old b ≡ cond (r.block == b) 1 0 + count_of new b
+pub count_without : (b : ℕ) (r : Row) (old new : List Row) → Without r old new → count_of old b ≡ cond (r.block == b) 1 0 + count_of new b
 count_without b r old new w =
     let f = λ (x : Row). cond {A = ℕ} (x.block == b) 1 0 in
     omega (arith, ap (λ l. count_of l b) w.2, ap (λ l. count_of l b) w.3, sum_by-append f w.0 (r ∷ w.1), sum_by-cons f r w.1, sum_by-append f w.0 w.1)
 
-length_without : (r : Row) (old new : List Row) → Without r old new → length old ≡ suc (length new)
+pub length_without : (r : Row) (old new : List Row) → Without r old new → length old ≡ suc (length new)
 length_without r old new w = omega (arith, ap length w.2, ap length w.3, length-append w.0 (r ∷ w.1), length-append w.0 w.1)
 
 pub spent_count : (n : ℕ) (l : Ledger) (s a : ℕ) (r : Row) → LegalSoFar n l → holder_of l s ≡ Some (a, r) → (b : ℕ) → count l b ≡ (if r.block == b then 1 else 0) + count (Spent s ∷ l) b

@@ -1,11 +1,13 @@
 -- A ledger without events.
-use Rattle.std.proofs.Common.{◌≡◌, ◌⊎◌, ⊎_elim, inl, inr, ℕ, zero, suc, ◌<◌, ◌≤◌, List, [], ◌∷◌, ◌++◌, ◌==◌, Bool, true, false, cond, Some, refl, sym, ap, ◌∙◌, subst, arith, length}
-use Rattle.std.specs.Prelude.{slice_get, slice_index_or}
+use Rattle.std.proofs.Common.{◌≡◌, ◌⊎◌, ⊎_elim, inl, inr, ℕ, zero, suc, ◌<◌, ◌≤◌, List, [], ◌∷◌, ◌++◌, ◌==◌, ◌*◌, ◌+◌, Bool, true, false, cond, Option, Some, None, refl, sym, ap, ◌∙◌, subst, arith, length}
+use Rattle.std.specs.Prelude.{slice_get, slice_index_or, map}
 use Rattle.es_event.specs.declared.row.Entry.{Entry}
 use Rattle.es_event.specs.Ledger.{Ledger}
 use Rattle.es_ledger.specs.declared.blocks.Counted.{Counted}
 use Rattle.es_ledger.specs.Blocks.{no_block, block_at, tickets_at}
-use Rattle.es_ledger.specs.Ties.{left, Ties}
+use Rattle.es_ledger.specs.Letters.{body_of}
+use Rattle.es_ledger.specs.Ports.{Queued, no_queue}
+use Rattle.es_ledger.specs.Ties.{left, waiting, AreNamed, Mail, Ties}
 
 -- the last of a list, or one before it
 pub got_new : {A : Type 0} (xs : List A) (x s : A) (i : ℕ) → slice_get (xs ++ x ∷ []) i ≡ Some s → (slice_get xs i ≡ Some s) ⊎ ((i ≡ length xs) × (x ≡ s))
@@ -13,6 +15,13 @@ got_new [] x s zero e = inr (refl, (cc))
 got_new [] x s (suc i) e = absurd (cc)
 got_new (y ∷ ys) x s zero e = inl e
 got_new (y ∷ ys) x s (suc i) e = ⊎_elim (λ t. inl t) (λ t. inr (ap suc t.0, t.1)) (got_new ys x s i e)
+
+-- what each place has that is one, each place has with one more
+pub still_none : (xs : List (Option ℕ)) (a : ℕ) → ((b : ℕ) → slice_index_or xs b None ≡ None) → slice_index_or (xs ++ None ∷ []) a None ≡ None
+still_none [] zero each = refl
+still_none [] (suc a) each = refl
+still_none (x ∷ xs) zero each = each 0
+still_none (x ∷ xs) (suc a) each = still_none xs a (λ b. each (suc b))
 
 pub still_false : (xs : List Bool) (a : ℕ) → ((b : ℕ) → slice_index_or xs b false ≡ false) → slice_index_or (xs ++ false ∷ []) a false ≡ false
 still_false [] zero each = refl
@@ -31,10 +40,29 @@ none_at b = by_test (b == 0)
     by_test true = refl
     by_test false = refl
 
-pub new_ties : (n : ℕ) (l : Ledger) (lines : List Entry) (blocks : List Counted) (ends : List Bool) (places : ℕ)
-    → n < 9 → l ≡ [] → lines ≡ [] → blocks ≡ [] → length ends ≡ n → ((a : ℕ) → slice_index_or ends a false ≡ false) → n ≤ places → Ties n l lines blocks ends places
-new_ties n l lines blocks ends places few none no_lines no_blocks agents_are quiet room =
-    subst (λ l. Ties n l lines blocks ends places) (sym none) (record {
+-- nobody waits, and the ports are empty
+
+none_waits : (n : ℕ) → waiting [] n ≡ 0
+none_waits zero = refl
+none_waits (suc n) = let rest = none_waits n in omega (arith, rest)
+
+new_mail : {L : Type 0} (n : ℕ) (l : Ledger) (ws : List (Option ℕ)) (qs : List (Queued L))
+    → length qs ≡ n * 8 → ((i : ℕ) → (slice_index_or qs i no_queue).letters ≡ []) → length ws ≡ n → ((a : ℕ) → slice_index_or ws a None ≡ None) → Mail n [] ws qs
+new_mail n l ws qs size empty long quiet = record {
+  columns = size;
+  ports = λ s r sender receiver. ap (map body_of) (empty (s * 8 + r));
+  named = λ s r sender receiver. subst (AreNamed []) (sym (empty (s * 8 + r))) tt;
+  agents = long;
+  awaited = λ a below. quiet a;
+  senders = λ a s below is. cc;
+}
+
+pub new_ties : {L : Type 0} (n : ℕ) (l : Ledger) (lines : List Entry) (blocks : List Counted) (ends : List Bool) (ws : List (Option ℕ)) (qs : List (Queued L)) (messages places : ℕ)
+    → n < 9 → l ≡ [] → lines ≡ [] → blocks ≡ [] → length ends ≡ n → ((a : ℕ) → slice_index_or ends a false ≡ false)
+    → length ws ≡ n → ((a : ℕ) → slice_index_or ws a None ≡ None) → length qs ≡ n * 8 → ((i : ℕ) → (slice_index_or qs i no_queue).letters ≡ []) → messages ≡ 0
+    → n ≤ places → Ties n l lines blocks ends ws qs messages places
+new_ties n l lines blocks ends ws qs messages places few none no_lines no_blocks agents_are quiet waits_are nobody size empty no_messages room =
+    subst (λ l. Ties n l lines blocks ends ws qs messages places) (sym none) (record {
       few = few;
       legal = (tt, refl);
       tabled = no_lines;
@@ -44,5 +72,6 @@ new_ties n l lines blocks ends places few none no_lines no_blocks agents_are qui
       words = λ b i some. absurd (omega (arith, some));
       agents = agents_are;
       over = λ a below. quiet a;
-      room = let all = left_all n in omega (arith, all, room);
+      mail = new_mail n l ws qs size empty waits_are nobody;
+      room = let all = left_all n in let waits = none_waits n in omega (arith, all, waits, no_messages, room);
     })

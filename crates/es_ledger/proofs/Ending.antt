@@ -1,5 +1,5 @@
 -- An agent ends: one fewer is left.
-use Rattle.std.proofs.Common.{◌≡◌, ◌≢◌, ℕ, zero, suc, ◌+◌, ◌<◌, ◌≤◌, ◌==◌, ◌||◌, List, ◌∷◌, Bool, true, false, cond, refl, sym, ap, ◌∙◌, subst, arith, length-set, zero-add, eq-eqb, ne_eqb}
+use Rattle.std.proofs.Common.{◌≡◌, ◌≢◌, ℕ, zero, suc, ◌+◌, ◌<◌, ◌≤◌, ◌==◌, ◌||◌, List, ◌∷◌, Option, Bool, true, false, cond, refl, sym, ap, ◌∙◌, subst, arith, length-set, zero-add, eq-eqb, ne_eqb}
 use Rattle.std.proofs.lemmas.Bool.{eqb-true, false≢true}
 use Rattle.std.proofs.lemmas.List.{get_or-set_same, get_or-set_other}
 use Rattle.std.specs.Prelude.{slice_set, slice_index_or}
@@ -7,8 +7,10 @@ use Rattle.es_event.specs.declared.ledger_event.LedgerEvent.TheVariants.{Ended}
 use Rattle.es_event.specs.declared.row.Entry.{Entry}
 use Rattle.es_event.specs.Ledger.{Ledger, opened, ended}
 use Rattle.es_ledger.specs.declared.blocks.Counted.{Counted}
+use Rattle.es_ledger.specs.Ports.{Queued}
 use Rattle.es_ledger.specs.Ties.{left, Ties}
 use Rattle.es_ledger.proofs.Tying.{next_legal}
+use Rattle.es_ledger.proofs.Mail.{mail_same, waiting_same}
 
 -- those below an agent are as they were
 left_below : (l : Ledger) (a n : ℕ) → n ≤ a → left (Ended a ∷ l) n ≡ left l n
@@ -33,9 +35,9 @@ left_ended l a (suc n) below before = by_test (a == n) refl (λ smaller. left_en
         let rest = earlier (omega (arith, apart, below)) in
         omega (arith, rest)
 
-pub ended_ties : (n : ℕ) (l : Ledger) (lines : List Entry) (blocks : List Counted) (ends : List Bool) (places more a : ℕ)
-    → Ties n l lines blocks ends places → a < n → ended l a ≡ false → places ≤ more + 1 → Ties n (Ended a ∷ l) lines blocks (slice_set ends a true) more
-ended_ties n l lines blocks ends places more a ties below before room = record {
+pub ended_ties : {L : Type 0} (n : ℕ) (l : Ledger) (lines : List Entry) (blocks : List Counted) (ends : List Bool) (ws : List (Option ℕ)) (qs : List (Queued L)) (messages places more a : ℕ)
+    → Ties n l lines blocks ends ws qs messages places → a < n → ended l a ≡ false → places ≤ more + 1 → Ties n (Ended a ∷ l) lines blocks (slice_set ends a true) ws qs messages more
+ended_ties n l lines blocks ends ws qs messages places more a ties below before room = record {
   few = ties.few;
   legal = next_legal n l (Ended a) ties.legal (below, before) refl;
   tabled = ties.tabled;
@@ -45,7 +47,8 @@ ended_ties n l lines blocks ends places more a ties below before room = record {
   words = ties.words;
   agents = length-set ends a true ∙ ties.agents;
   over = λ c within. by_test c within (a == c) refl;
-  room = let fewer = left_ended l a n below before in let all = ties.room in omega (arith, room, fewer, all);
+  mail = mail_same n l ws qs (Ended a) ties.mail (λ s r. refl) (λ c. refl);
+  room = let fewer = left_ended l a n below before in let waits = waiting_same l (Ended a) n (λ c. refl) in let all = ties.room in omega (arith, room, fewer, waits, all);
 }
   where
     by_test : (c : ℕ) → c < n → (s : Bool) → (a == c) ≡ s → slice_index_or (slice_set ends a true) c false ≡ (s || ended l c)
@@ -55,6 +58,6 @@ ended_ties n l lines blocks ends places more a ties below before room = record {
     by_test c within false is = get_or-set_other ends a c true false (λ e. absurd (false≢true (sym is ∙ eq-eqb a c (sym e)))) ∙ ties.over c within
 
 -- there is room for the end of an agent that has not ended
-pub ended_room : (n : ℕ) (l : Ledger) (lines : List Entry) (blocks : List Counted) (ends : List Bool) (places a : ℕ)
-    → Ties n l lines blocks ends places → a < n → ended l a ≡ false → 0 < places
-ended_room n l lines blocks ends places a ties below before = let fewer = left_ended l a n below before in let room = ties.room in omega (arith, fewer, room)
+pub ended_room : {L : Type 0} (n : ℕ) (l : Ledger) (lines : List Entry) (blocks : List Counted) (ends : List Bool) (ws : List (Option ℕ)) (qs : List (Queued L)) (messages places a : ℕ)
+    → Ties n l lines blocks ends ws qs messages places → a < n → ended l a ≡ false → 0 < places
+ended_room n l lines blocks ends ws qs messages places a ties below before = let fewer = left_ended l a n below before in let room = ties.room in omega (arith, fewer, room)

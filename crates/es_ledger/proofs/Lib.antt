@@ -1,17 +1,24 @@
 mod Lines
 mod Numbered
 mod Queues
-mod Ports
+mod Lying
 mod Untouched
 mod After
 mod Made
 mod Tallies
 mod Within
 mod Sums
+mod InOrder
 mod ExampleBlocks
 mod ExamplePorts
+pub mod Columns
+pub mod Mail
 pub mod Kept
 pub mod Tying
 pub mod Opening
 pub mod Ending
 pub mod Beginning
+pub mod Waits
+pub mod Lain
+pub mod Sending
+pub mod Emptying

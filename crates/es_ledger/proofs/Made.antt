@@ -18,7 +18,7 @@ use Rattle.es_ledger.proofs.Tallies.{tally, weight, if_passed, tally_more}
 use Rattle.es_ledger.proofs.After.{agent_of, holder_here, spent_count}
 
 -- each line's row is such
-abbrev Each : (Row → Type 0) → List Entry → Type 0
+abbrev pub Each : (Row → Type 0) → List Entry → Type 0
 Each P [] = Unit {0}
 Each P (e ∷ es) = P e.row × Each P es
 
@@ -72,7 +72,7 @@ of_held P a s r (e ∷ es) each by = step (e.row.serial == s) by (of_held P a s 
     step false by ih = ih by
 
 -- the row's block was made, with the row's words
-abbrev IsMade : Ledger → Row → Type 0
+abbrev pub IsMade : Ledger → Row → Type 0
 IsMade l r = (0 < r.block) × (r.block ≤ opened l) × (r.words ≡ size l r.block)
 
 -- an older block keeps its words when the next is made
@@ -102,7 +102,7 @@ made_next n l (Taken r s) None c each = each_same l _ (each_moved_if (IsMade l) 
 made_next n l (Spent k) None c each = each_same l _ (each_moved (IsMade l) k Nobody (table l) each)
 made_next n l _ None c each = each_same l _ each
 
-all_made : (n : ℕ) (l : Ledger) → LegalSoFar n l → Each (IsMade l) (table l)
+pub all_made : (n : ℕ) (l : Ledger) → LegalSoFar n l → Each (IsMade l) (table l)
 all_made n [] legal = tt
 all_made n (e ∷ l) legal = made_next n l e (owed l) legal.0 (all_made n l legal.1)
 

@@ -12,7 +12,8 @@ use Rattle.es_event.specs.Ledger.{Ledger, opened, serials, size, table, rows, co
 use Rattle.es_event.specs.LegalLedger.{LegalSoFar}
 use Rattle.es_ledger.specs.declared.blocks.Counted.{Counted}
 use Rattle.es_ledger.specs.Blocks.{block_at}
-use Rattle.es_ledger.specs.Ties.{left, Ties}
+use Rattle.es_ledger.specs.Ports.{Queued}
+use Rattle.es_ledger.specs.Ties.{left, waiting, Ties}
 use Rattle.es_ledger.proofs.Kept.{pushed_here, pushed_there}
 use Rattle.es_ledger.proofs.After.{spent_count, opened_count, opened_length}
 use Rattle.es_ledger.proofs.Made.{block_made}
@@ -23,6 +24,7 @@ use Rattle.std.proofs.lemmas.List.{length-map}
 use Rattle.std.proofs.lemmas.List.FromFn.{length-range_with_len}
 use Rattle.es_ledger.proofs.Numbered.{numbered}
 use Rattle.es_ledger.proofs.Tying.{next_legal, left_same, words_in}
+use Rattle.es_ledger.proofs.Mail.{mail_same, waiting_same}
 use Rattle.std.proofs.lemmas.Bool.Decides.{nat_tests}
 
 -- Nothing is written into a block that was not made
@@ -93,10 +95,10 @@ each_zero w j = by_test (nat_lt j w) refl
         let past : w ≤ j = grind (arith, nat_tests, is) in
         beyond (zeros w) j (omega (arith, long, past))
 
-pub opened_ties : (n : ℕ) (l : Ledger) (lines : List Entry) (blocks : List Counted) (ends : List Bool) (places more a w : ℕ)
-    → Ties n l lines blocks ends places → a < n → length (rows l) + left l n + 1 ≤ more
-    → Ties n (Opened (opened l + 1) w (serials l + 1) a ∷ l) (lines ++ held_by (Agent a) (row (serials l + 1) (opened l + 1) w) ∷ []) (blocks ++ fresh w ∷ []) ends more
-opened_ties n l lines blocks ends places more a w ties below room = record {
+pub opened_ties : {L : Type 0} (n : ℕ) (l : Ledger) (lines : List Entry) (blocks : List Counted) (ends : List Bool) (ws : List (Option ℕ)) (qs : List (Queued L)) (messages places more a w : ℕ)
+    → Ties n l lines blocks ends ws qs messages places → a < n → length (rows l) + left l n + waiting l n + messages + 1 ≤ more
+    → Ties n (Opened (opened l + 1) w (serials l + 1) a ∷ l) (lines ++ held_by (Agent a) (row (serials l + 1) (opened l + 1) w) ∷ []) (blocks ++ fresh w ∷ []) ends ws qs messages more
+opened_ties n l lines blocks ends ws qs messages places more a w ties below room = record {
   few = ties.few;
   legal = next_legal n l (Opened (opened l + 1) w (serials l + 1) a) ties.legal (refl, refl, below) refl;
   tabled = ap (λ t. t ++ held_by (Agent a) (row (serials l + 1) (opened l + 1) w) ∷ []) ties.tabled;
@@ -106,10 +108,12 @@ opened_ties n l lines blocks ends places more a w ties below room = record {
   words = λ c j some. seen (λ k. slice_index_or (words_in k) j 0) c (opened l + 1 == c) refl ∙ worded c j (opened l + 1 == c) refl (subst (λ m. 0 < m) (opened_count l (opened l + 1) w (serials l + 1) a c) some);
   agents = ties.agents;
   over = ties.over;
+  mail = mail_same n l ws qs (Opened (opened l + 1) w (serials l + 1) a) ties.mail (λ s r. refl) (λ c. refl);
   room =
       let one_more = opened_length l (opened l + 1) w (serials l + 1) a in
       let agents_left = left_same (Opened (opened l + 1) w (serials l + 1) a) l n (λ c. refl) in
-      omega (arith, room, one_more, agents_left);
+      let waits = waiting_same l (Opened (opened l + 1) w (serials l + 1) a) n (λ c. refl) in
+      omega (arith, room, one_more, agents_left, waits);
 }
   where
     seen : {A : Type 0} (f : Counted → A) (c : ℕ) (s : Bool) → (opened l + 1 == c) ≡ s → f (block_at (blocks ++ fresh w ∷ []) c) ≡ f (cond s (fresh w) (block_at blocks c))
@@ -133,12 +137,12 @@ opened_ties n l lines blocks ends places more a w ties below room = record {
 
 -- Numbers
 
-table_length : (n : ℕ) (l : Ledger) → LegalSoFar n l → length (table l) ≡ serials l
+pub table_length : (n : ℕ) (l : Ledger) → LegalSoFar n l → length (table l) ≡ serials l
 table_length n l legal = sym (length-map (table l) (λ e. e.row.serial)) ∙ ap (λ ks. length ks) (numbered n l legal) ∙ length-range_with_len 1 (serials l)
 
 -- the next line is that of the next serial, and the next block the next one
-pub next_row : (n : ℕ) (l : Ledger) (lines : List Entry) (blocks : List Counted) (ends : List Bool) (places b w : ℕ)
-    → Ties n l lines blocks ends places → b ≡ length blocks → row (length lines + 1) (b + 1) w ≡ row (serials l + 1) (opened l + 1) w
-next_row n l lines blocks ends places b w ties is =
+pub next_row : {L : Type 0} (n : ℕ) (l : Ledger) (lines : List Entry) (blocks : List Counted) (ends : List Bool) (ws : List (Option ℕ)) (qs : List (Queued L)) (messages places b w : ℕ)
+    → Ties n l lines blocks ends ws qs messages places → b ≡ length blocks → row (length lines + 1) (b + 1) w ≡ row (serials l + 1) (opened l + 1) w
+next_row n l lines blocks ends ws qs messages places b w ties is =
     let lined : length lines ≡ serials l = ap (λ t. length t) ties.tabled ∙ table_length n l ties.legal.0 in
     ap (λ m. row (m + 1) (b + 1) w) lined ∙ ap (λ m. row (serials l + 1) (m + 1) w) (is ∙ ties.made)

@@ -1,5 +1,5 @@
 -- What a ledger keeps goes on saying what its history says, one event after another.
-use Rattle.std.proofs.Common.{◌≡◌, ℕ, zero, suc, ◌+◌, ◌-◌, ◌<◌, ◌≤◌, ◌==◌, ◌^◌, ◌||◌, ◌&&◌, List, [], ◌∷◌, Some, None, Bool, true, false, cond, refl, sym, ap, ◌∙◌, subst, arith, length, length-set, zero-add, eq-eqb, ne_eqb}
+use Rattle.std.proofs.Common.{◌≡◌, ℕ, zero, suc, ◌+◌, ◌-◌, ◌<◌, ◌≤◌, ◌==◌, ◌^◌, ◌||◌, ◌&&◌, List, [], ◌∷◌, Option, Some, None, Bool, true, false, cond, refl, sym, ap, ◌∙◌, subst, arith, length, length-set, zero-add, eq-eqb, ne_eqb}
 use Rattle.std.proofs.lemmas.Bool.{eqb-true, false≢true}
 use Rattle.std.proofs.lemmas.List.{get_or-set_same, get_or-set_other}
 use Rattle.std.specs.Prelude.{slice_set, slice_index_or, unwrap_or, is_some, IsTrue, ◌↔◌}
@@ -11,16 +11,18 @@ use Rattle.es_event.specs.declared.row.Holder.TheVariants.{Nobody}
 use Rattle.es_event.specs.declared.row.Row.{Row}
 use Rattle.es_event.specs.declared.row.Holder.{Holder}
 use Rattle.es_event.specs.Rows.{held, moved, unspent, count_of, rows_by, is_somebody}
-use Rattle.es_event.specs.Ledger.{Ledger, opened, size, table, rows, count, word, ended, is_end_of, writes, newest_word}
+use Rattle.es_event.specs.Ledger.{Ledger, opened, size, table, rows, count, word, waits as awaits, port_of, ended, is_end_of, writes, newest_word}
 use Rattle.es_event.specs.LegalLedger.{MayCome, ComesNext, LegalLedger, Reaches, owed}
 use Rattle.es_ledger.specs.declared.blocks.Counted.{Counted}
 use Rattle.es_ledger.specs.Blocks.{no_block, block_at, tickets_at, words_at, rewritten, with_less, lost}
 use Rattle.es_block.specs.Words.{with_word, sum}
 use Rattle.std.specs.Option.{option_map}
-use Rattle.es_ledger.specs.Ties.{left, Ties}
+use Rattle.es_ledger.specs.Ports.{Queued}
+use Rattle.es_ledger.specs.Ties.{left, waiting, Mail, Ties}
 use Rattle.es_ledger.proofs.Kept.{set_here, set_there}
 use Rattle.es_ledger.proofs.After.{holder_here, spent_count, spent_length}
 use Rattle.es_ledger.proofs.Made.{block_made, block_there}
+use Rattle.es_ledger.proofs.Mail.{mail_same, waiting_same, waiting_few}
 
 -- Agents that have not ended
 
@@ -33,46 +35,54 @@ left_same e l (suc n) none = ap (λ b. cond (b || ended l n) 0 1 + left (e ∷ l
 pub next_legal : (n : ℕ) (l : Ledger) (e : LedgerEvent) → LegalLedger n l → MayCome n l e → owed (e ∷ l) ≡ None → LegalLedger n (e ∷ l)
 next_legal n l e legal may none = ((subst (ComesNext n l e) (sym legal.1) may, legal.0), none)
 
--- an event that makes no block and no ticket, moves none and ends nobody
-pub quiet_ties : (n : ℕ) (l : Ledger) (lines : List Entry) (blocks kept : List Counted) (ends : List Bool) (places more : ℕ) (e : LedgerEvent)
-    → Ties n l lines blocks ends places → MayCome n l e → owed (e ∷ l) ≡ None
-    → table (e ∷ l) ≡ table l → opened (e ∷ l) ≡ opened l → ((b : ℕ) → size (e ∷ l) b ≡ size l b) → ((a : ℕ) → is_end_of e a ≡ false)
+-- an event that makes no block and ends nobody, after which there are as many tickets of each block
+pub quiet_ties : {L : Type 0} (n : ℕ) (l : Ledger) (lines moved_lines : List Entry) (blocks kept : List Counted) (ends : List Bool) (ws others : List (Option ℕ)) (qs queues : List (Queued L)) (messages number places more : ℕ) (e : LedgerEvent)
+    → Ties n l lines blocks ends ws qs messages places → MayCome n l e → owed (e ∷ l) ≡ None
+    → moved_lines ≡ table (e ∷ l) → opened (e ∷ l) ≡ opened l → ((b : ℕ) → size (e ∷ l) b ≡ size l b) → ((a : ℕ) → is_end_of e a ≡ false)
+    → ((b : ℕ) → count (e ∷ l) b ≡ count l b)
     → length kept ≡ length blocks → ((b : ℕ) → tickets_at kept b ≡ tickets_at blocks b) → ((b : ℕ) → 0 < count l b → length (words_at kept b) ≡ length (words_at blocks b))
     → ((b i : ℕ) → 0 < count l b → slice_index_or (words_at kept b) i 0 ≡ word (e ∷ l) b i)
-    → length (rows l) + left l n ≤ more
-    → Ties n (e ∷ l) lines kept ends more
-quiet_ties n l lines blocks kept ends places more e ties may none tabled made sized quiet long tickets lengths words room =
-    let counted : (b : ℕ) → count (e ∷ l) b ≡ count l b = λ b. ap (λ t. count_in t b) tabled in
-    record {
-      few = ties.few;
-      legal = next_legal n l e ties.legal may none;
-      tabled = ties.tabled ∙ sym tabled;
-      made = long ∙ ties.made ∙ sym made;
-      tickets = λ b. tickets b ∙ ties.tickets b ∙ sym (counted b);
-      sizes = λ b some. let before : 0 < count l b = subst (λ c. 0 < c) (counted b) some in lengths b before ∙ ties.sizes b before ∙ sym (sized b);
-      words = λ b i some. words b i (subst (λ c. 0 < c) (counted b) some);
-      agents = ties.agents;
-      over = λ a below. ties.over a below ∙ sym (ap (λ b. b || ended l a) (quiet a));
-      room =
-          let tickets_left : length (rows (e ∷ l)) ≡ length (rows l) = ap (λ t. length (unspent t)) tabled in
-          let agents_left = left_same e l n quiet in
-          omega (arith, room, tickets_left, agents_left);
-    }
-  where
-    count_in : List Entry → ℕ → ℕ
-    count_in t b = count_of (unspent t) b
+    → Mail n (e ∷ l) others queues
+    → length (rows (e ∷ l)) + left l n + waiting (e ∷ l) n + number ≤ more
+    → Ties n (e ∷ l) moved_lines kept ends others queues number more
+quiet_ties n l lines moved_lines blocks kept ends ws others qs queues messages number places more e ties may none tabled made sized quiet counted long tickets lengths words mail room = record {
+  few = ties.few;
+  legal = next_legal n l e ties.legal may none;
+  tabled = tabled;
+  made = long ∙ ties.made ∙ sym made;
+  tickets = λ b. tickets b ∙ ties.tickets b ∙ sym (counted b);
+  sizes = λ b some. let before : 0 < count l b = subst (λ c. 0 < c) (counted b) some in lengths b before ∙ ties.sizes b before ∙ sym (sized b);
+  words = λ b i some. words b i (subst (λ c. 0 < c) (counted b) some);
+  agents = ties.agents;
+  over = λ a below. ties.over a below ∙ sym (ap (λ b. b || ended l a) (quiet a));
+  mail = mail;
+  room = let agents_left = left_same e l n quiet in omega (arith, room, agents_left);
+}
+
+-- one that writes no word
+pub still_ties : {L : Type 0} (n : ℕ) (l : Ledger) (lines moved_lines : List Entry) (blocks : List Counted) (ends : List Bool) (ws others : List (Option ℕ)) (qs queues : List (Queued L)) (messages number places more : ℕ) (e : LedgerEvent)
+    → Ties n l lines blocks ends ws qs messages places → MayCome n l e → owed (e ∷ l) ≡ None
+    → moved_lines ≡ table (e ∷ l) → opened (e ∷ l) ≡ opened l → ((b : ℕ) → size (e ∷ l) b ≡ size l b) → ((a : ℕ) → is_end_of e a ≡ false)
+    → ((b : ℕ) → count (e ∷ l) b ≡ count l b) → ((b i : ℕ) → word (e ∷ l) b i ≡ word l b i)
+    → Mail n (e ∷ l) others queues
+    → length (rows (e ∷ l)) + left l n + waiting (e ∷ l) n + number ≤ more
+    → Ties n (e ∷ l) moved_lines blocks ends others queues number more
+still_ties n l lines moved_lines blocks ends ws others qs queues messages number places more e ties may none tabled made sized quiet counted worded mail room =
+    quiet_ties n l lines moved_lines blocks blocks ends ws others qs queues messages number places more e ties may none tabled made sized quiet counted
+    refl (λ b. refl) (λ b some. refl) (λ b i some. ties.words b i some ∙ sym (worded b i)) mail room
 
 -- Words
 
 -- a read
-pub loaded_ties : (n : ℕ) (l : Ledger) (lines : List Entry) (blocks : List Counted) (ends : List Bool) (places more a i : ℕ) (r : Row)
-    → Ties n l lines blocks ends places → Contains (held a (table l)) r → i < r.words → length (rows l) + left l n ≤ more
-    → Ties n (Loaded r.serial i (word l r.block i) ∷ l) lines blocks ends more
-loaded_ties n l lines blocks ends places more a i r ties has inside room =
+pub loaded_ties : {L : Type 0} (n : ℕ) (l : Ledger) (lines : List Entry) (blocks : List Counted) (ends : List Bool) (ws : List (Option ℕ)) (qs : List (Queued L)) (messages places more a i : ℕ) (r : Row)
+    → Ties n l lines blocks ends ws qs messages places → Contains (held a (table l)) r → i < r.words → length (rows l) + left l n + waiting l n + messages ≤ more
+    → Ties n (Loaded r.serial i (word l r.block i) ∷ l) lines blocks ends ws qs messages more
+loaded_ties n l lines blocks ends ws qs messages places more a i r ties has inside room =
     let holder = holder_here n l a r ties.legal.0 has in
-    quiet_ties n l lines blocks blocks ends places more (Loaded r.serial i (word l r.block i)) ties
+    still_ties n l lines lines blocks ends ws ws qs qs messages messages places more (Loaded r.serial i (word l r.block i)) ties
     (subst (λ o. Reaches o i (λ q. word l r.block i ≡ word l q.block i)) (sym holder) (inside, refl)) refl
-    refl (zero-add (opened l)) (λ b. refl) (λ b. refl) refl (λ b. refl) (λ b some. refl) ties.words room
+    ties.tabled (zero-add (opened l)) (λ b. refl) (λ b. refl) (λ b. refl) (λ b i. refl)
+    (mail_same n l ws qs (Loaded r.serial i (word l r.block i)) ties.mail (λ s r. refl) (λ a. refl)) room
 
 -- the words of a block
 
@@ -112,19 +122,23 @@ module _ (blocks : List Counted) (b i w : ℕ) where
   word_kept c j before old long false is = old
 
 -- a write, of a word or of a sum
-pub written_ties : (n : ℕ) (l : Ledger) (lines : List Entry) (blocks : List Counted) (ends : List Bool) (places more a i w : ℕ) (r : Row) (e : LedgerEvent)
-    → Ties n l lines blocks ends places → Contains (held a (table l)) r → i < r.words
+pub written_ties : {L : Type 0} (n : ℕ) (l : Ledger) (lines : List Entry) (blocks : List Counted) (ends : List Bool) (ws : List (Option ℕ)) (qs : List (Queued L)) (messages places more a i w : ℕ) (r : Row) (e : LedgerEvent)
+    → Ties n l lines blocks ends ws qs messages places → Contains (held a (table l)) r → i < r.words
     → MayCome n l e → owed (e ∷ l) ≡ None → table (e ∷ l) ≡ table l → opened (e ∷ l) ≡ opened l → ((b : ℕ) → size (e ∷ l) b ≡ size l b) → ((c : ℕ) → is_end_of e c ≡ false)
+    → ((s r : ℕ) → port_of (e ∷ l) s r ≡ port_of l s r) → ((c : ℕ) → awaits (e ∷ l) c ≡ awaits l c)
     → writes l e ≡ Some (r.block, i, w)
-    → length (rows l) + left l n ≤ more
-    → Ties n (e ∷ l) lines (rewritten blocks r.block (with_word (words_at blocks r.block) i w)) ends more
-written_ties n l lines blocks ends places more a i w r e ties has inside may none tabled made sized quiet wrote room =
+    → length (rows l) + left l n + waiting l n + messages ≤ more
+    → Ties n (e ∷ l) lines (rewritten blocks r.block (with_word (words_at blocks r.block) i w)) ends ws qs messages more
+written_ties n l lines blocks ends ws qs messages places more a i w r e ties has inside may none tabled made sized quiet ported waited wrote room =
     let b = r.block in
     let there = block_there n l a r ties.legal.0 has in
     let number = block_made n l b ties.legal.0 there.0 in
     let within : b ≤ length blocks = subst (λ m. b ≤ m) (sym ties.made) number.1 in
     let long : i < length (words_at blocks b) = subst (λ m. i < m) (there.1 ∙ sym (ties.sizes b there.0)) inside in
-    quiet_ties n l lines blocks (rewritten blocks b (with_word (words_at blocks b) i w)) ends places more e ties may none tabled made sized quiet
+    let tickets : length (rows (e ∷ l)) ≡ length (rows l) = ap (λ t. length (unspent t)) tabled in
+    let waits = waiting_same l e n waited in
+    quiet_ties n l lines lines blocks (rewritten blocks b (with_word (words_at blocks b) i w)) ends ws ws qs qs messages messages places more e ties may none (ties.tabled ∙ sym tabled) made sized quiet
+    (λ c. ap (λ t. count_of (unspent t) c) tabled)
     (length-set blocks (b - 1) (new_block blocks b i w))
     (λ c. ap (λ k. k.tickets) (seen blocks b i w c number.0 within) ∙ tickets_kept blocks b i w c (b == c) refl)
     (λ c some. ap (λ k. length (words_in k)) (seen blocks b i w c number.0 within) ∙ length_kept blocks b i w c (b == c) refl)
@@ -132,7 +146,8 @@ written_ties n l lines blocks ends places more a i w r e ties has inside may non
     ap (λ k. slice_index_or (words_in k) j 0) (seen blocks b i w c number.0 within)
     ∙ word_kept blocks b i w c j (word l c j) (ties.words c j some) long (b == c) refl
     ∙ sym (ap (λ p. newest_word p c j (word l c j)) wrote))
-    room
+    (mail_same n l ws qs e ties.mail ported waited)
+    (omega (arith, room, tickets, waits))
 
 -- A ticket is spent
 
@@ -153,35 +168,31 @@ lost_seen blocks b c positive within = by_test (b == c) refl
     by_test true is = subst (λ d. block_at (lost blocks b) d ≡ with_less (block_at blocks d)) (eqb-true b c is) (set_here blocks b (with_less (block_at blocks b)) positive within)
     by_test false is = set_there blocks b c (with_less (block_at blocks b)) positive (λ same. absurd (false≢true (sym is ∙ eq-eqb b c same)))
 
-pub spent_ties : (n : ℕ) (l : Ledger) (lines : List Entry) (blocks : List Counted) (ends : List Bool) (places more a : ℕ) (r : Row)
-    → Ties n l lines blocks ends places → Contains (held a (table l)) r → places ≤ more + 1
-    → Ties n (Spent r.serial ∷ l) (moved r.serial Nobody lines) (lost blocks r.block) ends more
-spent_ties n l lines blocks ends places more a r ties has room =
-    let b = r.block in
-    let holder = holder_here n l a r ties.legal.0 has in
-    let there = block_there n l a r ties.legal.0 has in
-    let number = block_made n l b ties.legal.0 there.0 in
+-- one ticket less, by one event or two
+pub less_ties : {L : Type 0} (n : ℕ) (l later : Ledger) (lines moved_lines : List Entry) (blocks : List Counted) (ends : List Bool) (ws : List (Option ℕ)) (qs queues : List (Queued L)) (messages number places more b : ℕ)
+    → Ties n l lines blocks ends ws qs messages places → 0 < count l b → ((c : ℕ) → count l c ≡ cond (b == c) 1 0 + count later c)
+    → LegalLedger n later → moved_lines ≡ table later → opened later ≡ opened l → ((c : ℕ) → size later c ≡ size l c) → ((c i : ℕ) → word later c i ≡ word l c i) → ((a : ℕ) → ended later a ≡ ended l a)
+    → Mail n later ws queues → length (rows later) + left later n + waiting later n + number ≤ more
+    → Ties n later moved_lines (lost blocks b) ends ws queues number more
+less_ties n l later lines moved_lines blocks ends ws qs queues messages number places more b ties there counts legal tabled made sized worded over mail room =
+    let number = block_made n l b ties.legal.0 there in
     let within : b ≤ length blocks = subst (λ m. b ≤ m) (sym ties.made) number.1 in
-    let counts : (c : ℕ) → count l c ≡ cond (b == c) 1 0 + count (Spent r.serial ∷ l) c = spent_count n l r.serial a r ties.legal.0 holder in
     record {
       few = ties.few;
-      legal = next_legal n l (Spent r.serial) ties.legal (ap is_some holder) refl;
-      tabled = ap (moved r.serial Nobody) ties.tabled;
-      made = length-set blocks (b - 1) (with_less (block_at blocks b)) ∙ ties.made ∙ sym (zero-add (opened l));
-      tickets = λ c. ap (λ k. k.tickets) (lost_seen blocks b c number.0 within) ∙ tickets_less c (count (Spent r.serial ∷ l) c) (b == c) (ties.tickets c ∙ counts c);
+      legal = legal;
+      tabled = tabled;
+      made = length-set blocks (b - 1) (with_less (block_at blocks b)) ∙ ties.made ∙ sym made;
+      tickets = λ c. ap (λ k. k.tickets) (lost_seen blocks b c number.0 within) ∙ tickets_less c (count later c) (b == c) (ties.tickets c ∙ counts c);
       sizes = λ c some.
           ap (λ k. length (words_in k)) (lost_seen blocks b c number.0 within)
-          ∙ words_less (λ ws. length ws) c (count (Spent r.serial ∷ l) c) (b == c) (ties.tickets c ∙ counts c) some ∙ ties.sizes c (before c (count (Spent r.serial ∷ l) c) (b == c) (counts c) some);
+          ∙ words_less (λ ws. length ws) c (count later c) (b == c) (ties.tickets c ∙ counts c) some ∙ ties.sizes c (before c (count later c) (b == c) (counts c) some) ∙ sym (sized c);
       words = λ c j some.
           ap (λ k. slice_index_or (words_in k) j 0) (lost_seen blocks b c number.0 within)
-          ∙ words_less (λ ws. slice_index_or ws j 0) c (count (Spent r.serial ∷ l) c) (b == c) (ties.tickets c ∙ counts c) some ∙ ties.words c j (before c (count (Spent r.serial ∷ l) c) (b == c) (counts c) some);
+          ∙ words_less (λ ws. slice_index_or ws j 0) c (count later c) (b == c) (ties.tickets c ∙ counts c) some ∙ ties.words c j (before c (count later c) (b == c) (counts c) some) ∙ sym (worded c j);
       agents = ties.agents;
-      over = ties.over;
-      room =
-          let fewer = spent_length n l r.serial a r ties.legal.0 holder in
-          let agents_left = left_same (Spent r.serial) l n (λ c. refl) in
-          let all = ties.room in
-          omega (arith, room, fewer, agents_left, all);
+      over = λ a below. ties.over a below ∙ sym (over a);
+      mail = mail;
+      room = room;
     }
   where
     tickets_less : (c m : ℕ) (s : Bool) → tickets_at blocks c ≡ cond s 1 0 + m → (cond s (with_less (block_at blocks c)) (block_at blocks c)).tickets ≡ m
@@ -197,42 +208,59 @@ spent_ties n l lines blocks ends places more a r ties has room =
     before c m true e some = omega (arith, e, some)
     before c m false e some = omega (arith, e, some)
 
+pub spent_ties : {L : Type 0} (n : ℕ) (l : Ledger) (lines : List Entry) (blocks : List Counted) (ends : List Bool) (ws : List (Option ℕ)) (qs : List (Queued L)) (messages places more a : ℕ) (r : Row)
+    → Ties n l lines blocks ends ws qs messages places → Contains (held a (table l)) r → places ≤ more + 1
+    → Ties n (Spent r.serial ∷ l) (moved r.serial Nobody lines) (lost blocks r.block) ends ws qs messages more
+spent_ties n l lines blocks ends ws qs messages places more a r ties has room =
+    let holder = holder_here n l a r ties.legal.0 has in
+    let there = block_there n l a r ties.legal.0 has in
+    let fewer = spent_length n l r.serial a r ties.legal.0 holder in
+    let agents_left = left_same (Spent r.serial) l n (λ c. refl) in
+    let waits = waiting_same l (Spent r.serial) n (λ c. refl) in
+    let all = ties.room in
+    less_ties n l (Spent r.serial ∷ l) lines (moved r.serial Nobody lines) blocks ends ws qs qs messages messages places more r.block ties there.0
+    (spent_count n l r.serial a r ties.legal.0 holder)
+    (next_legal n l (Spent r.serial) ties.legal (ap is_some holder) refl)
+    (ap (moved r.serial Nobody) ties.tabled) (zero-add (opened l)) (λ c. refl) (λ c i. refl) (λ c. refl)
+    (mail_same n l ws qs (Spent r.serial) ties.mail (λ s r. refl) (λ c. refl))
+    (omega (arith, room, fewer, agents_left, waits, all))
+
 -- What an agent's stake has is held in the history
 
 pub in_history : (mine : List Row) (a : ℕ) (lines : List Entry) (l : Ledger) (r : Row) → Contains mine r → mine ≡ held a lines → lines ≡ table l → Contains (held a (table l)) r
 in_history mine a lines l r has told tabled = subst (λ t. Contains (held a t) r) tabled (subst (λ rs. Contains rs r) told has)
 
 -- and so its block is there
-pub stake_there : (n : ℕ) (l : Ledger) (lines : List Entry) (blocks : List Counted) (ends : List Bool) (places a : ℕ) (mine : List Row) (r : Row)
-    → Ties n l lines blocks ends places → Contains mine r → mine ≡ held a lines → 0 < count l r.block
-stake_there n l lines blocks ends places a mine r ties has told = (block_there n l a r ties.legal.0 (in_history mine a lines l r has told ties.tabled)).0
+pub stake_there : {L : Type 0} (n : ℕ) (l : Ledger) (lines : List Entry) (blocks : List Counted) (ends : List Bool) (ws : List (Option ℕ)) (qs : List (Queued L)) (messages places a : ℕ) (mine : List Row) (r : Row)
+    → Ties n l lines blocks ends ws qs messages places → Contains mine r → mine ≡ held a lines → 0 < count l r.block
+stake_there n l lines blocks ends ws qs messages places a mine r ties has told = (block_there n l a r ties.legal.0 (in_history mine a lines l r has told ties.tabled)).0
 
 -- with its ticket counted, and each index below its number of words
-pub stake_counted : (n : ℕ) (l : Ledger) (lines : List Entry) (blocks : List Counted) (ends : List Bool) (places a : ℕ) (mine : List Row) (r : Row)
-    → Ties n l lines blocks ends places → Contains mine r → mine ≡ held a lines → 0 < tickets_at blocks r.block
-stake_counted n l lines blocks ends places a mine r ties has told =
-    subst (λ m. 0 < m) (sym (ties.tickets r.block)) (stake_there n l lines blocks ends places a mine r ties has told)
+pub stake_counted : {L : Type 0} (n : ℕ) (l : Ledger) (lines : List Entry) (blocks : List Counted) (ends : List Bool) (ws : List (Option ℕ)) (qs : List (Queued L)) (messages places a : ℕ) (mine : List Row) (r : Row)
+    → Ties n l lines blocks ends ws qs messages places → Contains mine r → mine ≡ held a lines → 0 < tickets_at blocks r.block
+stake_counted n l lines blocks ends ws qs messages places a mine r ties has told =
+    subst (λ m. 0 < m) (sym (ties.tickets r.block)) (stake_there n l lines blocks ends ws qs messages places a mine r ties has told)
 
-pub stake_inside : (n : ℕ) (l : Ledger) (lines : List Entry) (blocks : List Counted) (ends : List Bool) (places a i : ℕ) (mine : List Row) (r : Row)
-    → Ties n l lines blocks ends places → Contains mine r → mine ≡ held a lines → i < r.words → i < length (words_at blocks r.block)
-stake_inside n l lines blocks ends places a i mine r ties has told inside =
+pub stake_inside : {L : Type 0} (n : ℕ) (l : Ledger) (lines : List Entry) (blocks : List Counted) (ends : List Bool) (ws : List (Option ℕ)) (qs : List (Queued L)) (messages places a i : ℕ) (mine : List Row) (r : Row)
+    → Ties n l lines blocks ends ws qs messages places → Contains mine r → mine ≡ held a lines → i < r.words → i < length (words_at blocks r.block)
+stake_inside n l lines blocks ends ws qs messages places a i mine r ties has told inside =
     let there = block_there n l a r ties.legal.0 (in_history mine a lines l r has told ties.tabled) in
     subst (λ m. i < m) (there.1 ∙ sym (ties.sizes r.block there.0)) inside
 
 -- there is room for the spending of a ticket
-pub stake_room : (n : ℕ) (l : Ledger) (lines : List Entry) (blocks : List Counted) (ends : List Bool) (places a : ℕ) (mine : List Row) (r : Row)
-    → Ties n l lines blocks ends places → Contains mine r → mine ≡ held a lines → 0 < places
-stake_room n l lines blocks ends places a mine r ties has told =
+pub stake_room : {L : Type 0} (n : ℕ) (l : Ledger) (lines : List Entry) (blocks : List Counted) (ends : List Bool) (ws : List (Option ℕ)) (qs : List (Queued L)) (messages places a : ℕ) (mine : List Row) (r : Row)
+    → Ties n l lines blocks ends ws qs messages places → Contains mine r → mine ≡ held a lines → 0 < places
+stake_room n l lines blocks ends ws qs messages places a mine r ties has told =
     let holder = holder_here n l a r ties.legal.0 (in_history mine a lines l r has told ties.tabled) in
     let some = spent_length n l r.serial a r ties.legal.0 holder in
     let room = ties.room in
     omega (arith, some, room)
 
 -- the block is released where it had one ticket
-pub spent_last : (n : ℕ) (l : Ledger) (lines : List Entry) (blocks : List Counted) (ends : List Bool) (places a : ℕ) (mine : List Row) (r : Row) (released : Bool)
-    → Ties n l lines blocks ends places → Contains mine r → mine ≡ held a lines
+pub spent_last : {L : Type 0} (n : ℕ) (l : Ledger) (lines : List Entry) (blocks : List Counted) (ends : List Bool) (ws : List (Option ℕ)) (qs : List (Queued L)) (messages places a : ℕ) (mine : List Row) (r : Row) (released : Bool)
+    → Ties n l lines blocks ends ws qs messages places → Contains mine r → mine ≡ held a lines
     → IsTrue released ↔ (tickets_at blocks r.block ≡ 1) → IsTrue released ↔ (count (Spent r.serial ∷ l) r.block ≡ 0)
-spent_last n l lines blocks ends places a mine r released ties has told last =
+spent_last n l lines blocks ends ws qs messages places a mine r released ties has told last =
     let holder = holder_here n l a r ties.legal.0 (in_history mine a lines l r has told ties.tabled) in
     let counts = spent_count n l r.serial a r ties.legal.0 holder r.block in
     let here : ◌≡◌ {A = ℕ} (cond (r.block == r.block) 1 0) 1 = ap (λ s. cond s 1 0) (eq-eqb r.block r.block refl) in
@@ -241,7 +269,7 @@ spent_last n l lines blocks ends places a mine r released ties has told last =
 
 -- What a call reserves is enough: a place for each ticket that was ever made, one for each agent, and more
 
-rows_short : (test : Holder → Bool) (t : List Entry) → length (rows_by test t) ≤ length t
+pub rows_short : (test : Holder → Bool) (t : List Entry) → length (rows_by test t) ≤ length t
 rows_short test [] = omega arith
 rows_short test (e ∷ es) = by_test (test e.holder) (rows_short test es)
   where
@@ -257,33 +285,35 @@ left_few l (suc n) = by_test (ended l n) (left_few l n)
     by_test true few = omega (arith, few)
     by_test false few = omega (arith, few)
 
-pub reserved_room : (n : ℕ) (l : Ledger) (lines : List Entry) (blocks : List Counted) (ends : List Bool) (places made len got more extra : ℕ)
-    → Ties n l lines blocks ends places → made ≡ length lines → len ≡ length ends → made + len + extra ≤ got → got ≤ more + 1 → length (rows l) + left l n + extra ≤ more + 1
-reserved_room n l lines blocks ends places made len got more extra ties is_made is_len room last =
+pub reserved_room : {L : Type 0} (n : ℕ) (l : Ledger) (lines : List Entry) (blocks : List Counted) (ends : List Bool) (ws : List (Option ℕ)) (qs : List (Queued L)) (messages places made len got more extra : ℕ)
+    → Ties n l lines blocks ends ws qs messages places → made ≡ length lines → len ≡ length ends → made + len + len + messages + extra ≤ got → got ≤ more + 1
+    → length (rows l) + left l n + waiting l n + messages + extra ≤ more + 1
+reserved_room n l lines blocks ends ws qs messages places made len got more extra ties is_made is_len room last =
     let short = rows_short is_somebody (table l) in
     let tabled : length lines ≡ length (table l) = ap (λ t. length t) ties.tabled in
     let few = left_few l n in
+    let waits = waiting_few l n in
     let agents = ties.agents in
-    omega (arith, is_made, is_len, room, last, short, tabled, few, agents)
+    omega (arith, is_made, is_len, room, last, short, tabled, few, waits, agents)
 
 -- A word is stored, or added to
 
-pub stored_ties : (n : ℕ) (l : Ledger) (lines : List Entry) (blocks : List Counted) (ends : List Bool) (places more a i w : ℕ) (r : Row)
-    → Ties n l lines blocks ends places → Contains (held a (table l)) r → i < r.words → w < 2 ^ 32 → length (rows l) + left l n ≤ more
-    → Ties n (Stored r.serial i w ∷ l) lines (rewritten blocks r.block (with_word (words_at blocks r.block) i w)) ends more
-stored_ties n l lines blocks ends places more a i w r ties has inside small room =
+pub stored_ties : {L : Type 0} (n : ℕ) (l : Ledger) (lines : List Entry) (blocks : List Counted) (ends : List Bool) (ws : List (Option ℕ)) (qs : List (Queued L)) (messages places more a i w : ℕ) (r : Row)
+    → Ties n l lines blocks ends ws qs messages places → Contains (held a (table l)) r → i < r.words → w < 2 ^ 32 → length (rows l) + left l n + waiting l n + messages ≤ more
+    → Ties n (Stored r.serial i w ∷ l) lines (rewritten blocks r.block (with_word (words_at blocks r.block) i w)) ends ws qs messages more
+stored_ties n l lines blocks ends ws qs messages places more a i w r ties has inside small room =
     let holder = holder_here n l a r ties.legal.0 has in
-    written_ties n l lines blocks ends places more a i w r (Stored r.serial i w) ties has inside
+    written_ties n l lines blocks ends ws qs messages places more a i w r (Stored r.serial i w) ties has inside
     (subst (λ o. Reaches o i (λ q. w < 2 ^ 32)) (sym holder) (inside, small)) refl
-    refl (zero-add (opened l)) (λ b. refl) (λ c. refl)
+    refl (zero-add (opened l)) (λ b. refl) (λ c. refl) (λ s r. refl) (λ c. refl)
     (ap (λ o. option_map (λ p. (p.1.block, i, w)) o) holder) room
 
-pub added_ties : (n : ℕ) (l : Ledger) (lines : List Entry) (blocks : List Counted) (ends : List Bool) (places more a i m : ℕ) (r : Row)
-    → Ties n l lines blocks ends places → Contains (held a (table l)) r → i < r.words → length (rows l) + left l n ≤ more
-    → Ties n (Added r.serial i (word l r.block i) m ∷ l) lines (rewritten blocks r.block (with_word (words_at blocks r.block) i (sum (word l r.block i) m))) ends more
-added_ties n l lines blocks ends places more a i m r ties has inside room =
+pub added_ties : {L : Type 0} (n : ℕ) (l : Ledger) (lines : List Entry) (blocks : List Counted) (ends : List Bool) (ws : List (Option ℕ)) (qs : List (Queued L)) (messages places more a i m : ℕ) (r : Row)
+    → Ties n l lines blocks ends ws qs messages places → Contains (held a (table l)) r → i < r.words → length (rows l) + left l n + waiting l n + messages ≤ more
+    → Ties n (Added r.serial i (word l r.block i) m ∷ l) lines (rewritten blocks r.block (with_word (words_at blocks r.block) i (sum (word l r.block i) m))) ends ws qs messages more
+added_ties n l lines blocks ends ws qs messages places more a i m r ties has inside room =
     let holder = holder_here n l a r ties.legal.0 has in
-    written_ties n l lines blocks ends places more a i (sum (word l r.block i) m) r (Added r.serial i (word l r.block i) m) ties has inside
+    written_ties n l lines blocks ends ws qs messages places more a i (sum (word l r.block i) m) r (Added r.serial i (word l r.block i) m) ties has inside
     (subst (λ o. Reaches o i (λ q. word l r.block i ≡ word l q.block i)) (sym holder) (inside, refl)) refl
-    refl (zero-add (opened l)) (λ b. refl) (λ c. refl)
+    refl (zero-add (opened l)) (λ b. refl) (λ c. refl) (λ s r. refl) (λ c. refl)
     (ap (λ o. option_map (λ p. (p.1.block, i, sum (word l r.block i) m)) o) holder) room

@@ -15,7 +15,7 @@ use Rattle.es_event.specs.LegalLedger.{LegalSoFar}
 use Rattle.es_ledger.specs.Laws.{owner}
 use Rattle.es_ledger.proofs.Lines.{rows_append, rows_moved}
 use Rattle.es_ledger.proofs.Numbered.{IsNumbered, numbered, only_by, none_only}
-use Rattle.es_ledger.proofs.Ports.{Lying, lying_all, lies_in_front}
+use Rattle.es_ledger.proofs.Lying.{Lying, lying_all, lies_in_front}
 
 not_agent : (a b : ℕ) → (Some b ≡ Some a → ⊥) → is_agent a (Agent b) ≡ false
 not_agent a b other = ne_eqb a b (λ same. other (ap Some (sym same)))

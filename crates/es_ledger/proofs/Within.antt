@@ -12,7 +12,7 @@ use Rattle.es_event.specs.Rows.{held_by, moved, line_of}
 use Rattle.es_event.specs.Ledger.{Ledger, table, front, serial_in, posted_line, moved_if}
 use Rattle.es_event.specs.LegalLedger.{ComesNext, LegalSoFar, owed}
 use Rattle.es_ledger.proofs.Lines.{holder_at}
-use Rattle.es_ledger.proofs.Ports.{Lying, lying_all, lies_in_front}
+use Rattle.es_ledger.proofs.Lying.{Lying, lying_all, lies_in_front}
 
 -- the holder is one of n agents, or a port of two of them
 abbrev pub IsWithin : ℕ → Holder → Type 0

@@ -1,5 +1,5 @@
 -- Internal: the blocks of a ledger as they are kept.
-use Rattle.std.specs.Prelude.{ℕ, ◌-◌, ◌==◌, List, [], Some, None, unwrap_or, slice_index_or, slice_set, if◌then◌else◌}
+use Rattle.std.specs.Prelude.{ℕ, ◌+◌, ◌-◌, ◌==◌, List, [], Some, None, unwrap_or, slice_index_or, slice_set, if◌then◌else◌}
 use Rattle.es_ledger.specs.declared.blocks.Counted.{Counted}
 
 -- by number, from 1, and for how many more there is room
@@ -31,3 +31,7 @@ with_less c = if c.tickets == 1 then no_block else record { words = c.words; tic
 -- all blocks with one ticket less of block b
 abbrev pub lost : List Counted → ℕ → List Counted
 lost all b = slice_set all (b - 1) (with_less (block_at all b))
+
+-- all blocks with one ticket more of block b
+abbrev pub gained : List Counted → ℕ → List Counted
+gained all b = slice_set all (b - 1) (record { words = (block_at all b).words; tickets = tickets_at all b + 1 })

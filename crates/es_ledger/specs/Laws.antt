@@ -1,11 +1,12 @@
 -- To believe: what is proved of every history of the ledger, a sentence each.
-use Rattle.std.specs.Prelude.{ℕ, zero, suc, ◌≡◌, ◌+◌, ◌↔◌, true, map, ◌∷◌, Option, Some, None}
+use Rattle.std.specs.Prelude.{ℕ, zero, suc, ◌≡◌, ◌+◌, ◌↔◌, true, map, List, [], ◌∷◌, ◌++◌, Option, Some, None, if◌then◌else◌, option_to_list}
 use Rattle.std.specs.List.{range_with_len}
 use Rattle.std.specs.Option.{option_map}
+use Rattle.es_event.specs.declared.ledger_event.Body.{Body}
 use Rattle.es_event.specs.declared.ledger_event.LedgerEvent.{LedgerEvent}
 use Rattle.es_event.specs.declared.ledger_event.LedgerEvent.TheVariants.{Opened, Posted, Taken, Spent, Loaded, Stored, Added, Waiting, Passed, Ended, Drained}
 use Rattle.es_event.specs.Rows.{held, in_port, count_of}
-use Rattle.es_event.specs.Ledger.{Ledger, serials, table, count, is_opened, is_released, holder_of}
+use Rattle.es_event.specs.Ledger.{Ledger, serials, table, count, is_opened, is_released, holder_of, port_of, is_at, front}
 use Rattle.es_event.specs.LegalLedger.{LegalSoFar}
 
 -- The table has one line for each ticket that was made, by rising serial, from 1.
@@ -47,3 +48,46 @@ owner l (Drained r s) = None
 abbrev pub WhatOneAgentDoesChangesNoOther : Type 0
 WhatOneAgentDoesChangesNoOther =
     (n : ℕ) (l : Ledger) (e : LedgerEvent) (a : ℕ) → LegalSoFar n (e ∷ l) → (owner l e ≡ Some a → ⊥) → held a (table (e ∷ l)) ≡ held a (table l)
+
+-- Ports
+
+abbrev pub posts : LedgerEvent → ℕ → ℕ → List Body
+posts (Opened b w k a) s r = []
+posts (Posted t u m) s r = if is_at s r t u then m ∷ [] else []
+posts (Taken u t) s r = []
+posts (Spent k) s r = []
+posts (Loaded k i w) s r = []
+posts (Stored k i w) s r = []
+posts (Added k i old m) s r = []
+posts (Waiting a t) s r = []
+posts (Passed a t) s r = []
+posts (Ended a) s r = []
+posts (Drained u t) s r = []
+
+-- all that s posted to r, the oldest first
+abbrev pub posted : Ledger → ℕ → ℕ → List Body
+posted [] s r = []
+posted (e ∷ earlier) s r = posted earlier s r ++ posts e s r
+
+-- what the event takes from the port of s and r
+abbrev pub gives : Ledger → LedgerEvent → ℕ → ℕ → List Body
+gives l (Opened b w k a) s r = []
+gives l (Posted t u m) s r = []
+gives l (Taken u t) s r = if is_at s r t u then option_to_list (front l s r) else []
+gives l (Spent k) s r = []
+gives l (Loaded k i w) s r = []
+gives l (Stored k i w) s r = []
+gives l (Added k i old m) s r = []
+gives l (Waiting a t) s r = []
+gives l (Passed a t) s r = []
+gives l (Ended a) s r = []
+gives l (Drained u t) s r = if is_at s r t u then option_to_list (front l s r) else []
+
+-- all that the port of s and r gave, the oldest first
+abbrev pub given : Ledger → ℕ → ℕ → List Body
+given [] s r = []
+given (e ∷ earlier) s r = given earlier s r ++ gives earlier e s r
+
+-- What a port gave, followed by what it still has, is what was posted there, in order: nothing is lost, doubled or out of turn.
+abbrev pub PortsAreFirstInFirstOut : Type 0
+PortsAreFirstInFirstOut = (l : Ledger) (s r : ℕ) → posted l s r ≡ given l s r ++ port_of l s r

@@ -1,4 +1,9 @@
 pub mod Blocks
 pub mod Books
+pub mod Letters
+pub mod Handing
+pub mod Ports
 pub mod Ties
 pub mod Laws
+pub mod Turns
+pub mod Draining

@@ -2,7 +2,7 @@
 
 ghost use Rattle.std.specs.Prelude.{◌≡◌, ◌<◌, ◌^◌, ◌≤◌, ◌+◌, ◌-◌, ◌++◌, ◌∷◌, [], ◌↔◌, IsTrue, length, replicate, IfOk, OnOk, Some};
 ghost use Rattle.es_block.specs.Words.{word, with_word, sum};
-ghost use Rattle.es_ledger.specs.Blocks.{tickets_at, words_at, lost, rewritten};
+ghost use Rattle.es_ledger.specs.Blocks.{tickets_at, words_at, lost, gained, rewritten};
 
 use es_block::Block;
 use es_value::NoMemory;
@@ -113,6 +113,15 @@ impl Blocks {
             Some(words) => words.add(index, addend),
             None => unreachable!(),
         }
+    }
+
+    /// One ticket more of a block that has one.
+    pub fn gain(&mut self, number: u64)
+        requires there { 0 < tickets_at self.old.all number }
+        requires few { tickets_at self.old.all number < 2 ^ 63 }
+        ensures { self.new.all ≡ gained self.old.all number }
+    {
+        self.all[number as usize - 1].tickets += 1;
     }
 
     /// One ticket less of a block that has one. With the last one its words are given back.

@@ -1,6 +1,6 @@
 //! What holds of every history of the ledger. Each law is the contract of a function that does nothing.
 
-ghost use Rattle.es_ledger.specs.Laws.{TicketsAreNumbered, CountsAreSums, ReleasedWhereNobodyHolds, WhatOneAgentDoesChangesNoOther};
+ghost use Rattle.es_ledger.specs.Laws.{TicketsAreNumbered, CountsAreSums, ReleasedWhereNobodyHolds, WhatOneAgentDoesChangesNoOther, PortsAreFirstInFirstOut};
 
 /// The ledger's table has one line for each ticket that was made, in order of making.
 pub fn tickets_are_numbered()
@@ -21,4 +21,10 @@ pub fn released_where_nobody_holds()
 /// What one agent does changes no other agent's list of tickets.
 pub fn what_one_agent_does_changes_no_other()
     ensures { WhatOneAgentDoesChangesNoOther }
+{}
+
+/// What a port gave, followed by what it still has, is what was posted there, in order: nothing is lost,
+/// doubled or out of turn.
+pub fn ports_are_first_in_first_out()
+    ensures { PortsAreFirstInFirstOut }
 {}

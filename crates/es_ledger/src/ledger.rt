@@ -1,6 +1,6 @@
 //! The ledger of an agent cluster.
 
-ghost use Rattle.std.specs.Prelude.{◌≡◌, ◌<◌, ◌+◌, ◌∷◌, [], ◌++◌, ◌↔◌, ℕ, Bool, List, IsTrue, IfOk, OnOk, OnErr, false, length, Some, slice_get, reverse, count_by, if◌then◌else◌};
+ghost use Rattle.std.specs.Prelude.{◌≡◌, ◌<◌, ◌≤◌, ◌+◌, ◌^◌, ◌∷◌, [], ◌++◌, ◌↔◌, ℕ, Bool, List, IsTrue, IfOk, OnOk, OnErr, false, length, Some, slice_get, reverse, count_by, if◌then◌else◌};
 ghost use Rattle.std.specs.List.{Contains};
 ghost use Rattle.es_ticket.specs.Shares.{Share, erase};
 ghost use Rattle.es_event.specs.declared.row.Row.{Row};
@@ -10,6 +10,7 @@ ghost use Rattle.es_event.specs.LegalLedger.{LegalLedger};
 ghost use Rattle.es_event.specs.declared.ledger_event.LedgerEvent.TheVariants.{Opened as OpenedEvent, Spent as SpentEvent, Loaded, Stored, Added, Ended as EndedEvent};
 
 use crate::blocks::Blocks;
+use crate::ports::Ports;
 use es_block::Block;
 use es_event::{LedgerEvent, Log};
 use es_ticket::{Opened, Rows, Run, Stake, Ticket};
@@ -24,15 +25,19 @@ pub struct Spent {
     pub released: bool,
 }
 
-/// The ledger of the run L: which blocks there are, who holds a ticket of which, and its history.
-#[derive(Drop)]
+/// The ledger of the run L: which blocks there are, who holds a ticket of which, which messages lie in
+/// the ports, and its history. Its messages may hold tickets, so it can't be forgotten: it ends by
+/// `drain` and `into_history`.
 pub struct LedgerCore<L: Run> {
-    rows: Rows<L>,
-    blocks: Blocks,
+    pub(crate) rows: Rows<L>,
+    pub(crate) blocks: Blocks,
     // whether each agent ended
-    ended: Vec<bool>,
-    history: Log<LedgerEvent>,
-    alloc: Global,
+    pub(crate) ended: Vec<bool>,
+    // for whose message each agent waits
+    pub(crate) waits: Vec<Option<usize>>,
+    pub(crate) ports: Ports<L>,
+    pub(crate) history: Log<LedgerEvent>,
+    pub(crate) alloc: Global,
 }
 
 impl<L: Run> Model for LedgerCore<L> {
@@ -43,7 +48,7 @@ impl<L: Run> Model for LedgerCore<L> {
 
     ghost view = { λ c. record { agents = c.rows.agents; history = c.history.events } };
 
-    ghost invariant = { λ c. Ties c.rows.agents c.history.events c.rows.rows c.blocks.all c.ended.items c.history.room };
+    ghost invariant = { λ c. Ties c.rows.agents c.history.events c.rows.rows c.blocks.all c.ended.items c.waits.items c.ports.queues c.ports.messages c.history.room };
 }
 
 impl<L: Run> LedgerCore<L> {
@@ -61,17 +66,22 @@ impl<L: Run> LedgerCore<L> {
     {
         let mut stakes = Vec::with_capacity(alloc, agents)?;
         let mut ended = Vec::with_capacity(alloc, agents)?;
+        let mut waits = Vec::with_capacity(alloc, agents)?;
         let mut history = Log::new(alloc);
         history.reserve(agents)?;
         let mut rows = opened.named::<L>(alloc);
         for _ in 0..agents {
             stakes.push_reserved(rows.deal());
             ended.push_reserved(false);
+            waits.push_reserved(None);
         }
+        let ports = Ports::new(alloc, agents)?;
         let ledger = LedgerCore {
             rows,
             blocks: Blocks::new(alloc),
             ended,
+            waits,
+            ports,
             history,
             alloc,
         };
@@ -90,8 +100,8 @@ impl<L: Run> LedgerCore<L> {
     {
         let block = Block::new(self.alloc, words)?;
         self.blocks.reserve()?;
-        self.history
-            .reserve(self.rows.made() + self.ended.as_slice().len() + 2)?;
+        let agents = self.ended.as_slice().len();
+        make_room(&mut self.history, &self.rows, &self.ports, agents, 2)?;
         let number = self.blocks.made() as u64 + 1;
         let ticket = self.rows.open(stake, number, words)?;
         self.blocks.push(block);
@@ -148,8 +158,8 @@ impl<L: Run> LedgerCore<L> {
         ensures err { OnErr result (self.new ≡ self.old) }
     {
         self.rows.look(stake);
-        self.history
-            .reserve(self.rows.made() + self.ended.as_slice().len() + 1)?;
+        let agents = self.ended.as_slice().len();
+        make_room(&mut self.history, &self.rows, &self.ports, agents, 1)?;
         let word = self.blocks.load(ticket.block(), index);
         self.history.append(LedgerEvent::Loaded {
             serial: ticket.serial(),
@@ -176,8 +186,8 @@ impl<L: Run> LedgerCore<L> {
         ensures err { OnErr result (self.new ≡ self.old) }
     {
         self.rows.look(stake);
-        self.history
-            .reserve(self.rows.made() + self.ended.as_slice().len() + 1)?;
+        let agents = self.ended.as_slice().len();
+        make_room(&mut self.history, &self.rows, &self.ports, agents, 1)?;
         self.blocks.store(ticket.block(), index, word);
         self.history.append(LedgerEvent::Stored {
             serial: ticket.serial(),
@@ -205,8 +215,8 @@ impl<L: Run> LedgerCore<L> {
         ensures err { OnErr result (self.new ≡ self.old) }
     {
         self.rows.look(stake);
-        self.history
-            .reserve(self.rows.made() + self.ended.as_slice().len() + 1)?;
+        let agents = self.ended.as_slice().len();
+        make_room(&mut self.history, &self.rows, &self.ports, agents, 1)?;
         let old = self.blocks.add(ticket.block(), index, addend);
         self.history.append(LedgerEvent::Added {
             serial: ticket.serial(),
@@ -249,4 +259,22 @@ impl<L: Run> LedgerCore<L> {
     {
         self.history.as_slice()
     }
+}
+
+// Makes room for so many more events, beside those that are to come at all events: the spending of
+// each ticket, the end of each agent, the end of each wait and the leaving of each message.
+pub(crate) fn make_room<L: Run>(
+    history: &mut Log<LedgerEvent>,
+    rows: &Rows<L>,
+    ports: &Ports<L>,
+    agents: usize,
+    more: usize,
+) -> Result<(), NoMemory>
+    requires few { (agents < 9) × (more < 9) }
+    ensures same { history.new.events ≡ history.old.events }
+    ensures kept { history.old.room ≤ history.new.room }
+    ensures lines { length rows.now.rows < 2 ^ 63 }
+    ensures room { OnOk result (length rows.now.rows + agents + agents + ports.now.messages + more ≤ history.new.room) }
+{
+    history.reserve(rows.made() + agents + agents + ports.messages() + more)
 }

@@ -1,15 +1,23 @@
 //! The ledger of an agent cluster: which Shared Data Blocks there are, who holds a ticket of which,
-//! and what happened.
+//! which messages lie in the ports, and what happened.
 #![tactic(auto)]
 
 mod blocks;
+mod draining;
 mod laws;
 mod ledger;
+mod message;
+mod ports;
+mod posting;
 #[cfg(test)]
 mod tests;
+mod turn;
+mod waiting;
 
 pub use laws::{
-    counts_are_sums, released_where_nobody_holds, tickets_are_numbered,
-    what_one_agent_does_changes_no_other,
+    counts_are_sums, ports_are_first_in_first_out, released_where_nobody_holds,
+    tickets_are_numbered, what_one_agent_does_changes_no_other,
 };
 pub use ledger::{LedgerCore, Spent};
+pub use message::{Letter, Message};
+pub use turn::Turn;

@@ -47,14 +47,20 @@ error TypeError: not a WeakRef
 error TypeError: not a WeakMap
 error TypeError: not a WeakSet
 error TypeError: not a FinalizationRegistry
+error TypeError: not a SharedArrayBuffer
 error TypeError: cannot be held weakly
 error TypeError: target and held value are the same
+error RangeError: index
+error DataCloneError: value cannot be posted
 error limit: values
+error limit: blocks
+error limit: posts
 emptied 0
 emptied 12
 cleanup 3 held undefined
 cleanup 12 held \"a b\"
 cleanup 1 held object 7
+skipped 12
 ";
 
 /// The report of `two_agents`.

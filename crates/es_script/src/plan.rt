@@ -5,7 +5,7 @@ ghost use Rattle.std.specs.List.{list_all};
 ghost use Rattle.serde_json.specs.View.{view, items_view};
 ghost use Rattle.serde_json.specs.Events.{items_len};
 ghost use Rattle.es_value.specs.Limits.{most_agents};
-ghost use Rattle.es_event.specs.Jobs.{waits_for_nobody};
+ghost use Rattle.es_event.specs.Jobs.{stays_alone};
 ghost use Rattle.es_script.specs.Grammar.{no_callback_collects};
 ghost use Rattle.es_script.specs.Fault.{Reads};
 ghost use Rattle.es_script.specs.Reading.{Gives, plan_read, agents_checked};
@@ -28,8 +28,8 @@ use std::alloc::Global;
 /// ends before that fault is reached.
 pub fn read_plan(alloc: Global, bytes: &[u8]) -> Result<Plan, ReadFault>
     ensures reads { Reads bytes.now result }
-    // No job waits for a message yet.
-    ensures alone { IfOk result (λ p. list_all waits_for_nobody p.agents ≡ true) }
+    // No job waits for a message, and no command is one on buffers or messages, yet.
+    ensures alone { IfOk result (λ p. list_all stays_alone p.agents ≡ true) }
     // Only jobs collect.
     ensures harmless { IfOk result (λ p. no_callback_collects p ≡ true) }
 {

@@ -12,12 +12,13 @@ use Rattle.es_event.specs.declared.event.Event.{Event}
 use Rattle.es_event.specs.declared.event.Event.TheVariants.{Did, Taken, JobEnded}
 use Rattle.es_event.specs.declared.command.Command.TheVariants.{WeakRef, FinalizationRegistry, Register, Unregister}
 use Rattle.es_event.specs.Commands.{first, Kind, reads}
+use Rattle.es_event.specs.Sharing.{Buffers}
 use Rattle.es_event.specs.History.{History}
 use Rattle.es_event.specs.Identities.{identity, made, gone, is_gone, kind, born}
 use Rattle.es_event.specs.Jobs.{Receivers}
 use Rattle.es_event.specs.Properties.{put}
 use Rattle.es_event.specs.WeakRefs.{first_target, unless_gone}
-use Rattle.es_event.specs.Legal.{Lawful, LegalBy}
+use Rattle.es_event.specs.Legal.{word_in, Lawful, LegalBy}
 use Rattle.es_event.proofs.Alive.{Stays, Alive, alive_at, next_alive}
 use Rattle.es_event.proofs.Holds.{first_of, put_from}
 use Rattle.es_event.proofs.Objects.{first_object}
@@ -45,17 +46,17 @@ if_some p None d each = refl
 if_some p (Some a) d each = each a refl
 
 -- what is put is an object's
-put_there : (into : Receivers) (h : History) (e : Event) (q : (ℕ × List ℕ) × Option Value) → LegalBy [] into h → Lawful [] into h e → put e ≡ Some q → is_some (kind h q.0.0) ≡ true
-put_there into h (Did c vs r) q legal lawful e = first_object [] into h legal (reads c) vs q.0.0 lawful.0 (put_from c vs r q e).0
-put_there into h _ q legal lawful e = cc
+put_there : (over : Buffers) (into : Receivers) (h : History) (e : Event) (q : (ℕ × List ℕ) × Option Value) → LegalBy over into h → Lawful over into h e → put e ≡ Some q → is_some (kind h q.0.0) ≡ true
+put_there over into h (Did c vs r) q legal lawful e = first_object over into h legal (reads c) vs q.0.0 lawful.0 (put_from c vs r q e).0
+put_there over into h _ q legal lawful e = cc
 
 -- what is born is not there yet
-number_born : (into : Receivers) (h : History) (e : Event) (b : Option (ℕ × Option Kind)) (i : ℕ) → Lawful [] into h e → born e ≡ b → option_map (λ b. b.0) b ≡ Some i → made h + 1 ≡ i
-number_born into h e None i lawful is o = cc
-number_born into h e (Some q) i lawful is o = let same : q.0 ≡ i = cc in born_next [] into h e q lawful is ∙ same
+number_born : (over : Buffers) (into : Receivers) (h : History) (e : Event) (b : Option (ℕ × Option Kind)) (i : ℕ) → Lawful over into h e → born e ≡ b → option_map (λ b. b.0) b ≡ Some i → made h + 1 ≡ i
+number_born over into h e None i lawful is o = cc
+number_born over into h e (Some q) i lawful is o = let same : q.0 ≡ i = cc in born_next over into h e q lawful is ∙ same
 
-not_born : (into : Receivers) (h : History) (e : Event) (i : ℕ) → LegalBy [] into h → Lawful [] into h e → object_born e ≡ Some i → is_some (kind h i) ≡ false
-not_born into h e i legal lawful is = subst (λ j. is_some (kind h j) ≡ false) (number_born into h e _ i lawful refl is) (ap is_some (next_kind [] into h legal))
+not_born : (over : Buffers) (into : Receivers) (h : History) (e : Event) (i : ℕ) → LegalBy over into h → Lawful over into h e → object_born e ≡ Some i → is_some (kind h i) ≡ false
+not_born over into h e i legal lawful is = subst (λ j. is_some (kind h j) ≡ false) (number_born over into h e _ i lawful refl is) (ap is_some (next_kind over into h legal))
 
 -- a new WeakRef has no target yet
 pointed : (y : List ℕ) (to : List ℕ) (vs : List Value) (r : Answer) (p : ℕ × Option ℕ) → points (Did (WeakRef to y) vs r) ≡ Some p → object_born (Did (WeakRef to y) vs r) ≡ Some p.0
@@ -66,47 +67,47 @@ pointed y to vs (Gives (Object w)) p e = numbers (identity (first vs)) w p e
     numbers (Some t) w p e = let g : (w, Some t) ≡ p = cc in ap (λ q. Some q.0) g
 pointed y to vs r p e = cc
 
-no_target : (into : Receivers) (h : History) (e : Event) (p : ℕ × Option ℕ) → LegalBy [] into h → Lawful [] into h e → points e ≡ Some p → first_target h p.0 ≡ None
-no_target into h (Did (WeakRef to y) vs r) p legal lawful e =
-    subst (λ w. first_target h w ≡ None) (number_born into h (Did (WeakRef to y) vs r) _ p.0 lawful refl (pointed y to vs r p e)) (next_target into h legal)
-no_target into h _ p legal lawful e = cc
+no_target : (over : Buffers) (into : Receivers) (h : History) (e : Event) (p : ℕ × Option ℕ) → LegalBy over into h → Lawful over into h e → points e ≡ Some p → first_target h p.0 ≡ None
+no_target over into h (Did (WeakRef to y) vs r) p legal lawful e =
+    subst (λ w. first_target h w ≡ None) (number_born over into h (Did (WeakRef to y) vs r) _ p.0 lawful refl (pointed y to vs r p e)) (next_target over into h legal)
+no_target over into h _ p legal lawful e = cc
 
 some_points : (p : Option (ℕ × ℕ)) (q : ℕ × ℕ) → p ≡ Some q → with_option p ≡ Some (q.0, Some q.1)
 some_points p q e = ap with_option e
 
 -- what is put is read from a variable, so it is there
-put_alive : (into : Receivers) (h : History) (e : Event) (q : (ℕ × List ℕ) × Option Value) → Lawful [] into h e → Stays into h → put e ≡ Some q → is_gone h q.0.0 ≡ false
-put_alive into h (Did c vs r) q lawful stays is =
+put_alive : (over : Buffers) (into : Receivers) (h : History) (e : Event) (q : (ℕ × List ℕ) × Option Value) → Lawful over into h e → Stays into h → put e ≡ Some q → is_gone h q.0.0 ≡ false
+put_alive over into h (Did c vs r) q lawful stays is =
     let read : Alive h (first vs) = subst (Alive h) (ap first (sym lawful.0)) (first_of (Alive h) into h (reads c) stays.held) in
     alive_at h (first vs) q.0.0 read (ap identity (put_from c vs r q is).0)
-put_alive into h _ q lawful stays is = cc
+put_alive over into h _ q lawful stays is = cc
 
 both_hold : (k g : Bool) → k ≡ true → g ≡ false → (k && not g) ≡ true
 both_hold true false e f = refl
 both_hold true true e f = cc
 both_hold false g e f = cc
 
-points_next : (into : Receivers) (h : History) (e : Event) (p : ℕ × Option ℕ) → Lawful [] into h e → points e ≡ Some p → p.0 ≡ made h + 1
-points_next into h (Did (WeakRef to y) vs r) p lawful e = sym (number_born into h (Did (WeakRef to y) vs r) _ p.0 lawful refl (pointed y to vs r p e))
-points_next into h _ p lawful e = cc
+points_next : (over : Buffers) (into : Receivers) (h : History) (e : Event) (p : ℕ × Option ℕ) → Lawful over into h e → points e ≡ Some p → p.0 ≡ made h + 1
+points_next over into h (Did (WeakRef to y) vs r) p lawful e = sym (number_born over into h (Did (WeakRef to y) vs r) _ p.0 lawful refl (pointed y to vs r p e))
+points_next over into h _ p lawful e = cc
 
 -- a registry that is made is not there yet
-can_did : (into : Receivers) (h : History) (t : RegistryContents) (c : Command) (vs : List Value) (a : Answer) → LegalBy [] into h → Lawful [] into h (Did c vs a) → ((r : ℕ) → callback t r ≡ callback_said h r)
+can_did : (over : Buffers) (into : Receivers) (h : History) (t : RegistryContents) (c : Command) (vs : List Value) (a : Answer) → LegalBy over into h → Lawful over into h (Did c vs a) → ((r : ℕ) → callback t r ≡ callback_said h r)
     → CanChange t (change_by c vs a)
-can_did into h t (FinalizationRegistry to n) vs a legal lawful callbacks =
-    subst (λ a. CanChange t (registry_made_by n a)) (is_result [] h (FinalizationRegistry to n) vs a lawful.1) (callbacks (made h + 1) ∙ ap (option_and_then callback_in) (next_kind [] into h legal))
-can_did into h t (Register x y v k) vs a legal lawful callbacks = subst (CanChange t) (sym (registers_change x y v k vs a)) (at (registers_by (Register x y v k) vs))
+can_did over into h t (FinalizationRegistry to n) vs a legal lawful callbacks =
+    subst (λ a. CanChange t (registry_made_by n a)) (is_result over h (FinalizationRegistry to n) vs (word_in a) a lawful.1) (callbacks (made h + 1) ∙ ap (option_and_then callback_in) (next_kind over into h legal))
+can_did over into h t (Register x y v k) vs a legal lawful callbacks = subst (CanChange t) (sym (registers_change x y v k vs a)) (at (registers_by (Register x y v k) vs))
   where
     at : (k : Option Cell) → CanChange t (option_map_or (λ k. Registers k.registry k.target k.held k.token) k Leaves)
     at None = tt
     at (Some k) = tt
-can_did into h t (Unregister to x k) (Object o ∷ w ∷ []) a legal lawful callbacks = at (identity w)
+can_did over into h t (Unregister to x k) (Object o ∷ w ∷ []) a legal lawful callbacks = at (identity w)
   where
     at : (i : Option ℕ) → CanChange t (option_map_or (Unregisters o) i Leaves)
     at None = tt
     at (Some i) = tt
-can_did into h t (Unregister to x k) vs a legal lawful callbacks = tt
-can_did into h t c vs a legal lawful callbacks = tt
+can_did over into h t (Unregister to x k) vs a legal lawful callbacks = tt
+can_did over into h t c vs a legal lawful callbacks = tt
 
 -- a cell that is taken awaits its cleanup
 awaits_at : (n : ℕ) (f : Fate) (k : Option Cell) (c : Cell) → f ≡ awaiting → k ≡ Some c → is_awaiting (slot_at n f k) ≡ true
@@ -116,9 +117,9 @@ can_end : (again : Option ℕ) (t : RegistryContents) → CanChange t (option_ma
 can_end None t = tt
 can_end (Some r) t = tt
 
-can_change : (into : Receivers) (h : History) (t : RegistryContents) (e : Event) → LegalBy [] into h → Lawful [] into h e → ((r : ℕ) → callback t r ≡ callback_said h r) → t.cells ≡ slots h → CanChange t (change (again_at h) e)
-can_change into h t (Did c vs a) legal lawful callbacks cells = can_did into h t c vs a legal lawful callbacks
-can_change into h t (Taken n held) legal lawful callbacks cells =
+can_change : (over : Buffers) (into : Receivers) (h : History) (t : RegistryContents) (e : Event) → LegalBy over into h → Lawful over into h e → ((r : ℕ) → callback t r ≡ callback_said h r) → t.cells ≡ slots h → CanChange t (change (again_at h) e)
+can_change over into h t (Did c vs a) legal lawful callbacks cells = can_did over into h t c vs a legal lawful callbacks
+can_change over into h t (Taken n held) legal lawful callbacks cells =
     let at = mapped (λ c. c.held) (cell h n) held lawful.0 in
     let numbered = cell_within h n at.0 at.1 in
     let place : 1 + (n - 1) ≡ n = omega (arith, numbered.0) in (
@@ -127,19 +128,19 @@ can_change into h t (Taken n held) legal lawful callbacks cells =
           ∙ (ap (λ o. option_map_or is_awaiting o false) (get_numbered (slot_said h) 1 (registered h) (n - 1) (omega (arith, numbered.0, numbered.1)))
           ∙ (ap (λ j. is_awaiting (slot_said h j)) place ∙ awaits_at n (fate h n) (cell h n) at.0 lawful.1 at.1)),
     )
-can_change into h t JobEnded legal lawful callbacks cells = can_end (again_at h) t
-can_change into h t e legal lawful callbacks cells = tt
+can_change over into h t JobEnded legal lawful callbacks cells = can_end (again_at h) t
+can_change over into h t e legal lawful callbacks cells = tt
 
-pub can_apply : (into : Receivers) (h : History) (s : State) (e : Event) (f : Effects)
-    → LegalBy [] into h → Lawful [] into h e → Stays into h → Says into h s → AreEffects (again_at h) e f → CanApply s f
-can_apply into h s e f legal lawful stays says are = record {
+pub can_apply : (over : Buffers) (into : Receivers) (h : History) (s : State) (e : Event) (f : Effects)
+    → LegalBy over into h → Lawful over into h e → Stays into h → Says into h s → (received : List ℕ) → AreEffects received (again_at h) e f → CanApply s f
+can_apply over into h s e f legal lawful stays says received are = record {
   put = if_some (λ p. has s.heap p.0.0) f.put true (λ q is.
       let put' = sym are.put ∙ is in
-      says.objects q.0.0 ∙ both_hold (is_some (kind h q.0.0)) (is_gone h q.0.0) (put_there into h e q legal lawful put') (put_alive into h e q lawful stays put'));
-  born = if_some (has s.heap) f.born false (λ i is. says.objects i ∙ ap (λ b. b && not (is_gone h i)) (not_born into h e i legal lawful (sym are.born ∙ is)));
+      says.objects q.0.0 ∙ both_hold (is_some (kind h q.0.0)) (is_gone h q.0.0) (put_there over into h e q legal lawful put') (put_alive over into h e q lawful stays put'));
+  born = if_some (has s.heap) f.born false (λ i is. says.objects i ∙ ap (λ b. b && not (is_gone h i)) (not_born over into h e i legal lawful (sym are.born ∙ is)));
   points = if_some (λ p. is_some (target s.weakrefs p.0)) f.points false (λ q is.
       let pointed' = sym are.points ∙ some_points f.points q is in
-      let here = next_alive [] into h legal q.0 (points_next into h e (q.0, Some q.1) lawful pointed') in
-      ap is_some (says.targets q.0 here ∙ ap (λ f. option_and_then identity (option_and_then (unless_gone (gone h)) f)) (no_target into h e (q.0, Some q.1) legal lawful pointed')));
-  registry = subst (CanChange s.registries) (sym are.registry) (can_change into h s.registries e legal lawful says.callbacks says.cells);
+      let here = next_alive over into h legal q.0 (points_next over into h e (q.0, Some q.1) lawful pointed') in
+      ap is_some (says.targets q.0 here ∙ ap (λ f. option_and_then identity (option_and_then (unless_gone (gone h)) f)) (no_target over into h e (q.0, Some q.1) legal lawful pointed')));
+  registry = subst (CanChange s.registries) (sym are.registry) (can_change over into h s.registries e legal lawful says.callbacks says.cells);
 }

@@ -9,6 +9,7 @@ use Rattle.es_weakref.specs.WeakRefs.{target, unless_among}
 use Rattle.es_ephemeron.specs.Ephemerons.{record_at}
 use Rattle.es_event.specs.declared.event.Event.TheVariants.{Emptied}
 use Rattle.es_event.specs.Commands.{Kind}
+use Rattle.es_event.specs.Sharing.{Buffers}
 use Rattle.es_event.specs.History.{History}
 use Rattle.es_event.specs.Identities.{identity, made, gone, is_gone, is_in, has_identity_in, kind}
 use Rattle.es_event.specs.Jobs.{Receivers}
@@ -80,8 +81,8 @@ some_left : {A : Type 0} (b : Bool) (o : Option A) → is_some (cond b None o) �
 some_left true o = refl
 some_left false o = refl
 
-pub says_emptied : (into : Receivers) (h : History) (s t : State) (ids : List ℕ) → LegalBy [] into h → Says into h s → Emptying s ids t → Says into (Emptied ids ∷ h) t
-says_emptied into h s t ids legal says new = record {
+pub says_emptied : (over : Buffers) (into : Receivers) (h : History) (s t : State) (ids : List ℕ) → LegalBy over into h → Says into h s → Emptying s ids t → Says into (Emptied ids ∷ h) t
+says_emptied over into h s t ids legal says new = record {
   variables = λ x. new.variables x ∙ says.variables x;
   objects = λ o.
       ap is_some (new.objects o) ∙ left_of (is_in ids o) (is_some (kind h o)) (is_gone h o) (object s.heap o) (says.objects o)
@@ -99,7 +100,7 @@ says_emptied into h s t ids legal says new = record {
       ∙ ap (cond (is_in ids m || is_in ids k) false) (says.members m k) ∙ dropped false ids h m k (first_member h m k);
   callbacks = λ r. new.callbacks r ∙ says.callbacks r;
   cells = new.cells ∙ ap (map (emptied ids)) says.cells ∙ slots_emptied ids h;
-  queue = new.queue.1 ∙ ap (λ q. q ++ new.queue.0) says.queue ∙ ap (λ q. queue h ++ q) (joined into h s ids new.queue.0 legal says new.queue.2);
+  queue = new.queue.1 ∙ ap (λ q. q ++ new.queue.0) says.queue ∙ ap (λ q. queue h ++ q) (joined over into h s ids new.queue.0 legal says new.queue.2);
   tags = λ i positive. new.tags i positive
       ∙ ap (λ o. if is_in ids i then None else o) (says.tags i positive)
       ∙ shown_emptied (is_in ids i) (is_gone h i) i (made h) (kind h i)

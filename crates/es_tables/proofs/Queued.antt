@@ -5,6 +5,7 @@ use Rattle.std.specs.List.{list_any, range_with_len}
 use Rattle.std.specs.List.Sorted.{IsStrictlyIncreasing}
 use Rattle.std.specs.Option.{option_map_or}
 use Rattle.std.proofs.lemmas.Bool.{eqb-true, lt-ltb, and_parts, and_from, or_cases, false≢true}
+use Rattle.es_event.specs.Sharing.{Buffers}
 use Rattle.es_event.specs.History.{History}
 use Rattle.es_event.specs.Identities.{is_in, made}
 use Rattle.es_event.specs.Jobs.{Receivers}
@@ -55,13 +56,13 @@ of_cell : (k : Option Cell) (r : ℕ) → option_map_or (λ c. c.registry == r) 
 of_cell None r e = absurd (false≢true e)
 of_cell (Some c) r e = (c, refl, eqb-true c.registry r e)
 
-loser_made : (into : Receivers) (h : History) (ids : List ℕ) (r : ℕ) → LegalBy [] into h → loses_said h ids r ≡ true → is_in (range_with_len 1 (made h)) r ≡ true
-loser_made into h ids r legal e =
+loser_made : (over : Buffers) (into : Receivers) (h : History) (ids : List ℕ) (r : ℕ) → LegalBy over into h → loses_said h ids r ≡ true → is_in (range_with_len 1 (made h)) r ≡ true
+loser_made over into h ids r legal e =
     let found = some_passes (λ n. is_of h r live n && option_map_or (λ c. is_in ids c.target) (cell h n) false) (registrations h) e in
     let of = (and_parts (option_map_or (λ c. c.registry == r) (cell h found.0) false) (same_fate (fate h found.0) live)
     (and_parts (is_of h r live found.0) (option_map_or (λ c. is_in ids c.target) (cell h found.0) false) found.1).0).0 in
     let at = of_cell (cell h found.0) r of in
-    let bounds = registry_within [] into h legal found.0 at.0 at.1 in
+    let bounds = registry_within over into h legal found.0 at.0 at.1 in
     in_numbers 1 (made h) r (omega (arith, bounds.0, at.2)) (omega (arith, bounds.1, at.2))
 
 -- Rising lists
@@ -71,8 +72,8 @@ rises [] e = refl
 rises (i ∷ []) e = refl
 rises (i ∷ j ∷ js) e = and_from (nat_lt i j) (is_rising (j ∷ js)) (lt-ltb i j (e 0 (omega arith))) (rises (j ∷ js) (λ k l. let next : suc k + 1 ≡ suc (k + 1) = omega arith in subst (λ n. slice_index (j ∷ js) k < slice_index (i ∷ j ∷ js) n) next (e (suc k) (omega (arith, l)))))
 
-pub joined : (into : Receivers) (h : History) (s : State) (ids more : List ℕ) → LegalBy [] into h → Says into h s → Joins s.registries ids more → more ≡ queues h ids (queue h)
-joined into h s ids more legal says joins =
+pub joined : (over : Buffers) (into : Receivers) (h : History) (s : State) (ids more : List ℕ) → LegalBy over into h → Says into h s → Joins s.registries ids more → more ≡ queues h ids (queue h)
+joined over into h s ids more legal says joins =
     let p : ℕ → Bool = λ r. loses_said h ids r && not (is_in (queue h) r) in
     let exactly : (r : ℕ) → is_in more r ≡ p r = λ r.
     joins.exactly r ∙ (ap (λ cs. loses ids r cs && not (is_in s.registries.queue r)) says.cells
@@ -81,5 +82,5 @@ joined into h s ids more legal says joins =
     same_rising more (queues h ids (queue h)) (rises more joins.rising) (rising_numbers p 1 (made h))
     (λ r m. let passes = sym (exactly r) ∙ m in
     in_filter p (range_with_len 1 (made h)) r
-    ∙ and_from (p r) (is_in (range_with_len 1 (made h)) r) passes (loser_made into h ids r legal (and_parts (loses_said h ids r) (not (is_in (queue h) r)) passes).0))
+    ∙ and_from (p r) (is_in (range_with_len 1 (made h)) r) passes (loser_made over into h ids r legal (and_parts (loses_said h ids r) (not (is_in (queue h) r)) passes).0))
     (λ r m. exactly r ∙ (and_parts (p r) (is_in (range_with_len 1 (made h)) r) (sym (in_filter p (range_with_len 1 (made h)) r) ∙ m)).0)

@@ -12,10 +12,11 @@ use Rattle.es_event.specs.declared.event.Answer.{Answer}
 use Rattle.es_event.specs.declared.event.Refusal.TheVariants.{NotHeldWeakly}
 use Rattle.es_value.specs.Values.{is_held_weakly}
 use Rattle.es_event.specs.declared.event.Event.{Event}
-use Rattle.es_event.specs.declared.event.Event.TheVariants.{Did}
+use Rattle.es_event.specs.declared.event.Event.TheVariants.{Received, Did}
 use Rattle.es_event.specs.declared.command.Command.{Command}
 use Rattle.es_event.specs.declared.command.Command.TheVariants.{WeakRef}
 use Rattle.es_event.specs.Commands.{first, reads, Kind, weakref_to, kind_made}
+use Rattle.es_event.specs.Sharing.{Buffers}
 use Rattle.es_event.specs.History.{History, at_key}
 use Rattle.es_event.specs.Identities.{identity, made, gone, is_gone, is_in, empties, has_identity_in, kind, born}
 use Rattle.es_event.specs.Jobs.{Receivers}
@@ -24,14 +25,14 @@ use Rattle.es_event.specs.Properties.{put, same_key, keys_after}
 use Rattle.es_event.specs.Ephemerons.{same_pair, entered, first_entry, joined, first_member}
 use Rattle.es_event.specs.WeakRefs.{aims, first_target, unless_gone, keeps, ends_job}
 use Rattle.es_event.specs.Rules.{result, first_refusal, tests, room}
-use Rattle.es_event.specs.Legal.{Lawful, LegalBy}
+use Rattle.es_event.specs.Legal.{word_in, Lawful, LegalBy}
 use Rattle.es_event.proofs.Accepted.{accepted, first_holds}
 use Rattle.es_event.proofs.Alive.{Stays, Alive, next_alive}
-use Rattle.es_event.proofs.Births.{birth, born_some}
+use Rattle.es_event.proofs.Births.{birth, born_some, received as received_object}
 use Rattle.es_event.proofs.Holds.{first_of}
 use Rattle.es_event.proofs.Targets.{held_weakly_identity}
 use Rattle.es_tables.specs.declared.effects.Effects.{Effects}
-use Rattle.es_tables.specs.Effects.{AreEffects, Applied, object_born, points}
+use Rattle.es_tables.specs.Effects.{AssignsTo, AreEffects, Applied, object_born, points}
 use Rattle.es_tables.specs.Tables.{State, Says, bound}
 use Rattle.es_event.proofs.Births.{born_next}
 use Rattle.es_tables.proofs.Fresh.{next_target}
@@ -60,8 +61,8 @@ there (Some q) before g o some =
     new true true e f = cc
     new false g e f = cc
 
-born_alive : (into : Receivers) (h : History) (e : Event) (o : ℕ) → LegalBy [] into h → Lawful [] into h e → (q : ℕ × Option Kind) → born e ≡ Some q → (is_some q.1 ≡ true) × (q.0 ≡ o → is_gone h o ≡ false)
-born_alive into h e o legal lawful q is = (born_some e q is, λ same. next_alive [] into h legal o (sym (born_next [] into h e q lawful is ∙ same)))
+born_alive : (over : Buffers) (into : Receivers) (h : History) (e : Event) (o : ℕ) → LegalBy over into h → Lawful over into h e → (q : ℕ × Option Kind) → born e ≡ Some q → (is_some q.1 ≡ true) × (q.0 ≡ o → is_gone h o ≡ false)
+born_alive over into h e o legal lawful q is = (born_some e q is, λ same. next_alive over into h legal o (sym (born_next over into h e q lawful is ∙ same)))
 
 -- Targets
 
@@ -87,28 +88,30 @@ new_target ids s before n w t v is here same =
     (elim (n == w) as (λ b. unwrap_or (cond b (Some (Some t)) None) s ≡ aimed_at ids (unwrap_or (cond b (Some (Some (weakref_to v))) None) before))
     [ true ↦ sym is ∙ ap (λ b. option_and_then identity (cond b None (Some v))) (sym here) | false ↦ same ])
 
-aims_at_none : (into : Receivers) (h : History) (e : Event) (w : ℕ) → LegalBy [] into h → Lawful [] into h e
+aims_at_none : (over : Buffers) (into : Receivers) (h : History) (e : Event) (w : ℕ) → LegalBy over into h → Lawful over into h e
     → ((q : ℕ × Option Kind) → born e ≡ Some q → option_and_then aims q.1 ≡ None)
     → (q : ℕ × Option Kind) → born e ≡ Some q → (option_and_then aims q.1 ≡ None) × (q.0 ≡ w → option_and_then aims (kind h w) ≡ None)
-aims_at_none into h e w legal lawful none q is = (
+aims_at_none over into h e w legal lawful none q is = (
   none q is,
-  λ same. subst (λ o. first_target h o ≡ None) (born_next [] into h e q lawful is ∙ same) (next_target into h legal),
+  λ same. subst (λ o. first_target h o ≡ None) (born_next over into h e q lawful is ∙ same) (next_target over into h legal),
 )
 
 ordinary_born : (c : Command) (vs : List Value) (r : Answer) → option_and_then aims (kind_made c vs) ≡ None → (q : ℕ × Option Kind) → born (Did c vs r) ≡ Some q → option_and_then aims q.1 ≡ None
 ordinary_born c vs r none q e = let b = birth c vs r q e in ap (option_and_then aims) (b.1 ∙ sym b.2) ∙ none
 
-target_step : (into : Receivers) (h : History) (e : Event) (s : Option ℕ) (w : ℕ) → LegalBy [] into h → Lawful [] into h e → Stays into h
+target_step : (over : Buffers) (into : Receivers) (h : History) (e : Event) (s : Option ℕ) (w : ℕ) → LegalBy over into h → Lawful over into h e → Stays into h
     → s ≡ aimed_at (gone h) (kind h w) → unwrap_or (at_key (λ i j. i == j) w (points e)) s ≡ aimed_at (gone h) (kind (e ∷ h) w)
-target_step into h (Did (WeakRef to y) vs r) s w legal lawful stays same =
-    let ok = accepted (first_refusal (tests [] h (WeakRef to y) vs)) (result [] h (WeakRef to y) vs) r lawful.1 in
+target_step over into h (Did (WeakRef to y) vs r) s w legal lawful stays same =
+    let ok = accepted (first_refusal (tests over h (WeakRef to y) vs)) (result over h (WeakRef to y) vs (word_in r)) r lawful.1 in
     let held = held_weakly_identity (first vs) (first_holds (is_held_weakly (first vs)) NotHeldWeakly (room h ∷ []) ok.0).0 in
     let read : Alive h (first vs) = subst (Alive h) (ap first (sym lawful.0)) (first_of (Alive h) into h (reads (WeakRef to y)) stays.held) in
     subst (λ r. unwrap_or (at_key (λ i j. i == j) w (points (Did (WeakRef to y) vs r))) s ≡ aimed_at (gone h) (kind (Did (WeakRef to y) vs r ∷ h) w)) ok.1
     (new_target (gone h) s (kind h w) (made h + 1) w held.0 (first vs) held.1 read same)
-target_step into h (Did c vs r) s w legal lawful stays same =
-    plain_target (gone h) s (kind h w) (born (Did c vs r)) w same (aims_at_none into h (Did c vs r) w legal lawful (ordinary_born c vs r refl))
-target_step into h e s w legal lawful stays same =
+target_step over into h (Did c vs r) s w legal lawful stays same =
+    plain_target (gone h) s (kind h w) (born (Did c vs r)) w same (aims_at_none over into h (Did c vs r) w legal lawful (ordinary_born c vs r refl))
+target_step over into h (Received t v) s w legal lawful stays same =
+    plain_target (gone h) s (kind h w) (born (Received t v)) w same (aims_at_none over into h (Received t v) w legal lawful (λ q is. ap (option_and_then aims) (received_object v q is).0))
+target_step over into h e s w legal lawful stays same =
     plain_target (gone h) s (kind h w) (born e) w same (λ q is. cc)
 
 -- Entries and members
@@ -118,29 +121,29 @@ left_still h e m k none a quiet = ap (λ b. left_of none b (is_gone h k) a) (sym
 
 -- All tables
 
-pub says_after : (into : Receivers) (h : History) (s t : State) (e : Event) (f : Effects)
-    → LegalBy [] into h → Lawful [] into h e → Stays into h → IsQuiet e → Says into h s → AreEffects (again_at h) e f → Applied s f t → Says into (e ∷ h) t
-says_after into h s t e f legal lawful stays silent says are applied = let quiet : empties e ≡ [] = quiet_empties e silent in record {
-  variables = λ x. applied.variables x ∙ ap (λ p. unwrap_or (at_key bytes_eq x p) (bound s.variables x)) (are.assigned into h) ∙ ap (unwrap_or (at_key bytes_eq x (assigned into h e))) (says.variables x);
+pub says_after : (over : Buffers) (into : Receivers) (h : History) (s t : State) (e : Event) (f : Effects)
+    → LegalBy over into h → Lawful over into h e → Stays into h → IsQuiet e → Says into h s → (received : List ℕ) → AssignsTo received (into h) e → AreEffects received (again_at h) e f → Applied s f t → Says into (e ∷ h) t
+says_after over into h s t e f legal lawful stays silent says received to are applied = let quiet : empties e ≡ [] = quiet_empties e silent in record {
+  variables = λ x. applied.variables x ∙ ap (λ p. unwrap_or (at_key bytes_eq x p) (bound s.variables x)) (are.assigned into h to) ∙ ap (unwrap_or (at_key bytes_eq x (assigned into h e))) (says.variables x);
   objects = λ o. applied.objects o
       ∙ ap (λ b. option_map_or (λ i. i == o) b false || has s.heap o) are.born
       ∙ ap (λ b. option_map_or (λ i. i == o) (object_born e) false || b) (says.objects o)
-      ∙ there (born e) (kind h o) (is_gone h o) o (born_alive into h e o legal lawful)
+      ∙ there (born e) (kind h o) (is_gone h o) o (born_alive over into h e o legal lawful)
       ∙ ap (λ g. is_some (kind (e ∷ h) o) && not g) (sym (same_gone h e o quiet));
   properties = λ o k here. applied.properties o k ∙ ap (λ p. unwrap_or (at_key same_key (o, k) p) (property s.heap o k)) are.put
       ∙ ap (unwrap_or (at_key same_key (o, k) (put e))) (says.properties o k (sym (same_gone h e o quiet) ∙ here));
   keys = λ o here. applied.keys o ∙ ap (λ p. keys_after o p (keys s.heap o)) are.put ∙ ap (keys_after o (put e)) (says.keys o (sym (same_gone h e o quiet) ∙ here));
   targets = λ w here. applied.targets w ∙ ap (λ p. unwrap_or (at_key (λ i j. i == j) w p) (target s.weakrefs w)) are.points
-      ∙ target_step into h e (target s.weakrefs w) w legal lawful stays (says.targets w (sym (same_gone h e w quiet) ∙ here))
+      ∙ target_step over into h e (target s.weakrefs w) w legal lawful stays (says.targets w (sym (same_gone h e w quiet) ∙ here))
       ∙ ap (λ ids. aimed_at (ids ++ gone h) (kind (e ∷ h) w)) (sym quiet);
   callbacks = λ r. applied.callbacks r
       ∙ ap (λ c. callback_after c r (callback s.registries r)) are.registry
       ∙ ap (callback_after (change (again_at h) e) r) (says.callbacks r)
-      ∙ callback_next into h e r legal lawful;
+      ∙ callback_next over into h e r legal lawful;
   cells = applied.cells
       ∙ ap (λ c. cells_after c s.registries.cells) are.registry
       ∙ ap (cells_after (change (again_at h) e)) says.cells
-      ∙ cells_next into h e (lawful, legal) stays silent;
+      ∙ cells_next over into h e (lawful, legal) stays silent;
   queue = applied.queue
       ∙ ap (λ c. queue_after c s.registries.queue) are.registry
       ∙ ap (queue_after (change (again_at h) e)) says.queue
@@ -152,13 +155,13 @@ says_after into h s t e f legal lawful stays silent says are applied = let quiet
   entries = λ m k. applied.entries m k
       ∙ ap (λ p. unwrap_or (at_key same_pair (m, k) p) (record_at s.weak.entries.all m k)) are.entered
       ∙ ap (unwrap_or (at_key same_pair (m, k) (entered e))) (says.entries m k)
-      ∙ written None m k (entered e) (is_gone h m) (is_gone h k) (first_entry h m k) (entered_there into h e m k lawful stays)
+      ∙ written None m k (entered e) (is_gone h m) (is_gone h k) (first_entry h m k) (entered_there over into h e m k lawful stays)
       ∙ left_still h e m k None (first_entry (e ∷ h) m k) quiet;
   members = λ m k. applied.members m k
       ∙ ap (λ p. unwrap_or (at_key same_pair (m, k) p) (is_some (record_at s.weak.members.all m k))) are.joined
       ∙ ap (unwrap_or (at_key same_pair (m, k) (joined e))) (says.members m k)
-      ∙ written false m k (joined e) (is_gone h m) (is_gone h k) (first_member h m k) (joined_there into h e m k lawful stays)
+      ∙ written false m k (joined e) (is_gone h m) (is_gone h k) (first_member h m k) (joined_there over into h e m k lawful stays)
       ∙ left_still h e m k false (first_member (e ∷ h) m k) quiet;
-  tags = tags_after into h e s.tags.all t.tags.all f.makes legal lawful (λ i. same_gone h e i quiet) says.made says.tags (sym are.makes) applied.tags;
+  tags = tags_after over into h e s.tags.all t.tags.all f.makes legal lawful (λ i. same_gone h e i quiet) says.made says.tags (sym are.makes) applied.tags;
   made = made_after h e s.tags.all t.tags.all f.makes says.made (sym are.makes) applied.tags;
 }

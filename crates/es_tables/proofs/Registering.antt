@@ -9,19 +9,21 @@ use Rattle.es_value.specs.declared.value.Value.TheVariants.{Object}
 use Rattle.es_event.specs.declared.event.Answer.{Answer}
 use Rattle.es_event.specs.declared.event.Answer.TheVariants.{Gives}
 use Rattle.es_event.specs.declared.event.Event.{Event}
-use Rattle.es_event.specs.declared.event.Event.TheVariants.{Did, Emptied, Taken, JobEnded}
+use Rattle.es_event.specs.declared.event.Event.TheVariants.{Received, Did, Emptied, Taken, JobEnded}
 use Rattle.es_event.specs.declared.command.Command.{Command}
 use Rattle.es_event.specs.declared.command.Command.TheVariants.{FinalizationRegistry, Register, Unregister}
 use Rattle.es_event.specs.Commands.{first, second, reads, Kind, registry_of, kind_made}
+use Rattle.es_event.specs.Sharing.{Buffers}
 use Rattle.es_event.specs.History.{History, at_key}
 use Rattle.es_event.specs.Identities.{identity, made, empties, kind, born}
 use Rattle.es_event.specs.Jobs.{Receivers, cleaning}
 use Rattle.es_event.specs.Order.{queue, queues_again, is_stopped, phase}
 use Rattle.es_event.specs.Registrations.{Cell, unregistered, is_under, is_present, callback, callback_in, registers_by, cell, first_awaiting}
-use Rattle.es_event.specs.Legal.{Lawful, LegalBy}
+use Rattle.es_event.specs.Legal.{word_in, Lawful, LegalBy}
 use Rattle.es_event.proofs.Accepted.{is_result}
 use Rattle.es_event.proofs.Alive.{Stays, Alive, alive_at}
-use Rattle.es_event.proofs.Births.{birth}
+use Rattle.es_event.proofs.Births.{birth, received}
+use Rattle.es_event.proofs.LookBacks.{at_either}
 use Rattle.es_event.proofs.Cells.{made_by, cell_within}
 use Rattle.es_event.proofs.Entries.{mapped}
 use Rattle.es_event.proofs.Holds.{second_of}
@@ -52,12 +54,12 @@ registers_change q y v t (Object o ∷ w ∷ held ∷ rest) r = at (identity w)
     at (Some i) = refl
 registers_change q y v t _ r = refl
 
-register_cells : (into : Receivers) (h : History) (q y v : List ℕ) (t : Option (List ℕ)) (vs : List Value) (r : Answer) (k : Option Cell) → LegalBy [] into (Did (Register q y v t) vs r ∷ h) → Stays into h
+register_cells : (over : Buffers) (into : Receivers) (h : History) (q y v : List ℕ) (t : Option (List ℕ)) (vs : List Value) (r : Answer) (k : Option Cell) → LegalBy over into (Did (Register q y v t) vs r ∷ h) → Stays into h
     → registers_by (Register q y v t) vs ≡ k → cells_after (option_map_or (λ k. Registers k.registry k.target k.held k.token) k Leaves) (slots h) ≡ slots (Did (Register q y v t) vs r ∷ h)
-register_cells into h q y v t vs r None legal stays is = slots_same (Did (Register q y v t) vs r) h is refl (λ n. refl)
-register_cells into h q y v t vs r (Some k) legal stays is =
+register_cells over into h q y v t vs r None legal stays is = slots_same (Did (Register q y v t) vs r) h is refl (λ n. refl)
+register_cells over into h q y v t vs r (Some k) legal stays is =
     let alive : Alive h (second vs) = subst (Alive h) (ap second (sym legal.0.0)) (second_of (Alive h) into h (reads (Register q y v t)) stays.held) in
-    slots_registered into h (Register q y v t) vs r k legal is (alive_at h (second vs) k.target alive (made_by (Register q y v t) vs r k is).target) (λ n. refl)
+    slots_registered over into h (Register q y v t) vs r k legal is (alive_at h (second vs) k.target alive (made_by (Register q y v t) vs r k is).target) (λ n. refl)
 
 unregister_cells : (h : History) (to q x : List ℕ) (vs : List Value) (r : Answer) → cells_after (change_by (Unregister to q x) vs r) (slots h) ≡ slots (Did (Unregister to q x) vs r ∷ h)
 unregister_cells h to q x (Object o ∷ w ∷ []) r = at (identity w) refl
@@ -71,26 +73,26 @@ made_cells : (c : ℕ) (r : Answer) (cells : List _) → cells_after (registry_m
 made_cells c (Gives (Object o)) cells = refl
 made_cells c _ cells = refl
 
-did_cells : (into : Receivers) (h : History) (c : Command) (vs : List Value) (r : Answer) → LegalBy [] into (Did c vs r ∷ h) → Stays into h → cells_after (change_by c vs r) (slots h) ≡ slots (Did c vs r ∷ h)
-did_cells into h (FinalizationRegistry to n) vs r legal stays = made_cells n r (slots h) ∙ slots_same (Did (FinalizationRegistry to n) vs r) h refl refl (λ n. refl)
-did_cells into h (Register q y v t) vs r legal stays =
-    ap (λ c. cells_after c (slots h)) (registers_change q y v t vs r) ∙ register_cells into h q y v t vs r (registers_by (Register q y v t) vs) legal stays refl
-did_cells into h (Unregister to q x) vs r legal stays = unregister_cells h to q x vs r
-did_cells into h c vs r legal stays = slots_same (Did c vs r) h refl refl (λ n. refl)
+did_cells : (over : Buffers) (into : Receivers) (h : History) (c : Command) (vs : List Value) (r : Answer) → LegalBy over into (Did c vs r ∷ h) → Stays into h → cells_after (change_by c vs r) (slots h) ≡ slots (Did c vs r ∷ h)
+did_cells over into h (FinalizationRegistry to n) vs r legal stays = made_cells n r (slots h) ∙ slots_same (Did (FinalizationRegistry to n) vs r) h refl refl (λ n. refl)
+did_cells over into h (Register q y v t) vs r legal stays =
+    ap (λ c. cells_after c (slots h)) (registers_change q y v t vs r) ∙ register_cells over into h q y v t vs r (registers_by (Register q y v t) vs) legal stays refl
+did_cells over into h (Unregister to q x) vs r legal stays = unregister_cells h to q x vs r
+did_cells over into h c vs r legal stays = slots_same (Did c vs r) h refl refl (λ n. refl)
 
 ended_cells : (again : Option ℕ) (cells : List _) → cells_after (option_map_or Queues again Leaves) cells ≡ cells
 ended_cells None cells = refl
 ended_cells (Some r) cells = refl
 
-pub cells_next : (into : Receivers) (h : History) (e : Event) → LegalBy [] into (e ∷ h) → Stays into h → IsQuiet e → cells_after (change (again_at h) e) (slots h) ≡ slots (e ∷ h)
-cells_next into h (Did c vs r) legal stays quiet = did_cells into h c vs r legal stays
-cells_next into h (Taken n v) legal stays quiet =
+pub cells_next : (over : Buffers) (into : Receivers) (h : History) (e : Event) → LegalBy over into (e ∷ h) → Stays into h → IsQuiet e → cells_after (change (again_at h) e) (slots h) ≡ slots (e ∷ h)
+cells_next over into h (Did c vs r) legal stays quiet = did_cells over into h c vs r legal stays
+cells_next over into h (Taken n v) legal stays quiet =
     let at = mapped (λ c. c.held) (cell h n) v legal.0.0 in
     let numbered = cell_within h n at.0 at.1 in
     slots_taken h n v numbered.0 numbered.1 (ap is_present legal.0.1)
-cells_next into h JobEnded legal stays quiet = ended_cells (again_at h) (slots h) ∙ slots_same JobEnded h refl refl (λ n. refl)
-cells_next into h (Emptied ids) legal stays quiet = absurd quiet
-cells_next into h e legal stays quiet = slots_same e h refl refl (λ n. refl)
+cells_next over into h JobEnded legal stays quiet = ended_cells (again_at h) (slots h) ∙ slots_same JobEnded h refl refl (λ n. refl)
+cells_next over into h (Emptied ids) legal stays quiet = absurd quiet
+cells_next over into h e legal stays quiet = slots_same e h refl refl (λ n. refl)
 
 -- The cleanup queue
 
@@ -146,12 +148,12 @@ plain_callback before (Some q) r none =
     elim (q.0 == r) as (λ t. q.0 == r ≡ t → option_and_then callback_in before ≡ option_and_then callback_in (unwrap_or (cond t (Some q.1) None) before))
     [ true ↦ λ t. (none q refl).1 (eqb-true q.0 r t) ∙ sym (none q refl).0 | false ↦ λ t. refl ] refl
 
-none_called : (into : Receivers) (h : History) (e : Event) (r : ℕ) → LegalBy [] into h → Lawful [] into h e
+none_called : (over : Buffers) (into : Receivers) (h : History) (e : Event) (r : ℕ) → LegalBy over into h → Lawful over into h e
     → ((q : ℕ × Option Kind) → born e ≡ Some q → option_and_then callback_in q.1 ≡ None)
     → (q : ℕ × Option Kind) → born e ≡ Some q → (option_and_then callback_in q.1 ≡ None) × (q.0 ≡ r → option_and_then callback_in (kind h r) ≡ None)
-none_called into h e r legal lawful none q is = (
+none_called over into h e r legal lawful none q is = (
   none q is,
-  λ same. subst (λ o. callback h o ≡ None) (born_next [] into h e q lawful is ∙ same) (ap (option_and_then callback_in) (next_kind [] into h legal)),
+  λ same. subst (λ o. callback h o ≡ None) (born_next over into h e q lawful is ∙ same) (ap (option_and_then callback_in) (next_kind over into h legal)),
 )
 
 uncalled : (c : Command) (vs : List Value) (r : Answer) → option_and_then callback_in (kind_made c vs) ≡ None → (q : ℕ × Option Kind) → born (Did c vs r) ≡ Some q → option_and_then callback_in q.1 ≡ None
@@ -165,9 +167,9 @@ new_callback h to n vs r = at (made h + 1 == r)
     at true = refl
     at false = refl
 
-same_callback : (into : Receivers) (h : History) (c : Command) (vs : List Value) (a : Answer) (r : ℕ) → LegalBy [] into h → Lawful [] into h (Did c vs a)
+same_callback : (over : Buffers) (into : Receivers) (h : History) (c : Command) (vs : List Value) (a : Answer) (r : ℕ) → LegalBy over into h → Lawful over into h (Did c vs a)
     → option_and_then callback_in (kind_made c vs) ≡ None → callback h r ≡ callback (Did c vs a ∷ h) r
-same_callback into h c vs a r legal lawful none = plain_callback (kind h r) (born (Did c vs a)) r (none_called into h (Did c vs a) r legal lawful (uncalled c vs a none))
+same_callback over into h c vs a r legal lawful none = plain_callback (kind h r) (born (Did c vs a)) r (none_called over into h (Did c vs a) r legal lawful (uncalled c vs a none))
 
 registered_callback : (k : Option Cell) (r : ℕ) (before : Option ℕ) → callback_after (option_map_or (λ k. Registers k.registry k.target k.held k.token) k Leaves) r before ≡ before
 registered_callback None r before = refl
@@ -181,22 +183,32 @@ unregister_callback : (to x t : List ℕ) (vs : List Value) (a : Answer) (r : �
 unregister_callback to x t (Object o ∷ w ∷ []) a r before = unregistered_callback o (identity w) r before
 unregister_callback to x t vs a r before = refl
 
-did_callback : (into : Receivers) (h : History) (c : Command) (vs : List Value) (a : Answer) (r : ℕ) → LegalBy [] into h → Lawful [] into h (Did c vs a)
+did_callback : (over : Buffers) (into : Receivers) (h : History) (c : Command) (vs : List Value) (a : Answer) (r : ℕ) → LegalBy over into h → Lawful over into h (Did c vs a)
     → callback_after (change_by c vs a) r (callback h r) ≡ callback (Did c vs a ∷ h) r
-did_callback into h (FinalizationRegistry to n) vs a r legal lawful =
-    subst (λ a. callback_after (registry_made_by n a) r (callback h r) ≡ callback (Did (FinalizationRegistry to n) vs a ∷ h) r) (is_result [] h (FinalizationRegistry to n) vs a lawful.1)
+did_callback over into h (FinalizationRegistry to n) vs a r legal lawful =
+    subst (λ a. callback_after (registry_made_by n a) r (callback h r) ≡ callback (Did (FinalizationRegistry to n) vs a ∷ h) r) (is_result over h (FinalizationRegistry to n) vs (word_in a) a lawful.1)
     (new_callback h to n vs r)
-did_callback into h (Register x y v t) vs a r legal lawful =
+did_callback over into h (Register x y v t) vs a r legal lawful =
     ap (λ c. callback_after c r (callback h r)) (registers_change x y v t vs a) ∙ registered_callback (registers_by (Register x y v t) vs) r (callback h r)
-    ∙ same_callback into h (Register x y v t) vs a r legal lawful refl
-did_callback into h (Unregister to x t) vs a r legal lawful = unregister_callback to x t vs a r (callback h r) ∙ same_callback into h (Unregister to x t) vs a r legal lawful refl
-did_callback into h c vs a r legal lawful = same_callback into h c vs a r legal lawful refl
+    ∙ same_callback over into h (Register x y v t) vs a r legal lawful refl
+did_callback over into h (Unregister to x t) vs a r legal lawful = unregister_callback to x t vs a r (callback h r) ∙ same_callback over into h (Unregister to x t) vs a r legal lawful refl
+did_callback over into h c vs a r legal lawful = same_callback over into h c vs a r legal lawful refl
 
 ended_callback : (again : Option ℕ) (r : ℕ) (before : Option ℕ) → callback_after (option_map_or Queues again Leaves) r before ≡ before
 ended_callback None r before = refl
 ended_callback (Some q) r before = refl
 
-pub callback_next : (into : Receivers) (h : History) (e : Event) (r : ℕ) → LegalBy [] into h → Lawful [] into h e → callback_after (change (again_at h) e) r (callback h r) ≡ callback (e ∷ h) r
-callback_next into h (Did c vs a) r legal lawful = did_callback into h c vs a r legal lawful
-callback_next into h JobEnded r legal lawful = ended_callback (again_at h) r (callback h r)
-callback_next into h e r legal lawful = refl
+-- what is received is no registry
+received_callback : (over : Buffers) (into : Receivers) (h : History) (t : ℕ) (v : Value) (r : ℕ) → LegalBy over into h → Lawful over into h (Received t v) → callback h r ≡ callback (Received t v ∷ h) r
+received_callback over into h t v r legal lawful =
+    at_either (λ k. callback h r ≡ option_and_then callback_in k) (λ i j. i == j) r (born (Received t v)) (kind h r)
+    (λ q s m.
+    let next : made h + 1 ≡ r = born_next over into h (Received t v) q lawful s ∙ eqb-true q.0 r m in
+    ap (option_and_then callback_in) (subst (λ i. kind h i ≡ None) next (next_kind over into h legal)) ∙ sym (ap (option_and_then callback_in) (received v q s).0))
+    refl
+
+pub callback_next : (over : Buffers) (into : Receivers) (h : History) (e : Event) (r : ℕ) → LegalBy over into h → Lawful over into h e → callback_after (change (again_at h) e) r (callback h r) ≡ callback (e ∷ h) r
+callback_next over into h (Received t v) r legal lawful = received_callback over into h t v r legal lawful
+callback_next over into h (Did c vs a) r legal lawful = did_callback over into h c vs a r legal lawful
+callback_next over into h JobEnded r legal lawful = ended_callback (again_at h) r (callback h r)
+callback_next over into h e r legal lawful = refl

@@ -12,6 +12,7 @@ use Rattle.es_event.specs.declared.event.Event.{Event}
 use Rattle.es_event.specs.declared.event.Event.TheVariants.{Did, Emptied, Taken}
 use Rattle.es_event.specs.declared.command.Command.{Command}
 use Rattle.es_event.specs.declared.command.Command.TheVariants.{Unregister}
+use Rattle.es_event.specs.Sharing.{Buffers}
 use Rattle.es_event.specs.History.{History}
 use Rattle.es_event.specs.Identities.{identity, is_in, is_gone, empties}
 use Rattle.es_event.specs.Jobs.{Receivers}
@@ -55,15 +56,15 @@ slots_same e h none nothing stays =
     by_number e h (slot_said h) (registered_same e h none) (λ n l m. sym (same_slot (e ∷ h) h n (fate_stays e h n m nothing (stays n)) (cell_before e h n m)))
 
 -- a registration adds its slot
-pub slots_registered : (into : Receivers) (h : History) (c : Command) (vs : List Value) (r : Answer) (k : Cell) → LegalBy [] into (Did c vs r ∷ h)
+pub slots_registered : (over : Buffers) (into : Receivers) (h : History) (c : Command) (vs : List Value) (r : Answer) (k : Cell) → LegalBy over into (Did c vs r ∷ h)
     → registers (Did c vs r) ≡ Some k → is_gone h k.target ≡ false → ((n : ℕ) → unregisters_by c vs h n ≡ false)
     → slots h ++ registered_slot k.registry k.target k.held k.token (length (slots h) + 1) ∷ [] ≡ slots (Did c vs r ∷ h)
-slots_registered into h c vs r k legal new here stays =
+slots_registered over into h c vs r k legal new here stays =
     let e : Event = Did c vs r in
     let next : 1 + registered h ≡ registered h + 1 = omega arith in
     let more : suc (registered h) ≡ registered (e ∷ h) = omega (arith, registered_next e h k new) in
     let last : registered_slot k.registry k.target k.held k.token (registered h + 1) ≡ slot_said (e ∷ h) (registered h + 1) =
-    sym (ap (λ f. slot_at (registered h + 1) f (cell (e ∷ h) (registered h + 1))) (fate_new [] into h c vs r k legal new here)
+    sym (ap (λ f. slot_at (registered h + 1) f (cell (e ∷ h) (registered h + 1))) (fate_new over into h c vs r k legal new here)
     ∙ ap (slot_at (registered h + 1) live) (cell_new e h k new)) in
     let before : slots h ≡ map (slot_said (e ∷ h)) (range_with_len 1 (registered h)) =
     map_same (slot_said h) (slot_said (e ∷ h)) 1 (registered h)

@@ -5,21 +5,24 @@ use Rattle.std.specs.Option.{option_map_or, option_to_list}
 use Rattle.std.proofs.lemmas.Bool.{eqb-true, eq-eqb}
 use Rattle.std.proofs.lemmas.Bool.Decides.{nat_tests}
 use Rattle.es_value.specs.declared.value.Value.{Value}
+use Rattle.es_value.specs.declared.value.Value.TheVariants.{Object}
 use Rattle.es_event.specs.declared.event.Event.{Event}
-use Rattle.es_event.specs.declared.event.Event.TheVariants.{Did}
+use Rattle.es_event.specs.declared.event.Event.TheVariants.{Received, Did}
 use Rattle.es_event.specs.declared.command.Command.{Command}
-use Rattle.es_event.specs.declared.command.Command.TheVariants.{New, Symbol, WeakRef, WeakMap, WeakSet, FinalizationRegistry}
+use Rattle.es_event.specs.declared.command.Command.TheVariants.{New, Symbol, WeakRef, WeakMap, WeakSet, FinalizationRegistry, SharedArrayBuffer}
 use Rattle.es_event.specs.Commands.{Kind, makes, kind_made}
+use Rattle.es_event.specs.Sharing.{Buffers}
 use Rattle.es_event.specs.History.{History, at_key}
-use Rattle.es_event.specs.Identities.{made, makes_at, is_gone, kind, born}
+use Rattle.es_event.specs.Identities.{object_of, made, makes_at, is_gone, kind, born}
 use Rattle.es_event.specs.Jobs.{Receivers}
 use Rattle.es_event.specs.Rules.{result}
-use Rattle.es_event.specs.Legal.{Lawful, LegalBy}
+use Rattle.es_event.specs.Legal.{word_in, Lawful, LegalBy}
 use Rattle.es_event.proofs.Accepted.{is_result}
 use Rattle.es_event.proofs.Alive.{next_alive}
-use Rattle.es_event.proofs.Births.{birth}
+use Rattle.es_event.proofs.Births.{birth, received}
+use Rattle.es_event.proofs.Entries.{inner}
 use Rattle.es_tables.specs.declared.tags.Tag.{Tag}
-use Rattle.es_tables.specs.Tags.{tag_at, tag_of, tag_said, tag_made, tag_made_at}
+use Rattle.es_tables.specs.Tags.{tag_at, tag_of, tag_said, tag_made, tag_received, tag_made_at}
 use Rattle.es_event.proofs.Births.{next_kind, born_next}
 
 -- One place more
@@ -46,9 +49,15 @@ counted (WeakRef to y) = refl
 counted (WeakMap to) = refl
 counted (WeakSet to) = refl
 counted (FinalizationRegistry to c) = refl
+counted (SharedArrayBuffer to n) = refl
 counted _ = refl
 
+counted_received : (v : Value) → ◌≡◌ {A = ℕ} (option_map_or (λ t. 1) (tag_received v) 0) (option_map_or (λ i. 1) (object_of v) 0)
+counted_received (Object i) = refl
+counted_received _ = refl
+
 counted_at : (e : Event) → option_map_or (λ t. 1) (tag_made_at e) 0 ≡ makes_at e
+counted_at (Received t v) = counted_received v
 counted_at (Did c vs r) = counted c
 counted_at _ = refl
 
@@ -59,9 +68,11 @@ kind_counted (WeakRef to y) vs kd e = refl
 kind_counted (WeakMap to) vs kd e = refl
 kind_counted (WeakSet to) vs kd e = refl
 kind_counted (FinalizationRegistry to c) vs kd e = refl
+kind_counted (SharedArrayBuffer to n) vs kd e = refl
 kind_counted _ vs kd e = cc
 
 born_counted : (e : Event) (q : ℕ × Option Kind) → born e ≡ Some q → makes_at e ≡ 1
+born_counted (Received t v) q e = ap (λ v. option_map_or (λ i. 1) (object_of v) 0) (received v q e).1
 born_counted (Did c vs r) q e = let b = birth c vs r q e in kind_counted c vs b.0 b.2
 born_counted _ q e = cc
 
@@ -74,8 +85,8 @@ other_at (Some q) before i other =
     [ true ↦ λ t. absurd (other q refl (eqb-true q.0 i t)) | false ↦ λ t. refl ] refl
 
 -- every other identity keeps its kind
-kind_other : (into : Receivers) (h : History) (e : Event) (i : ℕ) → Lawful [] into h e → (i ≡ made h + 1 → ⊥) → kind (e ∷ h) i ≡ kind h i
-kind_other into h e i lawful other = other_at (born e) (kind h i) i (λ q is same. other (sym (born_next [] into h e q lawful is ∙ same)))
+kind_other : (over : Buffers) (into : Receivers) (h : History) (e : Event) (i : ℕ) → Lawful over into h e → (i ≡ made h + 1 → ⊥) → kind (e ∷ h) i ≡ kind h i
+kind_other over into h e i lawful other = other_at (born e) (kind h i) i (λ q is same. other (sym (born_next over into h e q lawful is ∙ same)))
 
 kind_quiet : (h : History) (e : Event) (i : ℕ) → makes_at e ≡ 0 → kind (e ∷ h) i ≡ kind h i
 kind_quiet h e i none = other_at (born e) (kind h i) i (λ q is same. let one : makes_at e ≡ 1 = born_counted e q is in absurd (omega (arith, none, one)))
@@ -83,20 +94,25 @@ kind_quiet h e i none = other_at (born e) (kind h i) i (λ q is same. let one : 
 given : (n : ℕ) (k before : Option Kind) → unwrap_or (at_key (λ i j. i == j) n (Some (n, k))) before ≡ k
 given n k before = ap (λ b. unwrap_or (cond b (Some k) None) before) (eq-eqb n n refl)
 
-tag_new : (h : History) (c : Command) (vs : List Value) (t : Tag) → tag_made c ≡ Some t → kind h (made h + 1) ≡ None → tag_of (kind (Did c vs (result [] h c vs) ∷ h) (made h + 1)) ≡ t
-tag_new h (New to) vs t e none = ap tag_of (given (made h + 1) _ (kind h (made h + 1))) ∙ cc
-tag_new h (Symbol to) vs t e none = ap tag_of none ∙ cc
-tag_new h (WeakRef to y) vs t e none = ap tag_of (given (made h + 1) _ (kind h (made h + 1))) ∙ cc
-tag_new h (WeakMap to) vs t e none = ap tag_of (given (made h + 1) _ (kind h (made h + 1))) ∙ cc
-tag_new h (WeakSet to) vs t e none = ap tag_of (given (made h + 1) _ (kind h (made h + 1))) ∙ cc
-tag_new h (FinalizationRegistry to c) vs t e none = ap tag_of (given (made h + 1) _ (kind h (made h + 1))) ∙ cc
-tag_new h _ vs t e none = cc
+tag_new : (over : Buffers) (h : History) (c : Command) (vs : List Value) (w : ℕ) (t : Tag) → tag_made c ≡ Some t → kind h (made h + 1) ≡ None → tag_of (kind (Did c vs (result over h c vs w) ∷ h) (made h + 1)) ≡ t
+tag_new over h (New to) vs w t e none = ap tag_of (given (made h + 1) _ (kind h (made h + 1))) ∙ cc
+tag_new over h (Symbol to) vs w t e none = ap tag_of none ∙ cc
+tag_new over h (WeakRef to y) vs w t e none = ap tag_of (given (made h + 1) _ (kind h (made h + 1))) ∙ cc
+tag_new over h (WeakMap to) vs w t e none = ap tag_of (given (made h + 1) _ (kind h (made h + 1))) ∙ cc
+tag_new over h (WeakSet to) vs w t e none = ap tag_of (given (made h + 1) _ (kind h (made h + 1))) ∙ cc
+tag_new over h (FinalizationRegistry to c) vs w t e none = ap tag_of (given (made h + 1) _ (kind h (made h + 1))) ∙ cc
+tag_new over h (SharedArrayBuffer to n) vs w t e none = ap tag_of (given (made h + 1) _ (kind h (made h + 1))) ∙ cc
+tag_new over h _ vs w t e none = cc
 
-tag_next : (into : Receivers) (h : History) (e : Event) (t : Tag) (i : ℕ) → LegalBy [] into h → Lawful [] into h e → tag_made_at e ≡ Some t → i ≡ made h + 1 → tag_of (kind (e ∷ h) i) ≡ t
-tag_next into h (Did c vs r) t i legal lawful is same =
-    subst (λ r. tag_of (kind (Did c vs r ∷ h) i) ≡ t) (is_result [] h c vs r lawful.1)
-    (subst (λ j. tag_of (kind (Did c vs (result [] h c vs) ∷ h) j) ≡ t) (sym same) (tag_new h c vs t is (next_kind [] into h legal)))
-tag_next into h _ t i legal lawful is same = cc
+tag_next : (over : Buffers) (into : Receivers) (h : History) (e : Event) (t : Tag) (i : ℕ) → LegalBy over into h → Lawful over into h e → tag_made_at e ≡ Some t → i ≡ made h + 1 → tag_of (kind (e ∷ h) i) ≡ t
+tag_next over into h (Did c vs r) t i legal lawful is same =
+    subst (λ r. tag_of (kind (Did c vs r ∷ h) i) ≡ t) (is_result over h c vs (word_in r) r lawful.1)
+    (subst (λ j. tag_of (kind (Did c vs (result over h c vs (word_in r)) ∷ h) j) ≡ t) (sym same) (tag_new over h c vs (word_in r) t is (next_kind over into h legal)))
+tag_next over into h (Received n (Object o)) t i legal lawful is same =
+    let arrived : made h + 1 ≡ o = sym lawful.0 in
+    subst (λ j. tag_of (kind (Received n (Object o) ∷ h) j) ≡ t) (sym same)
+    (subst (λ j. tag_of (kind (Received n (Object j) ∷ h) (made h + 1)) ≡ t) arrived (ap tag_of (given (made h + 1) _ (kind h (made h + 1))) ∙ inner is))
+tag_next over into h _ t i legal lawful is same = cc
 
 -- Tags
 
@@ -116,22 +132,22 @@ shown_by : (h : History) (e : Event) (n i : ℕ) → n ≡ makes_at e → is_gon
 shown_by h e n i count gone = ap (λ c. shown c (made h) (is_gone h i) i (kind (e ∷ h) i)) count ∙ ap (λ g. shown (makes_at e) (made h) g i (kind (e ∷ h) i)) (sym gone)
 
 -- where an event makes this or nothing, and empties nothing
-pub tags_after : (into : Receivers) (h : History) (e : Event) (ks new : List (Option Tag)) (m : Option Tag) → LegalBy [] into h → Lawful [] into h e
+pub tags_after : (over : Buffers) (into : Receivers) (h : History) (e : Event) (ks new : List (Option Tag)) (m : Option Tag) → LegalBy over into h → Lawful over into h e
     → ((i : ℕ) → is_gone (e ∷ h) i ≡ is_gone h i) → length ks ≡ made h → ((i : ℕ) → 0 < i → tag_at ks i ≡ tag_said h i)
     → tag_made_at e ≡ m → new ≡ ks ++ map Some (option_to_list m) → (i : ℕ) → 0 < i → tag_at new i ≡ tag_said (e ∷ h) i
-tags_after into h e ks new None legal lawful gone count says is added i positive =
+tags_after over into h e ks new None legal lawful gone count says is added i positive =
     let none : 0 ≡ makes_at e = ap (λ m. option_map_or (λ t. 1) m 0) (sym is) ∙ counted_at e in
     ap (λ l. tag_at l i) (added ∙ append-nil ks)
     ∙ says i positive
     ∙ shown_same (is_gone h i) i (made h) (kind h i) (kind (e ∷ h) i) (kind_quiet h e i (sym none))
     ∙ shown_by h e 0 i none (gone i)
-tags_after into h e ks new (Some t) legal lawful gone count says is added i positive =
+tags_after over into h e ks new (Some t) legal lawful gone count says is added i positive =
     let one : 1 ≡ makes_at e = ap (λ m. option_map_or (λ t. 1) m 0) (sym is) ∙ counted_at e in
     ap (λ l. tag_at l i) added
     ∙ tag_at_more ks t i positive
     ∙ ap (λ n. if i == n + 1 then Some t else tag_at ks i) count
     ∙ ap (λ o. if i == made h + 1 then Some t else o) (says i positive)
-    ∙ shown_more (is_gone h i) i (made h) (kind h i) (kind (e ∷ h) i) t positive (next_alive [] into h legal i) (tag_next into h e t i legal lawful is) (kind_other into h e i lawful)
+    ∙ shown_more (is_gone h i) i (made h) (kind h i) (kind (e ∷ h) i) t positive (next_alive over into h legal i) (tag_next over into h e t i legal lawful is) (kind_other over into h e i lawful)
     ∙ shown_by h e 1 i one (gone i)
 
 pub made_after : (h : History) (e : Event) (ks new : List (Option Tag)) (m : Option Tag) → length ks ≡ made h → tag_made_at e ≡ m → new ≡ ks ++ map Some (option_to_list m) → length new ≡ made (e ∷ h)

@@ -1,11 +1,12 @@
 -- What the tables say of entries of WeakMaps and members of WeakSets, after one more event and after values were emptied.
-use Rattle.std.proofs.Common.{◌≡◌, ℕ, ◌==◌, ◌||◌, Bool, true, false, cond, sym, ◌∙◌, ap, refl, subst, List, [], ◌++◌, Option, Some, None}
+use Rattle.std.proofs.Common.{◌≡◌, ℕ, ◌==◌, ◌||◌, Bool, true, false, cond, sym, ◌∙◌, ap, refl, subst, List, ◌++◌, Option, Some, None}
 use Rattle.std.specs.Prelude.{unwrap_or}
 use Rattle.std.proofs.lemmas.Bool.{eqb-true, and_parts}
 use Rattle.es_value.specs.declared.value.Value.{Value}
 use Rattle.es_event.specs.declared.event.Event.{Event}
 use Rattle.es_event.specs.declared.event.Event.TheVariants.{Did}
 use Rattle.es_event.specs.Commands.{first, second, reads}
+use Rattle.es_event.specs.Sharing.{Buffers}
 use Rattle.es_event.specs.History.{History, at_key}
 use Rattle.es_event.specs.Identities.{identity, gone, is_gone, is_in}
 use Rattle.es_event.specs.Jobs.{Receivers}
@@ -42,23 +43,23 @@ first_alive into h xs vs i e stays is = alive_at h (first vs) i (subst (Alive h)
 second_alive : (into : Receivers) (h : History) (xs : List (List ℕ)) (vs : List Value) (i : ℕ) → vs ≡ values_of into h xs → Stays into h → identity (second vs) ≡ Some i → is_gone h i ≡ false
 second_alive into h xs vs i e stays is = alive_at h (second vs) i (subst (Alive h) (ap second (sym e)) (second_of (Alive h) into h xs stays.held)) is
 
-pub entered_there : (into : Receivers) (h : History) (e : Event) (m k : ℕ) → Lawful [] into h e → Stays into h
+pub entered_there : (over : Buffers) (into : Receivers) (h : History) (e : Event) (m k : ℕ) → Lawful over into h e → Stays into h
     → (q : (ℕ × ℕ) × Option Value) → entered e ≡ Some q → (q.0.0 ≡ m → is_gone h m ≡ false) × (q.0.1 ≡ k → is_gone h k ≡ false)
-entered_there into h (Did c vs r) m k lawful stays q is =
+entered_there over into h (Did c vs r) m k lawful stays q is =
     let w = wrote c vs r q is in (
       λ same. subst (λ i. is_gone h i ≡ false) same (first_alive into h (reads c) vs q.0.0 lawful.0 stays (ap identity w.map)),
       λ same. subst (λ i. is_gone h i ≡ false) same (second_alive into h (reads c) vs q.0.1 lawful.0 stays w.key),
     )
-entered_there into h _ m k lawful stays q is = cc
+entered_there over into h _ m k lawful stays q is = cc
 
-pub joined_there : (into : Receivers) (h : History) (e : Event) (m k : ℕ) → Lawful [] into h e → Stays into h
+pub joined_there : (over : Buffers) (into : Receivers) (h : History) (e : Event) (m k : ℕ) → Lawful over into h e → Stays into h
     → (q : (ℕ × ℕ) × Bool) → joined e ≡ Some q → (q.0.0 ≡ m → is_gone h m ≡ false) × (q.0.1 ≡ k → is_gone h k ≡ false)
-joined_there into h (Did c vs r) m k lawful stays q is =
+joined_there over into h (Did c vs r) m k lawful stays q is =
     let w = joins c vs r q is in (
       λ same. subst (λ i. is_gone h i ≡ false) same (first_alive into h (reads c) vs q.0.0 lawful.0 stays (ap identity w.set)),
       λ same. subst (λ i. is_gone h i ≡ false) same (second_alive into h (reads c) vs q.0.1 lawful.0 stays w.member),
     )
-joined_there into h _ m k lawful stays q is = cc
+joined_there over into h _ m k lawful stays q is = cc
 
 -- Values emptied
 

@@ -1,5 +1,5 @@
 -- Internal: what an event does to the tables.
-use Rattle.std.specs.Prelude.{ℕ, ◌≡◌, ◌==◌, ◌||◌, ◌++◌, false, List, [], map, Option, Some, None, unwrap_or, is_some, reverse, if◌then◌else◌}
+use Rattle.std.specs.Prelude.{⊤, ℕ, ◌≡◌, ◌==◌, ◌||◌, ◌++◌, false, List, [], map, Option, Some, None, unwrap_or, is_some, reverse, if◌then◌else◌}
 use Rattle.std.specs.Option.{option_map, option_map_or, option_to_list}
 use Rattle.std.specs.Str.{bytes_eq}
 use Rattle.es_value.specs.declared.value.Value.{Value}
@@ -7,7 +7,7 @@ use Rattle.es_value.specs.declared.value.Value.TheVariants.{Object}
 use Rattle.es_event.specs.declared.event.Answer.{Answer}
 use Rattle.es_event.specs.declared.event.Answer.TheVariants.{Gives}
 use Rattle.es_event.specs.declared.event.Event.{Event}
-use Rattle.es_event.specs.declared.event.Event.TheVariants.{JobBegun, CleanupBegun, Did, Refused, Emptied, Taken, JobEnded, Closed}
+use Rattle.es_event.specs.declared.event.Event.TheVariants.{JobBegun, CleanupBegun, Received, Did, Refused, Emptied, Taken, JobEnded, Skipped, Closed}
 use Rattle.es_event.specs.declared.command.Command.{Command}
 use Rattle.es_event.specs.declared.command.Command.TheVariants.{WeakRef}
 use Rattle.es_event.specs.Commands.{first}
@@ -40,19 +40,35 @@ points_by _ vs r = None
 abbrev pub points : Event → Option (ℕ × Option ℕ)
 points (JobBegun j) = None
 points (CleanupBegun q) = None
+points (Received t v) = None
 points (Did c vs r) = points_by c vs r
 points (Refused code) = None
 points (Emptied ids) = None
 points (Taken n held) = None
 points JobEnded = None
+points (Skipped j t) = None
 points Closed = None
 
 abbrev pub with_option : Option (ℕ × ℕ) → Option (ℕ × Option ℕ)
 with_option p = option_map (λ p. (p.0, Some p.1)) p
 
--- where the event ends a job, `again` is the registry that it queues again, if it does
-pub record AreEffects (again : Option ℕ) (event : Event) (e : Effects) : Type 0 where
-  pub assigned : (into : Receivers) (h : History) → e.assigned ≡ assigned into h event
+-- where the event is a receipt, its value goes to the variable of this name
+abbrev pub AssignsTo : List ℕ → List ℕ → Event → Type 0
+AssignsTo received to (JobBegun j) = ⊤
+AssignsTo received to (CleanupBegun q) = ⊤
+AssignsTo received to (Received t v) = to ≡ received
+AssignsTo received to (Did c vs r) = ⊤
+AssignsTo received to (Refused code) = ⊤
+AssignsTo received to (Emptied ids) = ⊤
+AssignsTo received to (Taken n held) = ⊤
+AssignsTo received to JobEnded = ⊤
+AssignsTo received to (Skipped j t) = ⊤
+AssignsTo received to Closed = ⊤
+
+-- where the event is a receipt, its value goes to the variable `received`; where it ends a job, `again` is the registry that it
+-- queues again, if it does
+pub record AreEffects (received : List ℕ) (again : Option ℕ) (event : Event) (e : Effects) : Type 0 where
+  pub assigned : (into : Receivers) (h : History) → AssignsTo received (into h) event → e.assigned ≡ assigned into h event
   pub put : e.put ≡ put event
   pub born : e.born ≡ object_born event
   pub points : with_option e.points ≡ points event

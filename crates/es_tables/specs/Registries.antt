@@ -7,7 +7,7 @@ use Rattle.es_value.specs.Values.{identity}
 use Rattle.es_event.specs.declared.event.Answer.{Answer}
 use Rattle.es_event.specs.declared.event.Answer.TheVariants.{Gives}
 use Rattle.es_event.specs.declared.event.Event.{Event}
-use Rattle.es_event.specs.declared.event.Event.TheVariants.{JobBegun, CleanupBegun, Did, Refused, Emptied, Taken, JobEnded, Closed}
+use Rattle.es_event.specs.declared.event.Event.TheVariants.{JobBegun, CleanupBegun, Received, Did, Refused, Emptied, Taken, JobEnded, Skipped, Closed}
 use Rattle.es_event.specs.declared.command.Command.{Command}
 use Rattle.es_event.specs.declared.command.Command.TheVariants.{FinalizationRegistry, Register, Unregister}
 use Rattle.es_event.specs.Commands.{first}
@@ -35,11 +35,13 @@ change_by _ vs a = Leaves
 abbrev pub change : Option ℕ → Event → RegistryChange
 change again (JobBegun j) = Leaves
 change again (CleanupBegun q) = Dequeues
+change again (Received t v) = Leaves
 change again (Did c vs r) = change_by c vs r
 change again (Refused code) = Leaves
 change again (Emptied ids) = Leaves
 change again (Taken n held) = Takes n
 change again JobEnded = option_map_or Queues again Leaves
+change again (Skipped j t) = Leaves
 change again Closed = Leaves
 
 -- what stands after a change

@@ -4,12 +4,13 @@ ghost use Rattle.std.specs.Prelude.{◌≡◌, Some, None, IfOk, codes};
 ghost use Rattle.std.specs.Option.{option_to_list};
 ghost use Rattle.es_event.specs.Commands.{assigns};
 ghost use Rattle.es_event.specs.History.{History};
+ghost use Rattle.es_event.specs.Identities.{object_of};
 ghost use Rattle.es_event.specs.Jobs.{Receivers};
 ghost use Rattle.es_event.specs.Variables.{assigned, gives_to};
 ghost use Rattle.es_event.specs.Properties.{put, put_by};
 ghost use Rattle.es_event.specs.WeakRefs.{ends_job, keeps, keeps_by, identity_given};
-ghost use Rattle.es_tables.specs.Effects.{AreEffects, object_born, points, points_by, with_option};
-ghost use Rattle.es_tables.specs.Tags.{tag_made, tag_made_at};
+ghost use Rattle.es_tables.specs.Effects.{AreEffects, AssignsTo, object_born, points, points_by, with_option};
+ghost use Rattle.es_tables.specs.Tags.{tag_made, tag_received, tag_made_at};
 
 use crate::ephemerons::{entered_at, joined_at};
 use crate::registries::{RegistryChange, change_at};
@@ -43,14 +44,19 @@ pub struct Effects {
 }
 
 /// The effects of an event. `held` is the name of the variable that a cell's held value is assigned to,
-/// and `again` is the registry that is queued again where the event ends a job. It takes memory for the
-/// texts that are assigned or put.
-pub fn effects_of(event: &Event, held: &Name, again: Option<Id>) -> Result<Effects, NoMemory>
+/// `received` that of the one that a message's value is assigned to, and `again` is the registry that is
+/// queued again where the event ends a job. It takes memory for the texts that are assigned or put.
+pub fn effects_of(
+    event: &Event,
+    held: &Name,
+    received: &Name,
+    again: Option<Id>,
+) -> Result<Effects, NoMemory>
     requires { held.now ≡ codes "held" }
-    ensures { IfOk result (AreEffects again event.now) }
+    ensures { IfOk result (AreEffects received.now again event.now) }
 {
     Ok(Effects {
-        assigned: assigned_at(event, held)?,
+        assigned: assigned_at(event, held, received)?,
         put: put_at(event)?,
         born: born_at(event),
         points: points_at(event),
@@ -63,13 +69,18 @@ pub fn effects_of(event: &Event, held: &Name, again: Option<Id>) -> Result<Effec
     })
 }
 
-fn assigned_at(event: &Event, held_name: &Name) -> Result<Option<(Name, Value)>, NoMemory>
+fn assigned_at(
+    event: &Event,
+    held_name: &Name,
+    received: &Name,
+) -> Result<Option<(Name, Value)>, NoMemory>
     requires { held_name.now ≡ codes "held" }
-    ensures { IfOk result (λ r. (into : Receivers) (h : History) → r ≡ assigned into h event.now) }
+    ensures { IfOk result (λ r. (into : Receivers) (h : History) → AssignsTo received.now (into h) event.now → r ≡ assigned into h event.now) }
 {
     match event {
         Event::JobBegun { .. } => Ok(None),
         Event::CleanupBegun { .. } => Ok(None),
+        Event::Received { value, .. } => named(received, value),
         Event::Did {
             command,
             answer,
@@ -79,6 +90,7 @@ fn assigned_at(event: &Event, held_name: &Name) -> Result<Option<(Name, Value)>,
         Event::Emptied { .. } => Ok(None),
         Event::Taken { held, .. } => named(held_name, held),
         Event::JobEnded => Ok(None),
+        Event::Skipped { .. } => Ok(None),
         Event::Closed => Ok(None),
     }
 }
@@ -111,6 +123,7 @@ fn put_at(event: &Event) -> Result<Option<((Id, Name), Option<Value>)>, NoMemory
     match event {
         Event::JobBegun { .. } => Ok(None),
         Event::CleanupBegun { .. } => Ok(None),
+        Event::Received { .. } => Ok(None),
         Event::Did {
             command,
             values,
@@ -120,6 +133,7 @@ fn put_at(event: &Event) -> Result<Option<((Id, Name), Option<Value>)>, NoMemory
         Event::Emptied { .. } => Ok(None),
         Event::Taken { .. } => Ok(None),
         Event::JobEnded => Ok(None),
+        Event::Skipped { .. } => Ok(None),
         Event::Closed => Ok(None),
     }
 }
@@ -165,6 +179,7 @@ fn born_at(event: &Event) -> Option<Id>
     match event {
         Event::JobBegun { .. } => None,
         Event::CleanupBegun { .. } => None,
+        Event::Received { value, .. } => object_in(value),
         Event::Did {
             command,
             answer,
@@ -175,7 +190,8 @@ fn born_at(event: &Event) -> Option<Id>
                 | Command::WeakRef { .. }
                 | Command::WeakMap { .. }
                 | Command::WeakSet { .. }
-                | Command::FinalizationRegistry { .. },
+                | Command::FinalizationRegistry { .. }
+                | Command::SharedArrayBuffer { .. },
                 Answer::Gives(Value::Object(object)),
             ) => Some(*object),
             // no other command makes an object
@@ -185,7 +201,17 @@ fn born_at(event: &Event) -> Option<Id>
         Event::Emptied { .. } => None,
         Event::Taken { .. } => None,
         Event::JobEnded => None,
+        Event::Skipped { .. } => None,
         Event::Closed => None,
+    }
+}
+
+fn object_in(value: &Value) -> Option<Id>
+    ensures { result ≡ object_of value.now }
+{
+    match value {
+        Value::Object(object) => Some(*object),
+        _ => None,
     }
 }
 
@@ -195,6 +221,7 @@ fn points_at(event: &Event) -> Option<(Id, Id)>
     match event {
         Event::JobBegun { .. } => None,
         Event::CleanupBegun { .. } => None,
+        Event::Received { .. } => None,
         Event::Did {
             command,
             values,
@@ -204,6 +231,7 @@ fn points_at(event: &Event) -> Option<(Id, Id)>
         Event::Emptied { .. } => None,
         Event::Taken { .. } => None,
         Event::JobEnded => None,
+        Event::Skipped { .. } => None,
         Event::Closed => None,
     }
 }
@@ -226,6 +254,7 @@ fn kept_at(event: &Event) -> Option<Id>
     match event {
         Event::JobBegun { .. } => None,
         Event::CleanupBegun { .. } => None,
+        Event::Received { .. } => None,
         Event::Did {
             command,
             values,
@@ -235,6 +264,7 @@ fn kept_at(event: &Event) -> Option<Id>
         Event::Emptied { .. } => None,
         Event::Taken { .. } => None,
         Event::JobEnded => None,
+        Event::Skipped { .. } => None,
         Event::Closed => None,
     }
 }
@@ -270,11 +300,13 @@ fn ends_job(event: &Event) -> bool
     match event {
         Event::JobBegun { .. } => false,
         Event::CleanupBegun { .. } => false,
+        Event::Received { .. } => false,
         Event::Did { .. } => false,
         Event::Refused { .. } => false,
         Event::Emptied { .. } => false,
         Event::Taken { .. } => false,
         Event::JobEnded => true,
+        Event::Skipped { .. } => false,
         Event::Closed => false,
     }
 }
@@ -285,11 +317,13 @@ fn tag_made_at(event: &Event) -> Option<Tag>
     match event {
         Event::JobBegun { .. } => None,
         Event::CleanupBegun { .. } => None,
+        Event::Received { value, .. } => tag_received(value),
         Event::Did { command, .. } => tag_made(command),
         Event::Refused { .. } => None,
         Event::Emptied { .. } => None,
         Event::Taken { .. } => None,
         Event::JobEnded => None,
+        Event::Skipped { .. } => None,
         Event::Closed => None,
     }
 }
@@ -304,7 +338,18 @@ fn tag_made(command: &Command) -> Option<Tag>
         Command::WeakMap { .. } => Some(Tag::WeakMap),
         Command::WeakSet { .. } => Some(Tag::WeakSet),
         Command::FinalizationRegistry { .. } => Some(Tag::FinalizationRegistry),
+        Command::SharedArrayBuffer { .. } => Some(Tag::SharedArrayBuffer),
         // no other command makes anything
+        _ => None,
+    }
+}
+
+/// A received object is a new buffer.
+fn tag_received(value: &Value) -> Option<Tag>
+    ensures { result ≡ tag_received value.now }
+{
+    match value {
+        Value::Object(_) => Some(Tag::SharedArrayBuffer),
         _ => None,
     }
 }

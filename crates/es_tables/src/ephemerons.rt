@@ -15,6 +15,7 @@ pub(crate) fn entered_at(event: &Event) -> Result<Option<((Id, Id), Option<Value
     match event {
         Event::JobBegun { .. } => Ok(None),
         Event::CleanupBegun { .. } => Ok(None),
+        Event::Received { .. } => Ok(None),
         Event::Did {
             command,
             values,
@@ -24,6 +25,7 @@ pub(crate) fn entered_at(event: &Event) -> Result<Option<((Id, Id), Option<Value
         Event::Emptied { .. } => Ok(None),
         Event::Taken { .. } => Ok(None),
         Event::JobEnded => Ok(None),
+        Event::Skipped { .. } => Ok(None),
         Event::Closed => Ok(None),
     }
 }
@@ -71,6 +73,7 @@ pub(crate) fn joined_at(event: &Event) -> Option<((Id, Id), bool)>
     match event {
         Event::JobBegun { .. } => None,
         Event::CleanupBegun { .. } => None,
+        Event::Received { .. } => None,
         Event::Did {
             command,
             values,
@@ -80,6 +83,7 @@ pub(crate) fn joined_at(event: &Event) -> Option<((Id, Id), bool)>
         Event::Emptied { .. } => None,
         Event::Taken { .. } => None,
         Event::JobEnded => None,
+        Event::Skipped { .. } => None,
         Event::Closed => None,
     }
 }

@@ -52,6 +52,7 @@ pub(crate) fn change_at(event: &Event, again: Option<Id>) -> Result<RegistryChan
     match event {
         Event::JobBegun { .. } => Ok(RegistryChange::Leaves),
         Event::CleanupBegun { .. } => Ok(RegistryChange::Dequeues),
+        Event::Received { .. } => Ok(RegistryChange::Leaves),
         Event::Did {
             command,
             values,
@@ -63,6 +64,7 @@ pub(crate) fn change_at(event: &Event, again: Option<Id>) -> Result<RegistryChan
             registration: *registration,
         }),
         Event::JobEnded => Ok(queued(again)),
+        Event::Skipped { .. } => Ok(RegistryChange::Leaves),
         Event::Closed => Ok(RegistryChange::Leaves),
     }
 }

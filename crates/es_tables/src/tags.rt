@@ -28,6 +28,8 @@ pub enum Tag {
     WeakSet,
     /// A FinalizationRegistry.
     FinalizationRegistry,
+    /// A SharedArrayBuffer.
+    SharedArrayBuffer,
 }
 
 /// The tag of each identity that was made, and none of those that are emptied.

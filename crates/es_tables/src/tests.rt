@@ -324,7 +324,7 @@ fn what_is_unmarked_is_emptied(rt: HostRuntime) -> Result<(), Fail> {
 /// The effects of an event.
 fn effects(alloc: Global, event: Event) -> Result<Effects, Fail> {
     let held = Name::read(alloc, "held")?;
-    let effects = effects_of(&event, &held, None);
+    let effects = effects_of(&event, &held, &held, None);
     drop(event);
     Ok(effects?)
 }

@@ -31,3 +31,11 @@ most_commands = 10000
 -- identities that an agent makes
 abbrev pub most_identities : ℕ
 most_identities = 1000000
+
+-- Shared Data Blocks that an agent opens
+abbrev pub most_blocks : ℕ
+most_blocks = 256
+
+-- messages that an agent posts
+abbrev pub most_posts : ℕ
+most_posts = 10000

@@ -23,3 +23,9 @@ pub const MOST_COMMANDS: usize = 10_000;
 
 /// How many identities an agent makes at most.
 pub const MOST_IDENTITIES: u32 = 1_000_000;
+
+/// How many Shared Data Blocks an agent opens at most.
+pub const MOST_BLOCKS: usize = 256;
+
+/// How many messages an agent posts at most.
+pub const MOST_POSTS: usize = 10_000;

@@ -99,7 +99,7 @@ impl AgentCore {
         match self.cursor.position {
             Position::Between => self.tables.queued().is_some(),
             Position::Cleaning(_) | Position::CleanupStopped(_) => true,
-            Position::Inside(_) | Position::Stopped | Position::Ended => false,
+            Position::Handed | Position::Inside(_) | Position::Stopped | Position::Ended => false,
         }
     }
 
@@ -132,7 +132,11 @@ impl AgentCore {
         match self.cursor.position {
             Position::Cleaning(cleanup) => self.tables.awaiting(cleanup.registry),
             Position::CleanupStopped(registry) => self.tables.awaiting(registry),
-            Position::Between | Position::Inside(_) | Position::Stopped | Position::Ended => None,
+            Position::Between
+            | Position::Handed
+            | Position::Inside(_)
+            | Position::Stopped
+            | Position::Ended => None,
         }
     }
 
@@ -165,10 +169,12 @@ impl AgentCore {
             Event::Taken { .. } => self.callback(),
             Event::JobBegun { .. }
             | Event::CleanupBegun { .. }
+            | Event::Received { .. }
             | Event::Did { .. }
             | Event::Refused { .. }
             | Event::Emptied { .. }
             | Event::JobEnded
+            | Event::Skipped { .. }
             | Event::Closed => None,
         }
     }
@@ -180,7 +186,11 @@ impl AgentCore {
         match self.cursor.position {
             Position::Cleaning(cleanup) => self.tables.callback(cleanup.registry),
             Position::CleanupStopped(registry) => self.tables.callback(registry),
-            Position::Between | Position::Inside(_) | Position::Stopped | Position::Ended => None,
+            Position::Between
+            | Position::Handed
+            | Position::Inside(_)
+            | Position::Stopped
+            | Position::Ended => None,
         }
     }
 }

@@ -1,8 +1,5 @@
 //! FinalizationRegistries and their cleanup jobs, driven through an agent's calls.
 
-ghost use Rattle.std.specs.Prelude.{◌≡◌, true, IfOk};
-ghost use Rattle.es_event.specs.Jobs.{waits_for_nobody};
-
 use crate::AgentCore;
 use crate::tests::{command, job, name, run_and_say};
 use es_event::{AgentPlan, Callback, Sequence};
@@ -17,9 +14,7 @@ fn plan_of<R: Abort + AllocGlobal>(
     callback: &[&[&str]],
     first: &[&[&str]],
     second: &[&[&str]],
-) -> Result<AgentPlan, Fail>
-    ensures { IfOk result (λ p. waits_for_nobody p ≡ true) }
-{
+) -> Result<AgentPlan, Fail> {
     let alloc = rt.alloc();
     let callbacks = callbacks_of(rt, callback)?;
     let first = job(rt, alloc, first)?;

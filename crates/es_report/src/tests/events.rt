@@ -42,9 +42,14 @@ pub(crate) fn breaker(alloc: Global) -> Result<Sequence<Event>, Fail> {
         Refusal::NotAWeakMap,
         Refusal::NotAWeakSet,
         Refusal::NotAFinalizationRegistry,
+        Refusal::NotASharedArrayBuffer,
         Refusal::NotHeldWeakly,
         Refusal::SameTargetAndHeld,
+        Refusal::IndexOutOfRange,
+        Refusal::NotPostable,
         Refusal::TooManyValues,
+        Refusal::TooManyBlocks,
+        Refusal::TooManyPosts,
     ] {
         history.push(Event::Refused { code })?;
     }
@@ -55,6 +60,11 @@ pub(crate) fn breaker(alloc: Global) -> Result<Sequence<Event>, Fail> {
     let text = Text::read(alloc, "a b")?;
     history.push(taken(12, Value::Text(text)))?;
     history.push(taken(1, Value::Object(Id::of(7))))?;
+    history.push(Event::Received {
+        sender: 1,
+        value: Value::Undefined,
+    })?;
+    history.push(Event::Skipped { job: 12, sender: 1 })?;
     Ok(history)
 }
 

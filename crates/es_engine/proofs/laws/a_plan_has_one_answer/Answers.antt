@@ -4,5 +4,5 @@ use Rattle.es_event.proofs.OneOutcome.{one_outcome}
 use Rattle.es_engine.proofs.laws.a_plan_has_one_answer.Goals as goal
 
 pub returns : goal.returns
-returns c true plan s t a b = a ∙ sym b
-returns c false plan s t a b = a.2 ∙ ap report (one_outcome plan a.0 b.0 a.1 b.1) ∙ sym b.2
+returns c true plan s t alone a b = a ∙ sym b
+returns c false plan s t alone a b = a.2 ∙ ap report (one_outcome plan a.0 b.0 alone a.1 b.1) ∙ sym b.2

@@ -6,6 +6,6 @@ use Rattle.es_agent.proofs.agent.AgentCore.add_entries.Goals as goal
 
 pub returns : goal.returns
 returns c =
-    let book : Book = record { plan = c.self.inside.plan; number = c.self.inside.number; agents = c.self.inside.agents; history = c.self.inside.events.events } in
+    let book : Book = record { plan = c.self.inside.plan; number = c.self.inside.number; agents = c.self.inside.agents; over = []; history = c.self.inside.events.events } in
     rw (← c.self.view_is)
     (on_map c.add_entries.result _ _ (λ adds. finds_entries [] book c.self.inside.tables c.args.key _ _ c.self.invariant.0.legal c.self.invariant.0.says adds) c.add_entries.ensures)

@@ -3,7 +3,7 @@ use Rattle.es_cursor.proofs.Steps.{after_did, after_emptied}
 use Rattle.es_cursor.proofs.cursor.Cursor.after.Goals as goal
 
 pub returns-in-Did : goal.returns-in-Did
-returns-in-Did c h stands permits called =
+returns-in-Did c h stands over permits called =
     elim c.in-Did.is [
       | inl did ↦ rw did.3 (after_did c.args.plan.now h did.0 did.1 did.2 c.args.self.now _ c.after_command.ensures stands)
       | inr emptied ↦ rw emptied.1 (after_emptied c.args.plan.now h emptied.0 c.args.self.now _ c.after_command.ensures stands)

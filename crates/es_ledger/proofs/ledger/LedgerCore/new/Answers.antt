@@ -1,7 +1,7 @@
-use Rattle.std.proofs.Common.{◌≡◌, ◌+◌, ⊎_elim, [], ◌∷◌, false, length, length-append, Some, sym, ap, ◌∙◌, arith}
+use Rattle.std.proofs.Common.{◌≡◌, ◌+◌, ◌*◌, ⊎_elim, [], ◌∷◌, false, length, length-append, Some, None, sym, ap, ◌∙◌, arith}
 use Rattle.std.specs.Prelude.{slice_get, slice_index_or}
 use Rattle.es_ticket.specs.Shares.{Share}
-use Rattle.es_ledger.proofs.Beginning.{got_new, still_false, new_ties}
+use Rattle.es_ledger.proofs.Beginning.{got_new, still_false, still_none, new_ties}
 use Rattle.es_ledger.proofs.ledger.LedgerCore.new.Goals as goal
 
 pub loop-preserved : goal.loop-preserved
@@ -10,6 +10,7 @@ loop-preserved g c =
     let d = c.deal.ensures in
     let p = c.push_reserved.ensures in
     let e = c.push_reserved-in-loop.ensures in
+    let w = c.push_reserved-in-loop-2.ensures in
     let x : Share = c.deal.result in
     record {
       empty = d.table.0;
@@ -23,6 +24,9 @@ loop-preserved g c =
       ends = ap (λ l. length l) e.items ∙ length-append c.loop.ended.items (false ∷ []) ∙ ap (λ n. n + 1) v.ends;
       end_room = (let q = e.capacity in let r = v.end_room in omega arith);
       quiet = λ a. ap (λ l. slice_index_or l a false) e.items ∙ still_false c.loop.ended.items a v.quiet;
+      waits = ap (λ l. length l) w.items ∙ length-append c.loop.waits.items (None ∷ []) ∙ ap (λ n. n + 1) v.waits;
+      wait_room = (let q = w.capacity in let r = v.wait_room in omega arith);
+      nobody = λ a. ap (λ l. slice_index_or l a None) w.items ∙ still_none c.loop.waits.items a v.nobody;
     }
 
 pub invariant_of-ledger : goal.invariant_of-ledger
@@ -32,4 +36,4 @@ invariant_of-ledger g c =
     let last = c.loop.auto.counter-end in
     let few = c.requires.few in
     let room = c.in_ok-reserve.ensures.room in
-    new_ties _ _ _ _ _ _ (omega (arith, dealt, last, few)) (c.in_ok-reserve.ensures.same ∙ c.new-history.ensures) v.empty c.new.ensures (v.ends ∙ sym v.dealt) v.quiet (omega (arith, dealt, last, room))
+    new_ties _ _ _ _ _ _ _ _ _ (omega (arith, dealt, last, few)) (c.in_ok-reserve.ensures.same ∙ c.new-history.ensures) v.empty c.new-2.ensures (v.ends ∙ sym v.dealt) v.quiet (v.waits ∙ sym v.dealt) v.nobody (c.in_ok-ports.ensures.size ∙ ap (λ m. m * 8) (let e : c.args.agents ≡ _ = omega (arith, dealt, last) in e)) c.in_ok-ports.ensures.empty c.in_ok-ports.ensures.none (omega (arith, dealt, last, room))

@@ -1,4 +1,4 @@
-use Rattle.std.proofs.Common.{◌≡◌, ◌≤◌, ℕ, [], false, length, Some}
+use Rattle.std.proofs.Common.{◌≡◌, ◌≤◌, ℕ, [], false, length, Some, None}
 use Rattle.std.specs.Prelude.{vec_capacity, slice_get, slice_index_or}
 use Rattle.es_ticket.specs.Shares.{Share}
 use Rattle.es_ledger.proofs.ledger.LedgerCore.new.Given as goal
@@ -13,4 +13,7 @@ invariant-loop g l = record {
   ends : length l.ended.items ≡ l.counter;
   end_room : l.agents ≤ vec_capacity l.ended;
   quiet : (a : ℕ) → slice_index_or l.ended.items a false ≡ false;
+  waits : length l.waits.items ≡ l.counter;
+  wait_room : l.agents ≤ vec_capacity l.waits;
+  nobody : (a : ℕ) → slice_index_or l.waits.items a None ≡ None;
 }

@@ -1,23 +1,23 @@
-use Rattle.std.proofs.Common.{◌∙◌, ap, arith, length}
+use Rattle.std.proofs.Common.{ap, arith, length}
 use Rattle.es_ledger.proofs.Tying.{in_history, stake_there, stake_inside, reserved_room, stored_ties}
 use Rattle.es_ledger.proofs.ledger.LedgerCore.store.Goals as goal
 
-pub returns-in_err-reserve-clause-there : goal.returns-in_err-reserve-clause-there
-returns-in_err-reserve-clause-there g c =
-    rw (← c.self.view_is) (stake_there _ c.self.inside.history.events _ _ _ _ c.args.stake.now.agent _ c.args.ticket.now c.self.invariant c.requires.here c.look.ensures.told)
+pub returns-in_err-make_room-clause-there : goal.returns-in_err-make_room-clause-there
+returns-in_err-make_room-clause-there g c =
+    rw (← c.self.view_is) (stake_there _ c.self.inside.history.events _ _ _ _ _ _ _ c.args.stake.now.agent _ c.args.ticket.now c.self.invariant c.requires.here c.look.ensures.told)
 
 pub store-requires : goal.store-requires
 store-requires g c =
-    rw (c.block.ensures) (stake_inside _ _ _ _ _ _ c.args.stake.now.agent _ _ c.args.ticket.now c.self.invariant c.requires.here c.look.ensures.told c.requires.inside)
+    rw (c.block.ensures) (stake_inside _ _ _ _ _ _ _ _ _ c.args.stake.now.agent _ _ c.args.ticket.now c.self.invariant c.requires.here c.look.ensures.told c.requires.inside)
 
 pub invariant_of-self-2 : goal.invariant_of-self-2
 invariant_of-self-2 g c =
     let has = in_history _ c.args.stake.now.agent _ c.self.inside.history.events c.args.ticket.now c.requires.here c.look.ensures.told c.self.invariant.tabled in
-    let room = reserved_room _ _ _ _ _ _ c.made.result _ c.reserve.new.self.room c.append.new.self.room 1 c.self.invariant
-    (c.made.ensures.count ∙ ap (λ d. length d.rows) c.look.ensures.same.0) (ap (λ xs. length xs) c.as_slice.ensures.value) c.in_ok-reserve.ensures.room c.append.ensures.room in
-    rw (c.append.ensures.events, c.serial.ensures, c.store.ensures, c.block.ensures, c.in_ok-reserve.ensures.same, c.look.ensures.same.0)
-    (stored_ties _ _ _ _ _ _ _ c.args.stake.now.agent c.args.index c.args.word c.args.ticket.now c.self.invariant has c.requires.inside c.ranges.word.fits (omega (arith, room)))
+    let room = reserved_room _ _ _ _ _ _ _ _ _ _ _ c.make_room.new.history.room c.append.new.self.room 1 c.self.invariant
+    (ap (λ d. length d.rows) c.look.ensures.same.0) (ap (λ xs. length xs) c.as_slice-agents.ensures.value) c.in_ok-make_room.ensures.room c.append.ensures.room in
+    rw (c.append.ensures.events, c.serial.ensures, c.store.ensures, c.block.ensures, c.in_ok-make_room.ensures.same, c.look.ensures.same.0)
+    (stored_ties _ _ _ _ _ _ _ _ _ _ c.args.stake.now.agent c.args.index c.args.word c.args.ticket.now c.self.invariant has c.requires.inside c.ranges.word.fits (omega (arith, room)))
 
 pub returns-clause-there : goal.returns-clause-there
 returns-clause-there g c =
-    rw (← c.self.view_is) (stake_there _ c.self.inside.history.events _ _ _ _ c.args.stake.now.agent _ c.args.ticket.now c.self.invariant c.requires.here c.look.ensures.told)
+    rw (← c.self.view_is) (stake_there _ c.self.inside.history.events _ _ _ _ _ _ _ c.args.stake.now.agent _ c.args.ticket.now c.self.invariant c.requires.here c.look.ensures.told)

@@ -1,0 +1,20 @@
+//! Messages, as their receiver gets them.
+
+use es_ticket::{Run, Ticket};
+use es_value::Value;
+
+/// What a message carries, as its receiver gets it.
+pub enum Letter<L: Run> {
+    /// A value without an identity.
+    Plain(Value),
+    /// A ticket of a Shared Data Block.
+    Block(Ticket<L>),
+}
+
+/// A message that was taken from its port.
+pub struct Message<L: Run> {
+    /// The agent that posted it.
+    pub sender: usize,
+    /// What it carries.
+    pub body: Letter<L>,
+}
