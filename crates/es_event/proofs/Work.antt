@@ -266,28 +266,24 @@ cleanup_less over other plan h e all l f up next = falls_next over other plan h 
 abbrev Drops : AgentPlan → History → Event → Option ℕ → Phase → Type 0
 Drops plan h e clean at = plan_work_at plan (e ∷ h) (unwrap_or (cleans e) clean) (unwrap_or (phase_after e) at) < plan_work_at plan h clean at
 
-drops_begun : (plan : AgentPlan) (h : History) (k : ℕ) (j : Job) → slice_get plan.jobs (job h - 1) ≡ Some j → k ≡ job h → Drops plan h (JobBegun k) None between
-drops_begun plan h k j at e =
-    let same : job (JobBegun k ∷ h) ≡ job h = omega arith in
+-- what job j leaves where it comes next, and where it has begun
+job_cost : (plan : AgentPlan) (h : History) (j : Job) → slice_get plan.jobs (job h - 1) ≡ Some j → cost (drop (job h - 1) plan.jobs) ≡ (length j.run + 3) + cost (drop (job h) plan.jobs)
+job_cost plan h j at =
     let positive : (job h - 1) + 1 ≡ job h = omega arith in
+    cost_at plan.jobs (job h - 1) j at ∙ ap (λ m. (length j.run + 3) + cost (drop m plan.jobs)) positive
+
+begun_work : (plan : AgentPlan) (h : History) (k : ℕ) (j : Job) → slice_get plan.jobs (job h - 1) ≡ Some j → k ≡ job h → job_work plan (JobBegun k ∷ h) inside ≡ (2 + length j.run) + cost (drop (job h) plan.jobs)
+begun_work plan h k j at e =
+    let same : job (JobBegun k ∷ h) ≡ job h = omega arith in
     let run : job_commands plan k ≡ j.run = ap (job_commands plan) e ∙ ap (λ o. option_map_or (λ j. j.run) o []) at in
-    let before : cost (drop (job h - 1) plan.jobs) ≡ (length j.run + 3) + cost (drop (job h) plan.jobs) =
-    cost_at plan.jobs (job h - 1) j at ∙ ap (λ m. (length j.run + 3) + cost (drop m plan.jobs)) positive in
-    let after : job_work plan (JobBegun k ∷ h) inside ≡ (2 + length j.run) + cost (drop (job h) plan.jobs) =
-    ap (λ cs. (2 + length cs) + cost (drop (job (JobBegun k ∷ h)) plan.jobs)) run ∙ ap (λ m. (2 + length j.run) + cost (drop m plan.jobs)) same in
-    omega (arith, before, after)
+    ap (λ cs. (2 + length cs) + cost (drop (job (JobBegun k ∷ h)) plan.jobs)) run ∙ ap (λ m. (2 + length j.run) + cost (drop m plan.jobs)) same
+
+drops_begun : (plan : AgentPlan) (h : History) (k : ℕ) (j : Job) → slice_get plan.jobs (job h - 1) ≡ Some j → k ≡ job h → Drops plan h (JobBegun k) None between
+drops_begun plan h k j at e = omega (arith, job_cost plan h j at, begun_work plan h k j at e)
 
 -- the job after it was handed a message
 drops_handed : (plan : AgentPlan) (h : History) (k : ℕ) (j : Job) → slice_get plan.jobs (job h - 1) ≡ Some j → k ≡ job h → Drops plan h (JobBegun k) None handed
-drops_handed plan h k j at e =
-    let same : job (JobBegun k ∷ h) ≡ job h = omega arith in
-    let positive : (job h - 1) + 1 ≡ job h = omega arith in
-    let run : job_commands plan k ≡ j.run = ap (job_commands plan) e ∙ ap (λ o. option_map_or (λ j. j.run) o []) at in
-    let before : cost (drop (job h - 1) plan.jobs) ≡ (length j.run + 3) + cost (drop (job h) plan.jobs) =
-    cost_at plan.jobs (job h - 1) j at ∙ ap (λ m. (length j.run + 3) + cost (drop m plan.jobs)) positive in
-    let after : job_work plan (JobBegun k ∷ h) inside ≡ (2 + length j.run) + cost (drop (job h) plan.jobs) =
-    ap (λ cs. (2 + length cs) + cost (drop (job (JobBegun k ∷ h)) plan.jobs)) run ∙ ap (λ m. (2 + length j.run) + cost (drop m plan.jobs)) same in
-    omega (arith, before, after)
+drops_handed plan h k j at e = omega (arith, job_cost plan h j at, begun_work plan h k j at e)
 
 drops_received : (plan : AgentPlan) (h : History) (s : ℕ) (v : Value) → Drops plan h (Received s v) None between
 drops_received plan h s v =
@@ -298,18 +294,14 @@ drops_received plan h s v =
 drops_skipped : (plan : AgentPlan) (h : History) (k s : ℕ) (j : Job) → slice_get plan.jobs (job h - 1) ≡ Some j → Drops plan h (Skipped k s) None between
 drops_skipped plan h k s j at =
     let next : job (Skipped k s ∷ h) - 1 ≡ job h = omega arith in
-    let positive : (job h - 1) + 1 ≡ job h = omega arith in
-    let before : cost (drop (job h - 1) plan.jobs) ≡ (length j.run + 3) + cost (drop (job h) plan.jobs) =
-    cost_at plan.jobs (job h - 1) j at ∙ ap (λ m. (length j.run + 3) + cost (drop m plan.jobs)) positive in
+    let before = job_cost plan h j at in
     let after : cost (drop (job (Skipped k s ∷ h) - 1) plan.jobs) ≡ cost (drop (job h) plan.jobs) = ap (λ n. cost (drop n plan.jobs)) next in
     omega (arith, before, after)
 
 drops_unreceived : (plan : AgentPlan) (h : History) (code : Refusal) (j : Job) → slice_get plan.jobs (job h - 1) ≡ Some j → Drops plan h (Refused code) None between
 drops_unreceived plan h code j at =
     let same : job (Refused code ∷ h) ≡ job h = omega arith in
-    let positive : (job h - 1) + 1 ≡ job h = omega arith in
-    let before : cost (drop (job h - 1) plan.jobs) ≡ (length j.run + 3) + cost (drop (job h) plan.jobs) =
-    cost_at plan.jobs (job h - 1) j at ∙ ap (λ m. (length j.run + 3) + cost (drop m plan.jobs)) positive in
+    let before = job_cost plan h j at in
     let after : cost (drop (job (Refused code ∷ h)) plan.jobs) ≡ cost (drop (job h) plan.jobs) = ap (λ n. cost (drop n plan.jobs)) same in
     omega (arith, before, after)
 
