@@ -1,91 +1,78 @@
 //! The agent: its calls, each of which records one event or shows what stands.
 
-ghost use Rattle.std.specs.Prelude.{◌≡◌, ◌≤◌, ℕ, [], true, codes, drop, reverse, IfOk, OnOk, OnErr};
-ghost use Rattle.es_event.specs.Identities.{gone, is_in};
+ghost use Rattle.std.specs.Prelude.{◌≡◌, ◌+◌, ℕ, [], true, Some, None, pos, is_some, reverse, IfOk, IfErr, OnOk, OnErr};
+ghost use Rattle.es_value.specs.Values.{identity};
+ghost use Rattle.es_event.specs.Identities.{gone, is_in, made};
 ghost use Rattle.es_event.specs.Jobs.{receivers};
 ghost use Rattle.es_event.specs.WeakRefs.{kept};
+ghost use Rattle.es_event.specs.Sharing.{row_at};
+ghost use Rattle.es_event.specs.Registrations.{live, awaiting, unregistered, taken, tally as tally_said};
 ghost use Rattle.es_event.specs.Live.{Honest};
-ghost use Rattle.es_event.specs.Order.{due};
-ghost use Rattle.es_event.specs.Runs.{IsRun};
-ghost use Rattle.es_agent.specs.Book.{Book, need, IsNext, Records, RecordsNext, EmptiesDead};
-ghost use Rattle.es_cursor.specs.Cursor.{IsAt};
-ghost use Rattle.es_cursor.specs.Due.{shown};
-ghost use Rattle.es_tables.specs.Effects.{AreEffects};
-ghost use Rattle.es_tables.specs.Registries.{again_at};
-ghost use Rattle.es_tables.specs.Ready.{CanApply, IsReady};
-ghost use Rattle.es_tables.specs.Tables.{SameState};
-ghost use Rattle.es_agent.specs.Graph.{AreMarksOf};
+ghost use Rattle.es_event.specs.Order.{is_cleaning_up};
+ghost use Rattle.es_event.specs.Runs.{IsRunOver};
+ghost use Rattle.es_ticket.specs.Shares.{at};
+ghost use Rattle.es_record.specs.Book.{Records};
+ghost use Rattle.es_record.specs.Graph.{AreMarksOf, AreReached};
+ghost use Rattle.es_rules.specs.Needs.{need, asks_nobody, asks_marks, asks_message, asks_closing, TakesTicket, TakesWord, TakesDone};
+ghost use Rattle.es_rules.specs.Shown.{shown};
+ghost use Rattle.es_agent.specs.Tickets.{tickets, RecordsNext, Collects, Admits, Receives, DoesWith, Skips};
+ghost use Rattle.es_agent.specs.Failing.{FailsToAdmit};
 
-mod decide;
-mod ephemerons;
-mod look_up;
 mod reach;
-mod registries;
 
-use crate::need::{Need, need_of};
-use crate::step::Step;
-use es_cursor::{Cleanup, Cursor, Due, Position, callback_commands, commands, due_command};
-use es_event::{AgentPlan, Command, Event, Log, Sequence};
+use crate::admission::{AdmitFault, enter};
+use es_event::{AgentPlan, Answer, Event, Sequence};
 use es_mark::Marks;
-use es_tables::{Effects, Tables};
-use es_value::{Id, Name, NameFault, NoMemory};
+use es_record::AgentRecord;
+use es_registry::Tally;
+use es_rules::{Need, answered_done, answered_word, asks, next_event, received, skipped};
+use es_ticket::{Rack, Run, Ticket};
+use es_value::{Id, NoMemory, Value};
 use std::alloc::Global;
 use std::marker::Model;
+use std::mem;
 
-/// One agent, by its plan and its history (ECMA-262, Agents).
+/// One agent, by its plan and its history (ECMA-262, Agents), of the run L.
 ///
 /// Its stored history is legal and follows its plan so far; nothing that is reached is emptied, and
-/// no set that was emptied was live. Its tables say what the history says: so the next event is
-/// decided from the tables alone.
-#[derive(Drop)]
-pub struct AgentCore {
-    plan: AgentPlan,
-    number: usize,
-    agents: usize,
+/// no set that was emptied was live. It has the tickets of its buffer objects that are not emptied,
+/// and those alone: so it can't be dropped, but ends by `into_history` or `abandon`.
+pub struct AgentCore<L: Run> {
     alloc: Global,
-    events: Log<Event>,
-    tables: Tables,
-    cursor: Cursor,
-    // the variable that held values are assigned to
-    held: Name,
+    record: AgentRecord,
+    rack: Rack<L>,
 }
 
-impl Model for AgentCore {
-    ghost use Rattle.std.specs.Prelude.{◌≡◌, ◌≢◌, ◌<◌, [], codes};
-    ghost use Rattle.es_event.specs.Order.{phase, ended};
-    ghost use Rattle.es_agent.specs.Book.{Book};
-    ghost use Rattle.es_agent.specs.Ties.{Ties};
+impl<L: Run> Model for AgentCore<L> {
+    ghost use Rattle.std.specs.Prelude.{◌≡◌, ◌≤◌, true, reverse};
+    ghost use Rattle.es_event.specs.Identities.{made};
+    ghost use Rattle.es_ticket.specs.Shares.{is_rising_from};
+    ghost use Rattle.es_record.specs.Book.{Book};
+    ghost use Rattle.es_record.specs.Newest.{newest};
+    ghost use Rattle.es_agent.specs.Tickets.{tickets};
 
     ghost Value = { Book };
 
-    ghost view = { λ a. record { plan = a.plan; number = a.number; agents = a.agents; over = []; history = a.events.events } };
+    ghost view = { λ a. a.record };
 
-    // there is room for the closing event, until it stands
-    ghost invariant = { λ a. Ties [] a.plan a.events.events a.tables a.cursor × (a.held ≡ codes "held") × (phase a.events.events ≢ ended → 0 < a.events.room) };
+    ghost invariant = { λ a. (a.rack.tickets ≡ tickets a.record) × (is_rising_from 0 (reverse a.record.over) ≡ true) × (newest a.record.over ≤ made a.record.history) };
 }
 
-impl AgentCore {
+impl<L: Run> AgentCore<L> {
     /// The agent of this number, counted from 0, of so many agents, before its first event.
     pub fn new(
         alloc: Global,
         plan: AgentPlan,
         number: usize,
         agents: usize,
-    ) -> Result<AgentCore, NoMemory>
+    ) -> Result<AgentCore<L>, NoMemory>
         ensures { IfOk result (λ a. a ≡ record { plan = plan; number = number; agents = agents; over = []; history = [] }) }
     {
-        let held = held_name(alloc)?;
-        let mut events = Log::new(alloc);
-        match events.reserve(1) {
-            Ok(()) => Ok(AgentCore {
-                plan,
-                number,
-                agents,
+        match AgentRecord::new(alloc, plan, number, agents) {
+            Ok(record) => Ok(AgentCore {
                 alloc,
-                events,
-                tables: Tables::new(alloc),
-                cursor: Cursor::START,
-                held,
+                record,
+                rack: Rack::new(alloc),
             }),
             Err(error) => Err(error),
         }
@@ -95,17 +82,17 @@ impl AgentCore {
     pub fn number(&self) -> usize
         ensures { result ≡ self.now.number }
     {
-        self.number
+        self.record.number()
     }
 
-    /// Its events so far, the oldest first. They are legal and follow its plan so far, and no set that
-    /// was emptied was live then (ECMA-262, Liveness; Execution).
+    /// Its events so far, the oldest first. They are legal and follow its plan so far, over its buffer
+    /// objects, and no set that was emptied was live then (ECMA-262, Liveness; Execution).
     pub fn history(&self) -> &[Event]
         ensures events { reverse result.now ≡ self.now.history }
-        ensures run { IsRun self.now.plan self.now.history }
+        ensures run { IsRunOver self.now.over self.now.plan self.now.history }
         ensures honest { Honest (receivers self.now.plan.jobs) self.now.history }
     {
-        self.events.as_slice()
+        self.record.history()
     }
 
     /// KeptAlive, in order of keeping (ECMA-262, AddToKeptObjects). Nothing in it is emptied.
@@ -113,146 +100,176 @@ impl AgentCore {
         ensures said { reverse result.now ≡ kept self.now.history }
         ensures there { (i : ℕ) → is_in (kept self.now.history) i ≡ true → is_in (gone self.now.history) i ≡ true → ⊥ }
     {
-        self.tables.kept()
+        self.record.kept()
     }
 
-    /// What it asks for next.
-    pub fn next(&self) -> Need
-        ensures { result ≡ need self.now }
+    /// How many registrations have each fate; together they are all that were made.
+    pub fn tally(&self) -> Tally
+        ensures live { result.live ≡ tally_said self.now.history live }
+        ensures awaiting { result.awaiting ≡ tally_said self.now.history awaiting }
+        ensures unregistered { result.unregistered ≡ tally_said self.now.history unregistered }
+        ensures taken { result.taken ≡ tally_said self.now.history taken }
     {
-        let due = self.due();
-        need_of(&due)
+        self.record.tally()
+    }
+
+    /// Whether a cleanup job is under way, or is due next.
+    pub fn is_cleaning_up(&self) -> bool
+        ensures said { result ≡ is_cleaning_up self.now.history }
+        ensures run { IsRunOver self.now.over self.now.plan self.now.history }
+    {
+        self.record.is_cleaning_up()
+    }
+
+    /// The ticket of a buffer object that has one: of each that came and is not emptied, until the agent
+    /// closes.
+    pub fn ticket(&self, buffer: Id) -> &Ticket<L>
+        requires { is_some (at buffer (tickets self.now)) ≡ true }
+        ensures here { Some result.now ≡ at buffer (tickets self.now) }
+        ensures named { Some result.now ≡ row_at self.now.over buffer }
+    {
+        self.rack.get(buffer)
+    }
+
+    /// What it asks for next. A command that a rule refuses asks for nothing.
+    pub fn next(&self) -> Need<'_>
+        ensures { shown result ≡ need self.now }
+    {
+        asks(&self.record)
     }
 
     /// Takes the next step that asks nobody else, and records its one event; where there is no
     /// memory nothing has changed.
     pub fn perform(&mut self) -> Result<(), NoMemory>
-        requires { need self.old ≡ Need.Local }
+        requires { need self.old ≡ asks_nobody }
         ensures ok { OnOk result (RecordsNext self.old self.new) }
         ensures err { OnErr result (self.new ≡ self.old) }
     {
-        let step = self.step()?;
-        self.record(step)
+        let event = next_event(&self.record)?;
+        self.record.record(event)
     }
 
     /// Empties all that is not marked, and records it as one event (ECMA-262, Execution): with the
-    /// marks of this agent's graph that is all that is unreachable, objects and symbols alike. Where
-    /// there is no memory nothing has changed.
-    pub fn collect(&mut self, marks: &Marks) -> Result<(), NoMemory>
-        requires due { need self.old ≡ Need.Collect }
+    /// marks of this agent's graph that is all that is unreachable, objects and symbols alike. It hands
+    /// out the tickets of the buffer objects among it. Where there is no memory nothing has changed.
+    pub fn collect(&mut self, marks: &Marks) -> Result<Rack<L>, NoMemory>
+        requires due { need self.old ≡ asks_marks }
         requires marks { AreMarksOf self.old marks.now }
-        ensures ok { OnOk result (EmptiesDead self.old self.new) }
+        ensures ok { IfOk result (λ r. Collects self.old r.tickets self.new) }
         ensures err { OnErr result (self.new ≡ self.old) }
     {
-        let ids = self.dead(marks)?;
-        self.events.reserve(2)?;
-        self.tables.empty(ids.as_slice())?;
-        let event = Event::Emptied {
-            ids: Sequence::from_vec(ids),
-        };
-        self.cursor = self.cursor.after(&event, &self.plan, None);
-        self.events.append(event);
-        Ok(())
-    }
-
-    /// Ends the agent; it takes no memory.
-    pub fn close(&mut self)
-        requires { need self.old ≡ Need.Close }
-        ensures { Records self.old Event.Closed self.new }
-    {
-        self.cursor.position = Position::Ended;
-        self.events.append(Event::Closed);
-    }
-
-    /// Gives up the agent for its events, the oldest first; it takes no memory.
-    pub fn into_history(self) -> Sequence<Event>
-        ensures events { reverse result ≡ self.history }
-        ensures run { IsRun self.plan self.history }
-        ensures honest { Honest (receivers self.plan.jobs) self.history }
-    {
-        self.events.into_sequence()
-    }
-
-    /// What comes next by its plan.
-    fn due(&self) -> Due<'_>
-        ensures { shown result ≡ due self.now.plan self.now.history }
-    {
-        match self.cursor.position {
-            Position::Between => self.due_between(),
-            Position::Handed => Due::Begin(self.cursor.job),
-            Position::Inside(at) => due_command(commands(&self.plan, self.cursor.job), at),
-            Position::Cleaning(cleanup) => self.due_cleaning(cleanup),
-            Position::Stopped | Position::CleanupStopped(_) => Due::EndJob,
-            Position::Ended => Due::Nothing,
-        }
-    }
-
-    /// What comes next between two jobs: the first cleanup job that is queued, or else the next job.
-    fn due_between(&self) -> Due<'_>
-        requires { IsAt self.now.plan self.now.history Position.Between }
-        ensures { shown result ≡ due self.now.plan self.now.history }
-    {
-        match self.tables.queued() {
-            Some(registry) => Due::Clean(registry.number()),
-            None => self.cursor.due_job(&self.plan),
-        }
-    }
-
-    /// What comes next in a cleanup job: the next command of its callback, or else the oldest cell that
-    /// awaits it, or else its end.
-    fn due_cleaning(&self, cleanup: Cleanup) -> Due<'_>
-        requires { IsAt self.now.plan self.now.history (Position.Cleaning cleanup) }
-        ensures { shown result ≡ due self.now.plan self.now.history }
-    {
-        match callback_commands(&self.plan, cleanup.callback).get(cleanup.at) {
-            Some(command) => Due::Run(command),
-            None => self.due_cell(),
-        }
-    }
-
-    /// Makes every growth that the step needs, then records it: nothing after the growths can fail.
-    fn record(&mut self, step: Step) -> Result<(), NoMemory>
-        requires need { need self.old ≡ Need.Local }
-        requires next { IsNext self.old step.event }
-        requires effects { AreEffects (codes "held") (again_at self.old.history) step.event step.effects }
-        ensures ok { OnOk result (Records self.old step.event self.new) }
-        ensures err { OnErr result (self.new ≡ self.old) }
-    {
-        if let Err(error) = grow(&mut self.events, &mut self.tables, &step.effects) {
-            drop(step);
+        let ids = self.record.dead(marks)?;
+        let room = self.rack.room_for(&ids)?;
+        if let Err(error) = self.record.empty(ids) {
+            room.end();
             return Err(error);
         }
-        let Step { event, effects } = step;
-        let callback = self.callback_at(&event);
-        self.tables.apply(effects);
-        self.cursor = self.cursor.after(&event, &self.plan, callback);
-        self.events.append(event);
-        Ok(())
+        Ok(self.rack.extract(self.record.emptied_last(), room))
     }
-}
 
-/// The name of the variable that held values are assigned to.
-fn held_name(alloc: Global) -> Result<Name, NoMemory>
-    ensures { IfOk result (λ n. n ≡ codes "held") }
-{
-    match Name::read(alloc, "held") {
-        Ok(name) => Ok(name),
-        Err(NameFault::NoMemory) => Err(NoMemory),
-        Err(NameFault::BadName) => unreachable!(),
+    /// Takes a ticket in: of the block that its next command asked for, or of one that came in the
+    /// message that its next job waits for. A new buffer object is over its block
+    /// (SharedArrayBuffer ( length )), and its identity is answered. Where there is no room for one
+    /// more identity the message is refused, and where there is no memory nothing has changed; the
+    /// ticket comes back in both.
+    pub fn admit(&mut self, ticket: Ticket<L>) -> Result<Id, (Ticket<L>, AdmitFault)>
+        requires { TakesTicket (need self.old) ticket }
+        ensures ok { IfOk result (λ id. (id ≡ made self.old.history + 1) × Admits self.old ticket self.new) }
+        ensures err { IfErr result (λ e. (e.0 ≡ ticket) × FailsToAdmit self.old e.1 self.new) }
+    {
+        if self.rack.reserve(1).is_err() {
+            return Err((ticket, AdmitFault::NoMemory));
+        }
+        match enter(&mut self.record, ticket.row()) {
+            Ok(id) => match self.rack.put(id, ticket) {
+                Ok(()) => Ok(id),
+                Err((ticket, _)) => Err((ticket, AdmitFault::NoMemory)),
+            },
+            Err(fault) => Err((ticket, fault)),
+        }
     }
-}
 
-/// Makes every growth that a step needs: room for its event and for the closing one after it, and
-/// room in the tables.
-fn grow(events: &mut Log<Event>, tables: &mut Tables, effects: &Effects) -> Result<(), NoMemory>
-    requires { CanApply tables.old effects.now }
-    ensures events { events.new.events ≡ events.old.events }
-    ensures kept { events.old.room ≤ events.new.room }
-    ensures same { SameState tables.old tables.new }
-    ensures can { CanApply tables.new effects.now }
-    ensures room { OnOk result (2 ≤ events.new.room) }
-    ensures ready { OnOk result (IsReady tables.new effects.now) }
-{
-    events.reserve(2)?;
-    tables.reserve(effects)
+    /// Receives a value that has no identity, which came in the message that its next job waits for.
+    /// Where there is no memory nothing has changed.
+    pub fn receive(&mut self, value: Value) -> Result<(), NoMemory>
+        requires message { (s : ℕ) × (need self.old ≡ asks_message s) }
+        requires plain { identity value ≡ None }
+        ensures ok { OnOk result (Receives self.old value self.new) }
+        ensures err { OnErr result (self.new ≡ self.old) }
+    {
+        let event = received(&self.record, value);
+        self.record.record(event)
+    }
+
+    /// Takes the word that its next command, a load or an add, read of shared memory (Atomics.load and
+    /// add). Where there is no memory nothing has changed.
+    pub fn answer_word(&mut self, word: u32) -> Result<(), NoMemory>
+        requires { TakesWord (need self.old) }
+        ensures ok { OnOk result (DoesWith self.old (Answer.Gives (Value.Number (pos word))) self.new) }
+        ensures err { OnErr result (self.new ≡ self.old) }
+    {
+        let event = answered_word(&self.record, word)?;
+        self.record.record(event)
+    }
+
+    /// Takes note that its next command, a store or a post, was done. Where there is no memory nothing
+    /// has changed.
+    pub fn answer_done(&mut self) -> Result<(), NoMemory>
+        requires { TakesDone (need self.old) }
+        ensures ok { OnOk result (DoesWith self.old Answer.Nothing self.new) }
+        ensures err { OnErr result (self.new ≡ self.old) }
+    {
+        let event = answered_done(&self.record)?;
+        self.record.record(event)
+    }
+
+    /// Skips the job that waits for a message: none comes any more. Where there is no memory nothing has
+    /// changed.
+    pub fn skip(&mut self) -> Result<(), NoMemory>
+        requires { (s : ℕ) × (need self.old ≡ asks_message s) }
+        ensures ok { OnOk result (Skips self.old self.new) }
+        ensures err { OnErr result (self.new ≡ self.old) }
+    {
+        let event = skipped(&self.record);
+        self.record.record(event)
+    }
+
+    /// Ends the agent, and hands out all its tickets; it takes no memory.
+    pub fn close(&mut self) -> Rack<L>
+        requires { need self.old ≡ asks_closing }
+        ensures records { Records self.old Event.Closed self.new }
+        ensures rack { result.tickets ≡ tickets self.old }
+    {
+        self.record.close();
+        mem::replace(&mut self.rack, Rack::new(self.alloc))
+    }
+
+    /// Gives the agent up, at a fault, for its tickets; it takes no memory.
+    pub fn abandon(self) -> Rack<L>
+        ensures { result.tickets ≡ tickets self }
+    {
+        let AgentCore {
+            alloc: _,
+            record: _,
+            rack,
+        } = self;
+        rack
+    }
+
+    /// Gives up the agent, which has no ticket left, for its events, the oldest first; it takes no
+    /// memory.
+    pub fn into_history(self) -> Sequence<Event>
+        requires { tickets self ≡ [] }
+        ensures events { reverse result ≡ self.history }
+        ensures run { IsRunOver self.over self.plan self.history }
+        ensures honest { Honest (receivers self.plan.jobs) self.history }
+    {
+        let AgentCore {
+            alloc: _,
+            record,
+            rack,
+        } = self;
+        rack.end();
+        record.into_history()
+    }
 }

@@ -8,7 +8,7 @@ use Rattle.es_event.specs.Runs.{IsRun, IsWholeRun, AreWholeRuns}
 use Rattle.es_event.specs.Registrations.{live, awaiting, unregistered, taken, tally}
 use Rattle.es_registry.specs.declared.slot.Tally.{Tally}
 use Rattle.es_report.specs.Tallies.{end_tally, AreTallies}
-use Rattle.es_agent.specs.Book.{Book}
+use Rattle.es_record.specs.Book.{Book}
 use Rattle.es_engine.specs.Agents.{IsClosed}
 
 -- the history of a closed agent is a whole run of its plan

@@ -18,7 +18,7 @@ pub enum LedgerEvent {
     /// An agent made a block of so many words, and its first ticket.
     Opened {
         block: u64,
-        words: usize,
+        words: u32,
         serial: u64,
         agent: usize,
     },

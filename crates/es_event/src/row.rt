@@ -7,7 +7,7 @@
 pub struct Row {
     pub serial: u64,
     pub block: u64,
-    pub words: usize,
+    pub words: u32,
 }
 
 /// Who holds a ticket. Agents are numbered from 0.

@@ -90,7 +90,7 @@ impl<L: Run> LedgerCore<L> {
 
     /// Makes a block of so many words, each 0, and its first ticket, which the stake's agent holds.
     /// Where there is no memory nothing has changed.
-    pub fn open_block(&mut self, stake: &mut Stake<L>, words: usize) -> Result<Ticket<L>, NoMemory>
+    pub fn open_block(&mut self, stake: &mut Stake<L>, words: u32) -> Result<Ticket<L>, NoMemory>
         requires { stake.old.agent < self.old.agents }
         ensures ticket { IfOk result (λ t. t ≡ row (serials self.old.history + 1) (opened self.old.history + 1) words) }
         ensures history { IfOk result (λ t. self.new.history ≡ OpenedEvent t.block words t.serial stake.old.agent ∷ self.old.history) }
@@ -98,7 +98,7 @@ impl<L: Run> LedgerCore<L> {
         ensures stake { IfOk result (λ t. (stake.new.agent ≡ stake.old.agent) × (stake.new.rows ≡ stake.old.rows ++ t ∷ [])) }
         ensures err { OnErr result ((self.new ≡ self.old) × (stake.new ≡ stake.old)) }
     {
-        let block = Block::new(self.alloc, words)?;
+        let block = Block::new(self.alloc, words as usize)?;
         self.blocks.reserve()?;
         let agents = self.ended.as_slice().len();
         make_room(&mut self.history, &self.rows, &self.ports, agents, 2)?;

@@ -23,7 +23,7 @@ use Rattle.es_event.proofs.Alive.{Stays, Alive, alive_at, next_alive}
 use Rattle.es_event.proofs.Holds.{first_of, put_from}
 use Rattle.es_event.proofs.Objects.{first_object}
 use Rattle.es_tables.specs.declared.effects.Effects.{Effects}
-use Rattle.es_tables.specs.Effects.{AreEffects, object_born, points, with_option}
+use Rattle.es_tables.specs.Effects.{AreEffects, object_born, points}
 use Rattle.es_tables.specs.Ready.{CanApply}
 use Rattle.es_tables.specs.Tables.{State, Says, slot_said}
 use Rattle.es_event.specs.declared.command.Command.{Command}
@@ -34,6 +34,8 @@ use Rattle.es_event.proofs.Entries.{mapped}
 use Rattle.es_registry.specs.Slots.{passes_at, is_awaiting}
 use Rattle.es_registry.specs.Registries.{Contents as RegistryContents, callback}
 use Rattle.es_tables.specs.declared.registries.RegistryChange.TheVariants.{Leaves, Registers, Unregisters, Queues}
+use Rattle.es_tables.specs.Changes.{put_of, born_of, points_of}
+use Rattle.es_tables.proofs.Reading.{IsRead, is_read}
 use Rattle.es_tables.specs.Registries.{CanChange, change, change_by, made_by as registry_made_by, again_at}
 use Rattle.es_tables.proofs.Numbered.{get_numbered}
 use Rattle.es_tables.proofs.Registering.{registers_change}
@@ -71,9 +73,6 @@ no_target : (over : Buffers) (into : Receivers) (h : History) (e : Event) (p : �
 no_target over into h (Did (WeakRef to y) vs r) p legal lawful e =
     subst (λ w. first_target h w ≡ None) (number_born over into h (Did (WeakRef to y) vs r) _ p.0 lawful refl (pointed y to vs r p e)) (next_target over into h legal)
 no_target over into h _ p legal lawful e = cc
-
-some_points : (p : Option (ℕ × ℕ)) (q : ℕ × ℕ) → p ≡ Some q → with_option p ≡ Some (q.0, Some q.1)
-some_points p q e = ap with_option e
 
 -- what is put is read from a variable, so it is there
 put_alive : (over : Buffers) (into : Receivers) (h : History) (e : Event) (q : (ℕ × List ℕ) × Option Value) → Lawful over into h e → Stays into h → put e ≡ Some q → is_gone h q.0.0 ≡ false
@@ -133,14 +132,14 @@ can_change over into h t e legal lawful callbacks cells = tt
 
 pub can_apply : (over : Buffers) (into : Receivers) (h : History) (s : State) (e : Event) (f : Effects)
     → LegalBy over into h → Lawful over into h e → Stays into h → Says into h s → (received : List ℕ) → AreEffects received (again_at h) e f → CanApply s f
-can_apply over into h s e f legal lawful stays says received are = record {
-  put = if_some (λ p. has s.heap p.0.0) f.put true (λ q is.
-      let put' = sym are.put ∙ is in
+can_apply over into h s e f legal lawful stays says received are = let read : IsRead (again_at h) e f.change = is_read (again_at h) e f.change are.change in record {
+  put = if_some (λ p. has s.heap p.0.0) (put_of f.change) true (λ q is.
+      let put' = sym read.put ∙ is in
       says.objects q.0.0 ∙ both_hold (is_some (kind h q.0.0)) (is_gone h q.0.0) (put_there over into h e q legal lawful put') (put_alive over into h e q lawful stays put'));
-  born = if_some (has s.heap) f.born false (λ i is. says.objects i ∙ ap (λ b. b && not (is_gone h i)) (not_born over into h e i legal lawful (sym are.born ∙ is)));
-  points = if_some (λ p. is_some (target s.weakrefs p.0)) f.points false (λ q is.
-      let pointed' = sym are.points ∙ some_points f.points q is in
-      let here = next_alive over into h legal q.0 (points_next over into h e (q.0, Some q.1) lawful pointed') in
-      ap is_some (says.targets q.0 here ∙ ap (λ f. option_and_then identity (option_and_then (unless_gone (gone h)) f)) (no_target over into h e (q.0, Some q.1) legal lawful pointed')));
-  registry = subst (CanChange s.registries) (sym are.registry) (can_change over into h s.registries e legal lawful says.callbacks says.cells);
+  born = if_some (has s.heap) (born_of f.change) false (λ i is. says.objects i ∙ ap (λ b. b && not (is_gone h i)) (not_born over into h e i legal lawful (sym read.born ∙ is)));
+  points = if_some (λ p. is_some (target s.weakrefs p.0)) (points_of f.change) false (λ q is.
+      let pointed' = sym read.points ∙ is in
+      let here = next_alive over into h legal q.0 (points_next over into h e q lawful pointed') in
+      ap is_some (says.targets q.0 here ∙ ap (λ f. option_and_then identity (option_and_then (unless_gone (gone h)) f)) (no_target over into h e q legal lawful pointed')));
+  registry = subst (CanChange s.registries) (sym read.registry) (can_change over into h s.registries e legal lawful says.callbacks says.cells);
 }

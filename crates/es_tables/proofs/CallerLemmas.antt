@@ -1,14 +1,20 @@
 -- What a caller cites: that the tables say what a history says, at first, after growths, and after each event.
-use Rattle.std.proofs.Common.{◌≡◌, ℕ, ◌<◌, ap, ◌∙◌, length, reverse, arith, [], Option, None}
+use Rattle.std.proofs.Common.{◌≡◌, ℕ, ◌<◌, ap, ◌∙◌, length, reverse, arith, List, [], ◌∷◌, Option, None}
 use Rattle.std.proofs.lemmas.Bool.Decides.{nat_tests}
 use Rattle.std.specs.Prelude.{unwrap_or, is_some}
 use Rattle.std.specs.Map.{lookup}
 use Rattle.std.specs.Str.{bytes_eq}
 use Rattle.es_value.specs.declared.value.Value.TheVariants.{Undefined}
+use Rattle.es_event.specs.declared.event.Event.{Event}
+use Rattle.es_event.specs.Sharing.{Buffers}
+use Rattle.es_event.specs.Legal.{Lawful, LegalBy}
 use Rattle.es_event.specs.History.{History}
 use Rattle.es_event.specs.Jobs.{Receivers}
 use Rattle.es_props.specs.Heap.{has, property, keys}
 use Rattle.es_weakref.specs.WeakRefs.{found}
+use Rattle.es_event.proofs.Alive.{Stays}
+use Rattle.es_tables.specs.Effects.{Advances, AssignsTo}
+use Rattle.es_tables.specs.Registries.{again_at}
 use Rattle.es_tables.specs.Tables.{State, IsNew, SameState, Says}
 use Rattle.es_tables.specs.Tags.{tag_at, tag_said}
 use Rattle.es_tables.specs.declared.tags.Tag.{Tag}
@@ -55,3 +61,9 @@ says_same into h s t same says = record {
   tags = λ i positive. ap (λ ts. tag_at ts i) same.tags ∙ says.tags i positive;
   made = ap (λ ts. length ts) same.tags ∙ says.made;
 }
+
+-- tables that took in an event say what the history says after it
+pub says_advanced : (over : Buffers) (into : Receivers) (h : History) (s t : State) (e : Event)
+    → LegalBy over into h → Lawful over into h e → Stays into h → IsQuiet e → Says into h s → (received : List ℕ) → AssignsTo received (into h) e → Advances received (again_at h) e s t → Says into (e ∷ h) t
+says_advanced over into h s t e legal lawful stays silent says received to steps =
+    says_after over into h steps.2 t e steps.0 legal lawful stays silent (says_same into h s steps.2 steps.3 says) received to steps.1 steps.4

@@ -7,6 +7,7 @@ pub mod Numbered
 pub mod Outcomes
 pub mod Passing
 pub mod Queued
+pub mod Reading
 pub mod Recorded
 pub mod Registering
 pub mod Slots

@@ -1,7 +1,7 @@
 -- The tables still say what the history says after one more event that empties nothing.
 use Rattle.std.proofs.Common.{◌≡◌, ℕ, ◌+◌, ◌==◌, ◌||◌, ◌&&◌, not, Bool, true, false, cond, sym, ◌∙◌, ap, refl, subst, List, [], ◌∷◌, ◌++◌, Option, Some, None}
 use Rattle.std.specs.Prelude.{unwrap_or, is_some, reverse}
-use Rattle.std.specs.Option.{option_map, option_map_or, option_and_then, option_to_list}
+use Rattle.std.specs.Option.{option_map, option_map_or, option_and_then}
 use Rattle.std.specs.Str.{bytes_eq}
 use Rattle.std.proofs.lemmas.Bool.{eqb-true}
 use Rattle.es_value.specs.declared.value.Value.{Value}
@@ -39,6 +39,8 @@ use Rattle.es_tables.proofs.Fresh.{next_target}
 use Rattle.es_registry.specs.Registries.{callback}
 use Rattle.es_tables.specs.Registries.{change, callback_after, cells_after, queue_after, again_at}
 use Rattle.es_tables.proofs.Registering.{IsQuiet, quiet_empties, callback_next, cells_next, queue_next}
+use Rattle.es_tables.specs.Changes.{kept_of, makes_of}
+use Rattle.es_tables.proofs.Reading.{IsRead, is_read}
 use Rattle.es_tables.proofs.Weak.{left_of, written, entered_there, joined_there}
 use Rattle.es_tables.proofs.Tagging.{tags_after, made_after}
 
@@ -123,45 +125,45 @@ left_still h e m k none a quiet = ap (λ b. left_of none b (is_gone h k) a) (sym
 
 pub says_after : (over : Buffers) (into : Receivers) (h : History) (s t : State) (e : Event) (f : Effects)
     → LegalBy over into h → Lawful over into h e → Stays into h → IsQuiet e → Says into h s → (received : List ℕ) → AssignsTo received (into h) e → AreEffects received (again_at h) e f → Applied s f t → Says into (e ∷ h) t
-says_after over into h s t e f legal lawful stays silent says received to are applied = let quiet : empties e ≡ [] = quiet_empties e silent in record {
+says_after over into h s t e f legal lawful stays silent says received to are applied = let quiet : empties e ≡ [] = quiet_empties e silent in let read : IsRead (again_at h) e f.change = is_read (again_at h) e f.change are.change in record {
   variables = λ x. applied.variables x ∙ ap (λ p. unwrap_or (at_key bytes_eq x p) (bound s.variables x)) (are.assigned into h to) ∙ ap (unwrap_or (at_key bytes_eq x (assigned into h e))) (says.variables x);
   objects = λ o. applied.objects o
-      ∙ ap (λ b. option_map_or (λ i. i == o) b false || has s.heap o) are.born
+      ∙ ap (λ b. option_map_or (λ i. i == o) b false || has s.heap o) read.born
       ∙ ap (λ b. option_map_or (λ i. i == o) (object_born e) false || b) (says.objects o)
       ∙ there (born e) (kind h o) (is_gone h o) o (born_alive over into h e o legal lawful)
       ∙ ap (λ g. is_some (kind (e ∷ h) o) && not g) (sym (same_gone h e o quiet));
-  properties = λ o k here. applied.properties o k ∙ ap (λ p. unwrap_or (at_key same_key (o, k) p) (property s.heap o k)) are.put
+  properties = λ o k here. applied.properties o k ∙ ap (λ p. unwrap_or (at_key same_key (o, k) p) (property s.heap o k)) read.put
       ∙ ap (unwrap_or (at_key same_key (o, k) (put e))) (says.properties o k (sym (same_gone h e o quiet) ∙ here));
-  keys = λ o here. applied.keys o ∙ ap (λ p. keys_after o p (keys s.heap o)) are.put ∙ ap (keys_after o (put e)) (says.keys o (sym (same_gone h e o quiet) ∙ here));
-  targets = λ w here. applied.targets w ∙ ap (λ p. unwrap_or (at_key (λ i j. i == j) w p) (target s.weakrefs w)) are.points
+  keys = λ o here. applied.keys o ∙ ap (λ p. keys_after o p (keys s.heap o)) read.put ∙ ap (keys_after o (put e)) (says.keys o (sym (same_gone h e o quiet) ∙ here));
+  targets = λ w here. applied.targets w ∙ ap (λ p. unwrap_or (at_key (λ i j. i == j) w p) (target s.weakrefs w)) read.points
       ∙ target_step over into h e (target s.weakrefs w) w legal lawful stays (says.targets w (sym (same_gone h e w quiet) ∙ here))
       ∙ ap (λ ids. aimed_at (ids ++ gone h) (kind (e ∷ h) w)) (sym quiet);
   callbacks = λ r. applied.callbacks r
-      ∙ ap (λ c. callback_after c r (callback s.registries r)) are.registry
+      ∙ ap (λ c. callback_after c r (callback s.registries r)) read.registry
       ∙ ap (callback_after (change (again_at h) e) r) (says.callbacks r)
       ∙ callback_next over into h e r legal lawful;
   cells = applied.cells
-      ∙ ap (λ c. cells_after c s.registries.cells) are.registry
+      ∙ ap (λ c. cells_after c s.registries.cells) read.registry
       ∙ ap (cells_after (change (again_at h) e)) says.cells
       ∙ cells_next over into h e (lawful, legal) stays silent;
   queue = applied.queue
-      ∙ ap (λ c. queue_after c s.registries.queue) are.registry
+      ∙ ap (λ c. queue_after c s.registries.queue) read.registry
       ∙ ap (queue_after (change (again_at h) e)) says.queue
       ∙ queue_next h e silent;
   kept = applied.kept
-      ∙ ap (λ b. cond b [] (option_to_list f.kept ++ reverse s.weakrefs.kept)) are.clears
-      ∙ ap (λ ids. cond (ends_job e) [] (ids ++ reverse s.weakrefs.kept)) are.kept
+      ∙ ap (λ b. cond b [] (kept_of f.change ++ reverse s.weakrefs.kept)) read.clears
+      ∙ ap (λ ids. cond (ends_job e) [] (ids ++ reverse s.weakrefs.kept)) read.kept
       ∙ ap (λ ids. cond (ends_job e) [] (keeps e ++ ids)) says.kept;
   entries = λ m k. applied.entries m k
-      ∙ ap (λ p. unwrap_or (at_key same_pair (m, k) p) (record_at s.weak.entries.all m k)) are.entered
+      ∙ ap (λ p. unwrap_or (at_key same_pair (m, k) p) (record_at s.weak.entries.all m k)) read.entered
       ∙ ap (unwrap_or (at_key same_pair (m, k) (entered e))) (says.entries m k)
       ∙ written None m k (entered e) (is_gone h m) (is_gone h k) (first_entry h m k) (entered_there over into h e m k lawful stays)
       ∙ left_still h e m k None (first_entry (e ∷ h) m k) quiet;
   members = λ m k. applied.members m k
-      ∙ ap (λ p. unwrap_or (at_key same_pair (m, k) p) (is_some (record_at s.weak.members.all m k))) are.joined
+      ∙ ap (λ p. unwrap_or (at_key same_pair (m, k) p) (is_some (record_at s.weak.members.all m k))) read.joined
       ∙ ap (unwrap_or (at_key same_pair (m, k) (joined e))) (says.members m k)
       ∙ written false m k (joined e) (is_gone h m) (is_gone h k) (first_member h m k) (joined_there over into h e m k lawful stays)
       ∙ left_still h e m k false (first_member (e ∷ h) m k) quiet;
-  tags = tags_after over into h e s.tags.all t.tags.all f.makes legal lawful (λ i. same_gone h e i quiet) says.made says.tags (sym are.makes) applied.tags;
-  made = made_after h e s.tags.all t.tags.all f.makes says.made (sym are.makes) applied.tags;
+  tags = tags_after over into h e s.tags.all t.tags.all (makes_of f.change) legal lawful (λ i. same_gone h e i quiet) says.made says.tags (sym read.makes) applied.tags;
+  made = made_after h e s.tags.all t.tags.all (makes_of f.change) says.made (sym read.makes) applied.tags;
 }

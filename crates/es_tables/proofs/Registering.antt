@@ -28,14 +28,10 @@ use Rattle.es_event.proofs.Cells.{made_by, cell_within}
 use Rattle.es_event.proofs.Entries.{mapped}
 use Rattle.es_event.proofs.Holds.{second_of}
 use Rattle.es_tables.specs.declared.registries.RegistryChange.TheVariants.{Leaves, Registers, Unregisters, Queues}
+pub use Rattle.es_tables.specs.Effects.{IsQuiet}
 use Rattle.es_tables.specs.Registries.{change, change_by, made_by as registry_made_by, callback_after, cells_after, queue_after, again_at}
 use Rattle.es_event.proofs.Births.{next_kind, born_next}
 use Rattle.es_tables.proofs.Slots.{slots, slots_same, slots_registered, slots_unregistered, slots_taken}
-
--- no emptying
-abbrev pub IsQuiet : Event → Type 0
-IsQuiet (Emptied ids) = ⊥
-IsQuiet e = Unit {0}
 
 pub quiet_empties : (e : Event) → IsQuiet e → empties e ≡ []
 quiet_empties (Emptied ids) quiet = absurd quiet

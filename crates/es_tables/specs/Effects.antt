@@ -15,17 +15,16 @@ use Rattle.es_event.specs.History.{History, at_key}
 use Rattle.es_event.specs.Identities.{identity, born}
 use Rattle.es_event.specs.Jobs.{Receivers}
 use Rattle.es_event.specs.Variables.{assigned}
-use Rattle.es_event.specs.Properties.{put, same_key, keys_after}
-use Rattle.es_event.specs.WeakRefs.{ends_job, keeps}
-use Rattle.es_event.specs.Ephemerons.{same_pair, entered, joined}
+use Rattle.es_event.specs.Properties.{same_key, keys_after}
+use Rattle.es_event.specs.Ephemerons.{same_pair}
 use Rattle.es_props.specs.Heap.{has, property, keys}
 use Rattle.es_weakref.specs.WeakRefs.{target}
 use Rattle.es_ephemeron.specs.Ephemerons.{record_at}
 use Rattle.es_tables.specs.declared.effects.Effects.{Effects}
+use Rattle.es_tables.specs.Changes.{table_change, put_of, born_of, points_of, entered_of, joined_of, registry_of, kept_of, clears, makes_of}
 use Rattle.es_registry.specs.Registries.{callback}
-use Rattle.es_tables.specs.Registries.{change, callback_after, cells_after, queue_after}
-use Rattle.es_tables.specs.Tags.{tag_made_at}
-use Rattle.es_tables.specs.Tables.{State, bound}
+use Rattle.es_tables.specs.Registries.{callback_after, cells_after, queue_after}
+use Rattle.es_tables.specs.Tables.{State, SameState, bound}
 
 -- the object that the event makes
 abbrev pub object_born : Event → Option ℕ
@@ -49,8 +48,18 @@ points JobEnded = None
 points (Skipped j t) = None
 points Closed = None
 
-abbrev pub with_option : Option (ℕ × ℕ) → Option (ℕ × Option ℕ)
-with_option p = option_map (λ p. (p.0, Some p.1)) p
+-- the event empties nothing
+abbrev pub IsQuiet : Event → Type 0
+IsQuiet (JobBegun j) = ⊤
+IsQuiet (CleanupBegun q) = ⊤
+IsQuiet (Received t v) = ⊤
+IsQuiet (Did c vs r) = ⊤
+IsQuiet (Refused code) = ⊤
+IsQuiet (Emptied ids) = ⊥
+IsQuiet (Taken n held) = ⊤
+IsQuiet JobEnded = ⊤
+IsQuiet (Skipped j t) = ⊤
+IsQuiet Closed = ⊤
 
 -- where the event is a receipt, its value goes to the variable of this name
 abbrev pub AssignsTo : List ℕ → List ℕ → Event → Type 0
@@ -69,27 +78,23 @@ AssignsTo received to Closed = ⊤
 -- queues again, if it does
 pub record AreEffects (received : List ℕ) (again : Option ℕ) (event : Event) (e : Effects) : Type 0 where
   pub assigned : (into : Receivers) (h : History) → AssignsTo received (into h) event → e.assigned ≡ assigned into h event
-  pub put : e.put ≡ put event
-  pub born : e.born ≡ object_born event
-  pub points : with_option e.points ≡ points event
-  pub entered : e.entered ≡ entered event
-  pub joined : e.joined ≡ joined event
-  pub registry : e.registry ≡ change again event
-  pub kept : option_to_list e.kept ≡ keeps event
-  pub clears : e.clears ≡ ends_job event
-  pub makes : e.makes ≡ tag_made_at event
+  pub change : e.change ≡ table_change again event
 
 -- the tables after the effects
 pub record Applied (s : State) (e : Effects) (t : State) : Type 0 where
   pub variables : (x : List ℕ) → bound t.variables x ≡ unwrap_or (at_key bytes_eq x e.assigned) (bound s.variables x)
-  pub properties : (o : ℕ) (k : List ℕ) → property t.heap o k ≡ unwrap_or (at_key same_key (o, k) e.put) (property s.heap o k)
-  pub keys : (o : ℕ) → keys t.heap o ≡ keys_after o e.put (keys s.heap o)
-  pub objects : (o : ℕ) → has t.heap o ≡ (option_map_or (λ b. b == o) e.born false || has s.heap o)
-  pub targets : (w : ℕ) → target t.weakrefs w ≡ unwrap_or (at_key (λ i j. i == j) w (with_option e.points)) (target s.weakrefs w)
-  pub entries : (m k : ℕ) → record_at t.weak.entries.all m k ≡ unwrap_or (at_key same_pair (m, k) e.entered) (record_at s.weak.entries.all m k)
-  pub members : (m k : ℕ) → is_some (record_at t.weak.members.all m k) ≡ unwrap_or (at_key same_pair (m, k) e.joined) (is_some (record_at s.weak.members.all m k))
-  pub callbacks : (r : ℕ) → callback t.registries r ≡ callback_after e.registry r (callback s.registries r)
-  pub cells : t.registries.cells ≡ cells_after e.registry s.registries.cells
-  pub queue : t.registries.queue ≡ queue_after e.registry s.registries.queue
-  pub kept : reverse t.weakrefs.kept ≡ (if e.clears then [] else option_to_list e.kept ++ reverse s.weakrefs.kept)
-  pub tags : t.tags.all ≡ s.tags.all ++ map Some (option_to_list e.makes)
+  pub properties : (o : ℕ) (k : List ℕ) → property t.heap o k ≡ unwrap_or (at_key same_key (o, k) (put_of e.change)) (property s.heap o k)
+  pub keys : (o : ℕ) → keys t.heap o ≡ keys_after o (put_of e.change) (keys s.heap o)
+  pub objects : (o : ℕ) → has t.heap o ≡ (option_map_or (λ b. b == o) (born_of e.change) false || has s.heap o)
+  pub targets : (w : ℕ) → target t.weakrefs w ≡ unwrap_or (at_key (λ i j. i == j) w (points_of e.change)) (target s.weakrefs w)
+  pub entries : (m k : ℕ) → record_at t.weak.entries.all m k ≡ unwrap_or (at_key same_pair (m, k) (entered_of e.change)) (record_at s.weak.entries.all m k)
+  pub members : (m k : ℕ) → is_some (record_at t.weak.members.all m k) ≡ unwrap_or (at_key same_pair (m, k) (joined_of e.change)) (is_some (record_at s.weak.members.all m k))
+  pub callbacks : (r : ℕ) → callback t.registries r ≡ callback_after (registry_of e.change) r (callback s.registries r)
+  pub cells : t.registries.cells ≡ cells_after (registry_of e.change) s.registries.cells
+  pub queue : t.registries.queue ≡ queue_after (registry_of e.change) s.registries.queue
+  pub kept : reverse t.weakrefs.kept ≡ (if clears e.change then [] else kept_of e.change ++ reverse s.weakrefs.kept)
+  pub tags : t.tags.all ≡ s.tags.all ++ map Some (option_to_list (makes_of e.change))
+
+-- the tables after the event: its effects were applied to tables that said the same
+abbrev pub Advances : List ℕ → Option ℕ → Event → State → State → Type 0
+Advances received again event s t = (e : Effects) × AreEffects received again event e × (g : State) × SameState s g × Applied g e t

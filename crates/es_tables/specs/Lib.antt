@@ -1,6 +1,7 @@
 pub mod Tags
 pub mod Tables
 pub mod Registries
+pub mod Changes
 pub mod Effects
 pub mod Ready
 pub mod Found

@@ -1,20 +1,25 @@
 -- Internal: when an event can be applied to the tables, and when there is room for it.
-use Rattle.std.specs.Prelude.{ℕ, ◌≡◌, ◌<◌, nat_lt, nat_le, length, Bool, true, false, List, Option, is_some}
+use Rattle.std.specs.Prelude.{⊤, ℕ, ◌≡◌, ◌<◌, nat_lt, nat_le, length, Bool, true, false, List, Option, is_some}
 use Rattle.std.specs.Option.{option_map_or}
 use Rattle.es_value.specs.declared.value.Value.{Value}
 use Rattle.es_props.specs.Heap.{has, room_at}
 use Rattle.es_weakref.specs.WeakRefs.{target}
 use Rattle.es_ephemeron.specs.Ephemerons.{room_at as room_under}
 use Rattle.es_tables.specs.declared.effects.Effects.{Effects}
+use Rattle.es_tables.specs.declared.table_change.TableChange.{TableChange}
+use Rattle.es_tables.specs.declared.table_change.TableChange.TheVariants.{NoChange, Property, Birth, WeakRefBirth, RegistryBirth, Keeping, Entry, Member, Registry, JobEnd}
+use Rattle.es_tables.specs.Changes.{put_of, born_of, points_of, registry_of}
 use Rattle.es_tables.specs.Registries.{CanChange, HasRoomFor}
+use Rattle.es_event.specs.declared.event.Event.{Event}
+use Rattle.es_tables.specs.Effects.{AreEffects}
 use Rattle.es_tables.specs.Tables.{State}
 
 -- what is put is an object's, what is born is not there yet, and a cell that is taken awaits its cleanup
 pub record CanApply (s : State) (e : Effects) : Type 0 where
-  pub put : option_map_or (λ p. has s.heap p.0.0) e.put true ≡ true
-  pub born : option_map_or (has s.heap) e.born false ≡ false
-  pub points : option_map_or (λ p. is_some (target s.weakrefs p.0)) e.points false ≡ false
-  pub registry : CanChange s.registries e.registry
+  pub put : option_map_or (λ p. has s.heap p.0.0) (put_of e.change) true ≡ true
+  pub born : option_map_or (has s.heap) (born_of e.change) false ≡ false
+  pub points : option_map_or (λ p. is_some (target s.weakrefs p.0)) (points_of e.change) false ≡ false
+  pub registry : CanChange s.registries (registry_of e.change)
 
 -- object o has room for what is set; a delete needs none
 abbrev pub has_room_at : List ℕ → ℕ → Option Value → Bool
@@ -43,14 +48,24 @@ has_room_for rooms k false = true
 abbrev pub has_member_room : List ℕ → Option ((ℕ × ℕ) × Bool) → Bool
 has_member_room rooms joined = option_map_or (λ p. has_room_for rooms p.0.1 p.1) joined true
 
+-- there is room for all that the change adds
+abbrev pub HasRoom : State → TableChange → Type 0
+HasRoom s NoChange = ⊤
+HasRoom s (Property p) = has_room s.rooms p ≡ true
+HasRoom s (Birth t b) = (has_place s.rooms b ≡ true) × (0 < s.tags.room)
+HasRoom s (WeakRefBirth b p k) = (has_place s.rooms b ≡ true) × (0 < s.tags.room) × (0 < s.weakrefs.target_room) × (0 < s.weakrefs.kept_room)
+HasRoom s (RegistryBirth b c) = (has_place s.rooms b ≡ true) × (0 < s.tags.room) × HasRoomFor s.registries c
+HasRoom s (Keeping k) = 0 < s.weakrefs.kept_room
+HasRoom s (Entry p) = has_entry_room s.weak.entries.rooms p ≡ true
+HasRoom s (Member p) = has_member_room s.weak.members.rooms p ≡ true
+HasRoom s (Registry c) = HasRoomFor s.registries c
+HasRoom s (JobEnd c) = HasRoomFor s.registries c
+
 -- there is room for all that the effects add
 pub record IsReady (s : State) (e : Effects) : Type 0 where
   pub variables : 0 < s.variables.room
-  pub put : has_room s.rooms e.put ≡ true
-  pub born : has_place s.rooms e.born ≡ true
-  pub targets : 0 < s.weakrefs.target_room
-  pub kept : 0 < s.weakrefs.kept_room
-  pub entered : has_entry_room s.weak.entries.rooms e.entered ≡ true
-  pub joined : has_member_room s.weak.members.rooms e.joined ≡ true
-  pub registry : HasRoomFor s.registries e.registry
-  pub tags : 0 < s.tags.room
+  pub change : HasRoom s e.change
+
+-- what the event does can be applied to the tables
+abbrev pub CanAdvance : List ℕ → Option ℕ → Event → State → Type 0
+CanAdvance received again event s = (e : Effects) → AreEffects received again event e → CanApply s e

@@ -1,13 +1,13 @@
 //! The changes that an event makes to the heap, to the WeakRefs, and to WeakMaps and WeakSets, where
 //! there is room.
 
-ghost use Rattle.std.specs.Prelude.{◌≡◌, ◌<◌, ◌==◌, ◌||◌, ◌&&◌, ◌++◌, [], ℕ, List, Some, true, false, is_some, unwrap_or, reverse, if◌then◌else◌};
+ghost use Rattle.std.specs.Prelude.{◌≡◌, ◌<◌, ◌==◌, ◌||◌, ◌++◌, ℕ, List, Some, true, false, is_some, unwrap_or, reverse, if◌then◌else◌};
 ghost use Rattle.std.specs.Option.{option_map_or, option_to_list};
 ghost use Rattle.es_event.specs.History.{at_key};
 ghost use Rattle.es_event.specs.Properties.{same_key, keys_after};
-ghost use Rattle.es_props.specs.Heap.{has, property, keys, KeepsRoom};
+ghost use Rattle.es_props.specs.Heap.{has, property, keys};
 ghost use Rattle.es_weakref.specs.WeakRefs.{target as target_of};
-ghost use Rattle.es_tables.specs.Effects.{with_option};
+ghost use Rattle.es_tables.specs.Changes.{with_option};
 ghost use Rattle.es_event.specs.Ephemerons.{same_pair};
 ghost use Rattle.es_ephemeron.specs.Ephemerons.{record_at};
 ghost use Rattle.es_tables.specs.Ready.{has_room, has_room_at, has_place, has_room_under, has_entry_room, has_room_for, has_member_room};
@@ -17,37 +17,29 @@ use es_props::Heap;
 use es_value::{Id, Name, Value};
 use es_weakref::WeakRefs;
 
-/// Makes an object, where one is made, and then writes a property, where one is written.
-pub(crate) fn change_heap(
-    heap: &mut Heap,
-    put: Option<((Id, Name), Option<Value>)>,
-    born: Option<Id>,
-)
-    requires put { option_map_or (λ p. has heap.old.all p.0.0) put true ≡ true }
-    requires room { has_room heap.old.rooms put ≡ true }
-    requires born { option_map_or (has heap.old.all) born false ≡ false }
-    requires place { has_place heap.old.rooms born ≡ true }
-    ensures properties { (o : ℕ) (k : List ℕ) → property heap.new.all o k ≡ unwrap_or (at_key same_key (o, k) put) (property heap.old.all o k) }
-    ensures keys { (o : ℕ) → keys heap.new.all o ≡ keys_after o put (keys heap.old.all o) }
-    ensures objects { (o : ℕ) → has heap.new.all o ≡ (option_map_or (λ b. b == o) born false || has heap.old.all o) }
-{
-    make(heap, born);
-    if let Some(((object, key), value)) = put {
-        write(heap, object, key, value);
-    }
-}
-
 /// Makes an object, where one is made.
-fn make(heap: &mut Heap, born: Option<Id>)
+pub(crate) fn make(heap: &mut Heap, born: Option<Id>)
     requires born { option_map_or (has heap.old.all) born false ≡ false }
     requires place { has_place heap.old.rooms born ≡ true }
     ensures properties { (o : ℕ) (k : List ℕ) → property heap.new.all o k ≡ property heap.old.all o k }
     ensures keys { (o : ℕ) → keys heap.new.all o ≡ keys heap.old.all o }
     ensures objects { (o : ℕ) → has heap.new.all o ≡ (option_map_or (λ b. b == o) born false || has heap.old.all o) }
-    ensures rooms { KeepsRoom heap.old.rooms heap.new.rooms }
 {
     if let Some(object) = born {
         heap.make(object);
+    }
+}
+
+/// Writes a property, where one is written.
+pub(crate) fn put(heap: &mut Heap, put: Option<((Id, Name), Option<Value>)>)
+    requires put { option_map_or (λ p. has heap.old.all p.0.0) put true ≡ true }
+    requires room { has_room heap.old.rooms put ≡ true }
+    ensures properties { (o : ℕ) (k : List ℕ) → property heap.new.all o k ≡ unwrap_or (at_key same_key (o, k) put) (property heap.old.all o k) }
+    ensures keys { (o : ℕ) → keys heap.new.all o ≡ keys_after o put (keys heap.old.all o) }
+    ensures objects { (o : ℕ) → has heap.new.all o ≡ has heap.old.all o }
+{
+    if let Some(((object, key), value)) = put {
+        write(heap, object, key, value);
     }
 }
 
@@ -80,16 +72,12 @@ pub(crate) fn aim(weakrefs: &mut WeakRefs, points: Option<(Id, Id)>)
     }
 }
 
-/// Empties KeptAlive, or adds to it what is kept.
-pub(crate) fn keep(weakrefs: &mut WeakRefs, kept: Option<Id>, clears: bool)
+/// Adds to KeptAlive what is kept.
+pub(crate) fn keep(weakrefs: &mut WeakRefs, kept: Option<Id>)
     requires { 0 < weakrefs.old.kept_room }
-    ensures kept { reverse weakrefs.new.kept ≡ (if clears then [] else option_to_list kept ++ reverse weakrefs.old.kept) }
+    ensures kept { reverse weakrefs.new.kept ≡ option_to_list kept ++ reverse weakrefs.old.kept }
     ensures targets { (w : ℕ) → target_of weakrefs.new w ≡ target_of weakrefs.old w }
 {
-    if clears {
-        weakrefs.clear_kept();
-        return;
-    }
     if let Some(id) = kept {
         let _ = weakrefs.keep(id);
     }

@@ -1,36 +1,15 @@
-//! What an event does to the entries of WeakMaps and to the members of WeakSets, read off the event.
+//! What a command does to the entries of WeakMaps and to the members of WeakSets, read off the command.
 
 ghost use Rattle.std.specs.Prelude.{◌≡◌, Some, IfOk};
 ghost use Rattle.std.specs.Option.{option_map};
 ghost use Rattle.es_value.specs.Values.{identity};
-ghost use Rattle.es_event.specs.Ephemerons.{entered, entered_by, joined, joined_by};
+ghost use Rattle.es_event.specs.Ephemerons.{entered_by, joined_by};
 
-use es_event::{Command, Event};
+use es_event::Command;
 use es_value::{Id, NoMemory, Value};
 
-/// The entry that an event writes; it takes memory for a text that is its value.
-pub(crate) fn entered_at(event: &Event) -> Result<Option<((Id, Id), Option<Value>)>, NoMemory>
-    ensures { IfOk result (λ r. r ≡ entered event.now) }
-{
-    match event {
-        Event::JobBegun { .. } => Ok(None),
-        Event::CleanupBegun { .. } => Ok(None),
-        Event::Received { .. } => Ok(None),
-        Event::Did {
-            command,
-            values,
-            ..
-        } => entered_by(command, values.as_slice()),
-        Event::Refused { .. } => Ok(None),
-        Event::Emptied { .. } => Ok(None),
-        Event::Taken { .. } => Ok(None),
-        Event::JobEnded => Ok(None),
-        Event::Skipped { .. } => Ok(None),
-        Event::Closed => Ok(None),
-    }
-}
-
-fn entered_by(
+/// The entry that a command writes; it takes memory for a text that is its value.
+pub(crate) fn entered_by(
     command: &Command,
     values: &[Value],
 ) -> Result<Option<((Id, Id), Option<Value>)>, NoMemory>
@@ -66,29 +45,8 @@ fn deleted_at(map: Id, key: &Value) -> Option<((Id, Id), Option<Value>)>
     }
 }
 
-/// The member that an event writes.
-pub(crate) fn joined_at(event: &Event) -> Option<((Id, Id), bool)>
-    ensures { result ≡ joined event.now }
-{
-    match event {
-        Event::JobBegun { .. } => None,
-        Event::CleanupBegun { .. } => None,
-        Event::Received { .. } => None,
-        Event::Did {
-            command,
-            values,
-            ..
-        } => joined_by(command, values.as_slice()),
-        Event::Refused { .. } => None,
-        Event::Emptied { .. } => None,
-        Event::Taken { .. } => None,
-        Event::JobEnded => None,
-        Event::Skipped { .. } => None,
-        Event::Closed => None,
-    }
-}
-
-fn joined_by(command: &Command, values: &[Value]) -> Option<((Id, Id), bool)>
+/// The member that a command writes.
+pub(crate) fn joined_by(command: &Command, values: &[Value]) -> Option<((Id, Id), bool)>
     ensures { result ≡ joined_by command.now values.now }
 {
     match (command, values) {

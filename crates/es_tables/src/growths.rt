@@ -5,25 +5,13 @@ ghost use Rattle.std.specs.Option.{option_map_or};
 ghost use Rattle.es_props.specs.Heap.{has, Unchanged, KeepsRoom};
 ghost use Rattle.es_ephemeron.specs.Ephemerons.{Unchanged as UnchangedRecords};
 ghost use Rattle.es_tables.specs.Ready.{has_room, has_room_at, has_place, has_room_under, has_entry_room, has_room_for, has_member_room};
-ghost use Rattle.es_tables.specs.Tables.{SameHeap};
 
-use crate::effects::Effects;
 use es_ephemeron::WeakTables;
 use es_props::Heap;
 use es_value::{Id, Name, NoMemory, Value};
 
-/// Makes a place for the object that is made, and room for the property that is set.
-pub(crate) fn reserve_heap(heap: &mut Heap, effects: &Effects) -> Result<(), NoMemory>
-    requires { option_map_or (λ p. has heap.old.all p.0.0) effects.now.put true ≡ true }
-    ensures same { SameHeap heap.old.all heap.new.all }
-    ensures put { OnOk result (has_room heap.new.rooms effects.now.put ≡ true) }
-    ensures born { OnOk result (has_place heap.new.rooms effects.now.born ≡ true) }
-{
-    reserve_born(heap, effects.born)?;
-    reserve_put(heap, &effects.put)
-}
-
-fn reserve_born(heap: &mut Heap, born: Option<Id>) -> Result<(), NoMemory>
+/// Makes a place for the object that is made.
+pub(crate) fn reserve_born(heap: &mut Heap, born: Option<Id>) -> Result<(), NoMemory>
     ensures same { Unchanged heap.old.all heap.new.all }
     ensures born { OnOk result (has_place heap.new.rooms born ≡ true) }
 {
@@ -33,7 +21,11 @@ fn reserve_born(heap: &mut Heap, born: Option<Id>) -> Result<(), NoMemory>
     }
 }
 
-fn reserve_put(heap: &mut Heap, put: &Option<((Id, Name), Option<Value>)>) -> Result<(), NoMemory>
+/// Makes room for the property that is set.
+pub(crate) fn reserve_put(
+    heap: &mut Heap,
+    put: &Option<((Id, Name), Option<Value>)>,
+) -> Result<(), NoMemory>
     requires { option_map_or (λ p. has heap.old.all p.0.0) put.now true ≡ true }
     ensures same { Unchanged heap.old.all heap.new.all }
     ensures rooms { KeepsRoom heap.old.rooms heap.new.rooms }
@@ -57,18 +49,8 @@ fn reserve_value(heap: &mut Heap, object: Id, value: &Option<Value>) -> Result<(
     }
 }
 
-/// Makes room for the entry that is set, and for the member that is added.
-pub(crate) fn reserve_weak(weak: &mut WeakTables, effects: &Effects) -> Result<(), NoMemory>
-    ensures entries { UnchangedRecords weak.old.entries.all weak.new.entries.all }
-    ensures members { UnchangedRecords weak.old.members.all weak.new.members.all }
-    ensures entered { OnOk result (has_entry_room weak.new.entries.rooms effects.now.entered ≡ true) }
-    ensures joined { OnOk result (has_member_room weak.new.members.rooms effects.now.joined ≡ true) }
-{
-    reserve_entered(weak, &effects.entered)?;
-    reserve_joined(weak, effects.joined)
-}
-
-fn reserve_entered(
+/// Makes room for the entry that is set.
+pub(crate) fn reserve_entered(
     weak: &mut WeakTables,
     entered: &Option<((Id, Id), Option<Value>)>,
 ) -> Result<(), NoMemory>
@@ -93,7 +75,11 @@ fn reserve_entry(weak: &mut WeakTables, key: Id, value: &Option<Value>) -> Resul
     }
 }
 
-fn reserve_joined(weak: &mut WeakTables, joined: Option<((Id, Id), bool)>) -> Result<(), NoMemory>
+/// Makes room for the member that is added.
+pub(crate) fn reserve_joined(
+    weak: &mut WeakTables,
+    joined: Option<((Id, Id), bool)>,
+) -> Result<(), NoMemory>
     ensures same { UnchangedRecords weak.old.members.all weak.new.members.all }
     ensures entries { weak.new.entries ≡ weak.old.entries }
     ensures room { OnOk result (has_member_room weak.new.members.rooms joined ≡ true) }

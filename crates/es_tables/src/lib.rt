@@ -6,7 +6,9 @@ mod changes;
 mod effects;
 mod ephemerons;
 mod growths;
+mod properties;
 mod registries;
+mod table_change;
 mod tables;
 mod tags;
 #[cfg(test)]
@@ -15,5 +17,6 @@ mod variables;
 
 pub use effects::{Effects, effects_of};
 pub use registries::RegistryChange;
+pub use table_change::TableChange;
 pub use tables::Tables;
 pub use tags::Tag;

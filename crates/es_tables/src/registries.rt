@@ -5,9 +5,9 @@ ghost use Rattle.std.specs.Prelude.{◌≡◌, ℕ, ◌+◌, IfOk, OnOk};
 ghost use Rattle.std.specs.Option.{option_map_or};
 ghost use Rattle.es_value.specs.Values.{identity};
 ghost use Rattle.es_registry.specs.Registries.{callback, SameCallbacks};
-ghost use Rattle.es_tables.specs.Registries.{change, change_by, made_by, callback_after, cells_after, queue_after, CanChange, HasRoomFor};
+ghost use Rattle.es_tables.specs.Registries.{change_by, made_by, callback_after, cells_after, queue_after, CanChange, HasRoomFor};
 
-use es_event::{Answer, Command, Event};
+use es_event::{Answer, Command};
 use es_registry::Registries;
 use es_value::{Id, NoMemory, Value};
 
@@ -45,31 +45,8 @@ pub enum RegistryChange {
     },
 }
 
-/// What an event changes; `again` is the registry that is queued again where the event ends a job.
-pub(crate) fn change_at(event: &Event, again: Option<Id>) -> Result<RegistryChange, NoMemory>
-    ensures { IfOk result (λ c. c ≡ change again event.now) }
-{
-    match event {
-        Event::JobBegun { .. } => Ok(RegistryChange::Leaves),
-        Event::CleanupBegun { .. } => Ok(RegistryChange::Dequeues),
-        Event::Received { .. } => Ok(RegistryChange::Leaves),
-        Event::Did {
-            command,
-            values,
-            answer,
-        } => change_by(command, values.as_slice(), answer),
-        Event::Refused { .. } => Ok(RegistryChange::Leaves),
-        Event::Emptied { .. } => Ok(RegistryChange::Leaves),
-        Event::Taken { registration, .. } => Ok(RegistryChange::Takes {
-            registration: *registration,
-        }),
-        Event::JobEnded => Ok(queued(again)),
-        Event::Skipped { .. } => Ok(RegistryChange::Leaves),
-        Event::Closed => Ok(RegistryChange::Leaves),
-    }
-}
-
-fn queued(again: Option<Id>) -> RegistryChange
+/// The registry that is queued again where a job ends.
+pub(crate) fn queued(again: Option<Id>) -> RegistryChange
     ensures { result ≡ option_map_or RegistryChange.Queues again RegistryChange.Leaves }
 {
     match again {
@@ -79,7 +56,7 @@ fn queued(again: Option<Id>) -> RegistryChange
 }
 
 /// What a command changes.
-fn change_by(
+pub(crate) fn change_by(
     command: &Command,
     values: &[Value],
     answer: &Answer,
@@ -87,7 +64,7 @@ fn change_by(
     ensures { IfOk result (λ c. c ≡ change_by command.now values.now answer.now) }
 {
     match (command, values) {
-        (Command::FinalizationRegistry { callback, .. }, _) => Ok(made(*callback, answer)),
+        (Command::FinalizationRegistry { callback, .. }, _) => Ok(made_by(*callback, answer)),
         (Command::Register { .. }, [Value::Object(registry), target, held]) => {
             registered(*registry, target, held, None)
         }
@@ -102,7 +79,8 @@ fn change_by(
     }
 }
 
-fn made(callback: usize, answer: &Answer) -> RegistryChange
+/// The making of a registry with the callback of this number.
+pub(crate) fn made_by(callback: usize, answer: &Answer) -> RegistryChange
     ensures { result ≡ made_by callback answer.now }
 {
     match answer {

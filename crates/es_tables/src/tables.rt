@@ -1,28 +1,32 @@
 //! All that an agent keeps beside its history, as one value.
 
-ghost use Rattle.std.specs.Prelude.{◌≡◌, ◌<◌, ◌≤◌, ◌&&◌, ◌++◌, not, is_some, length, IfOk, OnOk, OnErr, slice_get};
+ghost use Rattle.std.specs.Prelude.{◌≡◌, true, ◌<◌, ◌≤◌, ◌&&◌, ◌++◌, not, is_some, length, IfOk, OnOk, OnErr, codes, slice_get, unwrap_or};
 ghost use Rattle.std.specs.List.{filter, list_any, range_with_len};
-ghost use Rattle.std.specs.Option.{option_copied};
+ghost use Rattle.std.specs.Option.{option_copied, option_map_or};
 ghost use Rattle.es_value.specs.Limits.{most_identities};
+ghost use Rattle.es_value.specs.declared.value.Value.TheVariants.{Undefined};
 ghost use Rattle.es_mark.specs.Marks.{is_marked};
 ghost use Rattle.es_props.specs.Heap.{has, property, keys, HasProperties};
 ghost use Rattle.es_weakref.specs.WeakRefs.{target as target_of};
-ghost use Rattle.es_tables.specs.Effects.{Applied};
+ghost use Rattle.es_tables.specs.Changes.{put_of};
+ghost use Rattle.es_tables.specs.Effects.{Advances, Applied};
 ghost use Rattle.es_ephemeron.specs.Ephemerons.{record_at};
 ghost use Rattle.es_registry.specs.Slots.{has_token, tally_of};
 ghost use Rattle.es_registry.specs.Registries.{callback as callback_of, oldest};
 ghost use Rattle.es_tables.specs.Found.{Adds, HasHeld, AddsEntries};
-ghost use Rattle.es_tables.specs.Ready.{CanApply, IsReady};
+ghost use Rattle.es_tables.specs.Ready.{CanAdvance, CanApply, HasRoom, IsReady};
 ghost use Rattle.es_tables.specs.Tables.{bound, IsNew, SameState, Emptying};
 ghost use Rattle.es_tables.specs.Tags.{tag_at};
 
-use crate::changes::{aim, change_heap, enter, join, keep};
-use crate::effects::Effects;
-use crate::growths::{reserve_heap, reserve_weak};
+use crate::changes::{aim, enter, join, keep, make, put};
+use crate::effects::{Effects, effects_of};
+use crate::growths::{reserve_born, reserve_entered, reserve_joined, reserve_put};
 use crate::registries::{make_change, reserve_change};
+use crate::table_change::TableChange;
 use crate::tags::{Tag, Tags};
 use crate::variables::Variables;
 use es_ephemeron::WeakTables;
+use es_event::Event;
 use es_mark::Marks;
 use es_props::Heap;
 use es_registry::{Cell, Registries, Tally};
@@ -74,6 +78,13 @@ impl Tables {
         ensures { IfOk result (λ v. v ≡ bound self.now.variables name.now) }
     {
         self.variables.value(name)
+    }
+
+    /// The variable's value, or none where it was never assigned, and so is undefined.
+    pub fn bound(&self, name: &Name) -> Option<&Value>
+        ensures { unwrap_or (option_copied result) Undefined ≡ bound self.now.variables name.now }
+    {
+        self.variables.bound(name)
     }
 
     /// Whether the identity is an object that is there.
@@ -228,6 +239,31 @@ impl Tables {
         Ok(())
     }
 
+    /// Applies an event: makes every growth that it needs, and then does what it does, which can't fail.
+    /// Where there is no memory the tables say what they said. `held` is the name of the variable that a
+    /// cell's held value is assigned to, `received` that of the one that a message's value is assigned
+    /// to, and `again` is the registry that is queued again where the event ends a job.
+    pub fn advance(
+        &mut self,
+        event: &Event,
+        held: &Name,
+        received: &Name,
+        again: Option<Id>,
+    ) -> Result<(), NoMemory>
+        requires held { held.now ≡ codes "held" }
+        requires can { CanAdvance received.now again event.now self.old }
+        ensures ok { OnOk result (Advances received.now again event.now self.old self.new) }
+        ensures err { OnErr result (SameState self.old self.new) }
+    {
+        let effects = effects_of(event, held, received, again)?;
+        if let Err(error) = self.reserve(&effects) {
+            drop(effects);
+            return Err(error);
+        }
+        self.apply(effects);
+        Ok(())
+    }
+
     /// Makes every growth that the effects need, so that `apply` of them is granted; the tables say
     /// what they said.
     pub fn reserve(&mut self, effects: &Effects) -> Result<(), NoMemory>
@@ -237,11 +273,39 @@ impl Tables {
         ensures ready { OnOk result (IsReady self.new effects.now) }
     {
         self.variables.reserve()?;
-        self.tags.reserve()?;
-        self.weakrefs.reserve()?;
-        reserve_weak(&mut self.weak, effects)?;
-        reserve_change(&mut self.registries, &effects.registry)?;
-        reserve_heap(&mut self.heap, effects)
+        self.reserve_for(&effects.change)
+    }
+
+    /// Makes every growth that the change needs; the tables say what they said.
+    fn reserve_for(&mut self, change: &TableChange) -> Result<(), NoMemory>
+        requires { option_map_or (λ p. has self.old.heap p.0.0) (put_of change.now) true ≡ true }
+        ensures same { SameState self.old self.new }
+        ensures variables { self.new.variables ≡ self.old.variables }
+        ensures room { OnOk result (HasRoom self.new change.now) }
+    {
+        match change {
+            TableChange::NoChange => Ok(()),
+            TableChange::Property(put) => reserve_put(&mut self.heap, put),
+            TableChange::Birth { object, .. } => {
+                self.tags.reserve()?;
+                reserve_born(&mut self.heap, *object)
+            }
+            TableChange::WeakRefBirth { object, .. } => {
+                self.tags.reserve()?;
+                self.weakrefs.reserve()?;
+                reserve_born(&mut self.heap, *object)
+            }
+            TableChange::RegistryBirth { object, change } => {
+                self.tags.reserve()?;
+                reserve_change(&mut self.registries, change)?;
+                reserve_born(&mut self.heap, *object)
+            }
+            TableChange::Keeping(_) => self.weakrefs.reserve(),
+            TableChange::Entry(entered) => reserve_entered(&mut self.weak, entered),
+            TableChange::Member(joined) => reserve_joined(&mut self.weak, *joined),
+            TableChange::Registry(change) => reserve_change(&mut self.registries, change),
+            TableChange::JobEnd(change) => reserve_change(&mut self.registries, change),
+        }
     }
 
     /// Applies the effects of an event, for which there is room; it takes no memory.
@@ -250,26 +314,39 @@ impl Tables {
         requires ready { IsReady self.old effects }
         ensures { Applied self.old effects self.new }
     {
-        let Effects {
-            assigned,
-            put,
-            born,
-            points,
-            entered,
-            joined,
-            registry,
-            kept,
-            clears,
-            makes,
-        } = effects;
-        change_heap(&mut self.heap, put, born);
+        let Effects { assigned, change } = effects;
         self.variables.assign(assigned);
-        aim(&mut self.weakrefs, points);
-        enter(&mut self.weak, entered);
-        join(&mut self.weak, joined);
-        make_change(&mut self.registries, registry);
-        keep(&mut self.weakrefs, kept, clears);
-        self.tags.add(makes);
+        match change {
+            TableChange::NoChange => {}
+            TableChange::Property(written) => put(&mut self.heap, written),
+            TableChange::Birth { tag, object } => {
+                make(&mut self.heap, object);
+                self.tags.add(tag);
+            }
+            TableChange::WeakRefBirth {
+                object,
+                points,
+                kept,
+            } => {
+                make(&mut self.heap, object);
+                aim(&mut self.weakrefs, points);
+                keep(&mut self.weakrefs, kept);
+                self.tags.add(Some(Tag::WeakRef));
+            }
+            TableChange::RegistryBirth { object, change } => {
+                make(&mut self.heap, object);
+                make_change(&mut self.registries, change);
+                self.tags.add(Some(Tag::FinalizationRegistry));
+            }
+            TableChange::Keeping(kept) => keep(&mut self.weakrefs, kept),
+            TableChange::Entry(entered) => enter(&mut self.weak, entered),
+            TableChange::Member(joined) => join(&mut self.weak, joined),
+            TableChange::Registry(change) => make_change(&mut self.registries, change),
+            TableChange::JobEnd(change) => {
+                self.weakrefs.clear_kept();
+                make_change(&mut self.registries, change);
+            }
+        }
     }
 }
 

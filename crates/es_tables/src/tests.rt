@@ -4,11 +4,12 @@
 //! taken apart by cases, which are hundreds. So a test looks at tables in a function that answers a
 //! `bool`.
 
-ghost use Rattle.std.specs.Prelude.{◌≡◌, true, [], None, IfOk};
+ghost use Rattle.std.specs.Prelude.{◌≡◌, true, [], None, IfOk, codes};
+ghost use Rattle.es_tables.specs.Changes.{put_of, born_of, points_of, registry_of};
 ghost use Rattle.es_mark.specs.Graph.{HasAll, HasValues};
 ghost use Rattle.es_props.specs.Heap.{has};
 
-use crate::{Effects, RegistryChange, Tables, Tag, effects_of};
+use crate::{Effects, RegistryChange, TableChange, Tables, Tag, effects_of};
 use es_event::{Answer, Command, Event, Operands, Sequence};
 use es_mark::{Graph, Marks, mark};
 use es_value::{Id, Name, NoMemory, Value};
@@ -22,15 +23,11 @@ fn with_weakref(alloc: Global, x: Name) -> Result<Tables, Fail>
     let mut tables = Tables::new(alloc);
     let made = Effects {
         assigned: Some((x, Value::Object(Id::of(1)))),
-        put: None,
-        born: Some(Id::of(1)),
-        points: Some((Id::of(1), Id::of(2))),
-        entered: None,
-        joined: None,
-        registry: RegistryChange::Leaves,
-        kept: Some(Id::of(2)),
-        clears: false,
-        makes: Some(Tag::WeakRef),
+        change: TableChange::WeakRefBirth {
+            object: Some(Id::of(1)),
+            points: Some((Id::of(1), Id::of(2))),
+            kept: Some(Id::of(2)),
+        },
     };
     if let Err(error) = tables.reserve(&made) {
         drop(made);
@@ -40,21 +37,13 @@ fn with_weakref(alloc: Global, x: Name) -> Result<Tables, Fail>
     Ok(tables)
 }
 
-/// Sets a property of object 1 to a new symbol.
+/// Sets a property of object 1 to a symbol.
 fn set(tables: &mut Tables, key: Name) -> Result<(), Fail>
     requires { has tables.old.heap 1 ≡ true }
 {
     let written = Effects {
         assigned: None,
-        put: Some(((Id::of(1), key), Some(Value::Symbol(Id::of(3))))),
-        born: None,
-        points: None,
-        entered: None,
-        joined: None,
-        registry: RegistryChange::Leaves,
-        kept: None,
-        clears: false,
-        makes: Some(Tag::Symbol),
+        change: TableChange::Property(Some(((Id::of(1), key), Some(Value::Symbol(Id::of(3)))))),
     };
     if let Err(error) = tables.reserve(&written) {
         drop(written);
@@ -93,12 +82,12 @@ impl Graph for Unreached {
     }
 }
 
-/// Whether the variable holds an object.
+/// Whether the variable holds an object, as its copy and its look-up say.
 fn holds_an_object(tables: &Tables, name: &Name) -> Result<bool, NoMemory> {
     let value = tables.variable(name)?;
     let is_object = matches!(value, Value::Object(_));
     drop(value);
-    Ok(is_object)
+    Ok(is_object && matches!(tables.bound(name), Some(Value::Object(_))))
 }
 
 /// Whether these tables are those with the one WeakRef.
@@ -155,34 +144,17 @@ fn properties_are_set_and_lead_on(rt: HostRuntime) -> Result<(), Fail> {
     Ok(())
 }
 
-/// The effects of an event that writes an entry and a member, or neither.
-fn writing(entered: Option<((Id, Id), Option<Value>)>, joined: Option<((Id, Id), bool)>) -> Effects
-    ensures put { result.put ≡ None }
-    ensures born { result.born ≡ None }
-    ensures points { result.points ≡ None }
-    ensures registry { result.registry ≡ RegistryChange.Leaves }
+/// Makes this change, which puts nothing, makes nothing, and leaves the registries.
+fn apply(tables: &mut Tables, change: TableChange) -> Result<(), NoMemory>
+    requires put { put_of change ≡ None }
+    requires born { born_of change ≡ None }
+    requires points { points_of change ≡ None }
+    requires registry { registry_of change ≡ RegistryChange.Leaves }
 {
-    Effects {
+    let effects = Effects {
         assigned: None,
-        put: None,
-        born: None,
-        points: None,
-        entered,
-        joined,
-        registry: RegistryChange::Leaves,
-        kept: None,
-        clears: false,
-        makes: None,
-    }
-}
-
-/// Applies these effects, which put nothing and make nothing.
-fn apply(tables: &mut Tables, effects: Effects) -> Result<(), NoMemory>
-    requires put { effects.put ≡ None }
-    requires born { effects.born ≡ None }
-    requires points { effects.points ≡ None }
-    requires registry { effects.registry ≡ RegistryChange.Leaves }
-{
+        change,
+    };
     if let Err(error) = tables.reserve(&effects) {
         drop(effects);
         return Err(error);
@@ -205,7 +177,7 @@ fn an_entry_is_found_under_its_key(rt: HostRuntime) -> Result<(), Fail> {
     let value = Value::Object(Id::of(3));
     let applied = apply(
         &mut tables,
-        writing(Some(((Id::of(1), Id::of(2)), Some(value))), None),
+        TableChange::Entry(Some(((Id::of(1), Id::of(2)), Some(value)))),
     );
     let is_found = tables.entry(Id::of(1), Id::of(2)).is_some();
     let count = entries_of(alloc, &tables, Id::of(2));
@@ -221,7 +193,7 @@ fn a_member_is_found_in_its_weakset(rt: HostRuntime) -> Result<(), Fail> {
     let mut tables = Tables::new(rt.alloc());
     let applied = apply(
         &mut tables,
-        writing(None, Some(((Id::of(4), Id::of(5)), true))),
+        TableChange::Member(Some(((Id::of(4), Id::of(5)), true))),
     );
     let is_member = tables.has_member(Id::of(4), Id::of(5));
     let the_other_way = tables.has_member(Id::of(5), Id::of(4));
@@ -235,20 +207,12 @@ fn a_member_is_found_in_its_weakset(rt: HostRuntime) -> Result<(), Fail> {
 fn register(tables: &mut Tables) -> Result<(), NoMemory> {
     let registers = Effects {
         assigned: None,
-        put: None,
-        born: None,
-        points: None,
-        entered: None,
-        joined: None,
-        registry: RegistryChange::Registers {
+        change: TableChange::Registry(RegistryChange::Registers {
             registry: Id::of(1),
             target: Id::of(2),
             held: Value::Undefined,
             token: Some(Id::of(3)),
-        },
-        kept: None,
-        clears: false,
-        makes: None,
+        }),
     };
     if let Err(error) = tables.reserve(&registers) {
         drop(registers);
@@ -331,12 +295,19 @@ fn effects(alloc: Global, event: Event) -> Result<Effects, Fail> {
 
 /// Whether the effects are those of making WeakRef 2 to what is numbered 1, and of nothing else.
 fn make_a_weakref(made: &Effects) -> bool {
-    made.put.is_none()
-        && made.born == Some(Id::of(2))
-        && made.points == Some((Id::of(2), Id::of(1)))
-        && made.kept == Some(Id::of(1))
-        && made.makes == Some(Tag::WeakRef)
-        && made.assigned.is_some()
+    match &made.change {
+        TableChange::WeakRefBirth {
+            object,
+            points,
+            kept,
+        } => {
+            *object == Some(Id::of(2))
+                && *points == Some((Id::of(2), Id::of(1)))
+                && *kept == Some(Id::of(1))
+                && made.assigned.is_some()
+        }
+        _ => false,
+    }
 }
 
 /// Whether a WeakRef to this value, which is numbered 1, has those effects.
@@ -371,7 +342,7 @@ fn effects_are_those_of_the_event(rt: HostRuntime) -> Result<(), Fail> {
 /// Whether the event empties KeptAlive.
 fn clears(alloc: Global, event: Event) -> Result<bool, Fail> {
     let effects = effects(alloc, event)?;
-    let clears = effects.clears;
+    let clears = matches!(effects.change, TableChange::JobEnd(_));
     drop(effects);
     Ok(clears)
 }
@@ -380,5 +351,40 @@ fn clears(alloc: Global, event: Event) -> Result<bool, Fail> {
 fn the_end_of_a_job_clears(rt: HostRuntime) -> Result<(), Fail> {
     assert!(rt; clears(rt.alloc(), Event::JobEnded)?);
     assert!(rt; !clears(rt.alloc(), Event::Closed)?);
+    Ok(())
+}
+
+/// Takes in that number 7 was received, which `received` holds from now on.
+fn receive(tables: &mut Tables, held: &Name, received: &Name) -> Result<(), NoMemory>
+    requires { held.now ≡ codes "held" }
+{
+    let event = Event::Received {
+        sender: 1,
+        value: Value::Number(7),
+    };
+    let advanced = tables.advance(&event, held, received, None);
+    drop(event);
+    advanced
+}
+
+/// Whether the variable holds number 7.
+fn holds_seven(tables: &Tables, name: &Name) -> Result<bool, NoMemory> {
+    let value = tables.variable(name)?;
+    let is_seven = matches!(value, Value::Number(7));
+    drop(value);
+    Ok(is_seven)
+}
+
+#[test]
+fn an_event_that_is_taken_in_is_found(rt: HostRuntime) -> Result<(), Fail> {
+    let alloc = rt.alloc();
+    let held = Name::read(alloc, "held")?;
+    let x = Name::read(alloc, "x")?;
+    let mut tables = Tables::new(alloc);
+    let advanced = receive(&mut tables, &held, &x);
+    let is_seven = holds_seven(&tables, &x);
+    drop(tables);
+    advanced?;
+    assert!(rt; is_seven?);
     Ok(())
 }

@@ -2,7 +2,9 @@
 
 ghost use Rattle.std.specs.Prelude.{◌≡◌, ◌<◌, List, ℕ, [], Some, IfOk, OnOk, unwrap_or, if◌then◌else◌};
 ghost use Rattle.std.specs.HashMap.{Updates, spare};
+ghost use Rattle.std.specs.Option.{option_copied};
 ghost use Rattle.std.specs.Str.{bytes_eq};
+ghost use Rattle.es_value.specs.declared.value.Value.TheVariants.{Undefined};
 ghost use Rattle.es_event.specs.History.{at_key};
 ghost use Rattle.es_tables.specs.Found.{Adds, HasBound};
 ghost use Rattle.es_tables.specs.Tables.{bound};
@@ -46,6 +48,13 @@ impl Variables {
             Some(value) => value.copy(),
             None => Ok(Value::Undefined),
         }
+    }
+
+    /// The variable's value, or none where it was never assigned.
+    pub(crate) fn bound(&self, name: &Name) -> Option<&Value>
+        ensures { unwrap_or (option_copied result) Undefined ≡ bound self.now name.now }
+    {
+        self.values.get(name)
     }
 
     /// Adds the identities of what variables hold to `found`.

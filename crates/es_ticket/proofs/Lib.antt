@@ -5,3 +5,5 @@ pub mod Holders
 pub mod Rising
 pub mod Lines
 pub mod Racked
+pub mod Parted
+pub mod Counted

@@ -14,13 +14,13 @@ use Rattle.es_event.specs.Rows.{row}
 abbrev id_at : List (ℕ × Row) → ℕ → ℕ
 id_at ts i = (get_or ts i (0, row 0 0 0)).0
 
-first_above : (n : ℕ) (t : ℕ × Row) (ts : List (ℕ × Row)) → is_rising_from n (t ∷ ts) ≡ true → n < t.0
+pub first_above : (n : ℕ) (t : ℕ × Row) (ts : List (ℕ × Row)) → is_rising_from n (t ∷ ts) ≡ true → n < t.0
 first_above n t ts h = grind (arith, nat_tests)
 
-rest_rises : (n : ℕ) (t : ℕ × Row) (ts : List (ℕ × Row)) → is_rising_from n (t ∷ ts) ≡ true → is_rising_from t.0 ts ≡ true
+pub rest_rises : (n : ℕ) (t : ℕ × Row) (ts : List (ℕ × Row)) → is_rising_from n (t ∷ ts) ≡ true → is_rising_from t.0 ts ≡ true
 rest_rises n t ts h = grind (arith, nat_tests)
 
-rises : (n : ℕ) (t : ℕ × Row) (ts : List (ℕ × Row)) → n < t.0 → is_rising_from t.0 ts ≡ true → is_rising_from n (t ∷ ts) ≡ true
+pub rises : (n : ℕ) (t : ℕ × Row) (ts : List (ℕ × Row)) → n < t.0 → is_rising_from t.0 ts ≡ true → is_rising_from n (t ∷ ts) ≡ true
 rises n t ts above h = grind (arith, nat_tests)
 
 ids_above : (n : ℕ) (ts : List (ℕ × Row)) → is_rising_from n ts ≡ true → (i : ℕ) → i < length ts → n < id_at ts i
@@ -85,7 +85,7 @@ rises_placed n k r (t ∷ ts) above h none = one (nat_lt k t.0) refl (λ lt away
         let away : at k ts ≡ None = grind (arith, nat_tests) in
         let behind : t.0 < k = grind (arith, nat_tests) in rises n t (placed k r ts) (first_above n t ts h) (ih behind away)
 
-rises_from : (m n : ℕ) (ts : List (ℕ × Row)) → m ≤ n → is_rising_from n ts ≡ true → is_rising_from m ts ≡ true
+pub rises_from : (m n : ℕ) (ts : List (ℕ × Row)) → m ≤ n → is_rising_from n ts ≡ true → is_rising_from m ts ≡ true
 rises_from m n [] le h = refl
 rises_from m n (t ∷ ts) le h = (let a = first_above n t ts h in rises m t ts (omega arith) (rest_rises n t ts h))
 

@@ -1,5 +1,7 @@
 -- To believe: what contracts see of the ledger's table, of a stake and of a rack.
-use Rattle.std.specs.Prelude.{ℕ, List, [], ◌∷◌, Bool, true, false, Option, Some, None, if◌then◌else◌, cond, nat_lt, ◌==◌, ◌||◌}
+use Rattle.std.specs.Prelude.{ℕ, List, [], ◌∷◌, Bool, true, false, not, Option, Some, None, if◌then◌else◌, cond, nat_lt, ◌==◌, ◌||◌}
+use Rattle.std.specs.List.{filter}
+use Rattle.es_event.specs.Identities.{is_in}
 use Rattle.es_event.specs.declared.row.Row.{Row}
 use Rattle.es_event.specs.declared.row.Entry.{Entry}
 
@@ -49,3 +51,11 @@ removed i (t ∷ ts) = if t.0 == i then ts else t ∷ removed i ts
 abbrev pub is_rising_from : ℕ → List (ℕ × Row) → Bool
 is_rising_from n [] = true
 is_rising_from n (t ∷ ts) = if nat_lt n t.0 then is_rising_from t.0 ts else false
+
+-- those whose identity is one of these
+abbrev pub among : List ℕ → List (ℕ × Row) → List (ℕ × Row)
+among ids ts = filter (λ t. is_in ids t.0) ts
+
+-- the others
+abbrev pub besides : List ℕ → List (ℕ × Row) → List (ℕ × Row)
+besides ids ts = filter (λ t. not (is_in ids t.0)) ts

@@ -3,6 +3,7 @@
 #![tactic(auto)]
 
 mod kept;
+mod parting;
 mod rack;
 mod rows;
 mod run;

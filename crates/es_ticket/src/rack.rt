@@ -2,15 +2,17 @@
 
 ghost use Rattle.std.specs.Prelude.{◌≡◌, ◌<◌, ◌≤◌, ◌+◌, ℕ, true, [], ◌∷◌, ◌++◌, Some, None, is_some, length, slice_index_or, IfOk, IfErr, OnOk, IsOk, IfSome, IfNone};
 ghost use Rattle.std.specs.List.{insert, remove};
-ghost use Rattle.es_ticket.specs.Shares.{at, placed, removed, is_rising_from};
+ghost use Rattle.es_ticket.specs.Shares.{at, placed, removed, is_rising_from, among, besides};
 ghost use Rattle.es_event.specs.declared.row.Row.{Row};
 
 use crate::kept::Kept;
+use crate::parting::{count_among, part};
 use crate::run::Run;
 use crate::ticket::Ticket;
-use es_value::{Id, NoMemory};
+use es_value::{Id, IdSet, NoMemory};
 use std::alloc::Global;
 use std::marker::Model;
+use std::mem;
 
 /// The tickets of an agent, by buffer object (the SharedArrayBuffer objects over their blocks).
 /// They lie by rising identity.
@@ -106,6 +108,39 @@ impl<L: Run> Rack<L> {
             }
             None => None,
         }
+    }
+
+    /// An empty rack with room for the tickets of these buffer objects, as far as they are here. It
+    /// takes memory for those alone, so none where there are none.
+    pub fn room_for(&self, ids: &[Id]) -> Result<Rack<L>, NoMemory>
+        ensures { IfOk result (λ r. (r.tickets ≡ []) × (length (among ids.now self.now.tickets) ≤ r.room)) }
+    {
+        let alloc = *self.kept.allocator();
+        let count = count_among(&self.kept, &IdSet::of(ids));
+        if count == 0 {
+            return Ok(Rack::new(alloc));
+        }
+        let kept = Vec::with_capacity(alloc, count)?;
+        Ok(Rack { kept })
+    }
+
+    /// Takes out the tickets of these buffer objects, in one pass, into an empty rack that has room for
+    /// them; it takes no memory.
+    pub fn extract(&mut self, ids: &[Id], room: Rack<L>) -> Rack<L>
+        requires empty { room.tickets ≡ [] }
+        requires room { length (among ids.now self.old.tickets) ≤ room.room }
+        ensures taken { result.tickets ≡ among ids.now self.old.tickets }
+        ensures rest { self.new.tickets ≡ besides ids.now self.old.tickets }
+    {
+        let Rack { kept: taken } = room;
+        if taken.capacity() == 0 {
+            return Rack { kept: taken };
+        }
+        let nothing = Vec::new(*self.kept.allocator());
+        let kept = mem::replace(&mut self.kept, nothing);
+        let (taken, rest) = part(kept, &IdSet::of(ids), taken);
+        mem::replace(&mut self.kept, rest).destroy_empty();
+        Rack { kept: taken }
     }
 
     /// How many tickets there are.

@@ -138,7 +138,7 @@ impl<L: Run> Rows<L> {
         &mut self,
         stake: &mut Stake<L>,
         block: u64,
-        words: usize,
+        words: u32,
     ) -> Result<Ticket<L>, NoMemory>
         ensures ticket { IfOk result (λ t. t ≡ row (length self.old.rows + 1) block words) }
         ensures stake { IfOk result (λ t. (stake.new.agent ≡ stake.old.agent) × (stake.new.rows ≡ stake.old.rows ++ t ∷ [])) }

@@ -4,6 +4,8 @@ ghost use Rattle.std.specs.Prelude.{◌≡◌, ◌<◌, ◌≤◌, ◌+◌, [], 
 ghost use Rattle.es_event.specs.Rows.{held};
 ghost use Rattle.es_ticket.specs.Shares.{at, placed};
 
+mod extracting;
+
 use crate::{Opened, Rack, Rows, Run, Stake, Ticket};
 use es_value::{Id, NoMemory};
 use std::alloc::Global;

@@ -25,6 +25,13 @@ impl<L: Run> Model for Ticket<L> {
 }
 
 impl<L: Run> Ticket<L> {
+    /// What it names: its serial, and its block with its number of words.
+    pub fn row(&self) -> Row
+        ensures { result ≡ self.now }
+    {
+        self.row
+    }
+
     /// Its number among all tickets of the run, from 1.
     pub fn serial(&self) -> u64
         ensures { result ≡ self.now.serial }
@@ -40,7 +47,7 @@ impl<L: Run> Ticket<L> {
     }
 
     /// How many words of 32 bits its block has.
-    pub fn words(&self) -> usize
+    pub fn words(&self) -> u32
         ensures { result ≡ self.now.words }
     {
         self.row.words

@@ -1,0 +1,9 @@
+pub mod Buffered
+pub mod Cells
+pub mod Standing
+pub mod Steps
+pub mod Reached
+pub mod Unmarked
+pub mod Found
+pub mod Targets
+pub mod Counted

@@ -1,0 +1,86 @@
+-- What is due where an agent stands between two jobs, and at its closing.
+use Rattle.std.proofs.Common.{◌≡◌, ℕ, ◌+◌, ◌&&◌, not, nat_lt, nat_le, sym, ◌∙◌, ap, refl, subst, arith, List, [], ◌∷◌, Some, None, if◌then◌else◌}
+use Rattle.std.specs.Prelude.{slice_get}
+use Rattle.std.specs.Option.{option_and_then}
+use Rattle.es_event.specs.declared.command.Command.{Command}
+use Rattle.es_event.specs.declared.event.Event.TheVariants.{Closed}
+use Rattle.es_event.specs.declared.plan.AgentPlan.{AgentPlan}
+use Rattle.es_event.specs.History.{History}
+use Rattle.es_event.specs.Identities.{made, is_gone, kind}
+use Rattle.es_event.specs.Jobs.{Receivers, receivers, cleaning}
+use Rattle.es_event.specs.Order.{Due, clean, close, due, due_at, due_between, due_inside, due_after, queue, Phase, phase}
+use Rattle.es_event.specs.Sharing.{Buffers}
+use Rattle.es_event.specs.Follows.{Permits}
+use Rattle.es_event.specs.Registrations.{first_awaiting}
+use Rattle.es_event.proofs.Alive.{there_after}
+use Rattle.es_event.proofs.Coming.{comes}
+use Rattle.es_tables.proofs.Slots.{slots_same}
+use Rattle.es_cursor.proofs.Steps.{after_closed}
+use Rattle.es_cursor.specs.Due.{due_of}
+use Rattle.es_cursor.specs.declared.cursor.Cursor.{Cursor}
+use Rattle.es_cursor.specs.declared.cursor.Position.TheVariants.{Ended as EndPosition}
+use Rattle.es_tables.specs.Tags.{tag_of, tag_said}
+use Rattle.es_tables.specs.Tables.{State, Says}
+use Rattle.es_record.specs.Ties.{Ties}
+
+-- what is due by the phase
+
+pub due_where : (plan : AgentPlan) (h : History) (p : Phase) (d : Due) → phase h ≡ p → d ≡ due_at plan h p → d ≡ due plan h
+due_where plan h p d at is = is ∙ ap (due_at plan h) (sym at)
+
+none_queued : (q : List ℕ) → slice_get q 0 ≡ None → q ≡ []
+none_queued [] e = refl
+none_queued (r ∷ rs) e = cc
+
+pub no_cleanup_due : (plan : AgentPlan) (h : History) (q : List ℕ) → q ≡ queue h → slice_get q 0 ≡ None → due_between plan h [] ≡ due_between plan h (queue h)
+no_cleanup_due plan h q is none = ap (due_between plan h) (sym (none_queued q none) ∙ is)
+
+cleans_first : (plan : AgentPlan) (h : History) (q : List ℕ) (r : ℕ) → slice_get q 0 ≡ Some r → clean r ≡ due_between plan h q
+cleans_first plan h [] r e = cc
+cleans_first plan h (x ∷ xs) r e = cc
+
+pub cleanup_due : (plan : AgentPlan) (h : History) (q : List ℕ) (r : ℕ) → q ≡ queue h → slice_get q 0 ≡ Some r → clean r ≡ due_between plan h (queue h)
+cleanup_due plan h q r is first = cleans_first plan h q r first ∙ ap (due_between plan h) is
+
+-- in a job of the plan nothing is taken
+pub due_plain : (h : History) (cs : List Command) → cleaning h ≡ None → due_of cs ≡ due_inside h cs
+due_plain h [] none = sym (ap (λ o. due_after (option_and_then (first_awaiting h) o)) none)
+due_plain h (c ∷ cs) none = refl
+
+-- in a cleanup job, where no command is left
+pub due_cell : (h : History) (r : ℕ) → cleaning h ≡ Some r → due_after (first_awaiting h r) ≡ due_inside h []
+due_cell h r is = sym (ap (λ o. due_after (option_and_then (first_awaiting h) o)) is)
+
+-- the closing leaves the tables as they are
+
+under_closed : (h : History) (i : ℕ) → tag_said h i ≡ tag_said (Closed ∷ h) i
+under_closed h i =
+    let count : made h ≡ 0 + made h = omega arith in
+    ap (λ m. if (nat_lt 0 i && nat_le i m) && not (is_gone h i) then Some (tag_of (kind h i)) else None) count
+
+pub says_closed : (into : Receivers) (h : History) (s : State) → Says into h s → Says into (Closed ∷ h) s
+says_closed into h s says = record {
+  variables = says.variables;
+  properties = says.properties;
+  keys = says.keys;
+  objects = says.objects;
+  targets = says.targets;
+  kept = says.kept;
+  entries = says.entries;
+  members = says.members;
+  callbacks = says.callbacks;
+  cells = says.cells ∙ slots_same Closed h refl refl (λ n. refl);
+  queue = says.queue;
+  tags = λ i positive. says.tags i positive ∙ under_closed h i;
+  made = omega (arith, says.made);
+}
+
+pub ties_closed : (over : Buffers) (plan : AgentPlan) (h : History) (s : State) (c : Cursor) → Ties over plan h s c → due plan h ≡ close → Ties over plan (Closed ∷ h) s (record { job = c.job; position = EndPosition })
+ties_closed over plan h s c ties is = record {
+  legal = (tt, ties.legal);
+  follows = (subst (λ d. Permits over (receivers plan.jobs) h d Closed) (sym is) tt, ties.follows);
+  there = there_after over plan (Closed ∷ h) (tt, ties.legal) (subst (λ d. Permits over (receivers plan.jobs) h d Closed) (sym is) tt, ties.follows);
+  honest = ties.honest;
+  says = says_closed (receivers plan.jobs) h s ties.says;
+  stands = after_closed over (receivers plan.jobs) plan h c (comes over plan h Closed (subst (λ d. Permits over (receivers plan.jobs) h d Closed) (sym is) tt)) ties.stands;
+}

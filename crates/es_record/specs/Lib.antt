@@ -1,0 +1,6 @@
+pub mod Book
+pub mod Newest
+pub mod NextCell
+pub mod Tagged
+pub mod Ties
+pub mod Graph

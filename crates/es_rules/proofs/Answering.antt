@@ -1,0 +1,256 @@
+-- The events of what is answered come next.
+use Rattle.std.proofs.Common.{◌≡◌, ℕ, ◌+◌, ◌<◌, ◌^◌, Bool, true, false, sym, ◌∙◌, ap, refl, subst, arith, List, [], Option, Some, None, Ok, Err, eq-eqb, cond}
+use Rattle.std.specs.Prelude.{pos, nat_lt, is_some}
+use Rattle.std.specs.Option.{option_map}
+use Rattle.es_value.specs.declared.value.Value.{Value}
+use Rattle.es_value.specs.declared.value.Value.TheVariants.{Number, Object, Symbol}
+use Rattle.es_value.specs.Limits.{most_identities}
+use Rattle.es_event.specs.declared.command.Command.{Command}
+use Rattle.es_event.specs.declared.command.Command.TheVariants.{SharedArrayBuffer, Load, Store, Add, Post}
+use Rattle.es_event.specs.declared.event.Answer.{Answer}
+use Rattle.es_event.specs.declared.event.Answer.TheVariants.{Nothing, Gives}
+use Rattle.es_event.specs.declared.event.Event.TheVariants.{Received, Did, Refused, Skipped}
+use Rattle.es_event.specs.declared.event.Refusal.{Refusal}
+use Rattle.es_event.specs.declared.event.Refusal.TheVariants.{TooManyValues}
+use Rattle.es_event.specs.declared.row.Row.{Row}
+use Rattle.es_event.specs.Commands.{reads, first, makes, collects, opens_words}
+use Rattle.es_event.specs.History.{History}
+use Rattle.es_event.specs.Identities.{identity, object_of, made}
+use Rattle.es_event.specs.Jobs.{receivers}
+use Rattle.es_event.specs.Sharing.{Buffers, row_at}
+use Rattle.es_event.specs.Rules.{refusal, result, refuse_or, completion, number_of_word}
+use Rattle.es_event.specs.Legal.{values_of, word_in, HasWords, Arrives}
+use Rattle.es_event.specs.Order.{receive, run, due}
+use Rattle.es_event.specs.Follows.{HasRoom, Permits}
+use Rattle.es_event.proofs.Accepted.{accepted}
+use Rattle.es_event.proofs.Extending.{refuses_so}
+use Rattle.es_record.specs.Book.{Book, IsNext, with_buffer}
+use Rattle.es_rules.specs.Needs.{Request, for_block, for_post, for_buffer_post, for_load, for_store, for_add, posts_to, asked, unless_refused, request, Need, asks_ledger, asks_message, need_of, need, TakesTicket, TakesWord, TakesDone}
+use Rattle.es_rules.specs.Giving.{MayGive}
+use Rattle.es_rules.proofs.Needs.{ledger_due, ledger_command, message_due, not_refused}
+
+-- A command that asks for nothing
+
+-- where the word would be 0, it is the one that the answer has
+own_word : (over : Buffers) (h : History) (c : Command) (vs : List Value) (r : Answer) → completion over h c vs 0 ≡ Ok r → completion over h c vs (word_in r) ≡ Ok r
+own_word over h (Load to b i) vs r e =
+    let is = (accepted (refusal over h (Load to b i) vs) (Gives (number_of_word 0)) r e).1 in
+    ap (λ r. completion over h (Load to b i) vs (word_in r)) (sym is) ∙ e
+own_word over h (Add to b i n) vs r e =
+    let is = (accepted (refusal over h (Add to b i n) vs) (Gives (number_of_word 0)) r e).1 in
+    ap (λ r. completion over h (Add to b i n) vs (word_in r)) (sym is) ∙ e
+own_word over h _ vs r e = e
+
+none_asked : (f : Option Refusal) (n : ℕ) (a r : Answer) → unless_refused f (Some (for_block n)) ≡ None → refuse_or f a ≡ Ok r → ⊥
+none_asked None n a r e done = cc
+none_asked (Some code) n a r e done = cc
+
+no_words : (b : Book) (c : Command) (r : Answer) → request b c ≡ None → completion b.over b.history c (values_of (receivers b.plan.jobs) b.history (reads c)) 0 ≡ Ok r → HasWords b.over (made b.history + 1) (opens_words c)
+no_words b (SharedArrayBuffer to n) r none e = absurd (none_asked (refusal b.over b.history (SharedArrayBuffer to n) []) n (result b.over b.history (SharedArrayBuffer to n) [] 0) r none e)
+no_words b _ r none e = tt
+
+pub local_done : (b : Book) (c : Command) (vs : List Value) (r : Answer) → due b.plan b.history ≡ run c → collects c ≡ false → request b c ≡ None → vs ≡ values_of (receivers b.plan.jobs) b.history (reads c)
+    → completion b.over b.history c vs 0 ≡ Ok r → IsNext b (Did c vs r)
+local_done b c vs r is not_marks none said e = record {
+  lawful = (said, own_word b.over b.history c vs r e, not_marks, no_words b c r none (subst (λ vs. completion b.over b.history c vs 0 ≡ Ok r) said e));
+  permitted = subst (λ d. Permits b.over (receivers b.plan.jobs) b.history d (Did c vs r)) (sym is) refl;
+}
+
+pub local_refused : (b : Book) (c : Command) (vs : List Value) (code : Refusal) → due b.plan b.history ≡ run c → vs ≡ values_of (receivers b.plan.jobs) b.history (reads c)
+    → completion b.over b.history c vs 0 ≡ Err code → IsNext b (Refused code)
+local_refused b c vs code is said e = record {
+  lawful = tt;
+  permitted = subst (λ d. Permits b.over (receivers b.plan.jobs) b.history d (Refused code)) (sym is)
+      (subst (λ vs. refusal b.over b.history c vs ≡ Some code) said (refuses_so (refusal b.over b.history c vs) (result b.over b.history c vs 0) code e));
+}
+
+-- A word
+
+abbrev is_word : Request → Bool
+is_word (for_block n) = false
+is_word (for_post a v) = false
+is_word (for_buffer_post a o) = false
+is_word (for_load o i) = true
+is_word (for_store o i n) = false
+is_word (for_add o i n) = true
+
+abbrev is_done : Request → Bool
+is_done (for_block n) = false
+is_done (for_post a v) = true
+is_done (for_buffer_post a o) = true
+is_done (for_load o i) = false
+is_done (for_store o i n) = true
+is_done (for_add o i n) = false
+
+mapped_is : (test : Request → Bool) (f : ℕ → Request) (o : Option ℕ) (r : Request) (t : Bool) → ((i : ℕ) → test (f i) ≡ t) → option_map f o ≡ Some r → test r ≡ t
+mapped_is test f None r t each e = cc
+mapped_is test f (Some i) r t each e = let same : f i ≡ r = cc in ap test (sym same) ∙ each i
+
+some_is : (test : Request → Bool) (q r : Request) (t : Bool) → test q ≡ t → Some q ≡ Some r → test r ≡ t
+some_is test q r t is e = let same : q ≡ r = cc in ap test (sym same) ∙ is
+
+posts_no_word : (a : ℕ) (v : Value) → is_word (posts_to a v) ≡ false
+posts_no_word a (Object o) = refl
+posts_no_word a _ = refl
+
+posts_done : (a : ℕ) (v : Value) → is_done (posts_to a v) ≡ true
+posts_done a (Object o) = refl
+posts_done a _ = refl
+
+both_ways : (b : Bool) → b ≡ true → b ≡ false → ⊥
+both_ways b t f = let e : true ≡ false = sym t ∙ f in cc
+
+word_gives : (over : Buffers) (h : History) (c : Command) (vs : List Value) (r : Request) (w : ℕ) → asked c vs ≡ Some r → is_word r ≡ true → refusal over h c vs ≡ None → w < 2 ^ 32
+    → (completion over h c vs (word_in (Gives (Number (pos w)))) ≡ Ok (Gives (Number (pos w)))) × (opens_words c ≡ None)
+word_gives over h (Load to b i) vs r w is word none small = (ap (λ f. refuse_or f (Gives (number_of_word w))) none ∙ ap (λ n. Ok (Gives (Number (pos n)))) (omega (arith, small)), refl)
+word_gives over h (Add to b i n) vs r w is word none small = (ap (λ f. refuse_or f (Gives (number_of_word w))) none ∙ ap (λ n. Ok (Gives (Number (pos n)))) (omega (arith, small)), refl)
+word_gives over h (SharedArrayBuffer to n) vs r w is word none small = absurd (both_ways (is_word r) word (some_is is_word (for_block n) r false refl is))
+word_gives over h (Store b i n) vs r w is word none small = absurd (both_ways (is_word r) word (mapped_is is_word (λ o. for_store o _ _) (object_of (first vs)) r false (λ o. refl) is))
+word_gives over h (Post a y) vs r w is word none small = absurd (both_ways (is_word r) word (some_is is_word (posts_to a (first vs)) r false (posts_no_word a (first vs)) is))
+word_gives over h _ vs r w is word none small = cc
+
+done_gives : (over : Buffers) (h : History) (c : Command) (vs : List Value) (r : Request) → asked c vs ≡ Some r → is_done r ≡ true → refusal over h c vs ≡ None
+    → (completion over h c vs (word_in Nothing) ≡ Ok Nothing) × (opens_words c ≡ None)
+done_gives over h (Store b i n) vs r is done none = (ap (λ f. refuse_or f Nothing) none, refl)
+done_gives over h (Post a y) vs r is done none = (ap (λ f. refuse_or f Nothing) none, refl)
+done_gives over h (SharedArrayBuffer to n) vs r is done none = absurd (both_ways (is_done r) done (some_is is_done (for_block n) r false refl is))
+done_gives over h (Load to b i) vs r is done none = absurd (both_ways (is_done r) done (mapped_is is_done (λ o. for_load o _) (object_of (first vs)) r false (λ o. refl) is))
+done_gives over h (Add to b i n) vs r is done none = absurd (both_ways (is_done r) done (mapped_is is_done (λ o. for_add o _ _) (object_of (first vs)) r false (λ o. refl) is))
+done_gives over h _ vs r is done none = cc
+
+word_may : (b : Book) (w : ℕ) (r : Request) → need b ≡ asks_ledger r → is_word r ≡ true → w < 2 ^ 32 → MayGive b (Gives (Number (pos w)))
+word_may b w r is word small =
+    let at = ledger_due b (due b.plan b.history) r is in
+    let vs = values_of (receivers b.plan.jobs) b.history (reads at.0) in
+    let open' = not_refused (refusal b.over b.history at.0 vs) (asked at.0 vs) r at.3 in
+    let gives = word_gives b.over b.history at.0 vs r w open'.1 word open'.0 small in
+    record { command = at.0; is_due = at.1; gives = gives.0; no_collection = at.2; no_block = gives.1 }
+
+done_may : (b : Book) (r : Request) → need b ≡ asks_ledger r → is_done r ≡ true → MayGive b Nothing
+done_may b r is done =
+    let at = ledger_due b (due b.plan b.history) r is in
+    let vs = values_of (receivers b.plan.jobs) b.history (reads at.0) in
+    let open' = not_refused (refusal b.over b.history at.0 vs) (asked at.0 vs) r at.3 in
+    let gives = done_gives b.over b.history at.0 vs r open'.1 done open'.0 in
+    record { command = at.0; is_due = at.1; gives = gives.0; no_collection = at.2; no_block = gives.1 }
+
+word_at : (b : Book) (w : ℕ) (n : Need) → need b ≡ n → TakesWord n → w < 2 ^ 32 → MayGive b (Gives (Number (pos w)))
+word_at b w (asks_ledger (for_load o i)) is takes small = word_may b w (for_load o i) is refl small
+word_at b w (asks_ledger (for_add o i n)) is takes small = word_may b w (for_add o i n) is refl small
+word_at b w _ is takes small = absurd takes
+
+pub may_give_word : (b : Book) (w : ℕ) → TakesWord (need b) → w < 2 ^ 32 → MayGive b (Gives (Number (pos w)))
+may_give_word b w takes small = word_at b w (need b) refl takes small
+
+done_at : (b : Book) (n : Need) → need b ≡ n → TakesDone n → MayGive b Nothing
+done_at b (asks_ledger (for_post a v)) is takes = done_may b (for_post a v) is refl
+done_at b (asks_ledger (for_buffer_post a o)) is takes = done_may b (for_buffer_post a o) is refl
+done_at b (asks_ledger (for_store o i n)) is takes = done_may b (for_store o i n) is refl
+done_at b _ is takes = absurd takes
+
+pub may_give_nothing : (b : Book) → TakesDone (need b) → MayGive b Nothing
+may_give_nothing b takes = done_at b (need b) refl takes
+
+-- the due command done with an answer that it may give comes next
+pub done_next : (b : Book) (r : Answer) (c : Command) → MayGive b r → due b.plan b.history ≡ run c → IsNext b (Did c (values_of (receivers b.plan.jobs) b.history (reads c)) r)
+done_next b r c may is =
+    let same_due : run may.command ≡ run c = sym may.is_due ∙ is in
+    let same : may.command ≡ c = cc in
+    subst (λ c. IsNext b (Did c (values_of (receivers b.plan.jobs) b.history (reads c)) r)) same (record {
+      lawful = (refl, may.gives, may.no_collection, subst (λ o. HasWords b.over (made b.history + 1) o) (sym may.no_block) tt);
+      permitted = subst (λ d. Permits b.over (receivers b.plan.jobs) b.history d (Did may.command (values_of (receivers b.plan.jobs) b.history (reads may.command)) r)) (sym may.is_due) refl;
+    })
+
+-- A ticket
+
+abbrev is_block : Request → Bool
+is_block (for_block n) = true
+is_block (for_post a v) = false
+is_block (for_buffer_post a o) = false
+is_block (for_load o i) = false
+is_block (for_store o i n) = false
+is_block (for_add o i n) = false
+
+posts_no_block : (a : ℕ) (v : Value) → is_block (posts_to a v) ≡ false
+posts_no_block a (Object o) = refl
+posts_no_block a _ = refl
+
+-- a block is asked for by the command that makes a buffer object
+block_asked : (c : Command) (n : ℕ) (vs : List Value) → asked c vs ≡ Some (for_block n) → (to : List ℕ) × (c ≡ SharedArrayBuffer to n)
+block_asked (SharedArrayBuffer to m) n vs e = let same : m ≡ n = cc in (to, ap (λ n. SharedArrayBuffer to n) same)
+block_asked (Load to x i) n vs e = absurd (both_ways true refl (mapped_is is_block (λ o. for_load o _) (object_of (first vs)) (for_block n) false (λ o. refl) e))
+block_asked (Store x i m) n vs e = absurd (both_ways true refl (mapped_is is_block (λ o. for_store o _ _) (object_of (first vs)) (for_block n) false (λ o. refl) e))
+block_asked (Add to x i m) n vs e = absurd (both_ways true refl (mapped_is is_block (λ o. for_add o _ _) (object_of (first vs)) (for_block n) false (λ o. refl) e))
+block_asked (Post a y) n vs e = absurd (both_ways true refl (some_is is_block (posts_to a (first vs)) (for_block n) false (posts_no_block a (first vs)) e))
+block_asked _ n vs e = cc
+
+buffer_next : (b : Book) (to : List ℕ) (n : ℕ) (row : Row) → due b.plan b.history ≡ run (SharedArrayBuffer to n) → refusal b.over b.history (SharedArrayBuffer to n) [] ≡ None → row.words ≡ n
+    → IsNext (with_buffer row b) (Did (SharedArrayBuffer to n) [] (Gives (Object (made b.history + 1))))
+buffer_next b to n row is none words = record {
+  lawful = (refl, ap (λ f. refuse_or f (Gives (Object (made b.history + 1)))) none, refl, ap (λ t. option_map (λ r. r.words) (cond t (Some row) (row_at b.over (made b.history + 1)))) (eq-eqb (made b.history + 1) (made b.history + 1) refl) ∙ ap Some words);
+  permitted = subst (λ d. Permits (with_buffer row b).over (receivers b.plan.jobs) b.history d (Did (SharedArrayBuffer to n) [] (Gives (Object (made b.history + 1))))) (sym is) refl;
+}
+
+buffer_of : (b : Book) (c : Command) (n : ℕ) (row : Row) → due b.plan b.history ≡ run c → request b c ≡ Some (for_block n) → row.words ≡ n → IsNext (with_buffer row b) (Did c [] (Gives (Object (made b.history + 1))))
+buffer_of b c n row is asks words =
+    let vs = values_of (receivers b.plan.jobs) b.history (reads c) in
+    let open' = not_refused (refusal b.over b.history c vs) (asked c vs) (for_block n) asks in
+    let from = block_asked c n vs open'.1 in
+    subst (λ c. IsNext (with_buffer row b) (Did c [] (Gives (Object (made b.history + 1))))) (sym from.1)
+    (buffer_next b from.0 n row (subst (λ c. due b.plan b.history ≡ run c) from.1 is) (subst (λ c. refusal b.over b.history c (values_of (receivers b.plan.jobs) b.history (reads c)) ≡ None) from.1 open'.0) words)
+
+ticket_at : (b : Book) (c : Command) (row : Row) (n : Need) → need_of b (run c) ≡ n → TakesTicket n row → due b.plan b.history ≡ run c → IsNext (with_buffer row b) (Did c [] (Gives (Object (made b.history + 1))))
+ticket_at b c row (asks_ledger (for_block n)) asks takes is = buffer_of b c n row is (ledger_command b c (for_block n) asks).1 takes
+ticket_at b c row (asks_message s) asks takes is = let f = message_due b (run c) s asks in let g : run c ≡ receive f.0 s = f.1 in cc
+ticket_at b c row _ asks takes is = absurd takes
+
+-- the command that asked for the block, done with the new buffer object, comes next over a table that has it
+pub block_next : (b : Book) (c : Command) (row : Row) → TakesTicket (need b) row → due b.plan b.history ≡ run c → IsNext (with_buffer row b) (Did c [] (Gives (Object (made b.history + 1))))
+block_next b c row takes is = ticket_at b c row (need_of b (run c)) refl (subst (λ d. TakesTicket (need_of b d) row) is takes) is
+
+makes_at : (b : Book) (c : Command) (row : Row) (n : Need) → need_of b (run c) ≡ n → TakesTicket n row → makes c ≡ 1
+makes_at b c row (asks_ledger (for_block n)) asks takes =
+    let vs = values_of (receivers b.plan.jobs) b.history (reads c) in
+    let from = block_asked c n vs (not_refused (refusal b.over b.history c vs) (asked c vs) (for_block n) (ledger_command b c (for_block n) asks).1).1 in
+    subst (λ c. makes c ≡ 1) (sym from.1) refl
+makes_at b c row (asks_message s) asks takes = let f = message_due b (run c) s asks in let g : run c ≡ receive f.0 s = f.1 in cc
+makes_at b c row _ asks takes = absurd takes
+
+-- which makes one identity
+pub block_makes : (b : Book) (c : Command) (row : Row) → TakesTicket (need b) row → due b.plan b.history ≡ run c → makes c ≡ 1
+block_makes b c row takes is = makes_at b c row (need_of b (run c)) refl (subst (λ d. TakesTicket (need_of b d) row) is takes)
+
+-- and so does a receipt of a buffer object, where there is room
+pub buffer_received : (b : Book) (n s : ℕ) (row : Row) → due b.plan b.history ≡ receive n s → nat_lt (made b.history) most_identities ≡ true → IsNext (with_buffer row b) (Received s (Object (made b.history + 1)))
+buffer_received b n s row is room = record {
+  lawful = (refl, ap (λ t. is_some (cond t (Some row) (row_at b.over (made b.history + 1)))) (eq-eqb (made b.history + 1) (made b.history + 1) refl));
+  permitted = subst (λ d. Permits (with_buffer row b).over (receivers b.plan.jobs) b.history d (Received s (Object (made b.history + 1)))) (sym is) (refl, room);
+}
+
+-- Messages
+
+-- a value without an identity may be received
+plain_arrives : (over : Buffers) (h : History) (v : Value) → identity v ≡ None → Arrives over h v × HasRoom h (object_of v)
+plain_arrives over h (Object o) none = cc
+plain_arrives over h (Symbol i) none = cc
+plain_arrives over h _ none = (none, tt)
+
+pub value_received : (b : Book) (n s : ℕ) (v : Value) → due b.plan b.history ≡ receive n s → identity v ≡ None → IsNext b (Received s v)
+value_received b n s v is plain =
+    let arrives = plain_arrives b.over b.history v plain in
+    record {
+      lawful = arrives.0;
+      permitted = subst (λ d. Permits b.over (receivers b.plan.jobs) b.history d (Received s v)) (sym is) (refl, arrives.1);
+    }
+
+pub message_refused : (b : Book) (n s : ℕ) → due b.plan b.history ≡ receive n s → nat_lt (made b.history) most_identities ≡ false → IsNext b (Refused TooManyValues)
+message_refused b n s is full = record {
+  lawful = tt;
+  permitted = subst (λ d. Permits b.over (receivers b.plan.jobs) b.history d (Refused TooManyValues)) (sym is) (refl, full);
+}
+
+pub job_skipped : (b : Book) (n s : ℕ) → due b.plan b.history ≡ receive n s → IsNext b (Skipped n s)
+job_skipped b n s is = record {
+  lawful = tt;
+  permitted = subst (λ d. Permits b.over (receivers b.plan.jobs) b.history d (Skipped n s)) (sym is) (refl, refl);
+}

@@ -1,0 +1,4 @@
+pub mod Completion
+pub mod Needs
+pub mod Shown
+pub mod Giving

@@ -1,0 +1,141 @@
+-- To believe: what an agent asks for next, and what the ledger is asked for by a command.
+use Rattle.std.specs.Prelude.{ℕ, ◌≡◌, ⊤, List, [], Option, Some, None, unsigned_abs, if◌then◌else◌}
+use Rattle.std.specs.Option.{option_map}
+use Rattle.es_value.specs.declared.value.Value.{Value}
+use Rattle.es_value.specs.declared.value.Value.TheVariants.{Object}
+use Rattle.es_event.specs.declared.event.Answer.{Answer}
+use Rattle.es_event.specs.declared.event.Answer.TheVariants.{Gives}
+use Rattle.es_event.specs.declared.command.Command.{Command}
+use Rattle.es_event.specs.declared.command.Command.TheVariants.{SharedArrayBuffer, Load, Store, Add, Post}
+use Rattle.es_event.specs.declared.event.Event.{Event}
+use Rattle.es_event.specs.declared.event.Event.TheVariants.{Received, Did}
+use Rattle.es_event.specs.declared.event.Refusal.{Refusal}
+use Rattle.es_event.specs.declared.row.Row.{Row}
+use Rattle.es_event.specs.Commands.{reads, first, collects}
+use Rattle.es_event.specs.Identities.{object_of}
+use Rattle.es_event.specs.Jobs.{receivers}
+use Rattle.es_event.specs.Rules.{refusal}
+use Rattle.es_event.specs.Sharing.{to_uint32}
+use Rattle.es_event.specs.Legal.{values_of}
+use Rattle.es_event.specs.Order.{Due, begin, receive, run, clean, take_cell, end_job, close, nothing, due}
+use Rattle.es_record.specs.Book.{Book}
+
+-- what the ledger is asked for: a new block of so many words; to post to a receiver a value, or the block of a buffer object;
+-- to load the word at an index of a buffer object's block, or to store or add one there
+pub data Request : Type 0 where
+  for_block : ℕ → Request
+  for_post : ℕ → Value → Request
+  for_buffer_post : ℕ → ℕ → Request
+  for_load : ℕ → ℕ → Request
+  for_store : ℕ → ℕ → ℕ → Request
+  for_add : ℕ → ℕ → ℕ → Request
+
+abbrev pub posts_to : ℕ → Value → Request
+posts_to a (Object o) = for_buffer_post a o
+posts_to a v = for_post a v
+
+-- what a command asks for with these values; a number is stored and added modulo 2^32, and no other command asks for anything
+-- (SharedArrayBuffer ( length ), Atomics.load, store and add)
+abbrev pub asked : Command → List Value → Option Request
+asked (SharedArrayBuffer to n) vs = Some (for_block n)
+asked (Load to b i) vs = option_map (λ o. for_load o (unsigned_abs i)) (object_of (first vs))
+asked (Store b i n) vs = option_map (λ o. for_store o (unsigned_abs i) (to_uint32 n)) (object_of (first vs))
+asked (Add to b i n) vs = option_map (λ o. for_add o (unsigned_abs i) (to_uint32 n)) (object_of (first vs))
+asked (Post a y) vs = Some (posts_to a (first vs))
+asked _ vs = None
+
+-- a command that is refused asks for nothing
+abbrev pub unless_refused : Option Refusal → Option Request → Option Request
+unless_refused None r = r
+unless_refused (Some code) r = None
+
+abbrev pub request : Book → Command → Option Request
+request b c = unless_refused (refusal b.over b.history c (values_of (receivers b.plan.jobs) b.history (reads c))) (asked c (values_of (receivers b.plan.jobs) b.history (reads c)))
+
+-- what an agent asks for: nobody, for a step that it takes alone; the marks of what it reaches, to empty all else; the ledger;
+-- a message of a sender, or to skip the job that waits for it; its closing; or nothing, as it has closed
+pub data Need : Type 0 where
+  asks_nobody : Need
+  asks_marks : Need
+  asks_ledger : Request → Need
+  asks_message : ℕ → Need
+  asks_closing : Need
+  asks_nothing : Need
+
+abbrev pub ledger_or_nobody : Option Request → Need
+ledger_or_nobody None = asks_nobody
+ledger_or_nobody (Some r) = asks_ledger r
+
+-- what the agent asks for, where this is due
+abbrev pub need_of : Book → Due → Need
+need_of b (begin n) = asks_nobody
+need_of b (receive n s) = asks_message s
+need_of b (run c) = if collects c then asks_marks else ledger_or_nobody (request b c)
+need_of b (clean r) = asks_nobody
+need_of b (take_cell n) = asks_nobody
+need_of b end_job = asks_nobody
+need_of b close = asks_closing
+need_of b nothing = asks_nothing
+
+-- what the agent asks for next
+abbrev pub need : Book → Need
+need b = need_of b (due b.plan b.history)
+
+-- What answers it
+
+-- a ticket with this row does: of a block that was asked for, or of one that comes in a message
+abbrev pub TakesTicket : Need → Row → Type 0
+TakesTicket asks_nobody r = ⊥
+TakesTicket asks_marks r = ⊥
+TakesTicket (asks_ledger (for_block n)) r = r.words ≡ n
+TakesTicket (asks_ledger (for_post a v)) r = ⊥
+TakesTicket (asks_ledger (for_buffer_post a o)) r = ⊥
+TakesTicket (asks_ledger (for_load o i)) r = ⊥
+TakesTicket (asks_ledger (for_store o i n)) r = ⊥
+TakesTicket (asks_ledger (for_add o i n)) r = ⊥
+TakesTicket (asks_message s) r = ⊤
+TakesTicket asks_closing r = ⊥
+TakesTicket asks_nothing r = ⊥
+
+-- a word does: of a load or an add
+abbrev pub TakesWord : Need → Type 0
+TakesWord asks_nobody = ⊥
+TakesWord asks_marks = ⊥
+TakesWord (asks_ledger (for_block n)) = ⊥
+TakesWord (asks_ledger (for_post a v)) = ⊥
+TakesWord (asks_ledger (for_buffer_post a o)) = ⊥
+TakesWord (asks_ledger (for_load o i)) = ⊤
+TakesWord (asks_ledger (for_store o i n)) = ⊥
+TakesWord (asks_ledger (for_add o i n)) = ⊤
+TakesWord (asks_message s) = ⊥
+TakesWord asks_closing = ⊥
+TakesWord asks_nothing = ⊥
+
+-- that it was done does: of a store or a post
+abbrev pub TakesDone : Need → Type 0
+TakesDone asks_nobody = ⊥
+TakesDone asks_marks = ⊥
+TakesDone (asks_ledger (for_block n)) = ⊥
+TakesDone (asks_ledger (for_post a v)) = ⊤
+TakesDone (asks_ledger (for_buffer_post a o)) = ⊤
+TakesDone (asks_ledger (for_load o i)) = ⊥
+TakesDone (asks_ledger (for_store o i n)) = ⊤
+TakesDone (asks_ledger (for_add o i n)) = ⊥
+TakesDone (asks_message s) = ⊥
+TakesDone asks_closing = ⊥
+TakesDone asks_nothing = ⊥
+
+-- the event is the due command, done with this answer
+abbrev pub IsDone : Book → Answer → Event → Type 0
+IsDone b r e = (c : Command) × (due b.plan b.history ≡ run c) × (e ≡ Did c (values_of (receivers b.plan.jobs) b.history (reads c)) r)
+
+-- the event brings the object o: it is the answer of the due command, or a receipt
+abbrev pub Brings : Due → ℕ → Event → Type 0
+Brings (begin n) o e = ⊥
+Brings (receive n s) o e = e ≡ Received s (Object o)
+Brings (run c) o e = e ≡ Did c [] (Gives (Object o))
+Brings (clean r) o e = ⊥
+Brings (take_cell n) o e = ⊥
+Brings end_job o e = ⊥
+Brings close o e = ⊥
+Brings nothing o e = ⊥

@@ -1,0 +1,22 @@
+-- Internal: what is asked for, as the code has it.
+use Rattle.es_rules.specs.declared.need.Need.{Need}
+use Rattle.es_rules.specs.declared.need.Need.TheVariants.{Local, Collect, Ledger, Message, Close, Ended}
+use Rattle.es_rules.specs.declared.need.Request.{Request}
+use Rattle.es_rules.specs.declared.need.Request.TheVariants.{NewBlock, Post, PostBuffer, Load, Store, Add}
+use Rattle.es_rules.specs.Needs.{Request as RequestSaid, for_block, for_post, for_buffer_post, for_load, for_store, for_add, Need as NeedSaid, asks_nobody, asks_marks, asks_ledger, asks_message, asks_closing, asks_nothing}
+
+abbrev pub requested : Request → RequestSaid
+requested (NewBlock n) = for_block n
+requested (Post a v) = for_post a v.now
+requested (PostBuffer a o) = for_buffer_post a o
+requested (Load o i) = for_load o i
+requested (Store o i n) = for_store o i n
+requested (Add o i n) = for_add o i n
+
+abbrev pub shown : Need → NeedSaid
+shown Local = asks_nobody
+shown Collect = asks_marks
+shown (Ledger r) = asks_ledger (requested r)
+shown (Message s) = asks_message s
+shown Close = asks_closing
+shown Ended = asks_nothing

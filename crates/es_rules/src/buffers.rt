@@ -1,0 +1,166 @@
+//! What the commands on shared buffers and on messages come to.
+
+ghost use Rattle.std.specs.Prelude.{◌≡◌, ◌+◌, ◌∷◌, [], false, true, Some, None, pos, IfOk, IfErr, unsigned_abs, nat_lt, ◌==◌, if◌then◌else◌};
+ghost use Rattle.std.specs.Option.{option_map_or};
+ghost use Rattle.es_value.specs.Limits.{most_blocks, most_posts};
+ghost use Rattle.es_event.specs.Identities.{gone, has_identity_in, object_of, made};
+ghost use Rattle.es_event.specs.Sharing.{blocks_opened, messages_posted, row_at, words_of, block_of, is_index};
+ghost use Rattle.es_event.specs.Rules.{refuse_or, first_refusal, room, room_for_block, room_for_post, of_buffer, of_index, of_postable, is_postable, number_of_word};
+ghost use Rattle.es_rules.specs.Completion.{Completes};
+
+use crate::decide::fresh;
+use crate::stop::Stop;
+use es_event::{Answer, Refusal};
+use es_record::AgentRecord;
+use es_tables::Tag;
+use es_value::{Id, MOST_BLOCKS, MOST_POSTS, Value};
+
+/// The buffer object that the value is (ValidateIntegerTypedArray).
+fn buffer_in(agent: &AgentRecord, value: &Value) -> Result<Id, Refusal>
+    requires there { has_identity_in (gone agent.now.history) value.now ≡ false }
+    ensures ok { IfOk result (λ o. (object_of value.now ≡ Some o) × ((of_buffer agent.now.history value.now).0 ≡ true)) }
+    ensures err { IfErr result (λ code. (code ≡ Refusal.NotASharedArrayBuffer) × ((of_buffer agent.now.history value.now).0 ≡ false)) }
+{
+    agent.tagged(
+        value,
+        Tag::SharedArrayBuffer,
+        Refusal::NotASharedArrayBuffer,
+    )
+}
+
+/// How many words the block of a buffer object has.
+fn words(agent: &AgentRecord, buffer: Id) -> u32
+    ensures { result ≡ option_map_or (λ r. r.words) (row_at agent.now.over buffer) 0 }
+{
+    match agent.row(buffer) {
+        Some(row) => row.words,
+        None => 0,
+    }
+}
+
+/// The block of a buffer object, by its number.
+fn block(agent: &AgentRecord, buffer: Id) -> u64
+    ensures { result ≡ option_map_or (λ r. r.block) (row_at agent.now.over buffer) 0 }
+{
+    match agent.row(buffer) {
+        Some(row) => row.block,
+        None => 0,
+    }
+}
+
+/// The index, where a block of so many words has a word there.
+fn index_below(index: i64, words: u32) -> Option<usize>
+    ensures { result ≡ (if is_index index words then Some (unsigned_abs index) else None) }
+{
+    if index < 0 {
+        return None;
+    }
+    let place = index.unsigned_abs();
+    if place < u64::from(words) {
+        Some(place as usize)
+    } else {
+        None
+    }
+}
+
+/// The buffer object and the index of a word (ValidateAtomicAccess).
+pub(crate) fn place(agent: &AgentRecord, value: &Value, index: i64) -> Result<(Id, usize), Refusal>
+    requires there { has_identity_in (gone agent.now.history) value.now ≡ false }
+    ensures ok { IfOk result (λ p. (first_refusal (of_buffer agent.now.history value.now ∷ of_index agent.now.over value.now index ∷ []) ≡ None) × (object_of value.now ≡ Some p.0) × (p.1 ≡ unsigned_abs index)) }
+    ensures err { IfErr result (λ code. first_refusal (of_buffer agent.now.history value.now ∷ of_index agent.now.over value.now index ∷ []) ≡ Some code) }
+{
+    let buffer = buffer_in(agent, value)?;
+    match index_below(index, words(agent, buffer)) {
+        Some(index) => Ok((buffer, index)),
+        None => Err(Refusal::IndexOutOfRange),
+    }
+}
+
+/// Refuses one block more than an agent opens.
+pub(crate) fn may_open(agent: &AgentRecord) -> Result<(), Refusal>
+    ensures ok { IfOk result (λ _. nat_lt (blocks_opened agent.now.history) most_blocks ≡ true) }
+    ensures err { IfErr result (λ code. (code ≡ Refusal.TooManyBlocks) × (nat_lt (blocks_opened agent.now.history) most_blocks ≡ false)) }
+{
+    if agent.blocks_opened() < MOST_BLOCKS {
+        Ok(())
+    } else {
+        Err(Refusal::TooManyBlocks)
+    }
+}
+
+/// Refuses one message more than an agent posts.
+pub(crate) fn may_post(agent: &AgentRecord) -> Result<(), Refusal>
+    ensures ok { IfOk result (λ _. nat_lt (messages_posted agent.now.history) most_posts ≡ true) }
+    ensures err { IfErr result (λ code. (code ≡ Refusal.TooManyPosts) × (nat_lt (messages_posted agent.now.history) most_posts ≡ false)) }
+{
+    if agent.messages_posted() < MOST_POSTS {
+        Ok(())
+    } else {
+        Err(Refusal::TooManyPosts)
+    }
+}
+
+/// Refuses what no message carries.
+pub(crate) fn postable(agent: &AgentRecord, value: &Value) -> Result<(), Refusal>
+    requires there { has_identity_in (gone agent.now.history) value.now ≡ false }
+    ensures ok { IfOk result (λ _. is_postable agent.now.history value.now ≡ true) }
+    ensures err { IfErr result (λ code. (code ≡ Refusal.NotPostable) × (is_postable agent.now.history value.now ≡ false)) }
+{
+    if value.identity().is_none() || buffer_in(agent, value).is_ok() {
+        Ok(())
+    } else {
+        Err(Refusal::NotPostable)
+    }
+}
+
+pub(crate) fn new_buffer(agent: &AgentRecord) -> Result<Answer, Stop>
+    ensures { Completes (refuse_or (first_refusal (room agent.now.history ∷ room_for_block agent.now.history ∷ [])) (Answer.Gives (Value.Object (made agent.now.history + 1)))) result }
+{
+    let object = fresh(agent)?;
+    may_open(agent)?;
+    Ok(Answer::Gives(Value::Object(object)))
+}
+
+pub(crate) fn length(agent: &AgentRecord, buffer: &Value) -> Result<Answer, Stop>
+    requires there { has_identity_in (gone agent.now.history) buffer.now ≡ false }
+    ensures { Completes (refuse_or (first_refusal (of_buffer agent.now.history buffer.now ∷ [])) (Answer.Gives (Value.Number (pos (words_of agent.now.over buffer.now))))) result }
+{
+    let words = words(agent, buffer_in(agent, buffer)?);
+    Ok(Answer::Gives(Value::Number(i64::from(words))))
+}
+
+pub(crate) fn same_block(agent: &AgentRecord, left: &Value, right: &Value) -> Result<Answer, Stop>
+    requires left { has_identity_in (gone agent.now.history) left.now ≡ false }
+    requires right { has_identity_in (gone agent.now.history) right.now ≡ false }
+    ensures { Completes (refuse_or (first_refusal (of_buffer agent.now.history left.now ∷ of_buffer agent.now.history right.now ∷ [])) (Answer.Gives (Value.Boolean (block_of agent.now.over left.now == block_of agent.now.over right.now)))) result }
+{
+    let left = block(agent, buffer_in(agent, left)?);
+    let right = block(agent, buffer_in(agent, right)?);
+    Ok(Answer::Gives(Value::Boolean(left == right)))
+}
+
+/// What a load or an add comes to, were the word 0.
+pub(crate) fn word(agent: &AgentRecord, buffer: &Value, index: i64) -> Result<Answer, Stop>
+    requires there { has_identity_in (gone agent.now.history) buffer.now ≡ false }
+    ensures { Completes (refuse_or (first_refusal (of_buffer agent.now.history buffer.now ∷ of_index agent.now.over buffer.now index ∷ [])) (Answer.Gives (number_of_word 0))) result }
+{
+    place(agent, buffer, index)?;
+    Ok(Answer::Gives(Value::Number(0)))
+}
+
+pub(crate) fn store(agent: &AgentRecord, buffer: &Value, index: i64) -> Result<Answer, Stop>
+    requires there { has_identity_in (gone agent.now.history) buffer.now ≡ false }
+    ensures { Completes (refuse_or (first_refusal (of_buffer agent.now.history buffer.now ∷ of_index agent.now.over buffer.now index ∷ [])) Answer.Nothing) result }
+{
+    place(agent, buffer, index)?;
+    Ok(Answer::Nothing)
+}
+
+pub(crate) fn post(agent: &AgentRecord, value: &Value) -> Result<Answer, Stop>
+    requires there { has_identity_in (gone agent.now.history) value.now ≡ false }
+    ensures { Completes (refuse_or (first_refusal (of_postable agent.now.history value.now ∷ room_for_post agent.now.history ∷ [])) Answer.Nothing) result }
+{
+    postable(agent, value)?;
+    may_post(agent)?;
+    Ok(Answer::Nothing)
+}

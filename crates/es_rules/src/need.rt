@@ -1,0 +1,107 @@
+//! What an agent asks its caller for.
+
+ghost use Rattle.std.specs.Prelude.{◌≡◌};
+ghost use Rattle.std.specs.Option.{option_map};
+ghost use Rattle.es_rules.specs.Needs.{need, request};
+ghost use Rattle.es_rules.specs.Shown.{requested, shown};
+
+use crate::requests::{add_request, block_request, load_request, post_request, store_request};
+use es_cursor::Due;
+use es_event::Command;
+use es_record::AgentRecord;
+use es_value::{Id, Value};
+
+/// What the ledger is asked for. Its answer goes back to the agent that asked.
+#[derive(Clone, Copy, Debug)]
+pub enum Request<'a> {
+    /// A new block of so many words of 32 bits, and its first ticket (SharedArrayBuffer ( length )).
+    NewBlock {
+        words: u32,
+    },
+    /// To post a value that has no identity to another agent.
+    Post {
+        receiver: usize,
+        value: &'a Value,
+    },
+    /// To post the block of a buffer object to another agent, with a ticket of the message's own.
+    PostBuffer {
+        receiver: usize,
+        buffer: Id,
+    },
+    /// The word at an index of a buffer object's block (Atomics.load).
+    Load {
+        buffer: Id,
+        index: usize,
+    },
+    /// To write a word there (Atomics.store).
+    Store {
+        buffer: Id,
+        index: usize,
+        word: u32,
+    },
+    /// To add a word to the one there, modulo 2^32, and to have the one that was there (Atomics.add).
+    Add {
+        buffer: Id,
+        index: usize,
+        addend: u32,
+    },
+}
+
+/// What an agent asks for next.
+#[derive(Clone, Copy, Debug)]
+pub enum Need<'a> {
+    /// A step that asks nobody else: a job's beginning or end, a cell's taking, or a command. One that
+    /// will be refused is among them.
+    Local,
+    /// The marks of what it reaches: its next command empties all else.
+    Collect,
+    /// What the ledger answers to its next command, which no rule refuses.
+    Ledger(Request<'a>),
+    /// The message of this agent that its next job waits for, or to skip that job.
+    Message(usize),
+    /// Its closing: all jobs of its plan are done.
+    Close,
+    /// Nothing: it has closed.
+    Ended,
+}
+
+/// What the agent asks for next.
+pub fn asks(agent: &AgentRecord) -> Need<'_>
+    ensures { shown result ≡ need agent.now }
+{
+    match agent.due() {
+        Due::Run(Command::Collect) => Need::Collect,
+        Due::Run(command) => match request_of(agent, command) {
+            Some(request) => Need::Ledger(request),
+            None => Need::Local,
+        },
+        Due::Receive { sender, .. } => Need::Message(sender),
+        Due::Begin(_) | Due::Clean(_) | Due::Take(_) | Due::EndJob => Need::Local,
+        Due::Close => Need::Close,
+        Due::Nothing => Need::Ended,
+    }
+}
+
+/// What the command asks the ledger for, unless a rule refuses it.
+fn request_of<'a>(agent: &'a AgentRecord, command: &Command) -> Option<Request<'a>>
+    ensures { option_map requested result ≡ request agent.now command.now }
+{
+    match command {
+        Command::SharedArrayBuffer { words, .. } => block_request(agent, *words),
+        Command::Load { buffer, index, .. } => load_request(agent, buffer, *index),
+        Command::Store {
+            buffer,
+            index,
+            number,
+        } => store_request(agent, buffer, *index, *number),
+        Command::Add {
+            buffer,
+            index,
+            number,
+            ..
+        } => add_request(agent, buffer, *index, *number),
+        Command::Post { receiver, from } => post_request(agent, *receiver, from),
+        // no other command asks the ledger
+        _ => None,
+    }
+}
