@@ -67,11 +67,19 @@ local_stays b _ asked next is = cc
 
 -- Its tickets
 
-abbrev still : History → ℕ × Row → Bool
+abbrev pub still : History → ℕ × Row → Bool
 still h t = not (is_gone h t.0)
 
-opened : (h : History) (over : Buffers) → is_ended (phase h) ≡ false → cond (is_ended (phase h)) [] (filter (still h) (reverse over)) ≡ filter (still h) (reverse over)
+pub opened : (h : History) (over : Buffers) → is_ended (phase h) ≡ false → cond (is_ended (phase h)) [] (filter (still h) (reverse over)) ≡ filter (still h) (reverse over)
 opened h over is = ap (λ b. cond b [] (filter (still h) (reverse over))) is
+
+-- an agent without buffer objects has none
+pub no_tickets : (b : Book) → b.over ≡ [] → tickets b ≡ []
+no_tickets b bare = of_closed (is_ended (phase b.history))
+  where
+    of_closed : (c : Bool) → cond c [] (filter (still b.history) (reverse b.over)) ≡ []
+    of_closed true = refl
+    of_closed false = ap (λ over. filter (still b.history) (reverse over)) bare
 
 same_gone : (h : History) (e : Event) → IsQuiet e → gone (e ∷ h) ≡ gone h
 same_gone h e quiet = ap (λ ids. ids ++ gone h) (quiet_empties e quiet)
@@ -86,11 +94,11 @@ kept_tickets b e next quiet other =
 
 -- Those of what is emptied come out
 
-in_both : (ids more : List ℕ) (i : ℕ) → not (is_in (ids ++ more) i) ≡ (not (is_in ids i) && not (is_in more i))
+pub in_both : (ids more : List ℕ) (i : ℕ) → not (is_in (ids ++ more) i) ≡ (not (is_in ids i) && not (is_in more i))
 in_both [] more i = refl
 in_both (j ∷ ids) more i = let rest = in_both ids more i in grind (arith, nat_tests, rest)
 
-filtered_twice : {X : Type 0} (p q : X → Bool) (xs : List X) → filter (λ x. p x && q x) xs ≡ filter p (filter q xs)
+pub filtered_twice : {X : Type 0} (p q : X → Bool) (xs : List X) → filter (λ x. p x && q x) xs ≡ filter p (filter q xs)
 filtered_twice p q [] = refl
 filtered_twice p q (x ∷ xs) = of_tests (p x) (q x) refl (filtered_twice p q xs)
   where

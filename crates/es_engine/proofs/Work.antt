@@ -160,19 +160,6 @@ due_alone b nothing command message e = e
 pub asks_none : (b : Book) (n : Need) → stays_alone b.plan ≡ true → IsRun b.plan b.history → n ≡ need_of b (due b.plan b.history) → asks_others n → ⊥
 asks_none b n alone past is e = due_alone b (due b.plan b.history) (due_local past.0 b.plan b.history alone past.2) (due_no_message b.plan b.history alone) (subst asks_others is e)
 
--- An agent without buffer objects has no ticket
-
-pub no_tickets : (b : Book) → b.over ≡ [] → tickets b ≡ []
-no_tickets b none = ap (λ over. cond (is_ended (phase b.history)) [] (filter (λ t. not (is_gone b.history t.0)) (reverse over))) none ∙ either (is_ended (phase b.history))
-  where
-    either : (k : Bool) → ◌≡◌ {A = List (ℕ × Row)} (cond k [] []) []
-    either true = refl
-    either false = refl
-
--- and none once it has closed
-pub closed_tickets : (b : Book) → phase b.history ≡ ended → tickets b ≡ []
-closed_tickets b is = ap (λ p. cond (is_ended p) [] (filter (λ t. not (is_gone b.history t.0)) (reverse b.over))) is
-
 -- A step leaves less
 
 pub less_cleaning : (old new : Book) → callbacks_collect_nothing old.plan ≡ true → IsRun old.plan old.history → is_cleaning_up old.history ≡ true → RecordsNext old new

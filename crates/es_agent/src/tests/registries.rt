@@ -1,7 +1,7 @@
 //! FinalizationRegistries and their cleanup jobs, driven through an agent's calls.
 
-use crate::AgentCore;
-use crate::tests::{command, job, name, run_and_say};
+use crate::tests::plans::{command, job, name};
+use crate::tests::run_in;
 use es_event::{AgentPlan, Callback, Sequence};
 use es_registry::Tally;
 use std::io::Write;
@@ -35,11 +35,7 @@ pub(super) fn said_by<R: Abort + AllocGlobal>(
     second: &[&[&str]],
 ) -> Result<Vec<u8>, Fail> {
     let plan = plan_of(rt, callback, first, second)?;
-    let mut core = AgentCore::new(rt.alloc(), plan, 0, 1)?;
-    let said = run_and_say(rt.alloc(), &mut core);
-    let tally = core.tally();
-    drop(core);
-    let mut text = said?;
+    let (mut text, tally) = run_in(rt.alloc(), plan)?;
     say_tally(&tally, &mut text)?;
     Ok(text)
 }

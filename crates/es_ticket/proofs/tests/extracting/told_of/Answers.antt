@@ -4,7 +4,7 @@ use Rattle.es_ticket.proofs.tests.extracting.told_of.Goals as goal
 
 pub spend_all-out-requires : goal.spend_all-out-requires
 spend_all-out-requires g c =
-    let parts = owned_parts c.args.stake.now.rows c.args.ids.now c.requires.owns c.in-Ok.ensures.ok c.in-Ok.ensures.rest in
+    let parts = owned_parts c.args.stake.now.rows c.args.ids.now c.requires.owns c.extract-taken.ensures.taken c.extract-taken.ensures.rest in
     record {
       owns = λ p. (let a = parts.owned p in omega (arith, a));
       few = (let a = parts.long in let b = c.requires.few in omega (arith, a, b));
@@ -12,7 +12,7 @@ spend_all-out-requires g c =
 
 pub spend_all-requires : goal.spend_all-requires
 spend_all-requires g c =
-    let parts = owned_parts c.args.stake.now.rows c.args.ids.now c.requires.owns c.in-Ok.ensures.ok c.in-Ok.ensures.rest in
+    let parts = owned_parts c.args.stake.now.rows c.args.ids.now c.requires.owns c.extract-taken.ensures.taken c.extract-taken.ensures.rest in
     record {
       owns = λ p. (let a = parts.owned p in let b = c.spend_all-out.ensures.spent p in omega (arith, a, b));
       few = (let a = parts.long in let b = c.requires.few in omega (arith, a, b));

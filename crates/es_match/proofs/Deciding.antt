@@ -1,0 +1,147 @@
+-- What the parts of a ledger's history decide.
+use Rattle.std.proofs.Common.{◌≡◌, ◌↔◌, ℕ, ◌<◌, ◌≤◌, Bool, true, false, true≢false, ◌||◌, ◌==◌, not, List, [], ◌∷◌, ◌++◌, length, slice_index_or, Some, None, refl, sym, ◌∙◌, ap, subst, arith, eq-eqb, eqb-true, nat_lt, Result, Ok, Err, IfOk}
+use Rattle.std.specs.Prelude.{reverse, map}
+use Rattle.std.proofs.lemmas.List.{reverse-reverse}
+use Rattle.std.proofs.Math.ListN.{get_or-map}
+use Rattle.std.proofs.lemmas.Bool.Decides.{nat_tests}
+use Rattle.es_event.specs.declared.event.Event.{Event}
+use Rattle.es_event.specs.History.{History}
+use Rattle.es_event.specs.Ledger.{Ledger}
+use Rattle.es_match.specs.declared.deed.Deed.{Deed}
+use Rattle.es_match.specs.Deeds.{Deed as DeedSaid, Owned, deed, part, part_of, is_wait}
+use Rattle.es_match.specs.Meets.{Tickets}
+use Rattle.es_match.specs.Cluster.{Ties, IsCluster, history_of, patient, drained_last, drained, is_patient, is_nobodys}
+use Rattle.es_match.specs.Goes.{goes}
+use Rattle.es_match.specs.Orderly.{is_known, may_come, orderly}
+use Rattle.es_match.specs.Split.{AllGo, IsSplit, part_at}
+use Rattle.es_match.proofs.Bridge.{both, goes_means_ties, ties_mean_goes}
+use Rattle.es_match.proofs.Splitting.{past}
+
+-- From the order
+
+pub order_patient : (n : ℕ) (l : Ledger) → orderly n l ≡ true → patient l ≡ true
+order_patient n [] e = refl
+order_patient n (x ∷ l) e =
+    let b = both (may_come n l (deed l x)) (orderly n l) e in
+    let here : is_patient l (deed l x) ≡ true = (both _ _ b.0).0 in
+    rw here (order_patient n l b.1)
+
+pub order_drains : (n : ℕ) (l : Ledger) → orderly n l ≡ true → drained_last l ≡ true
+order_drains n [] e = refl
+order_drains n (x ∷ l) e =
+    let b = both (may_come n l (deed l x)) (orderly n l) e in
+    let here : (is_nobodys (deed l x) || not (drained l)) ≡ true = (both _ _ (both _ _ b.0).1).0 in
+    rw here (order_drains n l b.1)
+
+unknown : (n a : ℕ) (o : Owned) → n ≤ a → is_known n o ≡ true → part_of a o ≡ []
+unknown n a None far e = refl
+unknown n a (Some (b, d)) far e = case-of (b == a) (is_wait d) refl refl
+  where
+    case-of : (s w : Bool) → (b == a) ≡ s → is_wait d ≡ w → part_of a (Some (b, d)) ≡ []
+    case-of false w other is = rw other refl
+    case-of true true same is = rw same (rw is refl)
+    case-of true false same is =
+        let here : b ≡ a = eqb-true b a same in
+        let near : nat_lt b n ≡ true = rw is at e in
+        absurd (let lt : b < n = grind (arith, nat_tests) in omega arith)
+
+-- an agent that is not there has no part
+pub strangers : (n : ℕ) (l : Ledger) → orderly n l ≡ true → (a : ℕ) → n ≤ a → part l a ≡ []
+strangers n [] e a far = refl
+strangers n (x ∷ l) e a far =
+    let b = both (may_come n l (deed l x)) (orderly n l) e in
+    let known_here : is_known n (deed l x) ≡ true = (both _ _ (both _ _ b.0).1).1 in
+    rw (strangers n l b.1 a far) (unknown n a (deed l x) far known_here)
+
+-- To the order
+
+none_left : {A : Type 0} (xs ys : List A) → xs ++ ys ≡ [] → (xs ≡ []) × (ys ≡ [])
+none_left [] ys e = (refl, e)
+none_left (x ∷ xs) ys e = absurd (cc)
+
+-- a deed of which no agent from n on has a part
+known : (n : ℕ) (o : Owned) → ((a : ℕ) → n ≤ a → part_of a o ≡ []) → is_known n o ≡ true
+known n None e = refl
+known n (Some (a, d)) e = case-of (is_wait d) (nat_lt a n) refl refl
+  where
+    case-of : (w b : Bool) → is_wait d ≡ w → nat_lt a n ≡ b → (is_wait d || nat_lt a n) ≡ true
+    case-of true b is lt = rw is refl
+    case-of false true is lt = rw is lt
+    case-of false false is lt =
+        let far : n ≤ a = grind (arith, nat_tests) in
+        let same : (a == a) ≡ true = eq-eqb a a refl in
+        let mine : part_of a (Some (a, d)) ≡ d ∷ [] = rw same (rw is refl) in
+        absurd (let none : d ∷ [] ≡ [] = sym mine ∙ e a far in cc)
+
+pub orders : (n : ℕ) (l : Ledger) → patient l ≡ true → drained_last l ≡ true → ((a : ℕ) → n ≤ a → part l a ≡ [])
+    → orderly n l ≡ true
+orders n [] p d none = refl
+orders n (x ∷ l) p d none =
+    let p2 = both (is_patient l (deed l x)) (patient l) p in
+    let d2 = both (is_nobodys (deed l x) || not (drained l)) (drained_last l) d in
+    let k = known n (deed l x) (λ a far. (none_left (part l a) (part_of a (deed l x)) (none a far)).1) in
+    rw (p2.0) (rw (d2.0) (rw k (orders n l p2.1 d2.1 (λ a far. (none_left (part l a) (part_of a (deed l x)) (none a far)).0))))
+
+-- The whole
+
+history_said : (hs : List (List Event)) (a : ℕ) → history_of (map reverse hs) a ≡ reverse (slice_index_or hs a [])
+history_said hs a = get_or-map reverse hs a []
+
+all : (hs : List (List Event)) (l : Ledger) (ps : List (List Deed)) → IsSplit (length hs) l ps → AllGo hs ps
+    → (a : ℕ) → goes true [] (slice_index_or hs a []) (part_at ps a) ≡ true
+all hs l ps s go a = case-of (nat_lt a (length hs)) refl
+  where
+    case-of : (b : Bool) → nat_lt a (length hs) ≡ b → goes true [] (slice_index_or hs a []) (part_at ps a) ≡ true
+    case-of true is = go a (grind (arith, nat_tests))
+    case-of false is =
+        let far : length hs ≤ a = grind (arith, nat_tests) in
+        let n = s.size in
+        let off : length ps ≤ a = omega arith in
+        rw (past hs a [] far) (rw (past ps a [] off) refl)
+
+pub makes_cluster : (hs : List (List Event)) (l : Ledger) (ps : List (List Deed)) → IsSplit (length hs) l ps → AllGo hs ps
+    → IsCluster (map reverse hs) l
+makes_cluster hs l ps s go = record {
+  parts = λ a.
+      let here = subst (λ (h : List Event). goes true [] h (part_at ps a) ≡ true)
+      (sym (reverse-reverse (slice_index_or hs a []))) (all hs l ps s go a) in
+      let tied = goes_means_ties (reverse (slice_index_or hs a [])) (part_at ps a) here in (
+        tied.0,
+        subst (λ (h : History). Ties h (part l a) tied.0) (sym (history_said hs a))
+            (subst (λ (p : List DeedSaid). Ties (reverse (slice_index_or hs a [])) p tied.0) (s.parts a) tied.1),
+      );
+  waits = order_patient (length hs) l s.order;
+  drains = order_drains (length hs) l s.order;
+}
+
+went : (hs : List (List Event)) (l : Ledger) → IsCluster (map reverse hs) l → (a : ℕ)
+    → goes true [] (slice_index_or hs a []) (part l a) ≡ true
+went hs l c a =
+    ap (λ h. goes true [] h (part l a)) (sym (reverse-reverse (slice_index_or hs a [])) ∙ ap reverse (sym (history_said hs a)))
+    ∙ ties_mean_goes (history_of (map reverse hs) a) (part l a) (c.parts a).0 (c.parts a).1
+
+pub cluster_goes : (hs : List (List Event)) (l : Ledger) (ps : List (List Deed)) → IsSplit (length hs) l ps
+    → IsCluster (map reverse hs) l → AllGo hs ps
+cluster_goes hs l ps s c a near = ap (goes true [] (slice_index_or hs a [])) (s.parts a) ∙ went hs l c a
+
+no_deeds : (h : History) (ds : List DeedSaid) (t : Tickets) → h ≡ [] → Ties h ds t → ds ≡ []
+no_deeds [] ds t e ties = ties.0
+no_deeds (x ∷ h) ds t e ties = absurd (cc)
+
+pub cluster_orders : (hs : List (List Event)) (l : Ledger) → IsCluster (map reverse hs) l → orderly (length hs) l ≡ true
+cluster_orders hs l c = orders (length hs) l c.waits c.drains
+    (λ a far. no_deeds (history_of (map reverse hs) a) (part l a) (c.parts a).0 (history_said hs a
+    ∙ ap reverse (past hs a [] far)) (c.parts a).1)
+
+-- what each history's way decides
+pub decided : {E : Type 0} (r : Result Bool E) (hs : List (List Event)) (l : Ledger) (ps qs : List (List Deed))
+    → IsSplit (length hs) l ps → qs ≡ ps
+    → IfOk r (λ b. (b ≡ true) ↔ AllGo hs qs) → IfOk r (λ b. (b ≡ true) ↔ IsCluster (map reverse hs) l)
+decided (Err e) hs l ps qs s same told = tt
+decided (Ok b) hs l ps qs s same told = (
+  (λ yes. makes_cluster hs l ps s (subst (λ (p : List (List Deed)). AllGo hs p) same (told.0 yes))),
+  (λ c. told.1 (subst (λ (p : List (List Deed)). AllGo hs p) (sym same) (cluster_goes hs l ps s c))),
+)
+
+pub refuted : (hs : List (List Event)) (l : Ledger) → orderly (length hs) l ≡ false → (false ≡ true) ↔ IsCluster (map reverse hs) l
+refuted hs l e = ((λ no. absurd (true≢false (sym no))), (λ c. absurd (true≢false (sym (cluster_orders hs l c) ∙ e))))

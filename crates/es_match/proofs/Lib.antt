@@ -1,0 +1,11 @@
+pub mod Bridge
+pub mod Counting
+pub mod Deciding
+pub mod ExampleCluster
+mod ExampleNeighbours
+pub mod Examples
+pub mod Lists
+pub mod Noted
+pub mod Posted
+pub mod Racked
+pub mod Splitting

@@ -1,0 +1,82 @@
+-- To believe: what an agent's event asks of the ledger.
+use Rattle.std.specs.Prelude.{ℕ, ℤ, Bool, true, false, ◌&&◌, List, [], ◌∷◌, if◌then◌else◌}
+use Rattle.es_value.specs.declared.value.Value.{Value}
+use Rattle.es_value.specs.declared.value.Value.TheVariants.{Undefined}
+use Rattle.es_event.specs.declared.command.Command.{Command}
+use Rattle.es_event.specs.declared.command.Command.TheVariants.{SharedArrayBuffer, Length, SameBlock, Load, Store, Add, Post}
+use Rattle.es_event.specs.declared.event.Answer.{Answer}
+use Rattle.es_event.specs.declared.event.Answer.TheVariants.{Nothing, Gives, Listed}
+use Rattle.es_event.specs.declared.event.Refusal.{Refusal}
+use Rattle.es_event.specs.declared.event.Refusal.TheVariants.{TooManyValues}
+use Rattle.es_event.specs.declared.event.Event.{Event}
+use Rattle.es_event.specs.declared.event.Event.TheVariants.{JobBegun, CleanupBegun, Received, Did, Refused, Emptied, Taken, JobEnded, Skipped, Closed}
+use Rattle.es_event.specs.Commands.{first, second}
+use Rattle.es_event.specs.History.{History}
+
+-- what is asked; an answer is the value that the command gave
+pub data Asking : Type 0 where
+  nothing : Asking
+  to_open : (words : ℕ) (made : Value) → Asking
+  to_measure : (buffer answer : Value) → Asking
+  to_compare : (left right answer : Value) → Asking
+  to_load : (buffer : Value) (index : ℤ) (answer : Value) → Asking
+  to_store : (buffer : Value) (index number : ℤ) → Asking
+  to_add : (buffer : Value) (index number : ℤ) (answer : Value) → Asking
+  to_post : (receiver : ℕ) (value : Value) → Asking
+  to_receive : (sender : ℕ) (value : Value) → Asking
+  to_refuse : Asking
+  to_pass : (sender : ℕ) → Asking
+  to_empty : (ids : List ℕ) → Asking
+  to_close : Asking
+
+-- no job is under way after the event
+abbrev pub ends_job : Event → Bool
+ends_job (JobBegun j) = false
+ends_job (CleanupBegun q) = false
+ends_job (Received t v) = false
+ends_job (Did c vs r) = false
+ends_job (Refused code) = false
+ends_job (Emptied ids) = false
+ends_job (Taken n held) = false
+ends_job JobEnded = true
+ends_job (Skipped j t) = true
+ends_job Closed = false
+
+-- no job is under way
+abbrev pub between_jobs : History → Bool
+between_jobs [] = true
+between_jobs (e ∷ earlier) = ends_job e
+
+-- the value that a command gave, undefined where it gave none
+abbrev pub given : Answer → Value
+given Nothing = Undefined
+given (Gives v) = v
+given (Listed ks) = Undefined
+
+-- of commands, those that are not on buffers or messages ask nothing
+abbrev pub asks_did : Command → List Value → Answer → Asking
+asks_did (SharedArrayBuffer to n) vs r = to_open n (given r)
+asks_did (Length to b) vs r = to_measure (first vs) (given r)
+asks_did (SameBlock to b c) vs r = to_compare (first vs) (second vs) (given r)
+asks_did (Load to b i) vs r = to_load (first vs) i (given r)
+asks_did (Store b i n) vs r = to_store (first vs) i n
+asks_did (Add to b i n) vs r = to_add (first vs) i n (given r)
+asks_did (Post a y) vs r = to_post a (first vs)
+asks_did _ vs r = nothing
+
+abbrev pub wants_room : Refusal → Bool
+wants_room TooManyValues = true
+wants_room _ = false
+
+-- what the event asks; where no job is under way, a refusal for want of room for one more value is that of a receipt
+abbrev pub asks : Bool → Event → Asking
+asks between (JobBegun j) = nothing
+asks between (CleanupBegun q) = nothing
+asks between (Received t v) = to_receive t v
+asks between (Did c vs r) = asks_did c vs r
+asks between (Refused code) = if between && wants_room code then to_refuse else nothing
+asks between (Emptied ids) = to_empty ids
+asks between (Taken n held) = nothing
+asks between JobEnded = nothing
+asks between (Skipped j t) = to_pass t
+asks between Closed = to_close

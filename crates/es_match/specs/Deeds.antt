@@ -1,0 +1,74 @@
+-- To believe: what an event of the ledger is to the agent that does it, and an agent's part in the ledger's history.
+use Rattle.std.specs.Prelude.{ℕ, Bool, true, false, not, ◌&&◌, ◌==◌, List, [], ◌∷◌, ◌++◌, Option, Some, None, if◌then◌else◌}
+use Rattle.std.specs.Option.{option_map, option_map_or}
+use Rattle.es_event.specs.declared.ledger_event.Body.{Body}
+use Rattle.es_event.specs.declared.ledger_event.Body.TheVariants.{Plain, Block}
+use Rattle.es_event.specs.declared.ledger_event.LedgerEvent.{LedgerEvent}
+use Rattle.es_event.specs.declared.ledger_event.LedgerEvent.TheVariants.{Opened, Posted, Taken, Spent, Loaded, Stored, Added, Waiting, Passed, Ended, Drained}
+use Rattle.es_event.specs.Ledger.{Ledger, size, front, holder_of}
+
+-- what an agent does to the ledger; a message that it takes is none where the port was empty, and comes with the number of
+-- words of its block
+pub data Deed : Type 0 where
+  Opens : (block words serial : ℕ) → Deed
+  Posts : (receiver : ℕ) (body : Body) → Deed
+  Takes : (sender : ℕ) (message : Option Body) (words : ℕ) → Deed
+  Spends : (serial : ℕ) → Deed
+  Loads : (serial index word : ℕ) → Deed
+  Stores : (serial index word : ℕ) → Deed
+  Adds : (serial index old addend : ℕ) → Deed
+  Waits : (sender : ℕ) → Deed
+  Passes : (sender : ℕ) → Deed
+  Ends : Deed
+
+-- whose deed it is, and what
+abbrev pub Owned : Type 0
+Owned = Option (ℕ × Deed)
+
+-- the deed is that of the agent that holds the ticket of this serial
+abbrev pub by_holder : Ledger → ℕ → Deed → Owned
+by_holder l s d = option_map (λ p. (p.0, d)) (holder_of l s)
+
+-- how many words the block has that a message carries
+abbrev pub words_in : Ledger → Body → ℕ
+words_in l (Plain v) = 0
+words_in l (Block b s) = size l b
+
+abbrev pub taking : Ledger → ℕ → Option Body → Deed
+taking l s m = Takes s m (option_map_or (words_in l) m 0)
+
+-- what an event after l is; a drain is nobody's deed, nor is the spending of a ticket that no agent holds
+abbrev pub deed : Ledger → LedgerEvent → Owned
+deed l (Opened b w s a) = Some (a, Opens b w s)
+deed l (Posted a r m) = Some (a, Posts r m)
+deed l (Taken r s) = Some (r, taking l s (front l s r))
+deed l (Spent s) = by_holder l s (Spends s)
+deed l (Loaded s i w) = by_holder l s (Loads s i w)
+deed l (Stored s i w) = by_holder l s (Stores s i w)
+deed l (Added s i old n) = by_holder l s (Adds s i old n)
+deed l (Waiting a s) = Some (a, Waits s)
+deed l (Passed a s) = Some (a, Passes s)
+deed l (Ended a) = Some (a, Ends)
+deed l (Drained r s) = None
+
+abbrev pub is_wait : Deed → Bool
+is_wait (Opens b w s) = false
+is_wait (Posts r m) = false
+is_wait (Takes s m w) = false
+is_wait (Spends s) = false
+is_wait (Loads s i w) = false
+is_wait (Stores s i w) = false
+is_wait (Adds s i old n) = false
+is_wait (Waits s) = true
+is_wait (Passes s) = false
+is_wait Ends = false
+
+-- agent a's deed, unless it is a wait
+abbrev pub part_of : ℕ → Owned → List Deed
+part_of a None = []
+part_of a (Some p) = if (p.0 == a) && not (is_wait p.1) then p.1 ∷ [] else []
+
+-- agent a's part in the ledger's history, without its waits, the oldest first
+abbrev pub part : Ledger → ℕ → List Deed
+part [] a = []
+part (e ∷ earlier) a = part earlier a ++ part_of a (deed earlier e)

@@ -1,0 +1,50 @@
+-- Internal: deeds and what is asked, as the code has them.
+use Rattle.std.specs.Prelude.{ℕ, List, map, Option, Some, None}
+use Rattle.std.specs.Option.{option_map}
+use denote.Ref.{Bor}
+use Rattle.es_value.specs.declared.value.Value.{Value}
+use Rattle.es_value.specs.declared.value.Value.TheVariants.{Undefined}
+use Rattle.es_match.specs.declared.deed.Deed.{Deed}
+use Rattle.es_match.specs.declared.deed.Deed.TheVariants.{Open, Post, Take, Spend, Load, Store, Add, Wait, Pass, End}
+use Rattle.es_match.specs.declared.want.Want.{Want}
+use Rattle.es_match.specs.declared.want.Want.TheVariants.{Nothing, Opening, Length, SameBlock, Loading, Storing, Adding, Posting, Receiving, Refusal, Passing, Emptying, Closing}
+use Rattle.es_match.specs.Deeds.{Deed as DeedSaid, Owned, Opens, Posts, Takes, Spends, Loads, Stores, Adds, Waits, Passes, Ends}
+use Rattle.es_match.specs.Asks.{Asking, nothing, to_open, to_measure, to_compare, to_load, to_store, to_add, to_post, to_receive, to_refuse, to_pass, to_empty, to_close}
+
+abbrev pub shown : Deed → DeedSaid
+shown (Open b w s) = Opens b w s
+shown (Post r m) = Posts r m.now
+shown (Take s m w) = Takes s (option_map (λ b. b.now) m) w
+shown (Spend s) = Spends s
+shown (Load s i w) = Loads s i w
+shown (Store s i w) = Stores s i w
+shown (Add s i old n) = Adds s i old n
+shown (Wait s) = Waits s
+shown (Pass s) = Passes s
+shown End = Ends
+
+abbrev pub all_shown : List Deed → List DeedSaid
+all_shown ds = map shown ds
+
+-- no value stands for undefined
+abbrev pub said : Option (Bor Value) → Value
+said None = Undefined
+said (Some v) = v.now
+
+abbrev pub asking : Want → Asking
+asking Nothing = nothing
+asking (Opening n v) = to_open n (said v)
+asking (Length b v) = to_measure (said b) (said v)
+asking (SameBlock b c v) = to_compare (said b) (said c) (said v)
+asking (Loading b i v) = to_load (said b) i (said v)
+asking (Storing b i n) = to_store (said b) i n
+asking (Adding b i n v) = to_add (said b) i n (said v)
+asking (Posting a v) = to_post a (said v)
+asking (Receiving s v) = to_receive s v.now
+asking Refusal = to_refuse
+asking (Passing s) = to_pass s
+asking (Emptying ids) = to_empty ids.now
+asking Closing = to_close
+
+abbrev pub owned : Option (ℕ × Deed) → Owned
+owned o = option_map (λ p. (p.0, shown p.1)) o

@@ -1,0 +1,287 @@
+//! Going through an agent's history and its deeds.
+
+ghost use Rattle.std.specs.Prelude.{◌≡◌, [], true, take, drop, length, IfOk};
+ghost use Rattle.std.specs.Option.{option_map};
+ghost use Rattle.es_match.specs.Asks.{to_open, to_receive, to_empty, to_close};
+ghost use Rattle.es_match.specs.Meets.{after, gives, pair, some_if, sole, within, add_ticket};
+ghost use Rattle.es_match.specs.Goes.{asked, goes};
+ghost use Rattle.es_match.specs.Shown.{all_shown, asking, said, shown};
+
+use crate::deed::Deed;
+use crate::meets::{
+    compares, is_add, is_length, is_load, is_pass, is_plain, is_post, is_refusal, is_store,
+};
+use crate::spending::are_spent;
+use crate::tickets::{Rack, object_in, serials_of, serials_within};
+use crate::want::{Want, ends_job, want_at};
+use es_event::{Body, Event, Row};
+use es_value::{Id, IdSet, NoMemory, Value};
+use std::alloc::Global;
+
+fn open(
+    tickets: &mut Rack,
+    words: u32,
+    made: Option<&Value>,
+    deeds: &[Deed<'_>],
+) -> Result<bool, NoMemory>
+    ensures { IfOk result (λ b. some_if b tickets.new ≡ after tickets.old (to_open words (said made.entry)) (all_shown deeds.now)) }
+{
+    match one(deeds) {
+        Some(
+            Deed::Open {
+                block,
+                words: opened,
+                serial,
+            },
+        ) => {
+            if opened != words {
+                return Ok(false);
+            }
+            add(
+                tickets,
+                made,
+                Row {
+                    serial,
+                    block,
+                    words,
+                },
+            )
+        }
+        _ => Ok(false),
+    }
+}
+
+fn add(tickets: &mut Rack, made: Option<&Value>, row: Row) -> Result<bool, NoMemory>
+    ensures { IfOk result (λ b. some_if b tickets.new ≡ add_ticket tickets.old (said made.entry) row) }
+{
+    match object_in(made) {
+        Some(object) => {
+            tickets.add(object, row)?;
+            Ok(true)
+        }
+        None => Ok(false),
+    }
+}
+
+fn take_in(tickets: &mut Rack, value: &Value, body: &Body, words: u32) -> Result<bool, NoMemory>
+    ensures { IfOk result (λ b. some_if b tickets.new ≡ gives tickets.old value.now body.now words) }
+{
+    match body {
+        Body::Plain(other) => Ok(is_plain(Some(value), other)),
+        Body::Block { block, serial } => add(
+            tickets,
+            Some(value),
+            Row {
+                serial: *serial,
+                block: *block,
+                words,
+            },
+        ),
+    }
+}
+
+fn receive(
+    tickets: &mut Rack,
+    sender: usize,
+    value: &Value,
+    deeds: &[Deed<'_>],
+) -> Result<bool, NoMemory>
+    ensures { IfOk result (λ b. some_if b tickets.new ≡ after tickets.old (to_receive sender value.now) (all_shown deeds.now)) }
+{
+    match one(deeds) {
+        Some(
+            Deed::Take {
+                sender: from,
+                message: Some(body),
+                words,
+            },
+        ) => {
+            if from != sender {
+                return Ok(false);
+            }
+            take_in(tickets, value, body, words)
+        }
+        _ => Ok(false),
+    }
+}
+
+fn empty(
+    alloc: Global,
+    tickets: &mut Rack,
+    ids: &[Id],
+    deeds: &[Deed<'_>],
+) -> Result<bool, NoMemory>
+    ensures { IfOk result (λ b. some_if b tickets.new ≡ after tickets.old (to_empty ids.now) (all_shown deeds.now)) }
+{
+    let ids = IdSet::of(ids);
+    let serials = serials_within(alloc, &ids, tickets.as_slice())?;
+    tickets.empty(alloc, &ids)?;
+    are_spent(alloc, false, &serials, deeds)
+}
+
+fn close(alloc: Global, tickets: &mut Rack, deeds: &[Deed<'_>]) -> Result<bool, NoMemory>
+    ensures { IfOk result (λ b. some_if b tickets.new ≡ after tickets.old to_close (all_shown deeds.now)) }
+{
+    let serials = serials_of(alloc, tickets.as_slice())?;
+    *tickets = Rack::new(alloc);
+    are_spent(alloc, true, &serials, deeds)
+}
+
+/// Makes of the tickets those after the deeds. Whether the deeds are what is wanted.
+fn after(
+    alloc: Global,
+    tickets: &mut Rack,
+    want: Want<'_>,
+    deeds: &[Deed<'_>],
+) -> Result<bool, NoMemory>
+    ensures { IfOk result (λ b. some_if b tickets.new ≡ after tickets.old (asking want.entry) (all_shown deeds.now)) }
+{
+    match want {
+        Want::Nothing => Ok(deeds.is_empty()),
+        Want::Opening { words, made } => open(tickets, words, made, deeds),
+        Want::Length { buffer, answer } => {
+            Ok(deeds.is_empty() && is_length(tickets, buffer, answer))
+        }
+        Want::SameBlock {
+            left,
+            right,
+            answer,
+        } => Ok(deeds.is_empty() && compares(tickets, left, right, answer)),
+        Want::Loading {
+            buffer,
+            index,
+            answer,
+        } => match one(deeds) {
+            Some(deed) => Ok(is_load(tickets, buffer, index, answer, &deed)),
+            None => Ok(false),
+        },
+        Want::Storing {
+            buffer,
+            index,
+            number,
+        } => match one(deeds) {
+            Some(deed) => Ok(is_store(tickets, buffer, index, number, &deed)),
+            None => Ok(false),
+        },
+        Want::Adding {
+            buffer,
+            index,
+            number,
+            answer,
+        } => match one(deeds) {
+            Some(deed) => Ok(is_add(tickets, buffer, index, number, answer, &deed)),
+            None => Ok(false),
+        },
+        Want::Posting { receiver, value } => match one(deeds) {
+            Some(deed) => Ok(is_post(tickets, receiver, value, &deed)),
+            None => Ok(false),
+        },
+        Want::Receiving { sender, value } => receive(tickets, sender, value, deeds),
+        Want::Refusal => Ok(two(deeds).is_some_and(|p| is_refusal(&p.0, &p.1))),
+        Want::Passing { sender } => Ok(one(deeds).is_some_and(|d| is_pass(sender, &d))),
+        Want::Emptying { ids } => empty(alloc, tickets, ids, deeds),
+        Want::Closing => close(alloc, tickets, deeds),
+    }
+}
+
+fn one<'a>(deeds: &[Deed<'a>]) -> Option<Deed<'a>>
+    ensures { option_map shown result ≡ sole (all_shown deeds.now) }
+{
+    if deeds.len() == 1 {
+        Some(deeds[0])
+    } else {
+        None
+    }
+}
+
+fn two<'a>(deeds: &[Deed<'a>]) -> Option<(Deed<'a>, Deed<'a>)>
+    ensures { option_map (λ p. (shown p.0, shown p.1)) result ≡ pair (all_shown deeds.now) }
+{
+    if deeds.len() == 2 {
+        Some((deeds[0], deeds[1]))
+    } else {
+        None
+    }
+}
+
+fn count_within(ids: &[Id], tickets: &[(Id, Row)]) -> usize
+    ensures { result ≡ length (within ids.now tickets.now) }
+{
+    let ids = IdSet::of(ids);
+    let mut count = 0;
+    for (object, _) in tickets {
+        if ids.has(*object) {
+            count += 1;
+        }
+    }
+    count
+}
+
+/// How many deeds are wanted.
+fn asked(tickets: &Rack, want: Want<'_>) -> usize
+    ensures { result ≡ asked tickets.now (asking want.entry) }
+{
+    match want {
+        Want::Nothing | Want::Length { .. } | Want::SameBlock { .. } => 0,
+        Want::Opening { .. }
+        | Want::Loading { .. }
+        | Want::Storing { .. }
+        | Want::Adding { .. }
+        | Want::Posting { .. }
+        | Want::Receiving { .. }
+        | Want::Passing { .. } => 1,
+        Want::Refusal => 2,
+        Want::Emptying { ids } => count_within(ids, tickets.as_slice()),
+        Want::Closing => tickets.as_slice().len() + 1,
+    }
+}
+
+#[tactic(auto, using(crate::proofs::Lists::take_shown))]
+fn front<'a, 'b>(deeds: &'b [Deed<'a>], n: usize) -> &'b [Deed<'a>]
+    ensures { all_shown result.now ≡ take n (all_shown deeds.now) }
+{
+    first_of(deeds, n)
+}
+
+fn first_of<'a, 'b>(deeds: &'b [Deed<'a>], n: usize) -> &'b [Deed<'a>]
+    ensures { result.now ≡ take n deeds.now }
+{
+    if n < deeds.len() { &deeds[..n] } else { deeds }
+}
+
+#[tactic(auto, using(crate::proofs::Lists::drop_shown))]
+fn back<'a, 'b>(deeds: &'b [Deed<'a>], n: usize) -> &'b [Deed<'a>]
+    ensures { all_shown result.now ≡ drop n (all_shown deeds.now) }
+{
+    rest_of(deeds, n)
+}
+
+fn rest_of<'a, 'b>(deeds: &'b [Deed<'a>], n: usize) -> &'b [Deed<'a>]
+    ensures { result.now ≡ drop n deeds.now }
+{
+    if n < deeds.len() {
+        &deeds[n..]
+    } else {
+        &deeds[deeds.len()..]
+    }
+}
+
+/// Whether the deeds are what the history asks.
+pub(crate) fn goes(alloc: Global, history: &[Event], deeds: &[Deed<'_>]) -> Result<bool, NoMemory>
+    ensures { IfOk result (λ b. b ≡ goes true [] history.now (all_shown deeds.now)) }
+{
+    let mut tickets = Rack::new(alloc);
+    let mut between = true;
+    let mut rest = deeds;
+    for event in history {
+        let want = want_at(between, event);
+        let n = asked(&tickets, want);
+        let is_met = after(alloc, &mut tickets, want, front(rest, n))?;
+        if !is_met {
+            return Ok(false);
+        }
+        rest = back(rest, n);
+        between = ends_job(event);
+    }
+    Ok(rest.is_empty())
+}

@@ -1,0 +1,212 @@
+//! Which deeds meet what an agent asks.
+
+ghost use Rattle.std.specs.Prelude.{◌≡◌, not, ◌&&◌};
+ghost use Rattle.es_event.specs.Sharing.{to_uint32};
+ghost use Rattle.es_match.specs.Meets.{carries, compares, has_ticket, is_add, same_index, is_load, is_number, is_object, is_pass, is_post, is_refusal, is_store, is_ticket};
+ghost use Rattle.es_match.specs.Shown.{said, shown};
+ghost use Rattle.es_value.specs.Values.{is_same};
+ghost use Rattle.es_value.specs.declared.value.Value.TheVariants.{Boolean};
+
+use crate::deed::Deed;
+use crate::tickets::Rack;
+use es_event::Body;
+use es_value::{Value, same_value};
+
+/// The word of 32 bits that is written for a number (ToUint32).
+fn word_of(number: i64) -> u32
+    ensures { result ≡ to_uint32 number }
+{
+    number.rem_euclid(4294967296) as u32
+}
+
+fn same_index(index: i64, other: usize) -> bool
+    ensures { result ≡ same_index index other }
+{
+    index >= 0 && index as u64 == other as u64
+}
+
+fn is_number(value: Option<&Value>, number: usize) -> bool
+    ensures { result ≡ is_number (said value.entry) number }
+{
+    match value {
+        Some(Value::Number(other)) => same_index(*other, number),
+        _ => false,
+    }
+}
+
+fn is_boolean(value: Option<&Value>, truth: bool) -> bool
+    ensures { result ≡ is_same (said value.entry) (Boolean truth) }
+{
+    match value {
+        Some(Value::Boolean(other)) => *other == truth,
+        _ => false,
+    }
+}
+
+fn is_ticket(tickets: &Rack, buffer: Option<&Value>, serial: u64) -> bool
+    ensures { result ≡ is_ticket tickets.now (said buffer.entry) serial }
+{
+    match tickets.find(buffer) {
+        Some(row) => row.serial == serial,
+        None => false,
+    }
+}
+
+/// Whether the buffer's block has so many words as the answer says.
+pub(crate) fn is_length(tickets: &Rack, buffer: Option<&Value>, answer: Option<&Value>) -> bool
+    ensures { result ≡ has_ticket tickets.now (said buffer.entry) (λ r. is_number (said answer.entry) r.words) }
+{
+    match tickets.find(buffer) {
+        Some(row) => is_number(answer, row.words as usize),
+        None => false,
+    }
+}
+
+/// Whether the answer says if the two buffers are over one block.
+pub(crate) fn compares(
+    tickets: &Rack,
+    left: Option<&Value>,
+    right: Option<&Value>,
+    answer: Option<&Value>,
+) -> bool
+    ensures { result ≡ compares tickets.now (said left.entry) (said right.entry) (said answer.entry) }
+{
+    match (tickets.find(left), tickets.find(right)) {
+        (Some(a), Some(b)) => is_boolean(answer, a.block == b.block),
+        _ => false,
+    }
+}
+
+/// Whether the deed reads the word that is the answer.
+pub(crate) fn is_load(
+    tickets: &Rack,
+    buffer: Option<&Value>,
+    at: i64,
+    answer: Option<&Value>,
+    deed: &Deed<'_>,
+) -> bool
+    ensures { result ≡ is_load tickets.now (said buffer.entry) at (said answer.entry) (shown deed.now) }
+{
+    match deed {
+        Deed::Load {
+            serial,
+            index,
+            word,
+        } => {
+            is_ticket(tickets, buffer, *serial)
+                && same_index(at, *index)
+                && is_number(answer, *word as usize)
+        }
+        _ => false,
+    }
+}
+
+/// Whether the deed writes the number modulo 2^32.
+pub(crate) fn is_store(
+    tickets: &Rack,
+    buffer: Option<&Value>,
+    at: i64,
+    number: i64,
+    deed: &Deed<'_>,
+) -> bool
+    ensures { result ≡ is_store tickets.now (said buffer.entry) at number (shown deed.now) }
+{
+    match deed {
+        Deed::Store {
+            serial,
+            index,
+            word,
+        } => {
+            is_ticket(tickets, buffer, *serial)
+                && same_index(at, *index)
+                && *word == word_of(number)
+        }
+        _ => false,
+    }
+}
+
+/// Whether the deed adds the number modulo 2^32 to the word that is the answer.
+pub(crate) fn is_add(
+    tickets: &Rack,
+    buffer: Option<&Value>,
+    at: i64,
+    number: i64,
+    answer: Option<&Value>,
+    deed: &Deed<'_>,
+) -> bool
+    ensures { result ≡ is_add tickets.now (said buffer.entry) at number (said answer.entry) (shown deed.now) }
+{
+    match deed {
+        Deed::Add {
+            serial,
+            index,
+            old,
+            addend,
+        } => {
+            is_ticket(tickets, buffer, *serial)
+                && same_index(at, *index)
+                && is_number(answer, *old as usize)
+                && *addend == word_of(number)
+        }
+        _ => false,
+    }
+}
+
+/// Whether the value is no object and the same as another.
+pub(crate) fn is_plain(value: Option<&Value>, other: &Value) -> bool
+    ensures { result ≡ (not (is_object (said value.entry)) && is_same (said value.entry) other.now) }
+{
+    match value {
+        None => matches!(other, Value::Undefined),
+        Some(Value::Object(_)) => false,
+        Some(value) => same_value(value, other),
+    }
+}
+
+fn carries(tickets: &Rack, value: Option<&Value>, body: &Body) -> bool
+    ensures { result ≡ carries tickets.now (said value.entry) body.now }
+{
+    match body {
+        Body::Plain(other) => is_plain(value, other),
+        Body::Block { block, .. } => match tickets.find(value) {
+            Some(row) => row.block == *block,
+            None => false,
+        },
+    }
+}
+
+/// Whether the deed posts the value to the agent.
+pub(crate) fn is_post(tickets: &Rack, agent: usize, value: Option<&Value>, deed: &Deed<'_>) -> bool
+    ensures { result ≡ is_post tickets.now agent (said value.entry) (shown deed.now) }
+{
+    match deed {
+        Deed::Post { receiver, body } => *receiver == agent && carries(tickets, value, body),
+        _ => false,
+    }
+}
+
+/// Whether a message with a ticket was taken, and its ticket spent.
+pub(crate) fn is_refusal(first: &Deed<'_>, second: &Deed<'_>) -> bool
+    ensures { result ≡ is_refusal (shown first.now) (shown second.now) }
+{
+    match first {
+        Deed::Take {
+            message: Some(Body::Block { serial, .. }),
+            ..
+        } => match second {
+            Deed::Spend { serial: spent } => *spent == *serial,
+            _ => false,
+        },
+        _ => false,
+    }
+}
+
+/// Whether the deed is a skip of a job that waits for the sender.
+pub(crate) fn is_pass(sender: usize, deed: &Deed<'_>) -> bool
+    ensures { result ≡ is_pass sender (shown deed.now) }
+{
+    match deed {
+        Deed::Pass { sender: other } => *other == sender,
+        _ => false,
+    }
+}

@@ -1,0 +1,183 @@
+//! What an event of an agent asks of the ledger.
+
+ghost use Rattle.std.specs.Prelude.{◌≡◌};
+ghost use Rattle.es_event.specs.Commands.{first, second};
+ghost use Rattle.es_match.specs.Asks.{asks, asks_did, ends_job, given, wants_room};
+ghost use Rattle.es_match.specs.Shown.{asking, said};
+ghost use Rattle.es_event.specs.declared.event.Answer.{Answer as Answered};
+
+use es_event::{Answer, Command, Event, Refusal};
+use es_value::{Id, Value};
+
+/// What an event asks of the ledger. An answer is the value that the command gave; none stands for
+/// undefined.
+#[derive(Clone, Copy, Debug)]
+pub(crate) enum Want<'a> {
+    /// Nothing.
+    Nothing,
+    /// To open a block of so many words.
+    Opening {
+        words: u32,
+        made: Option<&'a Value>,
+    },
+    /// The number of words of a buffer's block.
+    Length {
+        buffer: Option<&'a Value>,
+        answer: Option<&'a Value>,
+    },
+    /// Whether two buffers are over one block.
+    SameBlock {
+        left: Option<&'a Value>,
+        right: Option<&'a Value>,
+        answer: Option<&'a Value>,
+    },
+    /// To read a word.
+    Loading {
+        buffer: Option<&'a Value>,
+        index: i64,
+        answer: Option<&'a Value>,
+    },
+    /// To write a word.
+    Storing {
+        buffer: Option<&'a Value>,
+        index: i64,
+        number: i64,
+    },
+    /// To add to a word.
+    Adding {
+        buffer: Option<&'a Value>,
+        index: i64,
+        number: i64,
+        answer: Option<&'a Value>,
+    },
+    /// To post a value.
+    Posting {
+        receiver: usize,
+        value: Option<&'a Value>,
+    },
+    /// To take a message that gives a value.
+    Receiving {
+        sender: usize,
+        value: &'a Value,
+    },
+    /// To take a message, and to spend its ticket.
+    Refusal,
+    /// To skip a job.
+    Passing {
+        sender: usize,
+    },
+    /// To spend the tickets of these objects.
+    Emptying {
+        ids: &'a [Id],
+    },
+    /// To spend every ticket, and to end.
+    Closing,
+}
+
+/// What an event asks of the ledger, where a job is under way or not.
+pub(crate) fn want_at<'a>(between: bool, event: &'a Event) -> Want<'a>
+    ensures { asking result ≡ asks between event.now }
+{
+    match event {
+        Event::JobBegun { .. }
+        | Event::CleanupBegun { .. }
+        | Event::Taken { .. }
+        | Event::JobEnded => Want::Nothing,
+        Event::Received { sender, value } => Want::Receiving {
+            sender: *sender,
+            value,
+        },
+        Event::Did {
+            command,
+            values,
+            answer,
+        } => want_of(command, values.as_slice(), given(answer)),
+        Event::Refused { code } => {
+            if between && wants_room(*code) {
+                Want::Refusal
+            } else {
+                Want::Nothing
+            }
+        }
+        Event::Emptied { ids } => Want::Emptying {
+            ids: ids.as_slice(),
+        },
+        Event::Skipped { sender, .. } => Want::Passing { sender: *sender },
+        Event::Closed => Want::Closing,
+    }
+}
+
+/// Whether no job is under way after the event.
+pub(crate) fn ends_job(event: &Event) -> bool
+    ensures { result ≡ ends_job event.now }
+{
+    matches!(event, Event::JobEnded | Event::Skipped { .. })
+}
+
+fn wants_room(code: Refusal) -> bool
+    ensures { result ≡ wants_room code }
+{
+    matches!(code, Refusal::TooManyValues)
+}
+
+fn given(answer: &Answer) -> Option<&Value>
+    ensures { said result ≡ given answer.now }
+{
+    match answer {
+        Answer::Gives(value) => Some(value),
+        Answer::Nothing | Answer::Listed(_) => None,
+    }
+}
+
+fn first(values: &[Value]) -> Option<&Value>
+    ensures { said result ≡ first values.now }
+{
+    values.first()
+}
+
+fn second(values: &[Value]) -> Option<&Value>
+    ensures { said result ≡ second values.now }
+{
+    values.get(1)
+}
+
+fn want_of<'a>(command: &Command, values: &'a [Value], answer: Option<&'a Value>) -> Want<'a>
+    ensures { (r : Answered) → said answer.entry ≡ given r → asking result ≡ asks_did command.now values.now r }
+{
+    match command {
+        Command::SharedArrayBuffer { words, .. } => Want::Opening {
+            words: *words,
+            made: answer,
+        },
+        Command::Length { .. } => Want::Length {
+            buffer: first(values),
+            answer,
+        },
+        Command::SameBlock { .. } => Want::SameBlock {
+            left: first(values),
+            right: second(values),
+            answer,
+        },
+        Command::Load { index, .. } => Want::Loading {
+            buffer: first(values),
+            index: *index,
+            answer,
+        },
+        Command::Store { index, number, .. } => Want::Storing {
+            buffer: first(values),
+            index: *index,
+            number: *number,
+        },
+        Command::Add { index, number, .. } => Want::Adding {
+            buffer: first(values),
+            index: *index,
+            number: *number,
+            answer,
+        },
+        Command::Post { receiver, .. } => Want::Posting {
+            receiver: *receiver,
+            value: first(values),
+        },
+        _ => Want::Nothing,
+    }
+}

@@ -1,0 +1,253 @@
+-- What one more event leaves of an agent: its place among the agents, and its tickets, counted.
+use Rattle.std.proofs.Common.{◌≡◌, ◌≢◌, ℕ, ◌+◌, ◌==◌, ◌||◌, Bool, true, false, cond, not, sym, ◌∙◌, ap, refl, subst, arith, List, [], ◌∷◌, ◌++◌, map, reverse, Option, Some, None, Result, Ok, Err, inl, inr, eq-eqb}
+use Rattle.std.specs.Prelude.{IfOk, OnErr}
+use Rattle.std.specs.List.{filter, count_by}
+use Rattle.std.proofs.lemmas.Bool.{cases_Bool, eqb-true}
+use Rattle.std.proofs.lemmas.List.{reverse-append}
+use Rattle.std.proofs.lemmas.List.Elements.{filter-append}
+use Rattle.std.proofs.lemmas.List.Filters.{sum_by-filter_both}
+use Rattle.es_value.specs.declared.value.Value.{Value}
+use Rattle.es_event.specs.declared.event.Answer.{Answer}
+use Rattle.es_event.specs.declared.event.Event.{Event}
+use Rattle.es_event.specs.declared.event.Event.TheVariants.{JobBegun, CleanupBegun, Received, Did, Refused, Emptied, Taken, JobEnded, Skipped, Closed}
+use Rattle.es_event.specs.declared.event.Refusal.TheVariants.{TooManyValues}
+use Rattle.es_event.specs.declared.row.Row.{Row}
+use Rattle.es_event.specs.History.{History}
+use Rattle.es_event.specs.Identities.{is_in, is_gone, made}
+use Rattle.es_event.specs.Jobs.{receivers}
+use Rattle.es_event.specs.Ledger.{Ledger, ended as has_ended}
+use Rattle.es_event.specs.declared.ledger_event.LedgerEvent.TheVariants.{Ended as EndedEvent}
+use Rattle.es_event.specs.Order.{phase, due}
+use Rattle.es_event.specs.Follows.{Permits}
+use Rattle.es_event.specs.Runs.{IsRunOver}
+use Rattle.es_event.proofs.Alive.{next_alive}
+use Rattle.es_tables.proofs.CallerLemmas.{IsQuiet}
+use Rattle.es_ticket.specs.Owned.{Owns}
+use Rattle.es_ticket.specs.Shares.{Share, among, besides}
+use Rattle.es_ticket.proofs.Counted.{counted_last}
+use Rattle.es_ledger.specs.Books.{Books}
+use Rattle.es_record.specs.Book.{Book, IsNext, Records, with_buffer, with_row}
+use Rattle.es_rules.specs.Needs.{need, asks_nobody, asks_closing}
+use Rattle.es_rules.proofs.Needs.{local_is_quiet, closes}
+use Rattle.es_agent.specs.Tickets.{is_ended, tickets, RecordsNext, Collects, Admits, RefusesMessage, Receives, DoesWith, Skips}
+use Rattle.es_agent.proofs.Racks.{open_before, local_stays, kept_tickets, emptied_tickets, done_leaves, brings_leaves}
+use Rattle.es_member.specs.Seats.{Seat, rows_of, Holds, HoldsBeside}
+use Rattle.es_member.specs.Turned.{IsSeated, Moves, Proceeds, Keeps, spent}
+use Rattle.es_member.specs.declared.member.Progress.{Progress}
+use Rattle.es_member.specs.declared.member.Progress.TheVariants.{Moved, Waiting, Ended}
+use Rattle.es_member.proofs.Counting.{counted_rows, spent_over}
+
+-- One event more that is no closing
+
+-- only its closing closes an agent
+going_after : (h : History) (e : Event) → (e ≡ Closed → ⊥) → is_ended (phase h) ≡ false → is_ended (phase (e ∷ h)) ≡ false
+going_after h (JobBegun j) other before = refl
+going_after h (CleanupBegun q) other before = refl
+going_after h (Received t v) other before = refl
+going_after h (Did c vs r) other before = before
+going_after h (Refused code) other before = refl
+going_after h (Emptied ids) other before = before
+going_after h (Taken n held) other before = before
+going_after h JobEnded other before = refl
+going_after h (Skipped j t) other before = before
+going_after h Closed other before = absurd (other refl)
+
+pub record Step (old new : Book) : Type 0 where
+  pub number : new.number ≡ old.number
+  pub agents : new.agents ≡ old.agents
+  pub going : is_ended (phase new.history) ≡ is_ended (phase old.history)
+
+pub no_step : (b : Book) → Step b b
+no_step b = record { number = refl; agents = refl; going = refl }
+
+pub step_of : (old new : Book) (r : Option Row) (e : Event) → IsNext (with_row r old) e → (e ≡ Closed → ⊥) → Records (with_row r old) e new → Step old new
+step_of old new r e next other records =
+    let before = open_before (with_row r old) e next in
+    record {
+      number = ap (λ b. b.number) records;
+      agents = ap (λ b. b.agents) records;
+      going = ap (λ b. is_ended (phase b.history)) records ∙ going_after old.history e other before ∙ sym before;
+    }
+
+-- and leaves its tickets
+pub record Stays (old new : Book) : Type 0 where
+  pub moves : Moves old new
+  pub step : Step old new
+  pub same : tickets new ≡ tickets old
+
+stays_of : (old new : Book) (e : Event) → IsNext old e → IsQuiet e → (e ≡ Closed → ⊥) → Records old e new → Stays old new
+stays_of old new e next quiet other records = record {
+  moves = (e, None, next, records);
+  step = step_of old new None e next other records;
+  same = ap tickets records ∙ kept_tickets old e next quiet other;
+}
+
+pub local_leaves : (old new : Book) → need old ≡ asks_nobody → RecordsNext old new → Stays old new
+local_leaves old new is r = stays_of old new r.0 r.1 (local_is_quiet old r.0 is r.1) (local_stays old r.0 is r.1) r.2
+
+pub done_stays : (old new : Book) (a : Answer) → DoesWith old a new → Stays old new
+done_stays old new a r = let leaves = done_leaves old a r.0 r.1 in stays_of old new r.0 r.2 leaves.0 leaves.1 r.3
+
+pub received_stays : (old new : Book) (v : Value) → Receives old v new → Stays old new
+received_stays old new v r = stays_of old new (Received r.0 v) r.2 tt (λ f. cc) r.3
+
+pub skipped_stays : (old new : Book) → Skips old new → Stays old new
+skipped_stays old new r = stays_of old new (Skipped r.0 r.1) r.3 tt (λ f. cc) r.4
+
+pub refused_stays : (old new : Book) → RefusesMessage old new → Stays old new
+refused_stays old new r = stays_of old new (Refused TooManyValues) r.2 tt (λ f. cc) r.3
+
+pub holds_still : (old new : Book) (s : Share) → Stays old new → Holds old s → Holds new s
+holds_still old new s stays holds = (holds.0 ∙ sym stays.step.number, λ p. ap (λ ts. count_by p (map (λ t. t.1) ts)) stays.same ∙ holds.1 p)
+
+-- A collection
+
+pub collected_step : (old new : Book) (out : List (ℕ × Row)) → Collects old out new → Step old new
+collected_step old new out c = step_of old new None (Emptied c.0) c.2 (λ f. cc) c.3
+
+pub collected_moves : (old new : Book) (out : List (ℕ × Row)) → Collects old out new → Moves old new
+collected_moves old new out c = (Emptied c.0, None, c.2, c.3)
+
+counted_apart : (p : Row → Bool) (ids : List ℕ) (ts : List (ℕ × Row)) → count_by (λ t. p t.1) (among ids ts) + count_by (λ t. p t.1) (besides ids ts) ≡ count_by (λ t. p t.1) ts
+counted_apart p ids ts =
+    let a = sum_by-filter_both (λ t. is_in ids t.0) (λ t. not (is_in ids t.0)) (λ t. refl) (λ t. cond {A = ℕ} (p t.1) 1 0) ts in omega (arith, a)
+
+collected_counts : (old new : Book) (out : List (ℕ × Row)) → Collects old out new → (p : Row → Bool) → count_by p (rows_of old) ≡ count_by p (rows_of new) + count_by (λ t. p t.1) out
+collected_counts old new out c p =
+    let left = ap tickets c.3 ∙ emptied_tickets old c.0 c.2 in
+    let a = counted_apart p c.0 (tickets old) in
+    let b = ap (λ ts. count_by (λ t. p t.1) ts) left in
+    let d = ap (λ ts. count_by (λ t. p t.1) ts) c.4 in
+    let e = counted_rows p (tickets old) in
+    let f = counted_rows p (tickets new) in
+    omega (arith, a, b, d, e, f)
+
+pub collected_owns : (old new : Book) (s : Share) (out : List (ℕ × Row)) → Collects old out new → Holds old s → Owns s.rows out
+collected_owns old new s out c holds p = let a = collected_counts old new out c p in let b = holds.1 p in omega (arith, a, b)
+
+pub collected_holds : (old new : Book) (s t : Share) (out : List (ℕ × Row)) → Collects old out new → Holds old s → t.agent ≡ s.agent
+    → ((p : Row → Bool) → count_by p s.rows ≡ count_by p t.rows + count_by (λ t. p t.1) out) → Holds new t
+collected_holds old new s t out c holds agent counts = (
+  agent ∙ holds.0 ∙ sym (collected_step old new out c).number,
+  λ p. (let a = collected_counts old new out c p in let b = holds.1 p in let d = counts p in omega (arith, a, b, d)),
+)
+
+-- A ticket that comes
+
+opened : (h : History) (over : List (ℕ × Row)) → is_ended (phase h) ≡ false → cond (is_ended (phase h)) [] (filter (λ t. not (is_gone h t.0)) (reverse over)) ≡ filter (λ t. not (is_gone h t.0)) (reverse over)
+opened h over is = ap (λ b. cond b [] (filter (λ t. not (is_gone h t.0)) (reverse over))) is
+
+-- it comes last
+admitted_tickets : (old new : Book) (r : Row) → IsRunOver old.over old.plan old.history → Admits old r new → tickets new ≡ tickets old ++ (made old.history + 1, r) ∷ []
+admitted_tickets old new r run a =
+    let i = made old.history + 1 in
+    let leaves = brings_leaves (due old.plan old.history) i a.0 a.1 in
+    let before = open_before (with_buffer r old) a.0 a.2 in
+    let kept = filter (λ t. not (is_gone old.history t.0)) (reverse old.over) in
+    let fresh = next_alive old.over (receivers old.plan.jobs) old.history run.0 i refl in
+    ap tickets a.3
+    ∙ kept_tickets (with_buffer r old) a.0 a.2 leaves.0 leaves.1
+    ∙ opened old.history ((i, r) ∷ old.over) before
+    ∙ ap (filter (λ t. not (is_gone old.history t.0))) (reverse-append ((i, r) ∷ []) old.over)
+    ∙ filter-append (λ t. not (is_gone old.history t.0)) (reverse old.over) ((i, r) ∷ [])
+    ∙ ap (λ g. kept ++ cond (not g) ((i, r) ∷ []) []) fresh
+    ∙ ap (λ ts. ts ++ (i, r) ∷ []) (sym (opened old.history old.over before))
+
+pub admitted_step : (old new : Book) (r : Row) → Admits old r new → Step old new
+admitted_step old new r a = step_of old new (Some r) a.0 a.2 (brings_leaves (due old.plan old.history) (made old.history + 1) a.0 a.1).1 a.3
+
+pub admitted_moves : (old new : Book) (r : Row) → Admits old r new → Moves old new
+admitted_moves old new r a = (a.0, Some r, a.2, a.3)
+
+pub admitted_holds : (old new : Book) (s : Share) (r : Row) → IsRunOver old.over old.plan old.history → Admits old r new → HoldsBeside r old s → Holds new s
+admitted_holds old new s r run a holds = (
+  holds.0 ∙ sym (admitted_step old new r a).number,
+  λ p. (let b = holds.1 p in
+      let d = ap (λ ts. count_by (λ t. p t.1) ts) (admitted_tickets old new r run a) in
+      let e = counted_last p (made old.history + 1) r (tickets old) in
+      let f = counted_rows p (tickets old) in
+      let g = counted_rows p (tickets new) in
+      omega (arith, b, d, e, f, g)),
+)
+
+-- Its place
+
+pub keeps : (old new : Book) (before after : Books) (s : Share) → Step old new → Holds new s → IsSeated old before → after.agents ≡ before.agents
+    → ((a : ℕ) → has_ended after.history a ≡ has_ended before.history a) → Keeps old.number before new s after
+keeps old new before after s step holds seated agents over = record {
+  number = step.number;
+  held = holds;
+  seated = record {
+    known = (let a = step.number in let b = seated.known in omega (arith, a, b, agents));
+    agents = step.agents ∙ seated.agents ∙ sym agents;
+    over = ap (has_ended after.history) step.number ∙ over old.number ∙ seated.over ∙ sym step.going;
+  };
+  others = (agents, λ a other. over a);
+}
+
+-- a command was done in the ledger, and the stake stays
+pub done_keeps : (old new : Book) (a : Answer) (before after : Books) (s t : Share) → DoesWith old a new → t ≡ s → Holds old s → IsSeated old before → after.agents ≡ before.agents
+    → ((c : ℕ) → has_ended after.history c ≡ has_ended before.history c) → Keeps old.number before new t after
+done_keeps old new a before after s t done same holds seated agents over =
+    let stays = done_stays old new a done in
+    keeps old new before after t stays.step (subst (Holds new) (sym same) (holds_still old new s stays holds)) seated agents over
+
+-- The closing
+
+closing_next : (b : Book) → need b ≡ asks_closing → IsNext b Closed
+closing_next b is = record {
+  lawful = tt;
+  permitted = subst (λ d. Permits b.over (receivers b.plan.jobs) b.history d Closed) (sym (closes b (due b.plan b.history) is)) tt;
+}
+
+pub closed_moves : (old new : Book) → need old ≡ asks_closing → Records old Closed new → Moves old new
+closed_moves old new is records = (Closed, None, closing_next old is, records)
+
+closed_owns : (old : Book) (s : Share) (out : List (ℕ × Row)) → out ≡ tickets old → Holds old s → (p : Row → Bool) → count_by (λ t. p t.1) out ≡ count_by p s.rows
+closed_owns old s out is holds p =
+    let a = ap (λ ts. count_by (λ t. p t.1) ts) is in let b = holds.1 p in let c = counted_rows p (tickets old) in omega (arith, a, b, c)
+
+pub closing_owns : (old : Book) (s : Share) (out : List (ℕ × Row)) → out ≡ tickets old → Holds old s → Owns s.rows out
+closing_owns old s out is holds p = let a = closed_owns old s out is holds p in omega (arith, a)
+
+ended_itself : (l : Ledger) (n a : ℕ) → a ≡ n → has_ended (EndedEvent n ∷ l) a ≡ true
+ended_itself l n a e = ap (λ b. b || has_ended l a) (eq-eqb n a (sym e))
+
+ended_others : (l : Ledger) (n a : ℕ) → a ≢ n → has_ended (EndedEvent n ∷ l) a ≡ has_ended l a
+ended_others l n a other = elim (cases_Bool (n == a)) [
+  | inl e ↦ absurd (other (sym (eqb-true n a e)))
+  | inr e ↦ ap (λ b. b || has_ended l a) e
+]
+
+pub closed_keeps : (old new : Book) (before after : Books) (s t : Share) (out : List (ℕ × Row)) → Records old Closed new → out ≡ tickets old → Holds old s → t.agent ≡ s.agent
+    → ((p : Row → Bool) → count_by p s.rows ≡ count_by p t.rows + count_by (λ t. p t.1) out) → IsSeated old before → after.agents ≡ before.agents
+    → after.history ≡ EndedEvent old.number ∷ spent out before.history → Keeps old.number before new t after
+closed_keeps old new before after s t out records is holds agent counts seated agents history =
+    let number = ap (λ b. b.number) records in
+    record {
+      number = number;
+      held = (
+        agent ∙ holds.0 ∙ sym number,
+        λ p. ap (λ b. count_by p (rows_of b)) records ∙ (let a = closed_owns old s out is holds p in let b = counts p in omega (arith, a, b)),
+      );
+      seated = record {
+        known = (let a = number in let b = seated.known in omega (arith, a, b, agents));
+        agents = ap (λ b. b.agents) records ∙ seated.agents ∙ sym agents;
+        over = ap (λ l. has_ended l new.number) history ∙ ended_itself (spent out before.history) old.number new.number number ∙ sym (ap (λ b. is_ended (phase b.history)) records);
+      };
+      others = (agents, λ a other. ap (λ l. has_ended l a) history ∙ ended_others (spent out before.history) old.number a other ∙ spent_over out before.history a);
+    }
+
+-- A turn, whatever came of it
+
+pub moved_same : (old new : Book) → Moves old new → (new.plan ≡ old.plan) × (new.agents ≡ old.agents)
+moved_same old new m = (ap (λ b. b.plan) m.3, ap (λ b. b.agents) m.3)
+
+proceeded_same : (p : Progress) (old new : Seat) → Proceeds p old new → (new.book.plan ≡ old.book.plan) × (new.book.agents ≡ old.book.agents)
+proceeded_same Moved old new m = moved_same old.book new.book m
+proceeded_same Waiting old new e = (ap (λ s. s.book.plan) e, ap (λ s. s.book.agents) e)
+proceeded_same Ended old new e = (ap (λ s. s.book.plan) e, ap (λ s. s.book.agents) e)
+
+pub turned_same : {E : Type 0} (r : Result Progress E) (old new : Seat) → IfOk r (λ p. Proceeds p old new) → OnErr r (new.book ≡ old.book) → (new.book.plan ≡ old.book.plan) × (new.book.agents ≡ old.book.agents)
+turned_same (Ok p) old new ok err = proceeded_same p old new ok
+turned_same (Err e) old new ok err = (ap (λ b. b.plan) err, ap (λ b. b.agents) err)

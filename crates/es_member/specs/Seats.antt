@@ -1,0 +1,30 @@
+-- To believe: what contracts see of a member, and that its tickets are the ledger's rows of its agent.
+use Rattle.std.specs.Prelude.{◌≡◌, ◌+◌, Bool, List, map, count_by, if◌then◌else◌}
+use Rattle.es_event.specs.declared.row.Row.{Row}
+use Rattle.es_ticket.specs.Shares.{Share}
+use Rattle.es_record.specs.Book.{Book}
+use Rattle.es_agent.specs.Tickets.{tickets}
+
+-- the agent, and its side of the ledger
+pub record Seat : Type 0 where
+  pub book : Book
+  pub share : Share
+
+-- what the agent's tickets name
+abbrev pub rows_of : Book → List Row
+rows_of b = map (λ t. t.1) (tickets b)
+
+-- the same rows, each as often
+abbrev pub SameRows : List Row → List Row → Type 0
+SameRows xs ys = (p : Row → Bool) → count_by p xs ≡ count_by p ys
+
+-- the stake is this agent's, and has its tickets
+abbrev pub Holds : Book → Share → Type 0
+Holds b s = (s.agent ≡ b.number) × SameRows (rows_of b) s.rows
+
+-- it has one ticket more
+abbrev pub HoldsBeside : Row → Book → Share → Type 0
+HoldsBeside r b s = (s.agent ≡ b.number) × ((p : Row → Bool) → count_by p s.rows ≡ count_by p (rows_of b) + (if p r then 1 else 0))
+
+abbrev pub seat : Book → Share → Seat
+seat b s = record { book = b; share = s }

@@ -1,0 +1,60 @@
+-- To believe: what a turn of an agent asks of those who call it, and what it leaves of the agent and of the ledger.
+use Rattle.std.specs.Prelude.{ℕ, ◌≡◌, ◌≢◌, ◌<◌, ⊤, List, Option, map, ◌++◌}
+use Rattle.es_event.specs.declared.event.Event.{Event}
+use Rattle.es_event.specs.declared.ledger_event.LedgerEvent.TheVariants.{Spent}
+use Rattle.es_event.specs.declared.row.Row.{Row}
+use Rattle.es_event.specs.Ledger.{Ledger, ended as has_ended}
+use Rattle.es_event.specs.Order.{phase}
+use Rattle.es_ledger.specs.Books.{Books}
+use Rattle.es_ticket.specs.Shares.{Share}
+use Rattle.es_record.specs.Book.{Book, IsNext, Records, with_row}
+use Rattle.es_rules.specs.Needs.{for_block, for_post, for_buffer_post, for_load, for_store, for_add, Need, asks_nobody, asks_marks, asks_ledger, asks_message, asks_closing, asks_nothing}
+use Rattle.es_agent.specs.Tickets.{is_ended}
+use Rattle.es_member.specs.Seats.{Seat, Holds}
+use Rattle.es_member.specs.declared.member.Progress.{Progress}
+use Rattle.es_member.specs.declared.member.Progress.TheVariants.{Moved, Waiting, Ended}
+
+-- whom an agent asks to post to, or waits for, is one of the agents, and not itself
+abbrev pub NamesOthers : Need → ℕ → ℕ → Type 0
+NamesOthers asks_nobody n agents = ⊤
+NamesOthers asks_marks n agents = ⊤
+NamesOthers (asks_ledger (for_block w)) n agents = ⊤
+NamesOthers (asks_ledger (for_post a v)) n agents = (a < agents) × (n ≢ a)
+NamesOthers (asks_ledger (for_buffer_post a o)) n agents = (a < agents) × (n ≢ a)
+NamesOthers (asks_ledger (for_load o i)) n agents = ⊤
+NamesOthers (asks_ledger (for_store o i w)) n agents = ⊤
+NamesOthers (asks_ledger (for_add o i w)) n agents = ⊤
+NamesOthers (asks_message s) n agents = (s < agents) × (n ≢ s)
+NamesOthers asks_closing n agents = ⊤
+NamesOthers asks_nothing n agents = ⊤
+
+-- the agent is one of the ledger's, and has ended there where it has closed
+pub record IsSeated (b : Book) (l : Books) : Type 0 where
+  pub known : b.number < l.agents
+  pub agents : b.agents ≡ l.agents
+  pub over : has_ended l.history b.number ≡ is_ended (phase b.history)
+
+-- the agent grew by one event, the next by the rules and the plan; a buffer object may have come with it
+abbrev pub Moves : Book → Book → Type 0
+Moves old new = (e : Event) × (r : Option Row) × IsNext (with_row r old) e × Records (with_row r old) e new
+
+-- an agent that waits or has ended has not changed
+abbrev pub Proceeds : Progress → Seat → Seat → Type 0
+Proceeds Moved old new = Moves old.book new.book
+Proceeds Waiting old new = new ≡ old
+Proceeds Ended old new = new ≡ old
+
+-- the same agents, and those but for n have ended where they had
+abbrev pub OthersStay : ℕ → Books → Books → Type 0
+OthersStay n old new = (new.agents ≡ old.agents) × ((a : ℕ) → a ≢ n → has_ended new.history a ≡ has_ended old.history a)
+
+-- whatever came of a turn, the agent has its stake and its place
+pub record Keeps (n : ℕ) (before : Books) (b : Book) (s : Share) (after : Books) : Type 0 where
+  pub number : b.number ≡ n
+  pub held : Holds b s
+  pub seated : IsSeated b after
+  pub others : OthersStay n before after
+
+-- the tickets of these rows are spent, the last first
+abbrev pub spent : List (ℕ × Row) → Ledger → Ledger
+spent ts l = map (λ t. Spent t.1.serial) ts ++ l

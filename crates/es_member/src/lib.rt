@@ -1,0 +1,10 @@
+//! One agent and the ledger together: a turn of an agent, with what the ledger answers to it.
+#![tactic(auto)]
+
+mod member;
+mod spending;
+#[cfg(test)]
+mod tests;
+mod turns;
+
+pub use member::{Member, Progress};

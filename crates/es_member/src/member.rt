@@ -1,0 +1,109 @@
+//! An agent with its side of the ledger.
+
+ghost use Rattle.std.specs.Prelude.{◌≡◌, [], true, reverse, IfOk, OnErr};
+ghost use Rattle.es_event.specs.Jobs.{receivers};
+ghost use Rattle.es_event.specs.Live.{Honest};
+ghost use Rattle.es_event.specs.Order.{phase};
+ghost use Rattle.es_event.specs.Runs.{IsRunOver};
+ghost use Rattle.es_rules.specs.Needs.{need};
+ghost use Rattle.es_agent.specs.Tickets.{is_ended, tickets};
+ghost use Rattle.es_member.specs.Turned.{IsSeated, NamesOthers, OthersStay, Proceeds, spent};
+
+use crate::spending::spend_all;
+use crate::turns::turn;
+use es_agent::AgentCore;
+use es_event::{Event, Sequence};
+use es_ledger::LedgerCore;
+use es_ticket::{Run, Stake};
+use es_value::NoMemory;
+use std::marker::Model;
+
+/// What a turn came to.
+#[derive(Clone, Copy, Debug, PartialEq, Eq)]
+pub enum Progress {
+    /// The agent has one event more.
+    Moved,
+    /// It waits on for a message.
+    Waiting,
+    /// It has ended.
+    Ended,
+}
+
+/// An agent with its side of the ledger: its tickets are the ledger's rows of this agent.
+pub struct Member<L: Run> {
+    pub(crate) core: AgentCore<L>,
+    pub(crate) stake: Stake<L>,
+}
+
+impl<L: Run> Model for Member<L> {
+    ghost use Rattle.std.specs.Prelude.{◌≡◌};
+    ghost use Rattle.es_member.specs.Seats.{Seat, rows_of, SameRows};
+
+    ghost Value = { Seat };
+
+    ghost view = { λ m. record { book = m.core; share = m.stake } };
+
+    ghost invariant = { λ m. (m.stake.agent ≡ m.core.number) × SameRows (rows_of m.core) m.stake.rows };
+}
+
+impl<L: Run> Member<L> {
+    /// An agent with its stake, neither of which has a ticket.
+    pub fn new(core: AgentCore<L>, stake: Stake<L>) -> Member<L>
+        requires number { stake.agent ≡ core.number }
+        requires empty { (tickets core ≡ []) × (stake.rows ≡ []) }
+        ensures { (result.book ≡ core) × (result.share ≡ stake) }
+    {
+        Member { core, stake }
+    }
+
+    /// The agent.
+    pub fn core(&self) -> &AgentCore<L>
+        ensures { result.now ≡ self.now.book }
+    {
+        &self.core
+    }
+
+    /// Its number among the agents, counted from 0.
+    pub fn number(&self) -> usize
+        ensures { result ≡ self.now.book.number }
+    {
+        self.core.number()
+    }
+
+    /// One turn: the next event of the agent, with what it asks for done in the ledger, or none where
+    /// it waits on for a message or has ended. After want of memory the agent has not changed, but a
+    /// part of the ledger's doing may stand; a message that was taken is lost.
+    pub fn step(&mut self, ledger: &mut LedgerCore<L>) -> Result<Progress, NoMemory>
+        requires seated { IsSeated self.old.book ledger.old }
+        requires others { NamesOthers (need self.old.book) self.old.book.number ledger.old.agents }
+        ensures ok { IfOk result (λ p. Proceeds p self.old self.new) }
+        ensures err { OnErr result (self.new.book ≡ self.old.book) }
+        ensures same { (self.new.book.plan ≡ self.old.book.plan) × (self.new.book.agents ≡ self.old.book.agents) }
+        ensures number { self.new.book.number ≡ self.old.book.number }
+        ensures seated { IsSeated self.new.book ledger.new }
+        ensures others { OthersStay self.old.book.number ledger.old ledger.new }
+    {
+        turn(&mut self.core, &mut self.stake, ledger)
+    }
+
+    /// Gives the agent up, at a fault: its tickets are spent. It takes no memory.
+    pub fn abandon(self, ledger: &mut LedgerCore<L>)
+        ensures agents { ledger.new.agents ≡ ledger.old.agents }
+        ensures history { ledger.new.history ≡ spent (tickets self.book) ledger.old.history }
+    {
+        let Member { core, mut stake } = self;
+        let rack = core.abandon();
+        spend_all(ledger, &mut stake, rack);
+    }
+
+    /// Gives up an agent that has closed for its events, the oldest first. It takes no memory.
+    pub fn into_history(self) -> Sequence<Event>
+        requires { is_ended (phase self.book.history) ≡ true }
+        ensures events { reverse result ≡ self.book.history }
+        ensures run { IsRunOver self.book.over self.book.plan self.book.history }
+        ensures honest { Honest (receivers self.book.plan.jobs) self.book.history }
+    {
+        let Member { core, stake: _ } = self;
+        core.into_history()
+    }
+}

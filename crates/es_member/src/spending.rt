@@ -1,0 +1,25 @@
+//! The tickets of a rack are spent.
+
+ghost use Rattle.std.specs.Prelude.{◌≡◌, ◌+◌, Bool, count_by};
+ghost use Rattle.es_event.specs.declared.row.Row.{Row};
+ghost use Rattle.es_ticket.specs.Owned.{Owns};
+ghost use Rattle.es_member.specs.Turned.{spent};
+
+use es_ledger::LedgerCore;
+use es_ticket::{Rack, Run, Stake};
+
+/// Spends all tickets of a rack, the newest buffer object's first. It takes no memory.
+pub(crate) fn spend_all<L: Run>(ledger: &mut LedgerCore<L>, stake: &mut Stake<L>, mut rack: Rack<L>)
+    requires { Owns stake.old.rows rack.tickets }
+    ensures ledger { (ledger.new.agents ≡ ledger.old.agents) × (ledger.new.history ≡ spent rack.tickets ledger.old.history) }
+    ensures agent { stake.new.agent ≡ stake.old.agent }
+    ensures counts { (p : Row → Bool) → count_by p stake.old.rows ≡ count_by p stake.new.rows + count_by (λ t. p t.1) rack.tickets }
+{
+    for _place in 0..rack.len() {
+        let Some(ticket) = rack.pop() else {
+            unreachable!()
+        };
+        let _ = ledger.spend(stake, ticket);
+    }
+    rack.end();
+}

@@ -1,0 +1,116 @@
+//! A turn of an agent: what it asks for is done in the ledger, and it takes the answer.
+
+ghost use Rattle.std.specs.Prelude.{◌≡◌, ◌≢◌, ◌<◌, OnErr, IfOk};
+ghost use Rattle.es_rules.specs.Needs.{need, asks_nobody, asks_marks, asks_message, asks_closing};
+ghost use Rattle.es_member.specs.Seats.{Holds, seat};
+ghost use Rattle.es_member.specs.Turned.{IsSeated, NamesOthers, Keeps, Proceeds};
+
+mod asking;
+mod hearing;
+
+use crate::member::Progress;
+use crate::spending::spend_all;
+use asking::{add, load, open, post, post_buffer, store};
+use es_agent::{AgentCore, Need, Request};
+use es_ledger::LedgerCore;
+use es_ticket::{Run, Stake};
+use es_value::NoMemory;
+use hearing::hear;
+
+/// One event of the agent, or none where it waits or has ended.
+pub(crate) fn turn<L: Run>(
+    core: &mut AgentCore<L>,
+    stake: &mut Stake<L>,
+    ledger: &mut LedgerCore<L>,
+) -> Result<Progress, NoMemory>
+    requires held { Holds core.old stake.old }
+    requires seated { IsSeated core.old ledger.old }
+    requires others { NamesOthers (need core.old) core.old.number ledger.old.agents }
+    ensures ok { IfOk result (λ p. Proceeds p (seat core.old stake.old) (seat core.new stake.new)) }
+    ensures err { OnErr result (core.new ≡ core.old) }
+    ensures keeps { Keeps core.old.number ledger.old core.new stake.new ledger.new }
+{
+    match core.next() {
+        Need::Local => perform(core, stake, ledger),
+        Need::Collect => collect(core, stake, ledger),
+        Need::Ledger(request) => match request {
+            Request::NewBlock { words } => open(core, stake, ledger, words),
+            Request::Post { receiver, value } => {
+                let copy = value.copy()?;
+                post(core, stake, ledger, receiver, copy)
+            }
+            Request::PostBuffer { receiver, buffer } => {
+                post_buffer(core, stake, ledger, receiver, buffer)
+            }
+            Request::Load { buffer, index } => load(core, stake, ledger, buffer, index),
+            Request::Store {
+                buffer,
+                index,
+                word,
+            } => store(core, stake, ledger, buffer, index, word),
+            Request::Add {
+                buffer,
+                index,
+                addend,
+            } => add(core, stake, ledger, buffer, index, addend),
+        },
+        Need::Message(sender) => hear(core, stake, ledger, sender),
+        Need::Close => close(core, stake, ledger),
+        Need::Ended => Ok(Progress::Ended),
+    }
+}
+
+// A step that asks nobody else.
+fn perform<L: Run>(
+    core: &mut AgentCore<L>,
+    stake: &Stake<L>,
+    ledger: &LedgerCore<L>,
+) -> Result<Progress, NoMemory>
+    requires due { need core.old ≡ asks_nobody }
+    requires held { Holds core.old stake.now }
+    requires seated { IsSeated core.old ledger.now }
+    ensures ok { IfOk result (λ p. Proceeds p (seat core.old stake.now) (seat core.new stake.now)) }
+    ensures err { OnErr result (core.new ≡ core.old) }
+    ensures keeps { Keeps core.old.number ledger.now core.new stake.now ledger.now }
+{
+    core.perform()?;
+    Ok(Progress::Moved)
+}
+
+// A collection: the tickets of emptied buffer objects are spent.
+fn collect<L: Run>(
+    core: &mut AgentCore<L>,
+    stake: &mut Stake<L>,
+    ledger: &mut LedgerCore<L>,
+) -> Result<Progress, NoMemory>
+    requires due { need core.old ≡ asks_marks }
+    requires held { Holds core.old stake.old }
+    requires seated { IsSeated core.old ledger.old }
+    ensures ok { IfOk result (λ p. Proceeds p (seat core.old stake.old) (seat core.new stake.new)) }
+    ensures err { OnErr result (core.new ≡ core.old) }
+    ensures keeps { Keeps core.old.number ledger.old core.new stake.new ledger.new }
+{
+    let marks = core.marks()?;
+    let rack = core.collect(&marks)?;
+    spend_all(ledger, stake, rack);
+    Ok(Progress::Moved)
+}
+
+// The agent closes: all its tickets are spent, and it ends in the ledger.
+fn close<L: Run>(
+    core: &mut AgentCore<L>,
+    stake: &mut Stake<L>,
+    ledger: &mut LedgerCore<L>,
+) -> Result<Progress, NoMemory>
+    requires due { need core.old ≡ asks_closing }
+    requires held { Holds core.old stake.old }
+    requires seated { IsSeated core.old ledger.old }
+    ensures ok { IfOk result (λ p. Proceeds p (seat core.old stake.old) (seat core.new stake.new)) }
+    ensures err { OnErr result (core.new ≡ core.old) }
+    ensures keeps { Keeps core.old.number ledger.old core.new stake.new ledger.new }
+{
+    let rack = core.close();
+    spend_all(ledger, stake, rack);
+    ledger.ended(core.number());
+    Ok(Progress::Moved)
+}

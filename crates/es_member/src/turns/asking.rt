@@ -1,0 +1,167 @@
+//! What an agent asks the ledger for: blocks, words, and that something is posted.
+
+ghost use Rattle.std.specs.Prelude.{◌≡◌, ◌≢◌, ◌<◌, OnOk, OnErr, IfOk};
+ghost use Rattle.es_rules.specs.Needs.{need, asks_ledger, for_block, for_post, for_buffer_post, for_load, for_store, for_add, TakesTicket};
+ghost use Rattle.es_member.specs.Seats.{Holds, HoldsBeside, seat};
+ghost use Rattle.es_member.specs.Turned.{IsSeated, Keeps, Moves, Proceeds};
+
+use crate::member::Progress;
+use es_agent::{AdmitFault, AgentCore};
+use es_ledger::LedgerCore;
+use es_ticket::{Run, Stake, Ticket};
+use es_value::{Id, NoMemory, Value};
+
+/// A new block: the agent takes its first ticket.
+pub(crate) fn open<L: Run>(
+    core: &mut AgentCore<L>,
+    stake: &mut Stake<L>,
+    ledger: &mut LedgerCore<L>,
+    words: u32,
+) -> Result<Progress, NoMemory>
+    requires due { need core.old ≡ asks_ledger (for_block words) }
+    requires held { Holds core.old stake.old }
+    requires seated { IsSeated core.old ledger.old }
+    ensures ok { IfOk result (λ p. Proceeds p (seat core.old stake.old) (seat core.new stake.new)) }
+    ensures err { OnErr result (core.new ≡ core.old) }
+    ensures keeps { Keeps core.old.number ledger.old core.new stake.new ledger.new }
+{
+    let ticket = ledger.open_block(stake, words)?;
+    admit(core, stake, ledger, ticket)?;
+    Ok(Progress::Moved)
+}
+
+/// The agent takes in a ticket that its stake has beside its own. One that it does not take in is
+/// spent.
+pub(crate) fn admit<L: Run>(
+    core: &mut AgentCore<L>,
+    stake: &mut Stake<L>,
+    ledger: &mut LedgerCore<L>,
+    ticket: Ticket<L>,
+) -> Result<(), NoMemory>
+    requires takes { TakesTicket (need core.old) ticket }
+    requires held { HoldsBeside ticket core.old stake.old }
+    requires seated { IsSeated core.old ledger.old }
+    ensures ok { OnOk result (Moves core.old core.new) }
+    ensures err { OnErr result (core.new ≡ core.old) }
+    ensures keeps { Keeps core.old.number ledger.old core.new stake.new ledger.new }
+{
+    let _ = core.history();
+    match core.admit(ticket) {
+        Ok(_) => Ok(()),
+        Err((ticket, fault)) => {
+            let _ = ledger.spend(stake, ticket);
+            match fault {
+                AdmitFault::Refused => Ok(()),
+                AdmitFault::NoMemory => Err(NoMemory),
+            }
+        }
+    }
+}
+
+/// A value without an identity is posted.
+pub(crate) fn post<L: Run>(
+    core: &mut AgentCore<L>,
+    stake: &Stake<L>,
+    ledger: &mut LedgerCore<L>,
+    receiver: usize,
+    value: Value,
+) -> Result<Progress, NoMemory>
+    requires due { need core.old ≡ asks_ledger (for_post receiver value) }
+    requires others { (receiver < ledger.old.agents) × (core.old.number ≢ receiver) }
+    requires held { Holds core.old stake.now }
+    requires seated { IsSeated core.old ledger.old }
+    ensures ok { IfOk result (λ p. Proceeds p (seat core.old stake.now) (seat core.new stake.now)) }
+    ensures err { OnErr result (core.new ≡ core.old) }
+    ensures keeps { Keeps core.old.number ledger.old core.new stake.now ledger.new }
+{
+    ledger.post(core.number(), receiver, value)?;
+    core.answer_done()?;
+    Ok(Progress::Moved)
+}
+
+/// The block of a buffer object is posted.
+pub(crate) fn post_buffer<L: Run>(
+    core: &mut AgentCore<L>,
+    stake: &mut Stake<L>,
+    ledger: &mut LedgerCore<L>,
+    receiver: usize,
+    buffer: Id,
+) -> Result<Progress, NoMemory>
+    requires due { need core.old ≡ asks_ledger (for_buffer_post receiver buffer) }
+    requires others { (receiver < ledger.old.agents) × (core.old.number ≢ receiver) }
+    requires held { Holds core.old stake.old }
+    requires seated { IsSeated core.old ledger.old }
+    ensures ok { IfOk result (λ p. Proceeds p (seat core.old stake.old) (seat core.new stake.new)) }
+    ensures err { OnErr result (core.new ≡ core.old) }
+    ensures keeps { Keeps core.old.number ledger.old core.new stake.new ledger.new }
+{
+    let _ = core.history();
+    ledger.post_buffer(stake, receiver, core.ticket(buffer))?;
+    core.answer_done()?;
+    Ok(Progress::Moved)
+}
+
+/// The agent takes the word at an index of a buffer object's block.
+pub(crate) fn load<L: Run>(
+    core: &mut AgentCore<L>,
+    stake: &mut Stake<L>,
+    ledger: &mut LedgerCore<L>,
+    buffer: Id,
+    index: usize,
+) -> Result<Progress, NoMemory>
+    requires due { need core.old ≡ asks_ledger (for_load buffer index) }
+    requires held { Holds core.old stake.old }
+    requires seated { IsSeated core.old ledger.old }
+    ensures ok { IfOk result (λ p. Proceeds p (seat core.old stake.old) (seat core.new stake.new)) }
+    ensures err { OnErr result (core.new ≡ core.old) }
+    ensures keeps { Keeps core.old.number ledger.old core.new stake.new ledger.new }
+{
+    let _ = core.history();
+    let word = ledger.load(stake, core.ticket(buffer), index)?;
+    core.answer_word(word)?;
+    Ok(Progress::Moved)
+}
+
+/// A word is written there.
+pub(crate) fn store<L: Run>(
+    core: &mut AgentCore<L>,
+    stake: &mut Stake<L>,
+    ledger: &mut LedgerCore<L>,
+    buffer: Id,
+    index: usize,
+    word: u32,
+) -> Result<Progress, NoMemory>
+    requires due { need core.old ≡ asks_ledger (for_store buffer index word) }
+    requires held { Holds core.old stake.old }
+    requires seated { IsSeated core.old ledger.old }
+    ensures ok { IfOk result (λ p. Proceeds p (seat core.old stake.old) (seat core.new stake.new)) }
+    ensures err { OnErr result (core.new ≡ core.old) }
+    ensures keeps { Keeps core.old.number ledger.old core.new stake.new ledger.new }
+{
+    let _ = core.history();
+    ledger.store(stake, core.ticket(buffer), index, word)?;
+    core.answer_done()?;
+    Ok(Progress::Moved)
+}
+
+/// A word is added to the one there, which the agent takes.
+pub(crate) fn add<L: Run>(
+    core: &mut AgentCore<L>,
+    stake: &mut Stake<L>,
+    ledger: &mut LedgerCore<L>,
+    buffer: Id,
+    index: usize,
+    addend: u32,
+) -> Result<Progress, NoMemory>
+    requires due { need core.old ≡ asks_ledger (for_add buffer index addend) }
+    requires held { Holds core.old stake.old }
+    requires seated { IsSeated core.old ledger.old }
+    ensures ok { IfOk result (λ p. Proceeds p (seat core.old stake.old) (seat core.new stake.new)) }
+    ensures err { OnErr result (core.new ≡ core.old) }
+    ensures keeps { Keeps core.old.number ledger.old core.new stake.new ledger.new }
+{
+    let _ = core.history();
+    let old = ledger.add(stake, core.ticket(buffer), index, addend)?;
+    core.answer_word(old)?;
+    Ok(Progress::Moved)
+}
