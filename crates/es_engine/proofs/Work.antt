@@ -1,6 +1,6 @@
 -- How much is left to an agent: each step leaves less, of the cleanup queue or of the jobs.
-use Rattle.std.proofs.Common.{◌≡◌, ℕ, ◌<◌, ◌||◌, Bool, true, false, cond, not, sym, ◌∙◌, ap, refl, subst, List, [], ◌∷◌, reverse, Option, Some, None}
-use Rattle.std.specs.List.{list_any, filter}
+use Rattle.std.proofs.Common.{◌≡◌, ℕ, ◌<◌, ◌||◌, Bool, true, false, cond, sym, ◌∙◌, ap, refl, subst, List, [], ◌∷◌, Option, Some, None}
+use Rattle.std.specs.List.{list_any}
 use Rattle.es_value.specs.declared.value.Value.{Value}
 use Rattle.es_event.specs.declared.command.Command.{Command}
 use Rattle.es_event.specs.declared.command.Command.TheVariants.{SharedArrayBuffer, Load, Store, Add, Post}
@@ -8,14 +8,12 @@ use Rattle.es_event.specs.declared.event.Event.{Event}
 use Rattle.es_event.specs.declared.event.Event.TheVariants.{Emptied}
 use Rattle.es_event.specs.declared.event.Refusal.{Refusal}
 use Rattle.es_event.specs.declared.plan.AgentPlan.{AgentPlan}
-use Rattle.es_event.specs.declared.row.Row.{Row}
 use Rattle.es_event.specs.Commands.{collects, is_shared}
 use Rattle.es_event.specs.History.{History}
 use Rattle.es_event.specs.Jobs.{receivers, job, cleaning, stays_alone, callbacks_collect_nothing}
 use Rattle.es_event.specs.Sharing.{Buffers}
 use Rattle.es_event.specs.Order.{Phase, between, handed, inside, stopped, ended, phase, left, queue, Due, begin, receive, run, clean, take_cell, end_job, close, nothing, due, due_at, due_job, due_between, due_inside, due_after, is_cleaning_up}
 use Rattle.es_event.specs.Follows.{Follows}
-use Rattle.es_event.specs.Identities.{is_gone}
 use Rattle.es_event.specs.Runs.{IsRun, IsRunOver}
 use Rattle.es_event.proofs.Alone.{left_alone, due_local, due_no_message}
 use Rattle.es_event.proofs.Awaiting.{between_clean}
@@ -23,7 +21,7 @@ use Rattle.es_event.proofs.Coming.{Comes, begins_job, begins_handed, receives, s
 use Rattle.es_event.proofs.Work.{plan_work, cleanup_work, cleanup_less, plan_less, quiet, not_due, in_cleanup}
 use Rattle.es_record.specs.Book.{Book}
 use Rattle.es_rules.specs.Needs.{Request, unless_refused, asked, request, Need, asks_nobody, asks_marks, asks_ledger, asks_message, asks_closing, asks_nothing, ledger_or_nobody, need_of}
-use Rattle.es_agent.specs.Tickets.{RecordsNext, is_ended, tickets}
+use Rattle.es_agent.specs.Tickets.{RecordsNext}
 use Rattle.es_engine.specs.Agents.{EmptiesDead}
 
 -- Where nothing is asked for
