@@ -245,8 +245,8 @@ moved_same old new m = (ap (λ b. b.plan) m.3, ap (λ b. b.agents) m.3)
 
 proceeded_same : (p : Progress) (old new : Seat) → Proceeds p old new → (new.book.plan ≡ old.book.plan) × (new.book.agents ≡ old.book.agents)
 proceeded_same Moved old new m = moved_same old.book new.book m
-proceeded_same Waiting old new e = (ap (λ s. s.book.plan) e, ap (λ s. s.book.agents) e)
-proceeded_same Ended old new e = (ap (λ s. s.book.plan) e, ap (λ s. s.book.agents) e)
+proceeded_same Waiting old new e = (ap (λ s. s.book.plan) e.2, ap (λ s. s.book.agents) e.2)
+proceeded_same Ended old new e = (ap (λ s. s.book.plan) e.1, ap (λ s. s.book.agents) e.1)
 
 pub turned_same : {E : Type 0} (r : Result Progress E) (old new : Seat) → IfOk r (λ p. Proceeds p old new) → OnErr r (new.book ≡ old.book) → (new.book.plan ≡ old.book.plan) × (new.book.agents ≡ old.book.agents)
 turned_same (Ok p) old new ok err = proceeded_same p old new ok

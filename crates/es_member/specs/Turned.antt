@@ -8,7 +8,7 @@ use Rattle.es_event.specs.Order.{phase}
 use Rattle.es_ledger.specs.Books.{Books}
 use Rattle.es_ticket.specs.Shares.{Share}
 use Rattle.es_record.specs.Book.{Book, IsNext, Records, with_row}
-use Rattle.es_rules.specs.Needs.{for_block, for_post, for_buffer_post, for_load, for_store, for_add, Need, asks_nobody, asks_marks, asks_ledger, asks_message, asks_closing, asks_nothing}
+use Rattle.es_rules.specs.Needs.{for_block, for_post, for_buffer_post, for_load, for_store, for_add, Need, asks_nobody, asks_marks, asks_ledger, asks_message, asks_closing, asks_nothing, need}
 use Rattle.es_agent.specs.Tickets.{is_ended}
 use Rattle.es_member.specs.Seats.{Seat, Holds}
 use Rattle.es_member.specs.declared.member.Progress.{Progress}
@@ -38,11 +38,11 @@ pub record IsSeated (b : Book) (l : Books) : Type 0 where
 abbrev pub Moves : Book → Book → Type 0
 Moves old new = (e : Event) × (r : Option Row) × IsNext (with_row r old) e × Records (with_row r old) e new
 
--- an agent that waits or has ended has not changed
+-- an agent that waits asks for a message, and one that has ended asks for nothing; neither has changed
 abbrev pub Proceeds : Progress → Seat → Seat → Type 0
 Proceeds Moved old new = Moves old.book new.book
-Proceeds Waiting old new = new ≡ old
-Proceeds Ended old new = new ≡ old
+Proceeds Waiting old new = (s : ℕ) × (need old.book ≡ asks_message s) × (new ≡ old)
+Proceeds Ended old new = (need old.book ≡ asks_nothing) × (new ≡ old)
 
 -- the same agents, and those but for n have ended where they had
 abbrev pub OthersStay : ℕ → Books → Books → Type 0
