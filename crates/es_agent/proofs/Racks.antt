@@ -44,7 +44,7 @@ pub open_before : (b : Book) (e : Event) → IsNext b e → is_ended (phase b.hi
 open_before b e next = open_at b.over (receivers b.plan.jobs) b.plan b.history (phase b.history) e next.permitted
 
 -- only its closing closes it
-open_after : (h : History) (e : Event) → (e ≡ Closed → ⊥) → is_ended (phase h) ≡ false → is_ended (phase (e ∷ h)) ≡ false
+pub open_after : (h : History) (e : Event) → (e ≡ Closed → ⊥) → is_ended (phase h) ≡ false → is_ended (phase (e ∷ h)) ≡ false
 open_after h (JobBegun j) other before = refl
 open_after h (CleanupBegun q) other before = refl
 open_after h (Received t v) other before = refl

@@ -5,6 +5,7 @@ ghost use Rattle.es_value.specs.Values.{identity};
 ghost use Rattle.es_event.specs.Identities.{gone, is_in, made};
 ghost use Rattle.es_event.specs.Jobs.{receivers};
 ghost use Rattle.es_event.specs.WeakRefs.{kept};
+ghost use Rattle.es_event.specs.declared.row.Row.{Row};
 ghost use Rattle.es_event.specs.Sharing.{row_at};
 ghost use Rattle.es_event.specs.Registrations.{live, awaiting, unregistered, taken, tally as tally_said};
 ghost use Rattle.es_event.specs.Live.{Honest};
@@ -86,11 +87,13 @@ impl<L: Run> AgentCore<L> {
     }
 
     /// Its events so far, the oldest first. They are legal and follow its plan so far, over its buffer
-    /// objects, and no set that was emptied was live then (ECMA-262, Liveness; Execution).
+    /// objects, and no set that was emptied was live then (ECMA-262, Liveness; Execution). Each of its
+    /// tickets names what its buffer object is over.
     pub fn history(&self) -> &[Event]
         ensures events { reverse result.now ≡ self.now.history }
         ensures run { IsRunOver self.now.over self.now.plan self.now.history }
         ensures honest { Honest (receivers self.now.plan.jobs) self.now.history }
+        ensures named { (o : ℕ) (r : Row) → Some r ≡ at o (tickets self.now) → Some r ≡ row_at self.now.over o }
     {
         self.record.history()
     }

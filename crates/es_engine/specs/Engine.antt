@@ -1,5 +1,5 @@
 -- To believe: what a run does, on bytes: the reader's bytes to its end, and what is written for them.
-use Rattle.std.specs.Prelude.{ℕ, ◌≡◌, ◌≤◌, ⊤, Bool, true, false, List, Option, Some, Result, Ok, Err, length, codes}
+use Rattle.std.specs.Prelude.{ℕ, ◌≡◌, ◌≤◌, ⊤, Bool, true, false, List, [], Option, Some, Result, Ok, Err, length, codes}
 use Rattle.std.specs.Io.KnownBytes.{Appends, Consumes, IsAtEnd}
 use Rattle.std.specs.List.{list_all}
 use Rattle.es_value.specs.Limits.{longest_plan}
@@ -36,10 +36,11 @@ IsAnswerFault NoMemory = ⊤
 IsAnswerFault Read = ⊥
 IsAnswerFault Write = ⊤
 
--- `ok` where the plan is only checked, and else the report of whole runs of its agents
+-- `ok` where the plan is only checked, and else the report of whole runs of its agents and of a ledger without events, since none
+-- is kept yet
 abbrev pub IsAnswer : Bool → Plan → List ℕ → Type 0
 IsAnswer true p text = text ≡ codes "ok\n"
-IsAnswer false p text = (o : Outcome) × IsOutcome p o × (text ≡ report o)
+IsAnswer false p text = (o : Outcome) × IsOutcome p o × (o.ledger ≡ []) × (text ≡ report o)
 
 -- the answer for the plan is added to what the writer holds
 abbrev pub Answers : Bool → Plan → Option (List ℕ) → Option (List ℕ) → Type 0

@@ -23,11 +23,13 @@ pub(crate) struct Ended {
     pub(crate) tallies: Vec<Tally>,
 }
 
-/// Runs the agents of a plan by rising number, each from its first job to its closing.
+/// Runs the agents of a plan by rising number, each from its first job to its closing. No ledger is
+/// kept yet, so its history is empty.
 pub(crate) fn run_plan(alloc: Global, plan: Plan) -> Result<Ended, NoMemory>
     requires alone { stay_alone plan ≡ true }
     requires collects { no_callback_collects plan ≡ true }
     ensures outcome { IfOk result (λ r. IsOutcome plan r.outcome) }
+    ensures ledger { IfOk result (λ r. r.outcome.ledger ≡ []) }
     ensures tallies { IfOk result (λ r. AreTallies r.outcome.histories r.tallies.items) }
 {
     let agents = plan.agents.into_vec();
@@ -46,7 +48,11 @@ pub(crate) fn run_plan(alloc: Global, plan: Plan) -> Result<Ended, NoMemory>
         histories.push(history)?;
     }
     Ok(Ended {
-        outcome: Outcome { names, histories },
+        outcome: Outcome {
+            names,
+            histories,
+            ledger: Sequence::new(alloc),
+        },
         tallies,
     })
 }

@@ -56,5 +56,6 @@ fn answer<W: Write>(alloc: Global, plan: Plan, check: bool, writer: &mut W) -> R
         return writer.write_all(b"ok\n").map_err(|_| RunFault::Write);
     }
     let ended = run_plan(alloc, plan)?;
-    write_report(&ended.outcome, ended.tallies.as_slice(), writer).map_err(|_| RunFault::Write)
+    // no block was made, so none was released
+    write_report(&ended.outcome, ended.tallies.as_slice(), 0, writer).map_err(|_| RunFault::Write)
 }

@@ -25,8 +25,5 @@ same_runs (p ∷ ps) (g ∷ gs) (h ∷ hs) alone a b =
     let each = and_parts (stays_alone p) (list_all stays_alone ps) alone in
     ap (λ k. k ∷ gs) (one_reversed p g h each.0 a.0 b.0) ∙ ap (λ ks. h ∷ ks) (same_runs ps gs hs each.1 a.1 b.1)
 
-pub one_outcome : (plan : Plan) (a b : Outcome) → list_all stays_alone plan.agents ≡ true → IsOutcome plan a → IsOutcome plan b → a ≡ b
-one_outcome plan a b alone x y =
-    let names : a.names ≡ b.names = x.names ∙ sym y.names in
-    let runs : a.histories ≡ b.histories = same_runs plan.agents a.histories b.histories alone x.runs y.runs in
-    λ i. record { names = names i; histories = runs i }
+pub one_outcome : (plan : Plan) (a b : Outcome) → list_all stays_alone plan.agents ≡ true → IsOutcome plan a → IsOutcome plan b → (a.names ≡ b.names) × (a.histories ≡ b.histories)
+one_outcome plan a b alone x y = (x.names ∙ sym y.names, same_runs plan.agents a.histories b.histories alone x.runs y.runs)

@@ -62,9 +62,11 @@ abbrev pub APlanHasOneWholeRun : Type 0
 APlanHasOneWholeRun =
     (over other : Buffers) (plan : AgentPlan) (g h : History) → stays_alone plan ≡ true → IsWholeRunOver over plan g → IsWholeRunOver other plan h → g ≡ h
 
--- A plan has one outcome, and so one report, if each agent stays alone.
+-- A plan has one outcome, but for the ledger's history, if each agent stays alone.
 abbrev pub APlanHasOneOutcome : Type 0
-APlanHasOneOutcome = (plan : Plan) (a b : Outcome) → list_all stays_alone plan.agents ≡ true → IsOutcome plan a → IsOutcome plan b → a ≡ b
+APlanHasOneOutcome =
+    (plan : Plan) (a b : Outcome) → list_all stays_alone plan.agents ≡ true → IsOutcome plan a → IsOutcome plan b
+    → (a.names ≡ b.names) × (a.histories ≡ b.histories)
 
 -- Look-backs
 

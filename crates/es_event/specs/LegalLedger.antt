@@ -1,6 +1,7 @@
 -- To believe: which histories of the ledger of n agents are legal (Agent Clusters, Data Blocks, The Atomics Object).
 use Rattle.std.specs.Prelude.{ℕ, zero, suc, ◌≡◌, ◌≢◌, ◌+◌, ◌<◌, ◌^◌, ◌&&◌, ◌||◌, not, ⊤, Bool, true, false, [], ◌∷◌, Option, Some, None, is_some, nat_lt}
 use Rattle.std.specs.Option.{option_and_then, option_map_or}
+use Rattle.es_value.specs.Values.{identity}
 use Rattle.es_event.specs.declared.ledger_event.Body.{Body}
 use Rattle.es_event.specs.declared.ledger_event.Body.TheVariants.{Plain, Block}
 use Rattle.es_event.specs.declared.ledger_event.LedgerEvent.{LedgerEvent}
@@ -48,9 +49,9 @@ Reaches (Some p) i asked = (i < p.1.words) × asked p.1
 abbrev pub holds_block : Ledger → ℕ → ℕ → Bool
 holds_block l a b = nat_lt 0 (count_of (held a (table l)) b)
 
--- a message's own ticket has the next serial, and the sender holds one of the block
+-- a value has no identity; a message's own ticket has the next serial, and the sender holds one of the block
 abbrev pub IsPostable : Ledger → ℕ → Body → Type 0
-IsPostable l a (Plain v) = ⊤
+IsPostable l a (Plain v) = identity v ≡ None
 IsPostable l a (Block b s) = (s ≡ serials l + 1) × (holds_block l a b ≡ true)
 
 -- the event may come after l

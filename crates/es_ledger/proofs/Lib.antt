@@ -9,6 +9,7 @@ mod Tallies
 mod Within
 mod Sums
 mod InOrder
+mod Plain
 mod ExampleBlocks
 mod ExamplePorts
 pub mod Columns

@@ -6,6 +6,7 @@ use Rattle.std.proofs.lemmas.List.Sums.{sum_by_push, sum_by-cons}
 use Rattle.std.specs.Prelude.{slice_set, slice_get, slice_index_or, is_some, nat_lt, map}
 use Rattle.std.specs.List.{Contains}
 use Rattle.std.specs.Option.{option_and_then, option_map}
+use Rattle.es_value.specs.Values.{identity}
 use Rattle.es_value.specs.declared.value.Value.{Value}
 use Rattle.es_event.specs.declared.ledger_event.Body.TheVariants.{Plain as PlainBody, Block as BlockBody}
 use Rattle.es_event.specs.declared.ledger_event.LedgerEvent.TheVariants.{Posted, Taken}
@@ -30,6 +31,7 @@ use Rattle.es_ledger.proofs.Kept.{set_here, set_there}
 use Rattle.es_ledger.proofs.Made.{block_made, block_there}
 use Rattle.es_ledger.proofs.Mail.{mail_posted, mail_popped, set_wait, waiting_one, waiting_same}
 use Rattle.es_ledger.proofs.Opening.{table_length}
+use Rattle.es_ledger.proofs.Plain.{ArePlain, all_plain}
 use Rattle.es_ledger.proofs.Tying.{next_legal, left_same, still_ties, words_in, rows_short, in_history}
 use Rattle.es_ledger.proofs.Lain.{front_is, ticket_line, in_port_of, made_line, taken_unspent, counted_in}
 
@@ -38,13 +40,13 @@ use Rattle.es_ledger.proofs.Lain.{front_is, ticket_line, in_port_of, made_line, 
 pub posted_plain_ties : {L : Type 0} (n : ℕ) (l : Ledger) (lines : List Entry) (blocks : List Counted) (ends : List Bool) (ws : List (Option ℕ)) (qs queues : List (Queued L)) (messages number places more s r : ℕ) (v : Value)
     → Ties n l lines blocks ends ws qs messages places → s < n → r < n → s ≢ r
     → length queues ≡ length qs → letters_at queues s r ≡ letters_at qs s r ++ Plain v ∷ [] → ((t u : ℕ) → u < 8 → (t ≡ s → u ≡ r → ⊥) → letters_at queues t u ≡ letters_at qs t u)
-    → number ≡ messages + 1 → length (rows l) + left l n + waiting l n + messages + 2 ≤ more + 1
+    → number ≡ messages + 1 → length (rows l) + left l n + waiting l n + messages + 2 ≤ more + 1 → identity v ≡ None
     → Ties n (Posted s r (PlainBody v) ∷ l) lines blocks ends ws queues number more
-posted_plain_ties n l lines blocks ends ws qs queues messages number places more s r v ties sender receiver apart columns here others next room =
+posted_plain_ties n l lines blocks ends ws qs queues messages number places more s r v ties sender receiver apart columns here others next room plain =
     let same : table l ++ [] ≡ table l = append-nil (table l) in
     let tickets : length (unspent (table l ++ [])) ≡ length (rows l) = ap (λ t. length (unspent t)) same in
     let waits = waiting_same l (Posted s r (PlainBody v)) n (λ a. refl) in
-    still_ties n l lines lines blocks ends ws ws qs queues messages number places more (Posted s r (PlainBody v)) ties (sender, receiver, apart, tt) refl
+    still_ties n l lines lines blocks ends ws ws qs queues messages number places more (Posted s r (PlainBody v)) ties (sender, receiver, apart, plain) refl
     (ties.tabled ∙ sym same) (zero-add (opened l)) (λ b. refl) (λ b. refl) (λ b. ap (λ t. count_of (unspent t) b) same) (λ b i. refl)
     (mail_posted n l ws qs queues s r (Plain v) ties.mail ties.few columns here others tt)
     (omega (arith, tickets, waits, next, room))
@@ -230,5 +232,12 @@ taken_ties n l lines blocks ends ws qs queues messages number places more s r x 
 -- what the receiver gets
 pub received : {L : Type 0} (n : ℕ) (l : Ledger) (lines : List Entry) (blocks : List Counted) (ends : List Bool) (ws : List (Option ℕ)) (qs : List (Queued L)) (messages places s r : ℕ) (x : Letter L) (rest : List (Letter L)) (before after : Share)
     → Ties n l lines blocks ends ws qs messages places → s < n → r < n → letters_at qs s r ≡ x ∷ rest → Handed x before after → Received l x before after
-received n l lines blocks ends ws qs messages places s r (Plain v) rest before after ties sender receiver is handed = handed
+received n l lines blocks ends ws qs messages places s r (Plain v) rest before after ties sender receiver is handed =
+    (plain_first (letters_at qs s r) is (subst ArePlain (sym (ties.mail.ports s r sender (below_8 r n receiver ties.few))) (all_plain n l ties.legal.0 s r)), handed)
+  where
+    plain_first : {L : Type 0} (q : List (Letter L)) {rest : List (Letter L)} → q ≡ Plain v ∷ rest → ArePlain (map body_of q) → identity v ≡ None
+    plain_first q same are = (subst (λ q. ArePlain (map body_of q)) same are).0
+
+    below_8 : (r n : ℕ) → r < n → n < 9 → r < 8
+    below_8 r n a b = omega (arith, a, b)
 received n l lines blocks ends ws qs messages places s r (Block t) rest before after ties sender receiver is handed = (letter_words n l lines blocks ends ws qs messages places s r t rest ties sender receiver is, handed)

@@ -1,6 +1,7 @@
 -- To believe: what a message carries, as its receiver gets it.
-use Rattle.std.specs.Prelude.{◌≡◌, ◌+◌, Bool, false, count_by, if◌then◌else◌}
+use Rattle.std.specs.Prelude.{◌≡◌, ◌+◌, Bool, false, None, count_by, if◌then◌else◌}
 use Rattle.std.specs.List.{Contains}
+use Rattle.es_value.specs.Values.{identity}
 use Rattle.es_event.specs.declared.ledger_event.Body.{Body}
 use Rattle.es_event.specs.declared.ledger_event.Body.TheVariants.{Plain as PlainBody, Block as BlockBody}
 use Rattle.es_event.specs.declared.row.Row.{Row}
@@ -22,7 +23,8 @@ pub record Gained (ticket : Row) (before after : Share) : Type 0 where
   pub fresh : has_serial ticket.serial before.rows ≡ false
   pub counts : (p : Row → Bool) → count_by p after.rows ≡ count_by p before.rows + (if p ticket then 1 else 0)
 
--- a value changes the receiver's stake in nothing, and a ticket comes to it; its words are those of its block in the history l
+-- a value has no identity, and changes the receiver's stake in nothing; a ticket comes to it, and its words are those of its
+-- block in the history l
 abbrev pub Received : {L : Type 0} → Ledger → Letter L → Share → Share → Type 0
-Received l (Plain v) before after = after ≡ before
+Received l (Plain v) before after = (identity v ≡ None) × (after ≡ before)
 Received l (Block ticket) before after = (ticket ≡ row ticket.serial ticket.block (size l ticket.block)) × Gained ticket before after

@@ -5,7 +5,7 @@ ghost use Rattle.std.specs.List.{Contains};
 ghost use Rattle.es_ticket.specs.Shares.{Share, erase};
 ghost use Rattle.es_event.specs.declared.row.Row.{Row};
 ghost use Rattle.es_event.specs.Rows.{row, held};
-ghost use Rattle.es_event.specs.Ledger.{opened, serials, table, count, word, ended};
+ghost use Rattle.es_event.specs.Ledger.{opened, serials, table, count, word, ended, holder_of};
 ghost use Rattle.es_event.specs.LegalLedger.{LegalLedger};
 ghost use Rattle.es_event.specs.declared.ledger_event.LedgerEvent.TheVariants.{Opened as OpenedEvent, Spent as SpentEvent, Loaded, Stored, Added, Ended as EndedEvent};
 
@@ -117,6 +117,7 @@ impl<L: Run> LedgerCore<L> {
     /// Spends a ticket of the stake's agent. It takes no memory, and always succeeds.
     pub fn spend(&mut self, stake: &mut Stake<L>, ticket: Ticket<L>) -> Spent
         requires { Contains stake.old.rows ticket }
+        ensures holder { holder_of self.old.history ticket.serial ≡ Some (stake.old.agent, ticket) }
         ensures history { (self.new.agents ≡ self.old.agents) × (self.new.history ≡ SpentEvent ticket.serial ∷ self.old.history) }
         ensures released { IsTrue result.released ↔ (count self.new.history ticket.block ≡ 0) }
         ensures stake { (stake.new.agent ≡ stake.old.agent) × (stake.new.rows ≡ erase ticket.serial stake.old.rows) }
@@ -132,11 +133,13 @@ impl<L: Run> LedgerCore<L> {
         Spent { released }
     }
 
-    /// Changes nothing, and tells that the stake's tickets are those that the history says its agent
-    /// holds.
+    /// Changes nothing, and tells that the history is legal, and that the stake's tickets are those
+    /// that it says its agent holds.
     pub fn look(&mut self, stake: &mut Stake<L>)
         ensures same { (self.new ≡ self.old) × (stake.new ≡ stake.old) }
         ensures told { stake.old.rows ≡ held stake.old.agent (table self.old.history) }
+        ensures holder { (r : Row) → Contains stake.old.rows r → holder_of self.old.history r.serial ≡ Some (stake.old.agent, r) }
+        ensures legal { LegalLedger self.old.agents self.old.history }
     {
         self.rows.look(stake);
     }

@@ -106,7 +106,7 @@ found_still h o (t ∷ ts) g = one (is_gone h t.0) (t.0 == o) refl refl (found_s
     one false true is same ih = rw same refl
     one false false is same ih = rw same ih
 
-ticket_there : (b : Book) (o : ℕ) → is_ended (phase b.history) ≡ false → is_gone b.history o ≡ false → is_some (row_at b.over o) ≡ true → is_some (at o (tickets b)) ≡ true
+pub ticket_there : (b : Book) (o : ℕ) → is_ended (phase b.history) ≡ false → is_gone b.history o ≡ false → is_some (row_at b.over o) ≡ true → is_some (at o (tickets b)) ≡ true
 ticket_there b o open' there row =
     ap (λ c. is_some (at o (cond c [] (filter (λ t. not (is_gone b.history t.0)) (reverse b.over))))) open'
     ∙ ap is_some (found_still b.history o (reverse b.over) there)
@@ -157,7 +157,7 @@ mapped : (f : ℕ → Request) (q : Option ℕ) (r : Request) → option_map f q
 mapped f None r e = cc
 mapped f (Some o) r e = (o, refl, cc)
 
-aimed_at : (into : Receivers) (h : History) (x : List ℕ) (o : ℕ) → object_of (var into h x) ≡ Some o → is_buffer (kind_of h (var into h x)) ≡ true → Aimed into h o
+pub aimed_at : (into : Receivers) (h : History) (x : List ℕ) (o : ℕ) → object_of (var into h x) ≡ Some o → is_buffer (kind_of h (var into h x)) ≡ true → Aimed into h o
 aimed_at into h x o e b = record { name = x; holds = at_object (var into h x) o e; buffer = ap (λ q. is_buffer (option_and_then (kind h) q)) (sym e) ∙ b }
 
 -- a load, a store and an add: the value is a buffer object, and its block has a word there

@@ -1,3 +1,10 @@
 pub mod Counting
+pub mod Growing
+pub mod Midway
 pub mod Aims
+pub mod Asking
+pub mod Local
+pub mod SpentAll
 pub mod Moving
+pub mod Tying
+pub mod Hearing

@@ -1,22 +1,21 @@
 -- What one more event leaves of an agent: its place among the agents, and its tickets, counted.
-use Rattle.std.proofs.Common.{◌≡◌, ◌≢◌, ℕ, ◌+◌, ◌==◌, ◌||◌, Bool, true, false, cond, not, sym, ◌∙◌, ap, refl, subst, arith, List, [], ◌∷◌, ◌++◌, map, reverse, Option, Some, None, Result, Ok, Err, inl, inr, eq-eqb}
+use Rattle.std.proofs.Common.{◌≡◌, ℕ, ◌+◌, ◌||◌, Bool, true, false, cond, not, sym, ◌∙◌, ap, refl, subst, arith, List, [], ◌∷◌, ◌++◌, map, reverse, Option, Some, None, Result, Ok, Err, eq-eqb}
 use Rattle.std.specs.Prelude.{IfOk, OnErr}
 use Rattle.std.specs.List.{filter, count_by}
-use Rattle.std.proofs.lemmas.Bool.{cases_Bool, eqb-true}
 use Rattle.std.proofs.lemmas.List.{reverse-append}
 use Rattle.std.proofs.lemmas.List.Elements.{filter-append}
 use Rattle.std.proofs.lemmas.List.Filters.{sum_by-filter_both}
 use Rattle.es_value.specs.declared.value.Value.{Value}
 use Rattle.es_event.specs.declared.event.Answer.{Answer}
 use Rattle.es_event.specs.declared.event.Event.{Event}
-use Rattle.es_event.specs.declared.event.Event.TheVariants.{JobBegun, CleanupBegun, Received, Did, Refused, Emptied, Taken, JobEnded, Skipped, Closed}
+use Rattle.es_event.specs.declared.event.Event.TheVariants.{Received, Refused, Emptied, Skipped, Closed}
 use Rattle.es_event.specs.declared.event.Refusal.TheVariants.{TooManyValues}
 use Rattle.es_event.specs.declared.row.Row.{Row}
 use Rattle.es_event.specs.History.{History}
 use Rattle.es_event.specs.Identities.{is_in, is_gone, made}
 use Rattle.es_event.specs.Jobs.{receivers}
 use Rattle.es_event.specs.Ledger.{Ledger, ended as has_ended}
-use Rattle.es_event.specs.declared.ledger_event.LedgerEvent.TheVariants.{Ended as EndedEvent}
+use Rattle.es_event.specs.declared.ledger_event.LedgerEvent.TheVariants.{Spent, Ended as EndedEvent}
 use Rattle.es_event.specs.Order.{phase, due}
 use Rattle.es_event.specs.Follows.{Permits}
 use Rattle.es_event.specs.Runs.{IsRunOver}
@@ -30,27 +29,18 @@ use Rattle.es_record.specs.Book.{Book, IsNext, Records, with_buffer, with_row}
 use Rattle.es_rules.specs.Needs.{need, asks_nobody, asks_closing}
 use Rattle.es_rules.proofs.Needs.{local_is_quiet, closes}
 use Rattle.es_agent.specs.Tickets.{is_ended, tickets, RecordsNext, Collects, Admits, RefusesMessage, Receives, DoesWith, Skips}
-use Rattle.es_agent.proofs.Racks.{open_before, local_stays, kept_tickets, emptied_tickets, done_leaves, brings_leaves}
+use Rattle.es_agent.proofs.Racks.{open_before, open_after, local_stays, kept_tickets, emptied_tickets, done_leaves, brings_leaves}
 use Rattle.es_member.specs.Seats.{Seat, rows_of, Holds, HoldsBeside}
+use Rattle.es_match.specs.Deeds.{Ends}
+use Rattle.es_member.specs.Tied.{AreDeedsOf, GrowsBy}
 use Rattle.es_member.specs.Turned.{IsSeated, Moves, Proceeds, Keeps, spent}
 use Rattle.es_member.specs.declared.member.Progress.{Progress}
 use Rattle.es_member.specs.declared.member.Progress.TheVariants.{Moved, Waiting, Ended}
-use Rattle.es_member.proofs.Counting.{counted_rows, spent_over}
+use Rattle.es_member.specs.Midway.{IsReady}
+use Rattle.es_member.proofs.Counting.{counted_rows}
+use Rattle.es_member.proofs.Growing.{grows_none, grows_on}
 
 -- One event more that is no closing
-
--- only its closing closes an agent
-going_after : (h : History) (e : Event) → (e ≡ Closed → ⊥) → is_ended (phase h) ≡ false → is_ended (phase (e ∷ h)) ≡ false
-going_after h (JobBegun j) other before = refl
-going_after h (CleanupBegun q) other before = refl
-going_after h (Received t v) other before = refl
-going_after h (Did c vs r) other before = before
-going_after h (Refused code) other before = refl
-going_after h (Emptied ids) other before = before
-going_after h (Taken n held) other before = before
-going_after h JobEnded other before = refl
-going_after h (Skipped j t) other before = before
-going_after h Closed other before = absurd (other refl)
 
 pub record Step (old new : Book) : Type 0 where
   pub number : new.number ≡ old.number
@@ -66,7 +56,7 @@ step_of old new r e next other records =
     record {
       number = ap (λ b. b.number) records;
       agents = ap (λ b. b.agents) records;
-      going = ap (λ b. is_ended (phase b.history)) records ∙ going_after old.history e other before ∙ sym before;
+      going = ap (λ b. is_ended (phase b.history)) records ∙ open_after old.history e other before ∙ sym before;
     }
 
 -- and leaves its tickets
@@ -132,13 +122,25 @@ collected_holds old new s t out c holds agent counts = (
   λ p. (let a = collected_counts old new out c p in let b = holds.1 p in let d = counts p in omega (arith, a, b, d)),
 )
 
+-- a ticket beside its own was spent
+spent_holds : (old new : Book) (s t : Share) (r q : Row) → new.number ≡ old.number → tickets new ≡ tickets old → HoldsBeside r old s → q ≡ r → t.agent ≡ s.agent
+    → ((p : Row → Bool) → count_by p s.rows ≡ count_by p t.rows + cond {A = ℕ} (p q) 1 0) → Holds new t
+spent_holds old new s t r q number same holds ticket agent counts = (
+  agent ∙ holds.0 ∙ sym number,
+  λ p. (let a = holds.1 p in
+      let b = counts p in
+      let c = ap (λ q. cond {A = ℕ} (p q) 1 0) ticket in
+      let d = ap (λ ts. count_by p (map (λ t. t.1) ts)) same in
+      omega (arith, a, b, c, d)),
+)
+
 -- A ticket that comes
 
 opened : (h : History) (over : List (ℕ × Row)) → is_ended (phase h) ≡ false → cond (is_ended (phase h)) [] (filter (λ t. not (is_gone h t.0)) (reverse over)) ≡ filter (λ t. not (is_gone h t.0)) (reverse over)
 opened h over is = ap (λ b. cond b [] (filter (λ t. not (is_gone h t.0)) (reverse over))) is
 
 -- it comes last
-admitted_tickets : (old new : Book) (r : Row) → IsRunOver old.over old.plan old.history → Admits old r new → tickets new ≡ tickets old ++ (made old.history + 1, r) ∷ []
+pub admitted_tickets : (old new : Book) (r : Row) → IsRunOver old.over old.plan old.history → Admits old r new → tickets new ≡ tickets old ++ (made old.history + 1, r) ∷ []
 admitted_tickets old new r run a =
     let i = made old.history + 1 in
     let leaves = brings_leaves (due old.plan old.history) i a.0 a.1 in
@@ -173,24 +175,59 @@ admitted_holds old new s r run a holds = (
 -- Its place
 
 pub keeps : (old new : Book) (before after : Books) (s : Share) → Step old new → Holds new s → IsSeated old before → after.agents ≡ before.agents
-    → ((a : ℕ) → has_ended after.history a ≡ has_ended before.history a) → Keeps old.number before new s after
-keeps old new before after s step holds seated agents over = record {
+    → has_ended after.history old.number ≡ has_ended before.history old.number → GrowsBy old.number before.history after.history → Keeps old.number before new s after
+keeps old new before after s step holds seated agents over deeds = record {
   number = step.number;
   held = holds;
   seated = record {
     known = (let a = step.number in let b = seated.known in omega (arith, a, b, agents));
     agents = step.agents ∙ seated.agents ∙ sym agents;
-    over = ap (has_ended after.history) step.number ∙ over old.number ∙ seated.over ∙ sym step.going;
+    over = ap (has_ended after.history) step.number ∙ over ∙ seated.over ∙ sym step.going;
   };
-  others = (agents, λ a other. over a);
+  others = (agents, deeds);
+}
+
+-- where a ticket that came was spent
+pub refused_keeps : (old new : Book) (before after : Books) (s t : Share) (r q : Row) → Stays old new → HoldsBeside r old s → q ≡ r → t.agent ≡ s.agent → ((p : Row → Bool) → count_by p s.rows ≡ count_by p t.rows + cond {A = ℕ} (p q) 1 0)
+    → IsSeated old before → after.agents ≡ before.agents → has_ended after.history old.number ≡ has_ended before.history old.number → GrowsBy old.number before.history after.history → Keeps old.number before new t after
+refused_keeps old new before after s t r q stays holds ticket agent counts seated agents over deeds =
+    keeps old new before after t stays.step (spent_holds old new s t r q stays.step.number stays.same holds ticket agent counts) seated agents over deeds
+
+-- and where the agent did not change
+pub returned_keeps : (old new : Book) (before after : Books) (s t : Share) (r q : Row) → new ≡ old → HoldsBeside r old s → q ≡ r → t.agent ≡ s.agent → ((p : Row → Bool) → count_by p s.rows ≡ count_by p t.rows + cond {A = ℕ} (p q) 1 0)
+    → IsSeated old before → after.agents ≡ before.agents → has_ended after.history old.number ≡ has_ended before.history old.number → GrowsBy old.number before.history after.history → Keeps old.number before new t after
+returned_keeps old new before after s t r q same holds ticket agent counts seated agents over deeds =
+    subst (λ b. Keeps old.number before b t after) (sym same) (keeps old old before after t (no_step old) (spent_holds old old s t r q refl refl holds ticket agent counts) seated agents over deeds)
+
+-- where nothing changed
+pub kept : (old new : Book) (s t : Share) (l m : Books) → IsReady old s l → new ≡ old → t ≡ s → m ≡ l → Keeps old.number l new t m
+kept old new s t l m ready same stake ledger = subst (λ b. Keeps old.number l b t m) (sym same) (subst (λ t. Keeps old.number l old t m) (sym stake) (subst (Keeps old.number l old s) (sym ledger) (record {
+  number = refl;
+  held = ready.held;
+  seated = ready.seated;
+  others = (refl, grows_none old.number l.history);
+})))
+
+-- where the agent has done something in the ledger alone
+pub kept_after : (old new : Book) (s t : Share) (l m : Books) → IsReady old s l → new ≡ old → t ≡ s → m.agents ≡ l.agents → has_ended m.history old.number ≡ has_ended l.history old.number → GrowsBy old.number l.history m.history → Keeps old.number l new t m
+kept_after old new s t l m ready same stake agents over deeds =
+    subst (λ b. Keeps old.number l b t m) (sym same) (keeps old old l m t (no_step old) (subst (Holds old) (sym stake) ready.held) ready.seated agents over deeds)
+
+-- where it had done something before
+pub keeps_on : (n : ℕ) (l m k : Books) (b : Book) (s : Share) → Keeps n m b s k → m.agents ≡ l.agents → GrowsBy n l.history m.history → Keeps n l b s k
+keeps_on n l m k b s after agents deeds = record {
+  number = after.number;
+  held = after.held;
+  seated = after.seated;
+  others = (after.others.0 ∙ agents, grows_on n l.history m.history k.history deeds after.others.1);
 }
 
 -- a command was done in the ledger, and the stake stays
 pub done_keeps : (old new : Book) (a : Answer) (before after : Books) (s t : Share) → DoesWith old a new → t ≡ s → Holds old s → IsSeated old before → after.agents ≡ before.agents
-    → ((c : ℕ) → has_ended after.history c ≡ has_ended before.history c) → Keeps old.number before new t after
-done_keeps old new a before after s t done same holds seated agents over =
+    → has_ended after.history old.number ≡ has_ended before.history old.number → GrowsBy old.number before.history after.history → Keeps old.number before new t after
+done_keeps old new a before after s t done same holds seated agents over deeds =
     let stays = done_stays old new a done in
-    keeps old new before after t stays.step (subst (Holds new) (sym same) (holds_still old new s stays holds)) seated agents over
+    keeps old new before after t stays.step (subst (Holds new) (sym same) (holds_still old new s stays holds)) seated agents over deeds
 
 -- The closing
 
@@ -213,16 +250,10 @@ closing_owns old s out is holds p = let a = closed_owns old s out is holds p in 
 ended_itself : (l : Ledger) (n a : ℕ) → a ≡ n → has_ended (EndedEvent n ∷ l) a ≡ true
 ended_itself l n a e = ap (λ b. b || has_ended l a) (eq-eqb n a (sym e))
 
-ended_others : (l : Ledger) (n a : ℕ) → a ≢ n → has_ended (EndedEvent n ∷ l) a ≡ has_ended l a
-ended_others l n a other = elim (cases_Bool (n == a)) [
-  | inl e ↦ absurd (other (sym (eqb-true n a e)))
-  | inr e ↦ ap (λ b. b || has_ended l a) e
-]
-
 pub closed_keeps : (old new : Book) (before after : Books) (s t : Share) (out : List (ℕ × Row)) → Records old Closed new → out ≡ tickets old → Holds old s → t.agent ≡ s.agent
     → ((p : Row → Bool) → count_by p s.rows ≡ count_by p t.rows + count_by (λ t. p t.1) out) → IsSeated old before → after.agents ≡ before.agents
-    → after.history ≡ EndedEvent old.number ∷ spent out before.history → Keeps old.number before new t after
-closed_keeps old new before after s t out records is holds agent counts seated agents history =
+    → after.history ≡ EndedEvent old.number ∷ spent out before.history → AreDeedsOf old.number (map (λ t. Spent t.1.serial) out) before.history → Keeps old.number before new t after
+closed_keeps old new before after s t out records is holds agent counts seated agents history deeds =
     let number = ap (λ b. b.number) records in
     record {
       number = number;
@@ -235,7 +266,7 @@ closed_keeps old new before after s t out records is holds agent counts seated a
         agents = ap (λ b. b.agents) records ∙ seated.agents ∙ sym agents;
         over = ap (λ l. has_ended l new.number) history ∙ ended_itself (spent out before.history) old.number new.number number ∙ sym (ap (λ b. is_ended (phase b.history)) records);
       };
-      others = (agents, λ a other. ap (λ l. has_ended l a) history ∙ ended_others (spent out before.history) old.number a other ∙ spent_over out before.history a);
+      others = (agents, (EndedEvent old.number ∷ map (λ t. Spent t.1.serial) out, history, ((Ends, refl), deeds)));
     }
 
 -- A turn, whatever came of it

@@ -1,2 +1,4 @@
 pub mod Seats
+pub mod Tied
 pub mod Turned
+pub mod Midway

@@ -6,11 +6,15 @@ use Rattle.es_event.specs.declared.row.Row.{Row}
 use Rattle.es_event.specs.Ledger.{Ledger, ended as has_ended}
 use Rattle.es_event.specs.Order.{phase}
 use Rattle.es_ledger.specs.Books.{Books}
+use Rattle.es_ledger.specs.Turns.{told}
+use Rattle.es_ledger.specs.declared.turn.Turn.{Turn}
+use Rattle.es_ledger.specs.declared.turn.Turn.TheVariants.{Stay}
 use Rattle.es_ticket.specs.Shares.{Share}
 use Rattle.es_record.specs.Book.{Book, IsNext, Records, with_row}
 use Rattle.es_rules.specs.Needs.{for_block, for_post, for_buffer_post, for_load, for_store, for_add, Need, asks_nobody, asks_marks, asks_ledger, asks_message, asks_closing, asks_nothing, need}
 use Rattle.es_agent.specs.Tickets.{is_ended}
 use Rattle.es_member.specs.Seats.{Seat, Holds}
+use Rattle.es_member.specs.Tied.{GrowsBy}
 use Rattle.es_member.specs.declared.member.Progress.{Progress}
 use Rattle.es_member.specs.declared.member.Progress.TheVariants.{Moved, Waiting, Ended}
 
@@ -44,9 +48,15 @@ Proceeds Moved old new = Moves old.book new.book
 Proceeds Waiting old new = (s : ℕ) × (need old.book ≡ asks_message s) × (new ≡ old)
 Proceeds Ended old new = (need old.book ≡ asks_nothing) × (new ≡ old)
 
--- the same agents, and those but for n have ended where they had
+-- an agent that waits on was told to by the rules, and one that has ended does nothing
+abbrev pub Heard : Progress → Book → Books → Books → Type 0
+Heard Moved b old new = ⊤
+Heard Waiting b old new = (s : ℕ) × (need b ≡ asks_message s) × (◌≡◌ {A = Turn × Ledger} (Stay, new.history) (told old.history old.agents b.number s))
+Heard Ended b old new = new ≡ old
+
+-- the same agents, and what happened besides are deeds of agent n alone
 abbrev pub OthersStay : ℕ → Books → Books → Type 0
-OthersStay n old new = (new.agents ≡ old.agents) × ((a : ℕ) → a ≢ n → has_ended new.history a ≡ has_ended old.history a)
+OthersStay n old new = (new.agents ≡ old.agents) × GrowsBy n old.history new.history
 
 -- whatever came of a turn, the agent has its stake and its place
 pub record Keeps (n : ℕ) (before : Books) (b : Book) (s : Share) (after : Books) : Type 0 where

@@ -3,8 +3,6 @@
 
 mod member;
 mod spending;
-#[cfg(test)]
-mod tests;
 mod turns;
 
 pub use member::{Member, Progress};

@@ -1,13 +1,14 @@
 //! An agent with its side of the ledger.
 
-ghost use Rattle.std.specs.Prelude.{◌≡◌, [], true, reverse, IfOk, OnErr};
+ghost use Rattle.std.specs.Prelude.{◌≡◌, [], true, reverse, IfOk, OnOk, OnErr};
 ghost use Rattle.es_event.specs.Jobs.{receivers};
 ghost use Rattle.es_event.specs.Live.{Honest};
 ghost use Rattle.es_event.specs.Order.{phase};
 ghost use Rattle.es_event.specs.Runs.{IsRunOver};
 ghost use Rattle.es_rules.specs.Needs.{need};
 ghost use Rattle.es_agent.specs.Tickets.{is_ended, tickets};
-ghost use Rattle.es_member.specs.Turned.{IsSeated, NamesOthers, OthersStay, Proceeds, spent};
+ghost use Rattle.es_member.specs.Tied.{IsTied};
+ghost use Rattle.es_member.specs.Turned.{Heard, IsSeated, NamesOthers, OthersStay, Proceeds, spent};
 
 use crate::spending::spend_all;
 use crate::turns::turn;
@@ -76,13 +77,17 @@ impl<L: Run> Member<L> {
     pub fn step(&mut self, ledger: &mut LedgerCore<L>) -> Result<Progress, NoMemory>
         requires seated { IsSeated self.old.book ledger.old }
         requires others { NamesOthers (need self.old.book) self.old.book.number ledger.old.agents }
+        requires tied { IsTied self.old.book ledger.old.history }
         ensures ok { IfOk result (λ p. Proceeds p self.old self.new) }
+        ensures told { IfOk result (λ p. Heard p self.old.book ledger.old ledger.new) }
+        ensures tied { OnOk result (IsTied self.new.book ledger.new.history) }
         ensures err { OnErr result (self.new.book ≡ self.old.book) }
         ensures same { (self.new.book.plan ≡ self.old.book.plan) × (self.new.book.agents ≡ self.old.book.agents) }
         ensures number { self.new.book.number ≡ self.old.book.number }
         ensures seated { IsSeated self.new.book ledger.new }
         ensures others { OthersStay self.old.book.number ledger.old ledger.new }
     {
+        ledger.look(&mut self.stake);
         turn(&mut self.core, &mut self.stake, ledger)
     }
 

@@ -1,8 +1,10 @@
 //! The tickets of a rack are spent.
 
-ghost use Rattle.std.specs.Prelude.{◌≡◌, ◌+◌, Bool, count_by};
+ghost use Rattle.std.specs.Prelude.{◌≡◌, ◌+◌, Bool, count_by, map};
+ghost use Rattle.es_event.specs.declared.ledger_event.LedgerEvent.TheVariants.{Spent};
 ghost use Rattle.es_event.specs.declared.row.Row.{Row};
 ghost use Rattle.es_ticket.specs.Owned.{Owns};
+ghost use Rattle.es_member.specs.Tied.{AreDeedsOf};
 ghost use Rattle.es_member.specs.Turned.{spent};
 
 use es_ledger::LedgerCore;
@@ -13,6 +15,7 @@ pub(crate) fn spend_all<L: Run>(ledger: &mut LedgerCore<L>, stake: &mut Stake<L>
     requires { Owns stake.old.rows rack.tickets }
     ensures ledger { (ledger.new.agents ≡ ledger.old.agents) × (ledger.new.history ≡ spent rack.tickets ledger.old.history) }
     ensures agent { stake.new.agent ≡ stake.old.agent }
+    ensures deeds { AreDeedsOf stake.old.agent (map (λ t. Spent t.1.serial) rack.tickets) ledger.old.history }
     ensures counts { (p : Row → Bool) → count_by p stake.old.rows ≡ count_by p stake.new.rows + count_by (λ t. p t.1) rack.tickets }
 {
     for _place in 0..rack.len() {

@@ -1,9 +1,11 @@
 //! A turn of an agent: what it asks for is done in the ledger, and it takes the answer.
 
-ghost use Rattle.std.specs.Prelude.{◌≡◌, ◌≢◌, ◌<◌, OnErr, IfOk};
+ghost use Rattle.std.specs.Prelude.{◌≡◌, ◌≢◌, ◌<◌, OnOk, OnErr, IfOk};
 ghost use Rattle.es_rules.specs.Needs.{need, asks_nobody, asks_marks, asks_message, asks_closing};
-ghost use Rattle.es_member.specs.Seats.{Holds, seat};
-ghost use Rattle.es_member.specs.Turned.{IsSeated, NamesOthers, Keeps, Proceeds};
+ghost use Rattle.es_member.specs.Seats.{seat};
+ghost use Rattle.es_member.specs.Tied.{IsTied};
+ghost use Rattle.es_member.specs.Turned.{Heard, NamesOthers, Keeps, Proceeds};
+ghost use Rattle.es_member.specs.Midway.{IsReady};
 
 mod asking;
 mod hearing;
@@ -23,11 +25,12 @@ pub(crate) fn turn<L: Run>(
     stake: &mut Stake<L>,
     ledger: &mut LedgerCore<L>,
 ) -> Result<Progress, NoMemory>
-    requires held { Holds core.old stake.old }
-    requires seated { IsSeated core.old ledger.old }
+    requires ready { IsReady core.old stake.old ledger.old }
     requires others { NamesOthers (need core.old) core.old.number ledger.old.agents }
     ensures ok { IfOk result (λ p. Proceeds p (seat core.old stake.old) (seat core.new stake.new)) }
+    ensures told { IfOk result (λ p. Heard p core.old ledger.old ledger.new) }
     ensures err { OnErr result (core.new ≡ core.old) }
+    ensures tied { OnOk result (IsTied core.new ledger.new.history) }
     ensures keeps { Keeps core.old.number ledger.old core.new stake.new ledger.new }
 {
     match core.next() {
@@ -67,12 +70,14 @@ fn perform<L: Run>(
     ledger: &LedgerCore<L>,
 ) -> Result<Progress, NoMemory>
     requires due { need core.old ≡ asks_nobody }
-    requires held { Holds core.old stake.now }
-    requires seated { IsSeated core.old ledger.now }
+    requires ready { IsReady core.old stake.now ledger.now }
     ensures ok { IfOk result (λ p. Proceeds p (seat core.old stake.now) (seat core.new stake.now)) }
+    ensures told { IfOk result (λ p. Heard p core.old ledger.now ledger.now) }
     ensures err { OnErr result (core.new ≡ core.old) }
+    ensures tied { OnOk result (IsTied core.new ledger.now.history) }
     ensures keeps { Keeps core.old.number ledger.now core.new stake.now ledger.now }
 {
+    let _ = core.history();
     core.perform()?;
     Ok(Progress::Moved)
 }
@@ -84,10 +89,11 @@ fn collect<L: Run>(
     ledger: &mut LedgerCore<L>,
 ) -> Result<Progress, NoMemory>
     requires due { need core.old ≡ asks_marks }
-    requires held { Holds core.old stake.old }
-    requires seated { IsSeated core.old ledger.old }
+    requires ready { IsReady core.old stake.old ledger.old }
     ensures ok { IfOk result (λ p. Proceeds p (seat core.old stake.old) (seat core.new stake.new)) }
+    ensures told { IfOk result (λ p. Heard p core.old ledger.old ledger.new) }
     ensures err { OnErr result (core.new ≡ core.old) }
+    ensures tied { OnOk result (IsTied core.new ledger.new.history) }
     ensures keeps { Keeps core.old.number ledger.old core.new stake.new ledger.new }
 {
     let marks = core.marks()?;
@@ -103,10 +109,11 @@ fn close<L: Run>(
     ledger: &mut LedgerCore<L>,
 ) -> Result<Progress, NoMemory>
     requires due { need core.old ≡ asks_closing }
-    requires held { Holds core.old stake.old }
-    requires seated { IsSeated core.old ledger.old }
+    requires ready { IsReady core.old stake.old ledger.old }
     ensures ok { IfOk result (λ p. Proceeds p (seat core.old stake.old) (seat core.new stake.new)) }
+    ensures told { IfOk result (λ p. Heard p core.old ledger.old ledger.new) }
     ensures err { OnErr result (core.new ≡ core.old) }
+    ensures tied { OnOk result (IsTied core.new ledger.new.history) }
     ensures keeps { Keeps core.old.number ledger.old core.new stake.new ledger.new }
 {
     let rack = core.close();

@@ -1,11 +1,13 @@
 //! Whole reports.
 
-ghost use Rattle.std.specs.Prelude.{OnOk};
+ghost use Rattle.std.specs.Prelude.{◌≡◌, reverse, OnOk};
 ghost use Rattle.std.specs.Io.KnownBytes.{Appends};
-ghost use Rattle.es_event.specs.Report.{agents_text, cluster_text, report};
+ghost use Rattle.es_event.specs.Report.{agents_text, report};
+ghost use Rattle.es_event.specs.Totals.{released as released_said};
 ghost use Rattle.es_report.specs.Tallies.{AreTallies};
 
 use crate::agent::write_agent;
+use crate::cluster::write_cluster;
 use es_event::{Event, Outcome, Sequence};
 use es_registry::Tally;
 use es_value::Name;
@@ -15,17 +17,20 @@ use std::io::Write;
 /// Writes the report of a run: the lines of each agent in the plan's order, and then the cluster's.
 /// A name without a history, or a history without a name, has no lines.
 ///
-/// The totals of each agent's registrations stand in its last line. They are given, since looking
-/// them up in a history takes a time that grows with its square.
+/// The totals of each agent's registrations, which stand in its last line, and how many blocks were
+/// released are given, since looking them up in a history takes a time that grows with its square.
+/// The cluster's other totals are counted, each by one pass over the ledger's events.
 ///
 /// It takes no memory and hands the writer one piece of a line after another. Where the writer
 /// fails, it answers that error and writes nothing more.
 pub fn write_report<W: Write>(
     outcome: &Outcome,
     tallies: &[Tally],
+    released: usize,
     writer: &mut W,
 ) -> Result<(), io::Error>
-    requires { AreTallies outcome.now.histories tallies.now }
+    requires tallies { AreTallies outcome.now.histories tallies.now }
+    requires released { released ≡ released_said (reverse outcome.now.ledger) }
     ensures { OnOk result (Appends (W.contents writer.old) (W.contents writer.new) (report outcome.now)) }
 {
     write_agents(
@@ -34,7 +39,7 @@ pub fn write_report<W: Write>(
         tallies,
         writer,
     )?;
-    write_cluster(writer)
+    write_cluster(&outcome.ledger, released, writer)
 }
 
 fn write_agents<W: Write>(
@@ -50,11 +55,4 @@ fn write_agents<W: Write>(
         write_agent(name, history, tally, writer)?;
     }
     Ok(())
-}
-
-// No cluster has a block or a message yet, so every count is 0.
-fn write_cluster<W: Write>(writer: &mut W) -> Result<(), io::Error>
-    ensures { OnOk result (Appends (W.contents writer.old) (W.contents writer.new) cluster_text) }
-{
-    writer.write_all(b"cluster\nblocks 0 released 0\nmessages posted 0 taken 0 drained 0\n")
 }

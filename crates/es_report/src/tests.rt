@@ -1,16 +1,18 @@
 //! Reports and lines written by hand for histories of each kind of event, and a writer that fails
 //! once.
 
-ghost use Rattle.std.specs.Prelude.{◌≡◌, []};
+ghost use Rattle.std.specs.Prelude.{◌≡◌, [], IfOk};
 
 mod events;
+mod ledgers;
 mod totals;
 
 use crate::agent::write_lines;
 use crate::write_report;
-use es_event::{Outcome, Sequence};
+use es_event::{LedgerEvent, Outcome, Sequence};
 use es_value::Name;
 use events::{breaker, speaker};
+use ledgers::one_unspent;
 use std::alloc::Global;
 use std::io;
 use std::io::Write;
@@ -21,6 +23,13 @@ use totals::{END_OF_KEEPER, END_OF_TAKER, two_agents};
 const NOBODY: &str = "\
 cluster
 blocks 0 released 0
+messages posted 0 taken 0 drained 0
+";
+
+/// The report of a run whose ledger's history is `one_unspent`.
+const ONE_UNSPENT: &str = "\
+cluster
+blocks 1 released 0
 messages posted 0 taken 0 drained 0
 ";
 
@@ -73,8 +82,8 @@ agent second
 emptied 1
 end live 2 awaiting 1 unregistered 0 taken 0
 cluster
-blocks 0 released 0
-messages posted 0 taken 0 drained 0
+blocks 2 released 2
+messages posted 2 taken 1 drained 1
 ";
 
 /// Takes `room` bytes, fails once, and would then take whatever comes.
@@ -118,11 +127,12 @@ fn events_have_their_lines(rt: HostRuntime) -> Result<(), Fail> {
 }
 
 #[test]
-fn each_agent_has_its_own_totals(rt: HostRuntime) -> Result<(), Fail> {
+fn agents_and_the_cluster_have_their_totals(rt: HostRuntime) -> Result<(), Fail> {
     let mut bytes = Vec::new(rt.alloc());
     write_report(
         &two_agents(rt.alloc())?,
         &[END_OF_TAKER, END_OF_KEEPER],
+        2,
         &mut bytes,
     )?;
     assert_eq!(rt; str::from_utf8(bytes.as_slice()), Ok(TWO_AGENTS));
@@ -132,8 +142,18 @@ fn each_agent_has_its_own_totals(rt: HostRuntime) -> Result<(), Fail> {
 #[test]
 fn a_run_without_agents_has_a_report(rt: HostRuntime) -> Result<(), Fail> {
     let mut bytes = Vec::new(rt.alloc());
-    write_report(&nobody(rt.alloc()), &[], &mut bytes)?;
+    let outcome = without_agents(rt.alloc(), Sequence::new(rt.alloc()));
+    write_report(&outcome, &[], 0, &mut bytes)?;
     assert_eq!(rt; str::from_utf8(bytes.as_slice()), Ok(NOBODY));
+    Ok(())
+}
+
+#[test]
+fn a_block_with_an_unspent_ticket_is_not_released(rt: HostRuntime) -> Result<(), Fail> {
+    let mut bytes = Vec::new(rt.alloc());
+    let outcome = without_agents(rt.alloc(), one_unspent(rt.alloc())?);
+    write_report(&outcome, &[], 0, &mut bytes)?;
+    assert_eq!(rt; str::from_utf8(bytes.as_slice()), Ok(ONE_UNSPENT));
     Ok(())
 }
 
@@ -147,7 +167,7 @@ fn a_report_ends_where_its_writer_fails(rt: HostRuntime) -> Result<(), Fail> {
             room,
             failed: false,
         };
-        let fault = write_report(&outcome, &[END_OF_TAKER, END_OF_KEEPER], &mut writer)
+        let fault = write_report(&outcome, &[END_OF_TAKER, END_OF_KEEPER], 2, &mut writer)
             .err()
             .map(|fault| fault.kind());
         let broken = (room < report.len()).then_some(io::ErrorKind::BrokenPipe);
@@ -157,15 +177,23 @@ fn a_report_ends_where_its_writer_fails(rt: HostRuntime) -> Result<(), Fail> {
     Ok(())
 }
 
-fn nobody(alloc: Global) -> Outcome
-    ensures { result.histories ≡ [] }
+fn without_agents(alloc: Global, ledger: Sequence<LedgerEvent>) -> Outcome
+    ensures histories { result.histories ≡ [] }
+    ensures ledger { result.ledger ≡ ledger }
 {
     Outcome {
         names: Sequence::new(alloc),
         histories: Sequence::new(alloc),
+        ledger,
     }
 }
 
 fn name(alloc: Global, text: &str) -> Result<Name, Fail> {
     Ok(Name::read(alloc, text)?)
+}
+
+fn list<T: Drop, const N: usize>(alloc: Global, items: [T; N]) -> Result<Sequence<T>, Fail>
+    ensures { IfOk result (λ all. all ≡ items) }
+{
+    Ok(Sequence::from_vec(Vec::from_array(alloc, items)?))
 }

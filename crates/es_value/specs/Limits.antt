@@ -39,3 +39,7 @@ most_blocks = 256
 -- messages that an agent posts
 abbrev pub most_posts : ℕ
 most_posts = 10000
+
+-- words of a Shared Data Block
+abbrev pub most_words : ℕ
+most_words = 16384

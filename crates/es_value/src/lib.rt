@@ -20,7 +20,7 @@ pub use id::Id;
 pub use id_set::IdSet;
 pub use limits::{
     LONGEST_NAME, LONGEST_PLAN, LONGEST_TEXT, MOST_AGENTS, MOST_BLOCKS, MOST_CALLBACKS,
-    MOST_COMMANDS, MOST_IDENTITIES, MOST_JOBS, MOST_POSTS,
+    MOST_COMMANDS, MOST_IDENTITIES, MOST_JOBS, MOST_POSTS, MOST_WORDS,
 };
 pub use name::{Name, NameFault};
 pub use names::Names;

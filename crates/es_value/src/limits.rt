@@ -29,3 +29,6 @@ pub const MOST_BLOCKS: usize = 256;
 
 /// How many messages an agent posts at most.
 pub const MOST_POSTS: usize = 10_000;
+
+/// How many words of 32 bits a Shared Data Block has at most.
+pub const MOST_WORDS: u32 = 16_384;

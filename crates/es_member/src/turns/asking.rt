@@ -2,8 +2,10 @@
 
 ghost use Rattle.std.specs.Prelude.{◌≡◌, ◌≢◌, ◌<◌, OnOk, OnErr, IfOk};
 ghost use Rattle.es_rules.specs.Needs.{need, asks_ledger, for_block, for_post, for_buffer_post, for_load, for_store, for_add, TakesTicket};
-ghost use Rattle.es_member.specs.Seats.{Holds, HoldsBeside, seat};
-ghost use Rattle.es_member.specs.Turned.{IsSeated, Keeps, Moves, Proceeds};
+ghost use Rattle.es_member.specs.Seats.{HoldsBeside, seat};
+ghost use Rattle.es_member.specs.Tied.{IsTied};
+ghost use Rattle.es_member.specs.Turned.{Heard, IsSeated, Keeps, Moves, Proceeds};
+ghost use Rattle.es_member.specs.Midway.{IsReady, HasFetched};
 
 use crate::member::Progress;
 use es_agent::{AdmitFault, AgentCore};
@@ -19,10 +21,11 @@ pub(crate) fn open<L: Run>(
     words: u32,
 ) -> Result<Progress, NoMemory>
     requires due { need core.old ≡ asks_ledger (for_block words) }
-    requires held { Holds core.old stake.old }
-    requires seated { IsSeated core.old ledger.old }
+    requires ready { IsReady core.old stake.old ledger.old }
     ensures ok { IfOk result (λ p. Proceeds p (seat core.old stake.old) (seat core.new stake.new)) }
+    ensures told { IfOk result (λ p. Heard p core.old ledger.old ledger.new) }
     ensures err { OnErr result (core.new ≡ core.old) }
+    ensures tied { OnOk result (IsTied core.new ledger.new.history) }
     ensures keeps { Keeps core.old.number ledger.old core.new stake.new ledger.new }
 {
     let ticket = ledger.open_block(stake, words)?;
@@ -41,8 +44,10 @@ pub(crate) fn admit<L: Run>(
     requires takes { TakesTicket (need core.old) ticket }
     requires held { HoldsBeside ticket core.old stake.old }
     requires seated { IsSeated core.old ledger.old }
+    requires fetched { HasFetched core.old ticket ledger.old.history }
     ensures ok { OnOk result (Moves core.old core.new) }
     ensures err { OnErr result (core.new ≡ core.old) }
+    ensures tied { OnOk result (IsTied core.new ledger.new.history) }
     ensures keeps { Keeps core.old.number ledger.old core.new stake.new ledger.new }
 {
     let _ = core.history();
@@ -68,10 +73,11 @@ pub(crate) fn post<L: Run>(
 ) -> Result<Progress, NoMemory>
     requires due { need core.old ≡ asks_ledger (for_post receiver value) }
     requires others { (receiver < ledger.old.agents) × (core.old.number ≢ receiver) }
-    requires held { Holds core.old stake.now }
-    requires seated { IsSeated core.old ledger.old }
+    requires ready { IsReady core.old stake.now ledger.old }
     ensures ok { IfOk result (λ p. Proceeds p (seat core.old stake.now) (seat core.new stake.now)) }
+    ensures told { IfOk result (λ p. Heard p core.old ledger.old ledger.new) }
     ensures err { OnErr result (core.new ≡ core.old) }
+    ensures tied { OnOk result (IsTied core.new ledger.new.history) }
     ensures keeps { Keeps core.old.number ledger.old core.new stake.now ledger.new }
 {
     ledger.post(core.number(), receiver, value)?;
@@ -89,10 +95,11 @@ pub(crate) fn post_buffer<L: Run>(
 ) -> Result<Progress, NoMemory>
     requires due { need core.old ≡ asks_ledger (for_buffer_post receiver buffer) }
     requires others { (receiver < ledger.old.agents) × (core.old.number ≢ receiver) }
-    requires held { Holds core.old stake.old }
-    requires seated { IsSeated core.old ledger.old }
+    requires ready { IsReady core.old stake.old ledger.old }
     ensures ok { IfOk result (λ p. Proceeds p (seat core.old stake.old) (seat core.new stake.new)) }
+    ensures told { IfOk result (λ p. Heard p core.old ledger.old ledger.new) }
     ensures err { OnErr result (core.new ≡ core.old) }
+    ensures tied { OnOk result (IsTied core.new ledger.new.history) }
     ensures keeps { Keeps core.old.number ledger.old core.new stake.new ledger.new }
 {
     let _ = core.history();
@@ -110,10 +117,11 @@ pub(crate) fn load<L: Run>(
     index: usize,
 ) -> Result<Progress, NoMemory>
     requires due { need core.old ≡ asks_ledger (for_load buffer index) }
-    requires held { Holds core.old stake.old }
-    requires seated { IsSeated core.old ledger.old }
+    requires ready { IsReady core.old stake.old ledger.old }
     ensures ok { IfOk result (λ p. Proceeds p (seat core.old stake.old) (seat core.new stake.new)) }
+    ensures told { IfOk result (λ p. Heard p core.old ledger.old ledger.new) }
     ensures err { OnErr result (core.new ≡ core.old) }
+    ensures tied { OnOk result (IsTied core.new ledger.new.history) }
     ensures keeps { Keeps core.old.number ledger.old core.new stake.new ledger.new }
 {
     let _ = core.history();
@@ -132,10 +140,11 @@ pub(crate) fn store<L: Run>(
     word: u32,
 ) -> Result<Progress, NoMemory>
     requires due { need core.old ≡ asks_ledger (for_store buffer index word) }
-    requires held { Holds core.old stake.old }
-    requires seated { IsSeated core.old ledger.old }
+    requires ready { IsReady core.old stake.old ledger.old }
     ensures ok { IfOk result (λ p. Proceeds p (seat core.old stake.old) (seat core.new stake.new)) }
+    ensures told { IfOk result (λ p. Heard p core.old ledger.old ledger.new) }
     ensures err { OnErr result (core.new ≡ core.old) }
+    ensures tied { OnOk result (IsTied core.new ledger.new.history) }
     ensures keeps { Keeps core.old.number ledger.old core.new stake.new ledger.new }
 {
     let _ = core.history();
@@ -154,10 +163,11 @@ pub(crate) fn add<L: Run>(
     addend: u32,
 ) -> Result<Progress, NoMemory>
     requires due { need core.old ≡ asks_ledger (for_add buffer index addend) }
-    requires held { Holds core.old stake.old }
-    requires seated { IsSeated core.old ledger.old }
+    requires ready { IsReady core.old stake.old ledger.old }
     ensures ok { IfOk result (λ p. Proceeds p (seat core.old stake.old) (seat core.new stake.new)) }
+    ensures told { IfOk result (λ p. Heard p core.old ledger.old ledger.new) }
     ensures err { OnErr result (core.new ≡ core.old) }
+    ensures tied { OnOk result (IsTied core.new ledger.new.history) }
     ensures keeps { Keeps core.old.number ledger.old core.new stake.new ledger.new }
 {
     let _ = core.history();

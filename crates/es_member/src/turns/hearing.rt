@@ -1,10 +1,12 @@
 //! An agent's job waits for a message: it comes, or the agent waits on, or it skips the job.
 
-ghost use Rattle.std.specs.Prelude.{◌≡◌, ◌≢◌, ◌<◌, true, OnErr, IfOk};
+ghost use Rattle.std.specs.Prelude.{◌≡◌, ◌≢◌, ◌<◌, true, OnOk, OnErr, IfOk};
 ghost use Rattle.es_event.specs.LegalLedger.{has_message};
 ghost use Rattle.es_rules.specs.Needs.{need, asks_message};
-ghost use Rattle.es_member.specs.Seats.{Holds, seat};
-ghost use Rattle.es_member.specs.Turned.{IsSeated, Keeps, Proceeds};
+ghost use Rattle.es_member.specs.Seats.{seat};
+ghost use Rattle.es_member.specs.Tied.{IsTied};
+ghost use Rattle.es_member.specs.Turned.{Heard, Keeps, Proceeds};
+ghost use Rattle.es_member.specs.Midway.{IsReady};
 
 use super::asking::admit;
 use crate::member::Progress;
@@ -22,10 +24,11 @@ pub(crate) fn hear<L: Run>(
 ) -> Result<Progress, NoMemory>
     requires due { need core.old ≡ asks_message sender }
     requires others { (sender < ledger.old.agents) × (core.old.number ≢ sender) }
-    requires held { Holds core.old stake.old }
-    requires seated { IsSeated core.old ledger.old }
+    requires ready { IsReady core.old stake.old ledger.old }
     ensures ok { IfOk result (λ p. Proceeds p (seat core.old stake.old) (seat core.new stake.new)) }
+    ensures told { IfOk result (λ p. Heard p core.old ledger.old ledger.new) }
     ensures err { OnErr result (core.new ≡ core.old) }
+    ensures tied { OnOk result (IsTied core.new ledger.new.history) }
     ensures keeps { Keeps core.old.number ledger.old core.new stake.new ledger.new }
 {
     match ledger.await_message(core.number(), sender)? {
@@ -48,10 +51,11 @@ fn receive<L: Run>(
     requires due { need core.old ≡ asks_message sender }
     requires known { sender < ledger.old.agents }
     requires there { has_message ledger.old.history sender core.old.number ≡ true }
-    requires held { Holds core.old stake.old }
-    requires seated { IsSeated core.old ledger.old }
+    requires ready { IsReady core.old stake.old ledger.old }
     ensures ok { IfOk result (λ p. Proceeds p (seat core.old stake.old) (seat core.new stake.new)) }
+    ensures told { IfOk result (λ p. Heard p core.old ledger.old ledger.new) }
     ensures err { OnErr result (core.new ≡ core.old) }
+    ensures tied { OnOk result (IsTied core.new ledger.new.history) }
     ensures keeps { Keeps core.old.number ledger.old core.new stake.new ledger.new }
 {
     let Some(Message { sender: _, body }) = ledger.take(stake, sender) else {
@@ -59,10 +63,6 @@ fn receive<L: Run>(
     };
     match body {
         Letter::Plain(value) => {
-            // no member posts a value with an identity; the ledger's history does not say so
-            if value.identity().is_some() {
-                return Err(NoMemory);
-            }
             core.receive(value)?;
             Ok(Progress::Moved)
         }

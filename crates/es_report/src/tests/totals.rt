@@ -5,9 +5,11 @@ ghost use Rattle.es_value.specs.declared.value.Value.TheVariants.{Boolean, Objec
 ghost use Rattle.es_event.specs.declared.event.Event.TheVariants.{Did};
 ghost use Rattle.es_event.specs.declared.event.Answer.TheVariants.{Nothing, Gives};
 ghost use Rattle.es_event.specs.declared.command.Command.TheVariants.{Register, Unregister};
+ghost use Rattle.es_event.specs.Totals.{released};
 ghost use Rattle.es_report.specs.Tallies.{AreTallies, end_tally};
 
-use super::name;
+use super::ledgers::all_spent;
+use super::{list, name};
 use es_event::{Answer, Command, Event, Operands, Outcome, Sequence};
 use es_registry::Tally;
 use es_value::{Id, Name, Value};
@@ -30,9 +32,10 @@ pub(crate) const END_OF_KEEPER: Tally = Tally {
     taken: 0,
 };
 
-/// An agent whose registrations are taken out, and one whose registrations stay.
+/// An agent whose registrations are taken out, and one whose registrations stay, with two blocks.
 pub(crate) fn two_agents(alloc: Global) -> Result<Outcome, Fail>
-    ensures { IfOk result (λ o. AreTallies o.histories (END_OF_TAKER ∷ END_OF_KEEPER ∷ [])) }
+    ensures tallies { IfOk result (λ o. AreTallies o.histories (END_OF_TAKER ∷ END_OF_KEEPER ∷ [])) }
+    ensures released { IfOk result (λ o. released (reverse o.ledger) ≡ 2) }
 {
     let first = name(alloc, "first")?;
     let second = name(alloc, "second")?;
@@ -40,7 +43,12 @@ pub(crate) fn two_agents(alloc: Global) -> Result<Outcome, Fail>
     let taken = taker(alloc)?;
     let kept = keeper(alloc)?;
     let histories = list(alloc, [taken, kept])?;
-    Ok(Outcome { names, histories })
+    let ledger = all_spent(alloc)?;
+    Ok(Outcome {
+        names,
+        histories,
+        ledger,
+    })
 }
 
 /// An agent with two registrations: the callback is called for the first, the second is taken out.
@@ -145,10 +153,4 @@ fn unregistered(names: (Name, Name, Name)) -> Event
         values: Operands::of_two(object(1), Value::Symbol(Id::of(4))),
         answer: Answer::Gives(Value::Boolean(true)),
     }
-}
-
-fn list<T: Drop, const N: usize>(alloc: Global, items: [T; N]) -> Result<Sequence<T>, Fail>
-    ensures { IfOk result (λ all. all ≡ items) }
-{
-    Ok(Sequence::from_vec(Vec::from_array(alloc, items)?))
 }

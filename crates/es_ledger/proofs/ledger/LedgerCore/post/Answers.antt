@@ -15,4 +15,4 @@ invariant_of-self-2 g c =
     (c.push.ensures.size ∙ kept.size)
     (c.push.ensures.here ∙ ap (λ q. q ++ Plain c.args.value ∷ []) (kept.same c.args.sender c.args.receiver))
     (λ s r column apart. c.push.ensures.others s r column apart ∙ kept.same s r)
-    (c.push.ensures.messages ∙ ap (λ m. m + 1) kept.messages) room)
+    (c.push.ensures.messages ∙ ap (λ m. m + 1) kept.messages) room c.requires.plain)

@@ -1,3 +1,4 @@
+use Rattle.es_ledger.proofs.After.{holder_here}
 use Rattle.es_ledger.proofs.Tying.{in_history, stake_counted, stake_room, spent_ties, spent_last}
 use Rattle.es_ledger.proofs.ledger.LedgerCore.spend.Goals as goal
 
@@ -18,3 +19,9 @@ returns-clause-released g c =
     let last = rw (c.block-block.ensures) at c.lose-released.ensures.released in
     rw (c.append.ensures.events, c.serial-serial.ensures)
     (spent_last _ c.self.inside.history.events _ c.self.inside.blocks.all _ _ _ _ _ c.args.stake.now.agent _ c.args.ticket c.lose-released.result c.self.invariant c.requires c.look.ensures.told last)
+
+pub returns-clause-holder : goal.returns-clause-holder
+returns-clause-holder g c =
+    rw (← c.self.view_is)
+    (holder_here _ c.self.inside.history.events c.args.stake.now.agent c.args.ticket c.self.invariant.legal.0
+    (in_history _ c.args.stake.now.agent _ c.self.inside.history.events c.args.ticket c.requires c.look.ensures.told c.self.invariant.tabled))

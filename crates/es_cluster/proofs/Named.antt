@@ -1,0 +1,158 @@
+-- Whom an agent asks to post to, or waits for, is one of those that its plan names.
+use Rattle.std.proofs.Common.{◌≡◌, ℕ, zero, suc, ◌-◌, ◌<◌, ◌==◌, Bool, true, false, cond, not, nat_lt, sym, ◌∙◌, ap, refl, List, [], ◌∷◌, drop, Option, Some, None, subst, arith}
+use Rattle.std.specs.Prelude.{slice_get}
+use Rattle.std.specs.List.{list_all}
+use Rattle.std.specs.Option.{option_map, option_map_or, option_and_then}
+use Rattle.std.proofs.lemmas.Bool.{and_parts, ltb-true}
+use Rattle.std.proofs.lemmas.Bool.Decides.{nat_tests}
+use Rattle.es_value.specs.declared.value.Value.{Value}
+use Rattle.es_value.specs.declared.value.Value.TheVariants.{Object}
+use Rattle.es_event.specs.declared.command.Command.{Command}
+use Rattle.es_event.specs.declared.command.Command.TheVariants.{Load, Store, Add, Post}
+use Rattle.es_event.specs.declared.event.Event.TheVariants.{JobBegun, CleanupBegun, Received, Did, Refused, Emptied, Taken, JobEnded, Skipped, Closed}
+use Rattle.es_event.specs.declared.event.Refusal.{Refusal}
+use Rattle.es_event.specs.declared.plan.AgentPlan.{AgentPlan}
+use Rattle.es_event.specs.declared.plan.Job.{Job}
+use Rattle.es_event.specs.Commands.{reads, first, collects}
+use Rattle.es_event.specs.History.{History}
+use Rattle.es_event.specs.Identities.{object_of}
+use Rattle.es_event.specs.Jobs.{job, cleaning, receivers}
+use Rattle.es_event.specs.Others.{is_other, posts_where, speaks_where, names_others}
+use Rattle.es_event.specs.Registrations.{callback, first_awaiting}
+use Rattle.es_event.specs.Rules.{refusal}
+use Rattle.es_event.specs.Legal.{values_of}
+use Rattle.es_event.specs.Order.{Phase, between, handed, inside, stopped, ended, phase, Due, begin, receive, run, clean, take_cell, end_job, close, nothing, left, queue, job_commands, callback_commands, due_after, due_inside, due_job, due_between, due_at, due}
+use Rattle.es_record.specs.Book.{Book}
+use Rattle.es_rules.specs.Needs.{Request, posts_to, asked, unless_refused, request, Need, asks_marks, asks_ledger, ledger_or_nobody, need_of, need}
+use Rattle.es_member.specs.Turned.{NamesOthers}
+
+all_at : {X : Type 0} (test : X → Bool) (xs : List X) (i : ℕ) (x : X) → list_all test xs ≡ true → slice_get xs i ≡ Some x → test x ≡ true
+all_at test [] i x all is = cc
+all_at test (y ∷ xs) zero x all is = ap test (let same : x ≡ y = cc in same) ∙ (and_parts (test y) (list_all test xs) all).0
+all_at test (y ∷ xs) (suc i) x all is = all_at test xs i x (and_parts (test y) (list_all test xs) all).1 is
+
+all_dropped : {X : Type 0} (test : X → Bool) (xs : List X) → list_all test xs ≡ true → list_all test (drop 1 xs) ≡ true
+all_dropped test [] all = refl
+all_dropped test (x ∷ xs) all = (and_parts (test x) (list_all test xs) all).1
+
+all_of : {X Y : Type 0} (test : Y → Bool) (f : X → List Y) (o : Option X) → ((x : X) → o ≡ Some x → list_all test (f x) ≡ true) → list_all test (option_map_or f o []) ≡ true
+all_of test f None each = refl
+all_of test f (Some x) each = each x refl
+
+module _ (test : ℕ → Bool) (plan : AgentPlan) (jobs : list_all (speaks_where test) plan.jobs ≡ true) (callbacks : list_all (λ c. list_all (posts_where test) c.run) plan.callbacks ≡ true) where
+  in_job : (n : ℕ) → list_all (posts_where test) (job_commands plan n) ≡ true
+  in_job n = all_of (posts_where test) (λ j. j.run) (slice_get plan.jobs (n - 1)) (λ j is. (and_parts _ _ (all_at (speaks_where test) plan.jobs (n - 1) j jobs is)).1)
+
+  in_callback : (n : ℕ) → list_all (posts_where test) (callback_commands plan n) ≡ true
+  in_callback n = all_of (posts_where test) (λ c. c.run) (slice_get plan.callbacks (n - 1)) (λ c is. all_at (λ c. list_all (posts_where test) c.run) plan.callbacks (n - 1) c callbacks is)
+
+  in_left : (h : History) → list_all (posts_where test) (left plan h) ≡ true
+  in_left [] = refl
+  in_left (JobBegun j ∷ h) = in_job j
+  in_left (CleanupBegun q ∷ h) = refl
+  in_left (Received t v ∷ h) = refl
+  in_left (Did c vs r ∷ h) = all_dropped (posts_where test) (left plan h) (in_left h)
+  in_left (Refused code ∷ h) = refl
+  in_left (Emptied ids ∷ h) = all_dropped (posts_where test) (left plan h) (in_left h)
+  in_left (Taken n held ∷ h) = all_of (posts_where test) (callback_commands plan) (option_and_then (callback h) (cleaning h)) (λ n is. in_callback n)
+  in_left (JobEnded ∷ h) = refl
+  in_left (Skipped j t ∷ h) = refl
+  in_left (Closed ∷ h) = refl
+
+  after_commands : (o : Option ℕ) (c : Command) → due_after o ≡ run c → ⊥
+  after_commands None c is = cc
+  after_commands (Some n) c is = cc
+
+  run_inside : (h : History) (cs : List Command) (c : Command) → list_all (posts_where test) cs ≡ true → due_inside h cs ≡ run c → posts_where test c ≡ true
+  run_inside h [] c all is = absurd (after_commands (option_and_then (first_awaiting h) (cleaning h)) c is)
+  run_inside h (d ∷ cs) c all is = ap (posts_where test) (let same : c ≡ d = cc in same) ∙ (and_parts (posts_where test d) (list_all (posts_where test) cs) all).0
+
+  run_between : (h : History) (rs : List ℕ) (c : Command) → due_between plan h rs ≡ run c → ⊥
+  run_between h (r ∷ rs) c is = cc
+  run_between h [] c is = at_job (job h) (option_map (λ j. j.on) (slice_get plan.jobs (job h - 1))) is
+    where
+      at_job : (n : ℕ) (o : Option (Option (ℕ × List ℕ))) → due_job n o ≡ run c → ⊥
+      at_job n None is = cc
+      at_job n (Some None) is = cc
+      at_job n (Some (Some on)) is = cc
+
+  run_posts : (h : History) (p : Phase) (c : Command) → due_at plan h p ≡ run c → posts_where test c ≡ true
+  run_posts h between c is = absurd (run_between h (queue h) c is)
+  run_posts h handed c is = cc
+  run_posts h inside c is = run_inside h (left plan h) c (in_left h) is
+  run_posts h stopped c is = cc
+  run_posts h ended c is = cc
+
+  heard_of : (n s : ℕ) (o : Option Job) → ((j : Job) → o ≡ Some j → speaks_where test j ≡ true) → (k : ℕ) → due_job k (option_map (λ j. j.on) o) ≡ receive n s → test s ≡ true
+  heard_of n s None each k is = cc
+  heard_of n s (Some j) each k is = at_on j.on (and_parts _ _ (each j refl)).0 is
+    where
+      at_on : (on : Option (ℕ × List ℕ)) → option_map_or (λ on. test on.0) on true ≡ true → due_job k (Some on) ≡ receive n s → test s ≡ true
+      at_on None hears is = cc
+      at_on (Some on) hears is = ap test (let same : s ≡ on.0 = cc in same) ∙ hears
+
+  receive_inside : (h : History) (cs : List Command) (n s : ℕ) → due_inside h cs ≡ receive n s → ⊥
+  receive_inside h [] n s is = at_cell (option_and_then (first_awaiting h) (cleaning h)) is
+    where
+      at_cell : (o : Option ℕ) → due_after o ≡ receive n s → ⊥
+      at_cell None is = cc
+      at_cell (Some m) is = cc
+  receive_inside h (c ∷ cs) n s is = cc
+
+  receive_between : (h : History) (rs : List ℕ) (n s : ℕ) → due_between plan h rs ≡ receive n s → test s ≡ true
+  receive_between h (r ∷ rs) n s is = cc
+  receive_between h [] n s is = heard_of n s (slice_get plan.jobs (job h - 1)) (λ j at. all_at (speaks_where test) plan.jobs (job h - 1) j jobs at) (job h) is
+
+  receive_hears : (h : History) (p : Phase) (n s : ℕ) → due_at plan h p ≡ receive n s → test s ≡ true
+  receive_hears h between n s is = receive_between h (queue h) n s is
+  receive_hears h handed n s is = cc
+  receive_hears h inside n s is = absurd (receive_inside h (left plan h) n s is)
+  receive_hears h stopped n s is = cc
+  receive_hears h ended n s is = cc
+
+is_other_agent : (agents n a : ℕ) → is_other agents n a ≡ true → (a < agents) × (n ≡ a → ⊥)
+is_other_agent agents n a is =
+    let parts = and_parts (nat_lt a agents) (not (a == n)) is in
+    (ltb-true a agents parts.0, λ same. grind (arith, nat_tests, parts, same))
+
+posting : (n agents a : ℕ) (v : Value) → is_other agents n a ≡ true → NamesOthers (asks_ledger (posts_to a v)) n agents
+posting n agents a (Object o) is = is_other_agent agents n a is
+posting n agents a v is = is_other_agent agents n a is
+
+mapped_names : (n agents : ℕ) (f : ℕ → Request) (q : Option ℕ) → ((o : ℕ) → NamesOthers (asks_ledger (f o)) n agents) → NamesOthers (ledger_or_nobody (option_map f q)) n agents
+mapped_names n agents f None each = tt
+mapped_names n agents f (Some o) each = each o
+
+asked_names : (n agents : ℕ) (c : Command) (vs : List Value) → posts_where (is_other agents n) c ≡ true → NamesOthers (ledger_or_nobody (asked c vs)) n agents
+asked_names n agents (Post a y) vs is = posting n agents a (first vs) is
+asked_names n agents (Load to x j) vs is = mapped_names n agents _ (object_of (first vs)) (λ o. tt)
+asked_names n agents (Store x j k) vs is = mapped_names n agents _ (object_of (first vs)) (λ o. tt)
+asked_names n agents (Add to x j k) vs is = mapped_names n agents _ (object_of (first vs)) (λ o. tt)
+asked_names n agents c vs is = tt
+
+unless_names : (n agents : ℕ) (f : Option Refusal) (q : Option Request) → NamesOthers (ledger_or_nobody q) n agents → NamesOthers (ledger_or_nobody (unless_refused f q)) n agents
+unless_names n agents None q is = is
+unless_names n agents (Some code) q is = tt
+
+marks_or : (n agents : ℕ) (b : Bool) (m : Need) → NamesOthers m n agents → NamesOthers (cond b asks_marks m) n agents
+marks_or n agents true m is = tt
+marks_or n agents false m is = is
+
+pub names : (b : Book) (agents n : ℕ) → b.number ≡ n → names_others agents n b.plan ≡ true → NamesOthers (need b) b.number agents
+names b agents n number is = subst (λ m. NamesOthers (need b) m agents) (sym number) (at (due b.plan b.history) refl)
+  where
+    parts : (list_all (speaks_where (is_other agents n)) b.plan.jobs ≡ true) × (list_all (λ c. list_all (posts_where (is_other agents n)) c.run) b.plan.callbacks ≡ true)
+    parts = and_parts _ _ is
+
+    at : (d : Due) → due b.plan b.history ≡ d → NamesOthers (need_of b d) n agents
+    at (begin m) e = tt
+    at (receive m s) e = is_other_agent agents n s (receive_hears (is_other agents n) b.plan parts.0 parts.1 b.history (phase b.history) m s e)
+    at (run c) e =
+        marks_or n agents (collects c) (ledger_or_nobody (request b c))
+        (unless_names n agents (refusal b.over b.history c (values_of (receivers b.plan.jobs) b.history (reads c))) (asked c (values_of (receivers b.plan.jobs) b.history (reads c)))
+        (asked_names n agents c (values_of (receivers b.plan.jobs) b.history (reads c)) (run_posts (is_other agents n) b.plan parts.0 parts.1 b.history (phase b.history) c e)))
+    at (clean r) e = tt
+    at (take_cell m) e = tt
+    at end_job e = tt
+    at close e = tt
+    at nothing e = tt

@@ -1,0 +1,146 @@
+-- A turn of one agent leaves the others as they are.
+use Rattle.std.proofs.Common.{◌≡◌, ℕ, zero, suc, ◌<◌, ◌≤◌, ◌==◌, sym, ◌∙◌, ap, refl, subst, arith, List, [], ◌∷◌, map, length, Option, Some, None, inl, inr}
+use Rattle.std.specs.Prelude.{slice_get, slice_set, slice_index_or}
+use Rattle.std.proofs.lemmas.Bool.{cases_Bool, eqb-true, eqb-false}
+use Rattle.es_event.specs.Others.{names_others}
+use Rattle.es_event.specs.Ledger.{Ledger}
+use Rattle.es_ledger.specs.Books.{Books}
+use Rattle.es_match.specs.Cluster.{Ties, IsCluster, history_of}
+use Rattle.es_match.specs.Deeds.{part}
+use Rattle.es_match.specs.Meets.{Tickets}
+use Rattle.es_record.specs.Book.{Book}
+use Rattle.es_agent.specs.Tickets.{tickets}
+use Rattle.es_member.specs.Seats.{Seat}
+use Rattle.es_member.specs.Tied.{GrowsBy, IsTied}
+use Rattle.es_member.specs.Turned.{IsSeated, OthersStay, Proceeds}
+use Rattle.es_member.specs.declared.member.Progress.{Progress}
+use Rattle.es_member.specs.declared.member.Progress.TheVariants.{Moved, Waiting, Ended}
+use Rattle.es_cluster.specs.Turns.{Takes}
+use Rattle.es_member.proofs.Growing.{part_stays, waits_stay, ended_stays}
+use Rattle.es_cluster.specs.State.{books, IsPlaced, ArePlaced, AreTied}
+
+-- Lists in which one is changed
+
+pub set_here : {X : Type 0} (xs : List X) (i : ℕ) (x : X) → i < length xs → slice_get (slice_set xs i x) i ≡ Some x
+set_here [] i x within = absurd (omega (arith, within))
+set_here (y ∷ xs) zero x within = refl
+set_here (y ∷ xs) (suc i) x within = set_here xs i x (omega (arith, within))
+
+pub set_there : {X : Type 0} (xs : List X) (i j : ℕ) (x : X) → (j ≡ i → ⊥) → slice_get (slice_set xs i x) j ≡ slice_get xs j
+set_there [] i j x other = refl
+set_there (y ∷ xs) zero zero x other = absurd (other refl)
+set_there (y ∷ xs) zero (suc j) x other = refl
+set_there (y ∷ xs) (suc i) zero x other = refl
+set_there (y ∷ xs) (suc i) (suc j) x other = set_there xs i j x (λ same. other (ap suc same))
+
+pub set_mapped : {X Y : Type 0} (f : X → Y) (xs : List X) (i : ℕ) (x : X) → map f (slice_set xs i x) ≡ slice_set (map f xs) i (f x)
+set_mapped f [] i x = refl
+set_mapped f (y ∷ xs) zero x = refl
+set_mapped f (y ∷ xs) (suc i) x = ap (λ ys. f y ∷ ys) (set_mapped f xs i x)
+
+pub set_length : {X : Type 0} (xs : List X) (i : ℕ) (x : X) → length (slice_set xs i x) ≡ length xs
+set_length [] i x = refl
+set_length (y ∷ xs) zero x = refl
+set_length (y ∷ xs) (suc i) x = ap suc (set_length xs i x)
+
+-- An agent after a turn of another
+
+seated_still : (b : Book) (l m : Books) (n : ℕ) → (b.number ≡ n → ⊥) → OthersStay n l m → IsSeated b l → IsSeated b m
+seated_still b l m n other stay seated = record {
+  known = subst (λ k. b.number < k) (sym stay.0) seated.known;
+  agents = seated.agents ∙ sym stay.0;
+  over = ended_stays n b.number l.history m.history stay.1 other ∙ seated.over;
+}
+
+tied_still : (b : Book) (l m : Ledger) (n : ℕ) → (b.number ≡ n → ⊥) → GrowsBy n l m → IsTied b l → (new : Book) → IsTied new m → IsTied b m
+tied_still b l m n other grows tied new after = record {
+  ties = subst (λ p. Ties b.history p (tickets b)) (sym (part_stays n b.number l m grows other)) tied.ties;
+  awaits = λ s is. tied.awaits s (sym (waits_stay n b.number l m grows other) ∙ is);
+  waits_end = after.waits_end;
+  drains_end = after.drains_end;
+}
+
+-- All agents after a turn of one
+
+by_place : {X : Type 0} (P : ℕ → X → Type 0) (xs : List X) (n : ℕ) (x : X) → n < length xs → P n x → ((i : ℕ) (y : X) → (i ≡ n → ⊥) → slice_get xs i ≡ Some y → P i y) → (i : ℕ) (y : X) → slice_get (slice_set xs n x) i ≡ Some y → P i y
+by_place P xs n x within here there i y is = elim (cases_Bool (i == n)) [
+  | inl e ↦
+      let same = eqb-true i n e in
+      let found = sym (ap (slice_get (slice_set xs n x)) same ∙ set_here xs n x within) ∙ is in
+      let value : x ≡ y = cc in
+      subst (λ i. P i y) (sym same) (subst (P n) value here)
+  | inr e ↦ let other = eqb-false i n e in there i y other (sym (set_there xs n i x other) ∙ is)
+]
+
+pub placed_after : (bs : List Book) (l m : Books) (n : ℕ) (new : Book) → n < length bs → ArePlaced bs l → IsPlaced m n new → OthersStay n l m → ArePlaced (slice_set bs n new) m
+placed_after bs l m n new within before here stay = record {
+  size = set_length bs n new ∙ before.size ∙ sym stay.0;
+  each = by_place (IsPlaced m) bs n new within here (λ i b other is.
+      let was = before.each i b is in
+      record {
+        number = was.number;
+        seated = seated_still b l m n (λ same. other (sym was.number ∙ same)) stay was.seated;
+        others = ap (λ k. names_others k i b.plan) stay.0 ∙ was.others;
+      });
+}
+
+pub tied_after : (bs : List Book) (l m : Books) (n : ℕ) (new : Book) → n < length bs → ArePlaced bs l → AreTied bs l → IsTied new m.history → OthersStay n l m → AreTied (slice_set bs n new) m
+tied_after bs l m n new within placed before here stay = record {
+  each = by_place (λ i b. IsTied b m.history) bs n new within here (λ i b other is.
+      tied_still b l.history m.history n (λ same. other (sym (placed.each i b is).number ∙ same)) stay.1 (before.each i b is) new here);
+  strangers = λ a beyond.
+      part_stays n a l.history m.history stay.1 (λ same. (let size = placed.size in let agents = stay.0 in absurd (omega (arith, beyond, same, within, size, agents))))
+      ∙ before.strangers a (let agents = stay.0 in omega (arith, beyond, agents));
+  waits_end = here.waits_end;
+  drains_end = here.drains_end;
+}
+
+-- The histories are those of one cluster
+
+pub are_cluster : (bs : List Book) (l : Books) → ArePlaced bs l → AreTied bs l → IsCluster (map (λ b. b.history) bs) l.history
+are_cluster bs l placed tied = record {
+  parts = λ a. at a (slice_get bs a) refl;
+  waits = tied.waits_end;
+  drains = tied.drains_end;
+}
+  where
+    history_at : (bs : List Book) (a : ℕ) (b : Book) → slice_get bs a ≡ Some b → slice_index_or (map (λ b. b.history) bs) a [] ≡ b.history
+    history_at [] a b is = cc
+    history_at (c ∷ bs) zero b is = ap (λ b. b.history) (let same : c ≡ b = cc in same)
+    history_at (c ∷ bs) (suc a) b is = history_at bs a b is
+
+    none_at : (bs : List Book) (a : ℕ) → slice_get bs a ≡ None → (slice_index_or (map (λ b. b.history) bs) a [] ≡ []) × (length bs ≤ a)
+    none_at [] a is = (refl, omega arith)
+    none_at (c ∷ bs) zero is = cc
+    none_at (c ∷ bs) (suc a) is = let rest = none_at bs a is in (rest.0, (let r = rest.1 in omega (arith, r)))
+
+    at : (a : ℕ) (o : Option Book) → slice_get bs a ≡ o → (t : Tickets) × Ties (history_of (map (λ b. b.history) bs) a) (part l.history a) t
+    at a (Some b) is =
+        let number = (placed.each a b is).number in
+        (tickets b, subst (λ h. Ties h (part l.history a) (tickets b)) (sym (history_at bs a b is)) (subst (λ n. Ties b.history (part l.history n) (tickets b)) number (tied.each a b is).ties))
+    at a None is =
+        let none = none_at bs a is in
+        ([], subst (λ h. Ties h (part l.history a) []) (sym none.0) (tied.strangers a (let size = placed.size in let few = none.1 in omega (arith, size, few)), refl))
+
+-- A turn
+
+pub found_at : (ms : List Seat) (i : ℕ) (d : Seat) → i < length (books ms) → slice_get (books ms) i ≡ Some (slice_index_or ms i d).book
+found_at [] i d within = absurd (omega (arith, within))
+found_at (m ∷ ms) zero d within = refl
+found_at (m ∷ ms) (suc i) d within = found_at ms i d (omega (arith, within))
+
+pub takes_of : (p : Progress) (old new : Seat) → Proceeds p old new → Takes p old.book new.book
+takes_of Moved old new turn = turn
+takes_of Waiting old new turn = (turn.0, turn.1, ap (λ m. m.book) turn.2)
+takes_of Ended old new turn = (turn.0, ap (λ m. m.book) turn.1)
+
+-- the agent that took it has its place still
+pub placed_here : (old new : Book) (l m : Books) (n : ℕ) → IsPlaced l n old → new.number ≡ old.number → new.plan ≡ old.plan → IsSeated new m → m.agents ≡ l.agents → IsPlaced m n new
+placed_here old new l m n placed number plan seated agents = record {
+  number = number ∙ placed.number;
+  seated = seated;
+  others = ap (λ k. names_others k n new.plan) agents ∙ ap (names_others l.agents n) plan ∙ placed.others;
+}
+
+pub one_changed : (ms : List Seat) (n : ℕ) (m : Seat) → books (slice_set ms n m) ≡ slice_set (books ms) n m.book
+one_changed ms n m = set_mapped (λ m. m.book) ms n m

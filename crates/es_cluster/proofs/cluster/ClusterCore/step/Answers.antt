@@ -1,0 +1,66 @@
+use Rattle.std.proofs.Common.{sym, ◌∙◌, ap, subst, Some}
+use Rattle.es_member.specs.Seats.{Seat}
+use Rattle.es_member.specs.Turned.{OthersStay}
+use Rattle.es_cluster.specs.State.{books, ArePlaced, AreTied}
+use Rattle.es_cluster.proofs.Named.{names}
+use Rattle.es_cluster.proofs.Standing.{found_at, takes_of, placed_here, one_changed, placed_after, tied_after}
+use Rattle.es_cluster.proofs.cluster.ClusterCore.step.Goals as goal
+
+pub step-requires-clause-seated : goal.step-requires-clause-seated
+step-requires-clause-seated g c =
+    let within = rw (← c.self.view_is) at c.requires in
+    let here = found_at c.self.inside.members.items c.args.agent _ within ∙ ap (λ (m : Seat). Some m.book) (sym c.index_mut.ensures.value) in
+    (c.self.invariant.0.each c.args.agent c.index_mut.result.now.book here).seated
+
+pub step-requires-clause-others : goal.step-requires-clause-others
+step-requires-clause-others g c =
+    let within = rw (← c.self.view_is) at c.requires in
+    let here = found_at c.self.inside.members.items c.args.agent _ within ∙ ap (λ (m : Seat). Some m.book) (sym c.index_mut.ensures.value) in
+    let placed = c.self.invariant.0.each c.args.agent c.index_mut.result.now.book here in
+    names c.index_mut.result.now.book c.self.inside.ledger.agents c.args.agent placed.number placed.others
+
+pub step-requires-clause-tied : goal.step-requires-clause-tied
+step-requires-clause-tied g c =
+    let within = rw (← c.self.view_is) at c.requires in
+    let here = found_at c.self.inside.members.items c.args.agent _ within ∙ ap (λ (m : Seat). Some m.book) (sym c.index_mut.ensures.value) in
+    (c.self.invariant.1 c.if-self.false).each c.args.agent c.index_mut.result.now.book here
+
+pub invariant_of-self : goal.invariant_of-self
+invariant_of-self g c =
+    let within = rw (← c.self.view_is) at c.requires in
+    let here = found_at c.self.inside.members.items c.args.agent _ within ∙ ap (λ (m : Seat). Some m.book) (sym c.index_mut.ensures.value) in
+    let placed = c.self.invariant.0.each c.args.agent c.index_mut.result.now.book here in
+    let stay = subst (λ n. OthersStay n c.self.inside.ledger c.step.new.ledger) placed.number c.step.ensures.others in
+    let still = placed_here c.index_mut.result.now.book c.step.new.self.book c.self.inside.ledger c.step.new.ledger c.args.agent placed c.step.ensures.number c.step.ensures.same.0 c.step.ensures.seated stay.0 in
+    let changed = one_changed c.self.inside.members.items c.args.agent c.step.new.self in (
+      subst (λ bs. ArePlaced bs c.step.new.ledger) (sym changed) (placed_after (books c.self.inside.members.items) c.self.inside.ledger c.step.new.ledger c.args.agent c.step.new.self.book within c.self.invariant.0 still stay),
+      λ whole. subst (λ bs. AreTied bs c.step.new.ledger) (sym changed)
+          (tied_after (books c.self.inside.members.items) c.self.inside.ledger c.step.new.ledger c.args.agent c.step.new.self.book within c.self.invariant.0 (c.self.invariant.1 whole) c.in-Ok.ensures.tied stay),
+    )
+
+pub invariant_of-self-in-Err : goal.invariant_of-self-in-Err
+invariant_of-self-in-Err g c =
+    let within = rw (← c.self.view_is) at c.requires in
+    let here = found_at c.self.inside.members.items c.args.agent _ within ∙ ap (λ (m : Seat). Some m.book) (sym c.index_mut.ensures.value) in
+    let placed = c.self.invariant.0.each c.args.agent c.index_mut.result.now.book here in
+    let stay = subst (λ n. OthersStay n c.self.inside.ledger c.step.new.ledger) placed.number c.step.ensures.others in
+    let still = placed_here c.index_mut.result.now.book c.step.new.self.book c.self.inside.ledger c.step.new.ledger c.args.agent placed c.step.ensures.number c.step.ensures.same.0 c.step.ensures.seated stay.0 in
+    let changed = one_changed c.self.inside.members.items c.args.agent c.step.new.self in
+    (subst (λ bs. ArePlaced bs c.step.new.ledger) (sym changed) (placed_after (books c.self.inside.members.items) c.self.inside.ledger c.step.new.ledger c.args.agent c.step.new.self.book within c.self.invariant.0 still stay), λ whole. cc)
+
+pub returns-in-Ok-clause-turned : goal.returns-in-Ok-clause-turned
+returns-in-Ok-clause-turned g c =
+    let within = rw (← c.self.view_is) at c.requires in
+    let here = found_at c.self.inside.members.items c.args.agent _ within ∙ ap (λ (m : Seat). Some m.book) (sym c.index_mut.ensures.value) in
+    let placed = c.self.invariant.0.each c.args.agent c.index_mut.result.now.book here in
+    let stay = subst (λ n. OthersStay n c.self.inside.ledger c.step.new.ledger) placed.number c.step.ensures.others in
+    rw (← c.self.view_is) (record {
+      before = c.index_mut.result.now.book;
+      after = c.step.new.self.book;
+      agent = here;
+      agents = one_changed c.self.inside.members.items c.args.agent c.step.new.self;
+      turn = takes_of c.in-Ok.progress c.index_mut.result.now c.step.new.self c.in-Ok.ensures.ok;
+      told = c.in-Ok.ensures.told;
+      ledger = stay.1;
+      whole = (c.if-self.false, c.if-self.false);
+    })

@@ -1,0 +1,56 @@
+-- To believe: what contracts see of a cluster, and what holds of it at any time.
+use Rattle.std.specs.Prelude.{ℕ, ◌≡◌, ◌≤◌, ◌+◌, Bool, true, false, List, [], ◌∷◌, Some, length, map, slice_get}
+use Rattle.es_event.specs.declared.plan.AgentPlan.{AgentPlan}
+use Rattle.es_event.specs.declared.plan.Plan.{Plan}
+use Rattle.es_event.specs.History.{History}
+use Rattle.es_event.specs.Others.{names_others}
+use Rattle.es_match.specs.Cluster.{patient, drained_last}
+use Rattle.es_match.specs.Deeds.{part}
+use Rattle.es_ledger.specs.Books.{Books}
+use Rattle.es_record.specs.Book.{Book}
+use Rattle.es_member.specs.Seats.{Seat}
+use Rattle.es_member.specs.Tied.{IsTied}
+use Rattle.es_member.specs.Turned.{IsSeated}
+
+-- the agents, by rising number, their ledger, and whether a step of one ended for want of memory
+pub record Cluster : Type 0 where
+  pub agents : List Book
+  pub ledger : Books
+  pub failed : Bool
+
+abbrev pub books : List Seat → List Book
+books ms = map (λ m. m.book) ms
+
+abbrev pub histories : Cluster → List History
+histories c = map (λ b. b.history) c.agents
+
+-- it is agent n, it has its place in the ledger, and its plan names other agents alone
+pub record IsPlaced (l : Books) (n : ℕ) (b : Book) : Type 0 where
+  pub number : b.number ≡ n
+  pub seated : IsSeated b l
+  pub others : names_others l.agents n b.plan ≡ true
+
+-- so is each, whatever came of their steps
+pub record ArePlaced (bs : List Book) (l : Books) : Type 0 where
+  pub size : length bs ≡ l.agents
+  pub each : (n : ℕ) (b : Book) → slice_get bs n ≡ Some b → IsPlaced l n b
+
+-- the history of each, its tickets and its part in the ledger's history go together, and nobody else has a part in it
+pub record AreTied (bs : List Book) (l : Books) : Type 0 where
+  pub each : (n : ℕ) (b : Book) → slice_get bs n ≡ Some b → IsTied b l.history
+  pub strangers : (a : ℕ) → l.agents ≤ a → part l.history a ≡ []
+  pub waits_end : patient l.history ≡ true
+  pub drains_end : drained_last l.history ≡ true
+
+-- the agents of these plans, of which the first is agent n of so many, before their first events
+abbrev pub first_books : ℕ → ℕ → List AgentPlan → List Book
+first_books agents n [] = []
+first_books agents n (p ∷ ps) = record { plan = p; number = n; agents = agents; over = []; history = [] } ∷ first_books agents (n + 1) ps
+
+-- the cluster of a plan, before the first event
+abbrev pub first_state : Plan → Cluster
+first_state p = record {
+  agents = first_books (length p.agents) 0 p.agents;
+  ledger = record { agents = length p.agents; history = [] };
+  failed = false;
+}

@@ -1,0 +1,31 @@
+-- To believe: what a turn of an agent, and a list of turns, make of a cluster.
+use Rattle.std.specs.Prelude.{ℕ, ◌≡◌, false, List, [], ◌∷◌, Some, slice_get, slice_set}
+use Rattle.es_member.specs.Tied.{GrowsBy}
+use Rattle.es_member.specs.Turned.{Heard, Moves}
+use Rattle.es_member.specs.declared.member.Progress.{Progress}
+use Rattle.es_member.specs.declared.member.Progress.TheVariants.{Moved, Waiting, Ended}
+use Rattle.es_record.specs.Book.{Book}
+use Rattle.es_rules.specs.Needs.{asks_message, asks_nothing, need}
+use Rattle.es_cluster.specs.State.{Cluster}
+
+-- the agent has one event more, or waits on for a message, or has ended
+abbrev pub Takes : Progress → Book → Book → Type 0
+Takes Moved old new = Moves old new
+Takes Waiting old new = (s : ℕ) × (need old ≡ asks_message s) × (new ≡ old)
+Takes Ended old new = (need old ≡ asks_nothing) × (new ≡ old)
+
+-- agent n took its turn: no other agent has changed, and the ledger has deeds of agent n alone besides
+pub record Turned (p : Progress) (n : ℕ) (old new : Cluster) : Type 0 where
+  pub before : Book
+  pub after : Book
+  pub agent : slice_get old.agents n ≡ Some before
+  pub agents : new.agents ≡ slice_set old.agents n after
+  pub turn : Takes p before after
+  pub told : Heard p before old.ledger new.ledger
+  pub ledger : GrowsBy n old.ledger.history new.ledger.history
+  pub whole : (old.failed ≡ false) × (new.failed ≡ false)
+
+-- so did these agents, one after the other
+abbrev pub AllTurned : List ℕ → Cluster → Cluster → Type 0
+AllTurned [] old new = new ≡ old
+AllTurned (n ∷ ns) old new = (p : Progress) × (mid : Cluster) × Turned p n old mid × AllTurned ns mid new

@@ -1,0 +1,47 @@
+//! The end of members and their ledger.
+
+ghost use Rattle.std.specs.Prelude.{◌≡◌, ◌<◌, ℕ, true};
+ghost use Rattle.es_event.specs.Ledger.{ended};
+ghost use Rattle.es_event.specs.LegalLedger.{all_ended};
+
+use es_ledger::LedgerCore;
+use es_member::Member;
+use es_ticket::Run;
+
+/// Gives members and the ledger of so many agents up: every ticket is spent, each agent counts as
+/// ended, and the messages that are left are taken out. It takes no memory.
+pub(crate) fn give_up<L: Run>(mut members: Vec<Member<L>>, mut ledger: LedgerCore<L>, agents: usize)
+    requires { ledger.agents ≡ agents }
+{
+    for _ in 0..members.len() {
+        let Some(member) = members.pop() else {
+            unreachable!()
+        };
+        member.abandon(&mut ledger);
+    }
+    members.destroy_empty();
+    end_all(&mut ledger, agents);
+    ledger.drain();
+    let _ = ledger.into_history();
+}
+
+/// Each agent that has not ended ends.
+fn end_all<L: Run>(ledger: &mut LedgerCore<L>, agents: usize)
+    requires { ledger.old.agents ≡ agents }
+    ensures { (ledger.new.agents ≡ agents) × (all_ended ledger.new.history agents ≡ true) }
+{
+    for agent in 0..agents {
+        end_agent(ledger, agent);
+    }
+}
+
+fn end_agent<L: Run>(ledger: &mut LedgerCore<L>, agent: usize)
+    requires { agent < ledger.old.agents }
+    ensures agents { ledger.new.agents ≡ ledger.old.agents }
+    ensures over { ended ledger.new.history agent ≡ true }
+    ensures others { (n : ℕ) → all_ended ledger.old.history n ≡ true → all_ended ledger.new.history n ≡ true }
+{
+    if !ledger.has_ended(agent) {
+        ledger.ended(agent);
+    }
+}

@@ -1,0 +1,12 @@
+//! A cluster of agents, run by turns.
+#![tactic(auto)]
+
+mod cluster;
+mod ending;
+mod seating;
+#[cfg(test)]
+mod tests;
+
+pub use cluster::ClusterCore;
+pub use es_match::matches;
+pub use es_member::{Member, Progress};

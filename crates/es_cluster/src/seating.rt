@@ -1,0 +1,41 @@
+//! Agents get their stakes.
+
+ghost use Rattle.std.specs.Prelude.{◌≡◌, ℕ, [], Some, length, slice_get, IfOk};
+ghost use Rattle.es_ticket.specs.Shares.{Share};
+ghost use Rattle.es_cluster.specs.State.{books, first_books};
+
+use es_agent::AgentCore;
+use es_event::AgentPlan;
+use es_member::Member;
+use es_ticket::{Run, Stake};
+use es_value::NoMemory;
+use std::alloc::Global;
+
+/// The members with these plans, by rising number, each with the stake of its number. Where memory ends,
+/// those that there are come back.
+pub(crate) fn seat_all<L: Run>(
+    alloc: Global,
+    plans: Vec<AgentPlan>,
+    mut stakes: Vec<Stake<L>>,
+) -> Result<Vec<Member<L>>, (Vec<Member<L>>, NoMemory)>
+    requires size { length stakes.items ≡ length plans.items }
+    requires stakes { (i : ℕ) (s : Share) → slice_get stakes.items i ≡ Some s → (s.agent ≡ i) × (s.rows ≡ []) }
+    ensures { IfOk result (λ ms. books ms.items ≡ first_books (length plans.items) 0 plans.items) }
+{
+    let count = plans.len();
+    let mut members = match Vec::with_capacity(alloc, count) {
+        Ok(members) => members,
+        Err(error) => return Err((Vec::new(alloc), error.into())),
+    };
+    stakes.reverse();
+    for plan in plans {
+        let Some(stake) = stakes.pop() else {
+            unreachable!()
+        };
+        match AgentCore::new(alloc, plan, members.len(), count) {
+            Ok(core) => members.push_reserved(Member::new(core, stake)),
+            Err(error) => return Err((members, error)),
+        }
+    }
+    Ok(members)
+}

@@ -1,0 +1,58 @@
+-- To believe: how many blocks were released, and messages posted, taken and drained, by the ledger's history.
+use Rattle.std.specs.Prelude.{ℕ, Bool, true, false, count_by}
+use Rattle.std.specs.List.{range_with_len}
+use Rattle.es_event.specs.declared.ledger_event.LedgerEvent.{LedgerEvent}
+use Rattle.es_event.specs.declared.ledger_event.LedgerEvent.TheVariants.{Opened, Posted, Taken, Spent, Loaded, Stored, Added, Waiting, Passed, Ended, Drained}
+use Rattle.es_event.specs.Ledger.{Ledger, opened, is_released}
+
+-- the blocks are numbered from 1
+abbrev pub released : Ledger → ℕ
+released l = count_by (is_released l) (range_with_len 1 (opened l))
+
+abbrev pub is_posted : LedgerEvent → Bool
+is_posted (Opened b w s a) = false
+is_posted (Posted a r m) = true
+is_posted (Taken r s) = false
+is_posted (Spent s) = false
+is_posted (Loaded s i w) = false
+is_posted (Stored s i w) = false
+is_posted (Added s i old n) = false
+is_posted (Waiting a s) = false
+is_posted (Passed a s) = false
+is_posted (Ended a) = false
+is_posted (Drained r s) = false
+
+abbrev pub is_taken : LedgerEvent → Bool
+is_taken (Opened b w s a) = false
+is_taken (Posted a r m) = false
+is_taken (Taken r s) = true
+is_taken (Spent s) = false
+is_taken (Loaded s i w) = false
+is_taken (Stored s i w) = false
+is_taken (Added s i old n) = false
+is_taken (Waiting a s) = false
+is_taken (Passed a s) = false
+is_taken (Ended a) = false
+is_taken (Drained r s) = false
+
+abbrev pub is_drained : LedgerEvent → Bool
+is_drained (Opened b w s a) = false
+is_drained (Posted a r m) = false
+is_drained (Taken r s) = false
+is_drained (Spent s) = false
+is_drained (Loaded s i w) = false
+is_drained (Stored s i w) = false
+is_drained (Added s i old n) = false
+is_drained (Waiting a s) = false
+is_drained (Passed a s) = false
+is_drained (Ended a) = false
+is_drained (Drained r s) = true
+
+abbrev pub posted : Ledger → ℕ
+posted l = count_by is_posted l
+
+abbrev pub taken : Ledger → ℕ
+taken l = count_by is_taken l
+
+abbrev pub drained : Ledger → ℕ
+drained l = count_by is_drained l

@@ -1,0 +1,341 @@
+-- What an event asks of the ledger is what the agent asked for, and the deeds that were done meet it.
+use Rattle.std.proofs.Common.{◌≡◌, ℕ, ◌==◌, ◌&&◌, Bool, true, false, cond, not, sym, ◌∙◌, ap, refl, subst, List, [], ◌∷◌, ◌++◌, Option, Some, None, eq-eqb}
+use Rattle.std.specs.Prelude.{ℤ, pos, negsuc, unsigned_abs, is_some, unwrap_or}
+use Rattle.std.specs.Option.{option_map, option_map_or, option_and_then}
+use Rattle.std.specs.Ordering.{int_eq}
+use Rattle.std.proofs.lemmas.Bool.Decides.{Decides-int_eq}
+use Rattle.std.proofs.lemmas.Slice.Eq.{bytes_eq-Decides}
+use Rattle.es_value.specs.Values.{identity, is_same}
+use Rattle.es_value.specs.declared.value.Value.{Value}
+use Rattle.es_value.specs.declared.value.Value.TheVariants.{Undefined, Boolean, Number, Text, Registered, Object, Symbol}
+use Rattle.es_event.specs.declared.command.Command.{Command}
+use Rattle.es_event.specs.declared.command.Command.TheVariants.{SharedArrayBuffer, Load, Store, Add, Post}
+use Rattle.es_event.specs.declared.event.Answer.{Answer}
+use Rattle.es_event.specs.declared.event.Answer.TheVariants.{Gives}
+use Rattle.es_event.specs.declared.event.Event.{Event}
+use Rattle.es_event.specs.declared.event.Event.TheVariants.{JobBegun, CleanupBegun, Received, Refused, JobEnded, Skipped, Closed}
+use Rattle.es_event.specs.declared.plan.AgentPlan.{AgentPlan}
+use Rattle.es_event.specs.declared.event.Refusal.TheVariants.{NotASharedArrayBuffer}
+use Rattle.es_event.specs.declared.ledger_event.Body.TheVariants.{Plain, Block}
+use Rattle.es_event.specs.declared.row.Row.{Row}
+use Rattle.es_event.specs.Commands.{reads}
+use Rattle.es_event.specs.History.{History}
+use Rattle.es_event.specs.Identities.{object_of}
+use Rattle.es_event.specs.Variables.{var}
+use Rattle.es_event.specs.Jobs.{Receivers, receivers, job, cleaning}
+use Rattle.es_event.specs.Registrations.{first_awaiting}
+use Rattle.es_event.specs.Follows.{Permits, Follows}
+use Rattle.es_event.specs.Sharing.{Buffers, row_at, is_index, to_uint32, words_of}
+use Rattle.es_event.specs.Rules.{is_buffer, kind_of, of_index, refusal, first_refusal}
+use Rattle.es_event.specs.Legal.{values_of}
+use Rattle.es_event.specs.Order.{Phase, between, handed, inside, stopped, ended, phase, phase_after, receive, run, clean, left, queue, due_after, due_inside, due_job, due_between, due_at, due}
+use Rattle.es_event.proofs.Accepted.{first_holds}
+use Rattle.es_match.specs.Asks.{to_open, to_load, to_store, to_add, to_post, to_receive, to_pass, asks_did, between_jobs}
+use Rattle.es_match.specs.Deeds.{Opens, Posts, Takes, Loads, Stores, Adds, Passes}
+use Rattle.es_match.specs.Meets.{Tickets, after, has_ticket, is_ticket, some_if}
+use Rattle.es_ticket.specs.Shares.{at}
+use Rattle.es_record.specs.Book.{Book}
+use Rattle.es_rules.specs.Needs.{Request, for_block, for_post, for_buffer_post, for_load, for_store, for_add, posts_to, asked, asks_ledger, need, need_of}
+use Rattle.es_rules.proofs.Needs.{ledger_command, not_refused}
+
+-- Values are the same as themselves
+
+pub same_itself : (v : Value) → is_same v v ≡ true
+same_itself Undefined = refl
+same_itself (Boolean true) = refl
+same_itself (Boolean false) = refl
+same_itself (Number n) = (Decides-int_eq n n).1 refl
+same_itself (Text t) = (bytes_eq-Decides t t).1 refl
+same_itself (Registered t) = (bytes_eq-Decides t t).1 refl
+same_itself (Object i) = eq-eqb i i refl
+same_itself (Symbol i) = eq-eqb i i refl
+
+-- Tickets
+
+pub at_row : (ts : Tickets) (o : ℕ) → row_at ts o ≡ at o ts
+at_row [] o = refl
+at_row (t ∷ ts) o = ap (cond (t.0 == o) (Some t.1)) (at_row ts o)
+
+pub has_this : (ts : Tickets) (o : ℕ) (r : Row) (test : Row → Bool) → Some r ≡ at o ts → test r ≡ true → has_ticket ts (Object o) test ≡ true
+has_this ts o r test here is = ap (λ q. option_map_or test q false) (at_row ts o ∙ sym here) ∙ is
+
+pub this_ticket : (ts : Tickets) (o : ℕ) (r : Row) → Some r ≡ at o ts → is_ticket ts (Object o) r.serial ≡ true
+this_ticket ts o r here = has_this ts o r (λ q. q.serial == r.serial) here (eq-eqb r.serial r.serial refl)
+
+-- The due command
+
+pub record DueCommand (b : Book) (c : Command) (r : Request) : Type 0 where
+  pub accepted : refusal b.over b.history c (values_of (receivers b.plan.jobs) b.history (reads c)) ≡ None
+  pub asks : asked c (values_of (receivers b.plan.jobs) b.history (reads c)) ≡ Some r
+
+pub due_command : (b : Book) (c : Command) (r : Request) → due b.plan b.history ≡ run c → need b ≡ asks_ledger r → DueCommand b c r
+due_command b c r is asked' =
+    let command = ledger_command b c r (ap (need_of b) (sym is) ∙ asked') in
+    let parts = not_refused _ _ r command.1 in
+    record { accepted = parts.0; asks = parts.1 }
+
+pub object_at : (v : Value) (o : ℕ) → object_of v ≡ Some o → v ≡ Object o
+object_at (Object i) o e = let same : i ≡ o = cc in ap Object same
+object_at _ o e = cc
+
+mapped : (f : ℕ → Request) (q : Option ℕ) (r : Request) → option_map f q ≡ Some r → (o : ℕ) × (q ≡ Some o) × (f o ≡ r)
+mapped f None r e = cc
+mapped f (Some o) r e = (o, refl, cc)
+
+positive : (j : ℤ) (words : ℕ) → is_index j words ≡ true → j ≡ pos (unsigned_abs j)
+positive (pos i) words e = refl
+positive (negsuc i) words e = cc
+
+-- the index of a load, a store or an add is not negative
+index_of : (over : Buffers) (h : History) (v : Value) (j : ℤ) (i : ℕ) → first_refusal ((is_buffer (kind_of h v), NotASharedArrayBuffer) ∷ of_index over v j ∷ []) ≡ None → unsigned_abs j ≡ i → j ≡ pos i
+index_of over h v j i none is = positive j (words_of over v) (first_holds _ _ [] (first_holds _ NotASharedArrayBuffer (of_index over v j ∷ []) none).1).0 ∙ ap pos is
+
+-- A load
+
+pub load_asks : (b : Book) (c : Command) (o i : ℕ) (v : Value) → DueCommand b c (for_load o i) → asks_did c (values_of (receivers b.plan.jobs) b.history (reads c)) (Gives v) ≡ to_load (Object o) (pos i) v
+load_asks b (Load to x j) o i v d =
+    let m = mapped (λ o. for_load o (unsigned_abs j)) _ _ d.asks in
+    let object : m.0 ≡ o = cc in
+    let place : unsigned_abs j ≡ i = cc in
+    ap (λ u. to_load u j v) (object_at _ o (m.1 ∙ ap Some object)) ∙ ap (λ j. to_load (Object o) j v) (index_of b.over b.history _ j i d.accepted place)
+load_asks b (Store x j n) o i v d = let m = mapped (λ o. for_store o (unsigned_abs j) (to_uint32 n)) _ _ d.asks in cc
+load_asks b (Add to x j n) o i v d = let m = mapped (λ o. for_add o (unsigned_abs j) (to_uint32 n)) _ _ d.asks in cc
+load_asks b (Post a y) o i v d = absurd (no_post a _ d.asks)
+  where
+    no_post : (a : ℕ) (u : Value) → Some (posts_to a u) ≡ Some (for_load o i) → ⊥
+    no_post a (Object p) e = cc
+    no_post a u e = cc
+load_asks b c o i v d = let e = d.asks in cc
+
+pub load_met : (ts : Tickets) (o i w : ℕ) (r : Row) → Some r ≡ at o ts → after ts (to_load (Object o) (pos i) (Number (pos w))) (Loads r.serial i w ∷ []) ≡ Some ts
+load_met ts o i w r here =
+    ap (λ b. some_if (b && (int_eq (pos i) (pos i) && int_eq (pos w) (pos w))) ts) (this_ticket ts o r here)
+    ∙ ap (λ b. some_if (b && int_eq (pos w) (pos w)) ts) ((Decides-int_eq (pos i) (pos i)).1 refl)
+    ∙ ap (λ b. some_if b ts) ((Decides-int_eq (pos w) (pos w)).1 refl)
+
+-- A store
+
+pub store_asks : (b : Book) (c : Command) (o i w : ℕ) (r : Answer) → DueCommand b c (for_store o i w)
+    → (n : ℤ) × (asks_did c (values_of (receivers b.plan.jobs) b.history (reads c)) r ≡ to_store (Object o) (pos i) n) × (w ≡ to_uint32 n)
+store_asks b (Store x j n) o i w r d =
+    let m = mapped (λ o. for_store o (unsigned_abs j) (to_uint32 n)) _ _ d.asks in
+    let object : m.0 ≡ o = cc in
+    let place : unsigned_abs j ≡ i = cc in
+    let word : w ≡ to_uint32 n = cc in
+    (n, ap (λ u. to_store u j n) (object_at _ o (m.1 ∙ ap Some object)) ∙ ap (λ j. to_store (Object o) j n) (index_of b.over b.history _ j i d.accepted place), word)
+store_asks b (Load to x j) o i w r d = let m = mapped (λ o. for_load o (unsigned_abs j)) _ _ d.asks in cc
+store_asks b (Add to x j n) o i w r d = let m = mapped (λ o. for_add o (unsigned_abs j) (to_uint32 n)) _ _ d.asks in cc
+store_asks b (Post a y) o i w r d = absurd (no_post a _ d.asks)
+  where
+    no_post : (a : ℕ) (u : Value) → Some (posts_to a u) ≡ Some (for_store o i w) → ⊥
+    no_post a (Object p) e = cc
+    no_post a u e = cc
+store_asks b c o i w r d = let e = d.asks in cc
+
+pub store_met : (ts : Tickets) (o i w : ℕ) (n : ℤ) (r : Row) → Some r ≡ at o ts → w ≡ to_uint32 n → after ts (to_store (Object o) (pos i) n) (Stores r.serial i w ∷ []) ≡ Some ts
+store_met ts o i w n r here is =
+    ap (λ b. some_if (b && (int_eq (pos i) (pos i) && (w == to_uint32 n))) ts) (this_ticket ts o r here)
+    ∙ ap (λ b. some_if (b && (w == to_uint32 n)) ts) ((Decides-int_eq (pos i) (pos i)).1 refl)
+    ∙ ap (λ b. some_if b ts) (eq-eqb w (to_uint32 n) is)
+
+-- An add
+
+pub add_asks : (b : Book) (c : Command) (o i m : ℕ) (v : Value) → DueCommand b c (for_add o i m)
+    → (n : ℤ) × (asks_did c (values_of (receivers b.plan.jobs) b.history (reads c)) (Gives v) ≡ to_add (Object o) (pos i) n v) × (m ≡ to_uint32 n)
+add_asks b (Add to x j n) o i m v d =
+    let q = mapped (λ o. for_add o (unsigned_abs j) (to_uint32 n)) _ _ d.asks in
+    let object : q.0 ≡ o = cc in
+    let place : unsigned_abs j ≡ i = cc in
+    let word : m ≡ to_uint32 n = cc in
+    (n, ap (λ u. to_add u j n v) (object_at _ o (q.1 ∙ ap Some object)) ∙ ap (λ j. to_add (Object o) j n v) (index_of b.over b.history _ j i d.accepted place), word)
+add_asks b (Load to x j) o i m v d = let q = mapped (λ o. for_load o (unsigned_abs j)) _ _ d.asks in cc
+add_asks b (Store x j n) o i m v d = let q = mapped (λ o. for_store o (unsigned_abs j) (to_uint32 n)) _ _ d.asks in cc
+add_asks b (Post a y) o i m v d = absurd (no_post a _ d.asks)
+  where
+    no_post : (a : ℕ) (u : Value) → Some (posts_to a u) ≡ Some (for_add o i m) → ⊥
+    no_post a (Object p) e = cc
+    no_post a u e = cc
+add_asks b c o i m v d = let e = d.asks in cc
+
+pub add_met : (ts : Tickets) (o i w m : ℕ) (n : ℤ) (r : Row) → Some r ≡ at o ts → m ≡ to_uint32 n → after ts (to_add (Object o) (pos i) n (Number (pos w))) (Adds r.serial i w m ∷ []) ≡ Some ts
+add_met ts o i w m n r here is =
+    ap (λ b. some_if (b && (int_eq (pos i) (pos i) && (int_eq (pos w) (pos w) && (m == to_uint32 n)))) ts) (this_ticket ts o r here)
+    ∙ ap (λ b. some_if (b && (int_eq (pos w) (pos w) && (m == to_uint32 n))) ts) ((Decides-int_eq (pos i) (pos i)).1 refl)
+    ∙ ap (λ b. some_if (b && (m == to_uint32 n)) ts) ((Decides-int_eq (pos w) (pos w)).1 refl)
+    ∙ ap (λ b. some_if b ts) (eq-eqb m (to_uint32 n) is)
+
+-- A new block
+
+pub open_asks : (b : Book) (c : Command) (n : ℕ) (v : Value) → DueCommand b c (for_block n) → (vs : List Value) → asks_did c vs (Gives v) ≡ to_open n v
+open_asks b (SharedArrayBuffer to m) n v d vs = let same : m ≡ n = (let e = d.asks in cc) in ap (λ m. to_open m v) same
+open_asks b (Load to x j) n v d vs = let m = mapped (λ o. for_load o (unsigned_abs j)) _ _ d.asks in cc
+open_asks b (Store x j k) n v d vs = let m = mapped (λ o. for_store o (unsigned_abs j) (to_uint32 k)) _ _ d.asks in cc
+open_asks b (Add to x j k) n v d vs = let m = mapped (λ o. for_add o (unsigned_abs j) (to_uint32 k)) _ _ d.asks in cc
+open_asks b (Post a y) n v d vs = absurd (no_post a _ d.asks)
+  where
+    no_post : (a : ℕ) (u : Value) → Some (posts_to a u) ≡ Some (for_block n) → ⊥
+    no_post a (Object p) e = cc
+    no_post a u e = cc
+open_asks b c n v d vs = let e = d.asks in cc
+
+pub open_met : (ts : Tickets) (n o b s : ℕ) → after ts (to_open n (Object o)) (Opens b n s ∷ []) ≡ Some (ts ++ (o, record { serial = s; block = b; words = n }) ∷ [])
+open_met ts n o b s = ap (λ t. cond t (Some (ts ++ (o, record { serial = s; block = b; words = n }) ∷ [])) None) (eq-eqb n n refl)
+
+-- What is posted
+
+posted : (a r : ℕ) (u v : Value) → Some (posts_to a u) ≡ Some (for_post r v) → (a ≡ r) × (u ≡ v)
+posted a r (Object o) v e = cc
+posted a r Undefined v e = (cc, cc)
+posted a r (Boolean b) v e = (cc, cc)
+posted a r (Number n) v e = (cc, cc)
+posted a r (Text t) v e = (cc, cc)
+posted a r (Registered t) v e = (cc, cc)
+posted a r (Symbol i) v e = (cc, cc)
+
+posted_buffer : (a r o : ℕ) (u : Value) → Some (posts_to a u) ≡ Some (for_buffer_post r o) → (a ≡ r) × (u ≡ Object o)
+posted_buffer a r o (Object p) e = (cc, let same : p ≡ o = cc in ap Object same)
+posted_buffer a r o Undefined e = cc
+posted_buffer a r o (Boolean b) e = cc
+posted_buffer a r o (Number n) e = cc
+posted_buffer a r o (Text t) e = cc
+posted_buffer a r o (Registered t) e = cc
+posted_buffer a r o (Symbol i) e = cc
+
+pub post_asks : (b : Book) (c : Command) (r : ℕ) (v : Value) (a : Answer) → DueCommand b c (for_post r v) → asks_did c (values_of (receivers b.plan.jobs) b.history (reads c)) a ≡ to_post r v
+post_asks b (Post t y) r v a d = let u = var (receivers b.plan.jobs) b.history y in let p = posted t r u v d.asks in ap (λ t. to_post t u) p.0 ∙ ap (to_post r) p.1
+post_asks b (Load to x j) r v a d = let m = mapped (λ o. for_load o (unsigned_abs j)) _ _ d.asks in cc
+post_asks b (Store x j k) r v a d = let m = mapped (λ o. for_store o (unsigned_abs j) (to_uint32 k)) _ _ d.asks in cc
+post_asks b (Add to x j k) r v a d = let m = mapped (λ o. for_add o (unsigned_abs j) (to_uint32 k)) _ _ d.asks in cc
+post_asks b c r v a d = let e = d.asks in cc
+
+pub buffer_asks : (b : Book) (c : Command) (r o : ℕ) (a : Answer) → DueCommand b c (for_buffer_post r o) → asks_did c (values_of (receivers b.plan.jobs) b.history (reads c)) a ≡ to_post r (Object o)
+buffer_asks b (Post t y) r o a d = let u = var (receivers b.plan.jobs) b.history y in let p = posted_buffer t r o u d.asks in ap (λ t. to_post t u) p.0 ∙ ap (to_post r) p.1
+buffer_asks b (Load to x j) r o a d = let m = mapped (λ o. for_load o (unsigned_abs j)) _ _ d.asks in cc
+buffer_asks b (Store x j k) r o a d = let m = mapped (λ o. for_store o (unsigned_abs j) (to_uint32 k)) _ _ d.asks in cc
+buffer_asks b (Add to x j k) r o a d = let m = mapped (λ o. for_add o (unsigned_abs j) (to_uint32 k)) _ _ d.asks in cc
+buffer_asks b c r o a d = let e = d.asks in cc
+
+no_object : (v : Value) → identity v ≡ None → is_some (object_of v) ≡ false
+no_object (Object i) e = cc
+no_object Undefined e = refl
+no_object (Boolean b) e = refl
+no_object (Number n) e = refl
+no_object (Text t) e = refl
+no_object (Registered t) e = refl
+no_object (Symbol i) e = refl
+
+pub post_met : (ts : Tickets) (r : ℕ) (v : Value) → identity v ≡ None → after ts (to_post r v) (Posts r (Plain v) ∷ []) ≡ Some ts
+post_met ts r v plain =
+    ap (λ b. some_if (b && (not (is_some (object_of v)) && is_same v v)) ts) (eq-eqb r r refl)
+    ∙ ap (λ b. some_if (not b && is_same v v) ts) (no_object v plain)
+    ∙ ap (λ b. some_if b ts) (same_itself v)
+
+pub buffer_met : (ts : Tickets) (a o s : ℕ) (r : Row) → Some r ≡ at o ts → after ts (to_post a (Object o)) (Posts a (Block r.block s) ∷ []) ≡ Some ts
+buffer_met ts a o s r here =
+    ap (λ b. some_if (b && has_ticket ts (Object o) (λ q. q.block == r.block)) ts) (eq-eqb a a refl)
+    ∙ ap (λ b. some_if b ts) (has_this ts o r (λ q. q.block == r.block) here (eq-eqb r.block r.block refl))
+
+-- Messages
+
+pub receive_met : (ts : Tickets) (s : ℕ) (v : Value) (w : ℕ) → identity v ≡ None → after ts (to_receive s v) (Takes s (Some (Plain v)) w ∷ []) ≡ Some ts
+receive_met ts s v w plain =
+    ap (λ b. cond b (some_if (not (is_some (object_of v)) && is_same v v) ts) None) (eq-eqb s s refl)
+    ∙ ap (λ b. some_if (not b && is_same v v) ts) (no_object v plain)
+    ∙ ap (λ b. some_if b ts) (same_itself v)
+
+pub admit_met : (ts : Tickets) (s o b k w : ℕ) → after ts (to_receive s (Object o)) (Takes s (Some (Block b k)) w ∷ []) ≡ Some (ts ++ (o, record { serial = k; block = b; words = w }) ∷ [])
+admit_met ts s o b k w = ap (λ t. cond t (Some (ts ++ (o, record { serial = k; block = b; words = w }) ∷ [])) None) (eq-eqb s s refl)
+
+pub skip_met : (ts : Tickets) (s : ℕ) → after ts (to_pass s) (Passes s ∷ []) ≡ Some ts
+skip_met ts s = ap (λ b. some_if b ts) (eq-eqb s s refl)
+
+-- Whether a job is under way
+
+nothing_left : (plan : AgentPlan) (h : History) → between_jobs h ≡ true → left plan h ≡ []
+nothing_left plan [] is = refl
+nothing_left plan (JobEnded ∷ h) is = refl
+nothing_left plan (Skipped j t ∷ h) is = refl
+nothing_left plan (e ∷ h) is = cc
+
+no_command : (plan : AgentPlan) (h : History) (p : Phase) (c : Command) → left plan h ≡ [] → due_at plan h p ≡ run c → ⊥
+no_command plan h between c none is = at_queue (queue h) is
+  where
+    at_job : (n : ℕ) (j : Option (Option (ℕ × List ℕ))) → due_job n j ≡ run c → ⊥
+    at_job n None is = cc
+    at_job n (Some None) is = cc
+    at_job n (Some (Some on)) is = cc
+
+    at_queue : (rs : List ℕ) → due_between plan h rs ≡ run c → ⊥
+    at_queue [] is = at_job (job h) _ is
+    at_queue (r ∷ rs) is = cc
+no_command plan h handed c none is = cc
+no_command plan h inside c none is = at_cell (option_and_then (first_awaiting h) (cleaning h)) (ap (due_inside h) (sym none) ∙ is)
+  where
+    at_cell : (o : Option ℕ) → due_after o ≡ run c → ⊥
+    at_cell None is = cc
+    at_cell (Some n) is = cc
+no_command plan h stopped c none is = cc
+no_command plan h ended c none is = cc
+
+-- where a command is due, a job is under way
+pub at_command : (plan : AgentPlan) (h : History) (c : Command) → due plan h ≡ run c → between_jobs h ≡ false
+at_command plan h c is = by_test (between_jobs h) refl
+  where
+    by_test : (b : Bool) → between_jobs h ≡ b → between_jobs h ≡ false
+    by_test false b = b
+    by_test true b = absurd (no_command plan h (phase h) c (nothing_left plan h b) is)
+
+-- what comes between two jobs is no event that leaves the phase as it is, but a skip
+no_event : (over : Buffers) (into : Receivers) (plan : AgentPlan) (h : History) (e : Event) (rs : List ℕ) → phase_after e ≡ None → between_jobs (e ∷ h) ≡ false → Permits over into h (due_between plan h rs) e → ⊥
+no_event over into plan h e (r ∷ rs) same other p = at_clean e same other p
+  where
+    at_clean : (e : Event) → phase_after e ≡ None → between_jobs (e ∷ h) ≡ false → Permits over into h (clean r) e → ⊥
+    at_clean (CleanupBegun q) same other p = cc
+    at_clean _ same other p = absurd p
+no_event over into plan h e [] same other p = at_job (job h) _ e same other p
+  where
+    at_job : (n : ℕ) (j : Option (Option (ℕ × List ℕ))) (e : Event) → phase_after e ≡ None → between_jobs (e ∷ h) ≡ false → Permits over into h (due_job n j) e → ⊥
+    at_job n None Closed same other p = cc
+    at_job n None _ same other p = absurd p
+    at_job n (Some None) (JobBegun j) same other p = cc
+    at_job n (Some None) _ same other p = absurd p
+    at_job n (Some (Some on)) (Received t v) same other p = cc
+    at_job n (Some (Some on)) (Refused code) same other p = cc
+    at_job n (Some (Some on)) (Skipped j t) same other p = cc
+    at_job n (Some (Some on)) _ same other p = absurd p
+
+pub between_where_phase : (over : Buffers) (plan : AgentPlan) (h : History) → Follows over plan h → phase h ≡ between → between_jobs h ≡ true
+between_where_phase over plan [] follows is = refl
+between_where_phase over plan (e ∷ h) follows is = by_phase (phase_after e) (between_jobs (e ∷ h)) refl refl is
+  where
+    by_phase : (p : Option Phase) (b : Bool) → phase_after e ≡ p → between_jobs (e ∷ h) ≡ b → unwrap_or p (phase h) ≡ between → between_jobs (e ∷ h) ≡ true
+    by_phase p true same b is = b
+    by_phase None false same b is = absurd (no_event over (receivers plan.jobs) plan h e (queue h) same b (subst (λ d. Permits over (receivers plan.jobs) h (due_at plan h d) e) is follows.0))
+    by_phase (Some between) false same b is = ends_at e same
+      where
+        ends_at : (e : Event) → phase_after e ≡ Some between → between_jobs (e ∷ h) ≡ true
+        ends_at JobEnded same = refl
+        ends_at _ same = cc
+    by_phase (Some handed) false same b is = cc
+    by_phase (Some inside) false same b is = cc
+    by_phase (Some stopped) false same b is = cc
+    by_phase (Some ended) false same b is = cc
+
+-- where a message is due, none is
+pub at_message : (over : Buffers) (plan : AgentPlan) (h : History) (n s : ℕ) → Follows over plan h → due plan h ≡ receive n s → between_jobs h ≡ true
+at_message over plan h n s follows is = by_phase (phase h) refl is
+  where
+    at_cell : (o : Option ℕ) → due_after o ≡ receive n s → ⊥
+    at_cell None is = cc
+    at_cell (Some n) is = cc
+
+    at_left : (cs : List Command) → due_inside h cs ≡ receive n s → ⊥
+    at_left [] is = at_cell (option_and_then (first_awaiting h) (cleaning h)) is
+    at_left (c ∷ cs) is = cc
+
+    by_phase : (p : Phase) → phase h ≡ p → due_at plan h p ≡ receive n s → between_jobs h ≡ true
+    by_phase between p is = between_where_phase over plan h follows p
+    by_phase handed p is = cc
+    by_phase inside p is = absurd (at_left (left plan h) is)
+    by_phase stopped p is = cc
+    by_phase ended p is = cc

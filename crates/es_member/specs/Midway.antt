@@ -1,0 +1,48 @@
+-- Internal: what stands before a turn, and an agent in the middle of one.
+use Rattle.std.specs.Prelude.{◌≡◌, true, false, List, [], ◌∷◌, ◌++◌, Some, None}
+use Rattle.std.specs.List.{Contains}
+use Rattle.es_event.specs.declared.ledger_event.Body.TheVariants.{Block}
+use Rattle.es_event.specs.declared.row.Row.{Row}
+use Rattle.es_event.specs.Ledger.{Ledger, holder_of, waits}
+use Rattle.es_event.specs.LegalLedger.{LegalLedger}
+use Rattle.es_ledger.specs.Books.{Books}
+use Rattle.es_match.specs.Cluster.{Ties, patient, drained, drained_last}
+use Rattle.es_match.specs.Deeds.{Deed, Opens, Takes, part}
+use Rattle.es_ticket.specs.Shares.{Share}
+use Rattle.es_record.specs.Book.{Book}
+use Rattle.es_rules.specs.Needs.{for_block, Need, asks_ledger, asks_message, need}
+use Rattle.es_agent.specs.Tickets.{tickets}
+use Rattle.es_member.specs.Seats.{Holds}
+use Rattle.es_member.specs.Tied.{IsTied}
+use Rattle.es_member.specs.Turned.{IsSeated}
+
+-- the agent has its stake and its place, its history, tickets and part go together, and the ledger's history is legal and says
+-- that the agent holds the tickets of its stake
+pub record IsReady (b : Book) (s : Share) (l : Books) : Type 0 where
+  pub held : Holds b s
+  pub seated : IsSeated b l
+  pub tied : IsTied b l.history
+  pub legal : LegalLedger l.agents l.history
+  pub holder : (r : Row) → Contains s.rows r → holder_of l.history r.serial ≡ Some (s.agent, r)
+
+-- the agent has done what its history does not tell yet: the deeds ds
+pub record Midway (b : Book) (l : Ledger) (ds : List Deed) : Type 0 where
+  pub told : List Deed
+  pub mine : Ties b.history told (tickets b)
+  pub split : part l b.number ≡ told ++ ds
+  pub waits_end : patient l ≡ true
+  pub drains_end : drained_last l ≡ true
+
+-- the deed by which a ticket with this row came to the agent that asks for it
+abbrev pub Fetches : Need → Row → Deed → Type 0
+Fetches (asks_ledger (for_block n)) r d = (r.words ≡ n) × (d ≡ Opens r.block r.words r.serial)
+Fetches (asks_message s) r d = d ≡ Takes s (Some (Block r.block r.serial)) r.words
+Fetches n r d = ⊥
+
+-- a ticket with this row came to the agent, which waits no more
+pub record HasFetched (b : Book) (r : Row) (l : Ledger) : Type 0 where
+  pub deed : Deed
+  pub midway : Midway b l (deed ∷ [])
+  pub fetches : Fetches (need b) r deed
+  pub free : waits l b.number ≡ None
+  pub undrained : drained l ≡ false

@@ -1,0 +1,71 @@
+//! The lines of the cluster.
+
+ghost use Rattle.std.specs.Prelude.{◌≡◌, count_by, reverse, OnOk};
+ghost use Rattle.std.specs.Option.{is_some};
+ghost use Rattle.std.specs.Io.KnownBytes.{Appends};
+ghost use Rattle.es_event.specs.Ledger.{opens};
+ghost use Rattle.es_event.specs.Report.{cluster_text};
+ghost use Rattle.es_event.specs.Totals.{is_drained, is_posted, is_taken, released as released_said};
+
+use es_event::{LedgerEvent, Sequence};
+use std::io;
+use std::io::Write;
+
+/// Writes the cluster's lines from the ledger's events, the oldest first, and from how many blocks
+/// were released.
+pub(crate) fn write_cluster<W: Write>(
+    ledger: &Sequence<LedgerEvent>,
+    released: usize,
+    writer: &mut W,
+) -> Result<(), io::Error>
+    requires { released ≡ released_said (reverse ledger.now) }
+    ensures { OnOk result (Appends (W.contents writer.old) (W.contents writer.new) (cluster_text (reverse ledger.now))) }
+{
+    let events = ledger.as_slice();
+    let opened = count_opened(events);
+    let posted = count_posted(events);
+    let taken = count_taken(events);
+    let drained = count_drained(events);
+    writeln!(
+        writer,
+        "cluster\n\
+         blocks {opened} released {released}\n\
+         messages posted {posted} taken {taken} drained {drained}"
+    )
+}
+
+fn count_opened(events: &[LedgerEvent]) -> usize
+    ensures { result ≡ count_by (λ e. is_some (opens e)) events.now }
+{
+    events
+        .iter()
+        .filter(|event| matches!(event, LedgerEvent::Opened { .. }))
+        .count()
+}
+
+fn count_posted(events: &[LedgerEvent]) -> usize
+    ensures { result ≡ count_by is_posted events.now }
+{
+    events
+        .iter()
+        .filter(|event| matches!(event, LedgerEvent::Posted { .. }))
+        .count()
+}
+
+fn count_taken(events: &[LedgerEvent]) -> usize
+    ensures { result ≡ count_by is_taken events.now }
+{
+    events
+        .iter()
+        .filter(|event| matches!(event, LedgerEvent::Taken { .. }))
+        .count()
+}
+
+fn count_drained(events: &[LedgerEvent]) -> usize
+    ensures { result ≡ count_by is_drained events.now }
+{
+    events
+        .iter()
+        .filter(|event| matches!(event, LedgerEvent::Drained { .. }))
+        .count()
+}
