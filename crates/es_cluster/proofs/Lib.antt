@@ -1,3 +1,4 @@
 pub mod Named
 pub mod Standing
 pub mod Beginning
+pub mod Draining

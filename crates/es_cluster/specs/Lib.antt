@@ -1,2 +1,3 @@
 pub mod State
 pub mod Turns
+pub mod Laws

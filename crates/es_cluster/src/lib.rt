@@ -3,6 +3,7 @@
 
 mod cluster;
 mod ending;
+mod laws;
 mod seating;
 #[cfg(test)]
 mod tests;
@@ -10,3 +11,4 @@ mod tests;
 pub use cluster::ClusterCore;
 pub use es_match::matches;
 pub use es_member::{Member, Progress};
+pub use laws::what_is_drained_is_nobodys;

@@ -1,7 +1,7 @@
-mod Lines
+pub mod Lines
 mod Numbered
 mod Queues
-mod Lying
+pub mod Lying
 mod Untouched
 mod After
 mod Made
