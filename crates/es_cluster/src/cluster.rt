@@ -23,7 +23,7 @@ use std::marker::Model;
 /// Each agent's history is legal and follows its plan so far, the ledger's is legal, and unless a
 /// step ended for want of memory they are the histories of one cluster: each agent's part in the
 /// ledger is, in order and with nothing besides, what its history asks. It holds tickets, so it
-/// can't be dropped, but ends by `end`.
+/// can't be dropped, but ends by `abandon`.
 pub struct ClusterCore<L: Run> {
     members: Vec<Member<L>>,
     ledger: LedgerCore<L>,

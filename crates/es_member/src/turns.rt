@@ -1,7 +1,7 @@
 //! A turn of an agent: what it asks for is done in the ledger, and it takes the answer.
 
-ghost use Rattle.std.specs.Prelude.{◌≡◌, ◌≢◌, ◌<◌, OnOk, OnErr, IfOk};
-ghost use Rattle.es_rules.specs.Needs.{need, asks_nobody, asks_marks, asks_message, asks_closing};
+ghost use Rattle.std.specs.Prelude.{◌≡◌, ◌<◌, OnOk, OnErr, IfOk};
+ghost use Rattle.es_rules.specs.Needs.{need, asks_nobody, asks_marks, asks_closing};
 ghost use Rattle.es_member.specs.Seats.{seat};
 ghost use Rattle.es_member.specs.Tied.{IsTied};
 ghost use Rattle.es_member.specs.Turned.{Heard, NamesOthers, Keeps, Proceeds};
