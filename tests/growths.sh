@@ -66,6 +66,10 @@ each_growth 0 run "$examples/unregister.json"
 each_growth 0 run "$examples/queue.json"
 each_growth 0 run "$examples/anew.json"
 each_growth 0 run "$examples/agents.json"
+each_growth 0 run "$examples/worker.json"
+each_growth 0 run "$examples/skipped.json" --turns
+each_growth 0 run "$examples/two_buffers.json"
+each_growth 0 run "$examples/nobody_takes.json"
 each_growth 0 check "$examples/refusals.json"
 
 # a chain of entries, a key of several WeakMaps that is a member of several WeakSets, and each of the nine
@@ -96,6 +100,24 @@ link=$link',["register","r","x","q"],["register","r","x","n","s"],["register","r
     printf ',["let","x",null],["collect"]]},{"run":[["collect"],["let","held",null],["let","t",null],["collect"]]}]}]}\n'
 } >"$room/cells.json"
 each_growth 0 run "$room/cells.json"
+
+# blocks of two agents that post them on and drop them, in callbacks too, and collect; more messages than are taken
+link='["buffer","b",3],["add","x","b",2,-1],["post","AGENT","b"],["post","AGENT","b"],["post","AGENT","x"],["new","y"]'
+link=$link',["register","r","y","b"],["let","y",null]'
+answer='{"on":["AGENT","m"],"run":[["store","m",0,7],["load","x","m",2],["post","AGENT","m"],["let","m",null],["collect"]]}'
+of_agent() {
+    printf '{"name":"%s","callbacks":{"cb":[["post","AGENT","held"],["length","n","held"],["add","x","held",0,1]]},"jobs":[' "$1"
+    printf '{"run":[["registry","r","cb"],%s,["let","b",null],["collect"]]},' "$(yes "$link" | head -n 3 | paste -s -d ,)"
+    printf '%s,%s,%s,{"on":["AGENT","m"],"run":[["say","m"],["keys","x"]]}]}' "$answer" "$answer" "$answer"
+}
+{
+    printf '{"version":1,"agents":['
+    of_agent a | sed 's/AGENT/b/g'
+    printf ','
+    of_agent b | sed 's/AGENT/a/g'
+    echo ']}'
+} >"$room/blocks.json"
+each_growth 0 run "$room/blocks.json"
 
 # a fault in the last command of the last agent, so that all before it is read
 sed 's/\["keys", "x"\]/["keys", "1x"]/' "$examples/agents.json" >"$room/faulty.json"

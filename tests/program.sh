@@ -63,12 +63,20 @@ faulty() {
 
 # commands COMMAND..: each is given in words, in which null and whole numbers are the only literals
 commands() {
+    [ $# -gt 0 ] || { echo && return; }
     printf '%s\n' "$@" | sed 's/ /","/g; s/.*/["&"]/; s/"\(null\|-\{0,1\}[0-9]\{1,\}\)"/\1/g' | paste -s -d ,
 }
 
 # job COMMAND..: these commands as one job of a plan
 job() {
     commands "$@" | sed 's/.*/{"run":[&]}/'
+}
+
+# waiting AGENT VARIABLE COMMAND..: these commands as one job that waits for a message of that agent
+waiting() {
+    on="\"on\":[\"$1\",\"$2\"]"
+    shift 2
+    job "$@" | sed "s/^{/{$on,/"
 }
 
 # callback NAME COMMAND..: these commands as one callback of a plan
@@ -89,6 +97,33 @@ plan_with() {
 # plan JOB..: the same without callbacks
 plan() {
     plan_with "" "$@"
+}
+
+# agent NAME JOB..: one agent of a plan, with these jobs
+agent() {
+    name=$1
+    shift
+    printf '%s\n' "$@" | paste -s -d , | sed "s/.*/{\"name\":\"$name\",\"callbacks\":{},\"jobs\":[&]}/"
+}
+
+# cluster AGENT..: the file script becomes a plan of these agents
+cluster() {
+    printf '%s\n' "$@" | paste -s -d , | sed 's/.*/{"version":1,"agents":[&]}/' >"$room/script"
+}
+
+# told NAME COUNTS LINE..: the agents of the file script say these lines, with $end for the last one of each; so many blocks
+# were opened and released, and so many messages posted, taken and drained
+told() {
+    name=$1
+    counts=$2
+    shift 2
+    {
+        printf '%s\n' "$@"
+        # shellcheck disable=SC2086
+        printf 'cluster\nblocks %s released %s\nmessages posted %s taken %s drained %s\n' $counts
+    } >"$room/wanted"
+    run run "$room/script"
+    expect "$name" 0 "$room/wanted" ""
 }
 
 # cleaned NAME FATES LINE..: the agent of the file script says these lines; at its end so many of its registrations are
@@ -115,10 +150,11 @@ reported() {
     cleaned "$name" "0 0 0 0" "$@"
 }
 
+end='end live 0 awaiting 0 unregistered 0 taken 0'
 printf '{"version":1,"agents":[{"name":"a","callbacks":{},"jobs":[]}]}\n' >"$room/plan.json"
 {
     echo 'agent a'
-    echo 'end live 0 awaiting 0 unregistered 0 taken 0'
+    echo "$end"
     echo 'cluster'
     echo 'blocks 0 released 0'
     echo 'messages posted 0 taken 0 drained 0'
@@ -267,6 +303,72 @@ plan_with "$(callback cb "register r held held" "registry r cb")" "$(job "regist
 run check "$room/script"
 expect "a callback that names itself" 0 "$room/ok" ""
 
+# of_main NAME ERRORS JOB: as the second job of main, beside which there is another agent
+of_main() {
+    cluster "$(agent main "$(job "new x")" "$3")" "$(agent other)"
+    faulty "$1" "$2"
+}
+
+# of_command NAME ERRORS COMMAND: as the second command of that job
+of_command() {
+    of_main "$1" "$2 agent 0 job 2 command 2" "$(job "new x" "$3")"
+}
+at='agent 0 job 2'
+of_main "a wait for nobody in particular" "refused S2" '{"on":[],"run":[]}'
+of_main "a wait without a variable" "refused S2" '{"on":["other"],"run":[]}'
+of_main "a wait with two variables" "refused S2" '{"on":["other","x","x"],"run":[]}'
+of_main "a wait for a number" "refused S2" '{"on":[1,"x"],"run":[]}'
+of_main "a wait as a text" "refused S2" '{"on":"other","run":[]}'
+of_main "a wait as undefined" "refused S2" '{"on":null,"run":[]}'
+of_main "a wait without commands" "refused S2" '{"on":["other","x"]}'
+of_main "a job with another key" "refused S2" '{"on":["other","x"],"run":[],"off":[]}'
+of_main "a wait for a name that is none" "refused S5 $at" "$(waiting 1x 1x)"
+of_main "a wait for an agent that is not there" "refused S6 $at" "$(waiting nobody 1x)"
+of_main "a wait for an agent's name in another case" "refused S6 $at" "$(waiting Other x)"
+of_main "a wait of an agent for itself" "refused S6 $at" "$(waiting main 1x)"
+of_main "a message for a variable that is none" "refused S5 $at" "$(waiting other 1x)"
+of_main "a wait before the commands" "refused S6 $at" "$(waiting nobody x fly)"
+of_main "a fault of a job that waits" "refused S7 $at command 1" "$(waiting other x fly)"
+of_main "a wait before too many commands" "refused S5 $at" \
+    "{\"on\":[\"other\",\"\"],\"run\":[$(yes '["new","x"]' | head -n 10001 | paste -s -d ,)]}"
+of_command "a post to a name that is none" "refused S5" "post 1x 1x"
+of_command "a post to an agent that is not there" "refused S6" "post nobody 1x"
+of_command "a post to itself" "refused S6" "post main x"
+of_command "a post of a name that is none" "refused S5" "post other 1x"
+of_command "a post of a number" "refused S7" "post nobody 1"
+of_command "a post of two values" "refused S7" "post other x x"
+of_command "a buffer of too many words" "refused S10" "buffer b 16385"
+of_command "a buffer of fewer words than none" "refused S10" "buffer b -1"
+of_command "a buffer's name before its words" "refused S5" "buffer 1x 16385"
+of_command "a buffer without words" "refused S7" "buffer b"
+of_command "a buffer of undefined" "refused S7" "buffer b null"
+of_command "a buffer of a variable" "refused S7" "buffer 1x x"
+of_command "a buffer of more than all numbers" "refused S8" "buffer b 9007199254740992"
+of_main "a buffer of a number as a text" "refused S7 $at command 1" '{"run":[["buffer","b","4"]]}'
+of_main "a buffer of true" "refused S7 $at command 1" '{"run":[["buffer","b",true]]}'
+of_main "a buffer of a fraction" "refused S8 $at command 1" '{"run":[["buffer","b",1.5]]}'
+of_main "a buffer of -0" "refused S8 $at command 1" '{"run":[["buffer","b",-0]]}'
+of_command "length of two buffers" "refused S7" "length x x x"
+of_command "sameblock of one buffer" "refused S7" "sameblock x x"
+of_command "a load without an index" "refused S7" "load x x"
+of_command "an index that is a name" "refused S7" "load 1x x x"
+of_command "an index that is undefined" "refused S7" "add x x null 1"
+of_command "a buffer's name that is none, before an index" "refused S5" "load x 1x 9007199254740992"
+of_command "an index outside the numbers" "refused S8" "load x x 9007199254740992"
+of_command "a store without a number" "refused S7" "store x 0"
+of_command "a store of undefined" "refused S7" "store x 0 null"
+of_command "a store of a number outside" "refused S8" "store x 0 -9007199254740992"
+of_command "an add without a number" "refused S7" "add x x 0"
+of_command "an add of a variable" "refused S7" "add x x 0 x"
+of_command "a collection for later" "refused S7" "collectlater"
+plan_with "$(callback cb "buffer b 16385")" "$(job "new 1x")"
+faulty "a buffer of too many words in a callback" "refused S10 agent 0 callback 1 command 1"
+plan_with "$(callback cb "post a x")" "$(job "new 1x")"
+faulty "a post to itself in a callback" "refused S6 agent 0 callback 1 command 1"
+cluster "$(agent main "$(waiting other x "post other x" "buffer b 16384" "load x b -1" "store b 16384 -1")")" "$(agent other)"
+run check "$room/script"
+expect "a job that waits, and indexes out of range" 0 "$room/ok" ""
+
 # Collections
 
 kept=$(job "new a" "weakref w a" "let a null" collect "deref b w" "say b")
@@ -369,6 +471,49 @@ plan_with "$(callback cb "unregister b r t")" "$(job "registry r cb" "new t" "ne
     collect "unregister b r t" "say b")" "$(job "say held")"
 cleaned "a cleanup job that finds nothing" "0 0 1 0" "emptied 1" "say true" "say undefined"
 
+# Blocks and messages
+
+cluster "$(agent main "$(job "buffer b 16384" "store b 16383 7" "post worker b" "let b null" collect)")" \
+    "$(agent worker "$(waiting main m "load x m 16383" "say x" "load x m 16384")")"
+told "a block that goes to a worker" "1 1 1 1 0" "agent main" "emptied 1" "$end" "agent worker" "say 7" \
+    "error RangeError: index" "$end"
+cluster "$(agent a "$(job "buffer b 4" "post w b")")" "$(agent w)"
+told "a buffer that nobody takes" "1 1 1 0 1" "agent a" "$end" "agent w" "$end"
+cluster "$(agent a "$(waiting b m)" "$(job "let x 1" "post b x")")" "$(agent b "$(waiting a m "say m")")"
+told "two that wait for each other" "0 0 1 1 0" "agent a" "skipped 1" "$end" "agent b" "say 1" "$end"
+plan "$(job "buffer b 1" "store b 0 -1" "load x b 0" "say x" "add y b 0 2" "say y" "load z b 0" "say z")"
+told "words modulo 2^32" "1 1 0 0 0" "agent a" "say 4294967295" "say 4294967295" "say 1" "$end"
+plan "$(job "buffer b 0" "length n b" "say n" "load x b 0")"
+told "a block without words" "1 1 0 0 0" "agent a" "say 0" "error RangeError: index" "$end"
+cluster "$(agent main "$(job "buffer b 2" "post worker b" "post worker b")")" \
+    "$(agent worker "$(waiting main m "copy p m")" "$(waiting main m "same x p m" "say x" "sameblock y p m" "say y")")"
+told "one block in two messages" "1 1 2 2 0" "agent main" "$end" "agent worker" "say false" "say true" "$end"
+cluster "$(agent a)" "$(agent b "$(waiting a m "say m")")"
+told "a wait for one that has ended" "0 0 0 0 0" "agent a" "$end" "agent b" "skipped 1" "$end"
+cluster "$(agent a "$(job "new o" "post w o")")" "$(agent w)"
+told "a post of an object" "0 0 0 0 0" "agent a" "error DataCloneError: value cannot be posted" "$end" "agent w" "$end"
+plan "$(yes '["buffer","b",0]' | head -n 257 | paste -s -d , | sed 's/.*/{"run":[&]}/')"
+told "257 blocks" "256 256 0 0 0" "agent a" "error limit: blocks" "$end"
+cluster "$(agent a "$(job "set x p x" "post w x")")" "$(agent w "$(waiting a m "say m")")"
+told "a job that ends before it posts" "0 0 0 0 0" "agent a" "error TypeError: not an object" "$end" "agent w" "skipped 1" "$end"
+cluster "$(agent a "$(waiting b m)")" "$(agent b "$(waiting c m)")" "$(agent c "$(waiting a m)")"
+told "three that wait in a ring" "0 0 0 0 0" "agent a" "skipped 1" "$end" "agent b" "skipped 1" "$end" "agent c" "skipped 1" "$end"
+
+# what is no buffer is told before what index there is not, and what can't be posted before that no more can
+plan "$(job "new o" "length x o")" "$(job "buffer b 1" "sameblock x b o")" "$(job "sameblock x o b")" "$(job "load x o 7")" \
+    "$(job "store x 7 1")" "$(job "let x 5" "add x b 1 1")" "$(job "say x" "add x b -1 1")" "$(job "say x" "say b")"
+no='error TypeError: not a SharedArrayBuffer'
+told "what is no buffer" "1 1 0 0 0" "agent a" "$no" "$no" "$no" "$no" "$no" "error RangeError: index" "say 5" \
+    "error RangeError: index" "say 5" "say object 2" "$end"
+
+# each kind of value that a message can carry, and two that it can't
+cluster "$(agent a "$(job "post b x" "let x -1" "post b x" "let x text" "post b x" "symbolfor x k" "post b x" "same x x x" \
+    "post b x" "symbol x" "post b x")" "$(job "buffer x 1" "post b x" "weakref x x" "post b x")")" \
+    "$(agent b "$(for _ in 1 2 3 4 5 6 7; do waiting a m "say m"; done)")"
+refused='error DataCloneError: value cannot be posted'
+told "what can be posted" "1 1 6 6 0" "agent a" "$refused" "$refused" "$end" "agent b" "say undefined" "say -1" 'say "text"' \
+    'say symbolfor "k"' "say true" "say object 1" "skipped 7" "$end"
+
 # A plan of many pieces, whole and without its last bracket
 
 python3 "$top/bench/plans.py" check 20 >"$room/large.json"
@@ -389,7 +534,7 @@ done | paste -s -d , | sed 's/.*/{"version":1,"agents":[&]}/' >"$room/script"
     for name in h g f e d c b a; do
         printf 'agent %s\nsay object 1\nemptied 0\nsay "%s"\n' "$name" "$name"
         printf 'emptied 1\nsay undefined\nerror TypeError: not an object\n'
-        echo 'end live 0 awaiting 0 unregistered 0 taken 0'
+        echo "$end"
     done
     tail -n 3 "$room/report"
 } >"$room/wanted"
@@ -430,15 +575,28 @@ reported "a plan of more than a million bytes" 'say "last"'
     job "weakref y x" "say y"
     job "weakref y y" "say y"
     job "registry y cb" "say y"
+    job "buffer y 1" "say y"
 } | joined '"cb":[]'
 reported "an object past the last identity" "say object 1000000" "error limit: values" "error limit: values" \
-    "error limit: values" "error limit: values" "error TypeError: cannot be held weakly" "error limit: values"
+    "error limit: values" "error limit: values" "error TypeError: cannot be held weakly" "error limit: values" \
+    "error limit: values"
 {
     many 99 '["new","x"]'
     yes '["new","x"]' | head -n 9999 | paste -s -d , | sed 's/.*/{"run":[&]}/'
     job "say x" "new y" "say y" "say y"
 } | joined
 reported "the last identity" "say object 999999" "say object 1000000" "say object 1000000"
+{
+    printf '{"version":1,"agents":[%s,{"name":"w","callbacks":{},"jobs":[' "$(agent a "$(job "buffer b 0" "post w b")")"
+    {
+        many 100 '["new","o"]'
+        waiting a m "say m"
+    } | paste -s -d ,
+    echo ']}]}'
+} >"$room/script"
+told "a received buffer past the last identity" "1 1 1 1 0" "agent a" "$end" "agent w" "error limit: values" "$end"
+cluster "$(agent a "$(many 1 '["post","w","x"]')" "$(job "post w x")" "$(job "new x" "post w x")")" "$(agent w)"
+told "10,001 posts" "0 0 10000 0 10000" "agent a" "error limit: posts" "$refused" "$end" "agent w" "$end"
 
 # Heaps of many objects, collected twice: all held by one, and each held by the next
 

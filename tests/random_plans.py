@@ -1,43 +1,55 @@
 #!/usr/bin/env python3
 """Random plans, whole and spoiled, through the program and through rules.py: each answer must be the same.
 
-Usage: random_plans.py PROGRAM COUNT SEED. Prints each plan that differs, and `N passed, M failed` last.
+Usage: random_plans.py PROGRAM COUNT SEED. Prints each plan that differs, how many have what, and `N passed, M failed`
+last.
 
-The plans are of five kinds: of lives that were written by hand, mixed (`lives`); of commands that mostly suit what the
-variables hold at that point, WeakMaps and WeakSets before all (`tables`), or FinalizationRegistries before all
-(`registrations`); of any commands (`any_jobs`); and with faults (`doubtful_plan`). The callbacks of all but the last
-were written by hand as well, and have any command among them here and there.
+Something less than half of the plans are of agents that have nothing to do with each other. They are of four kinds: of
+lives that were written by hand, mixed (`lives`); of commands that mostly suit what the variables hold at that point,
+WeakMaps and WeakSets before all (`tables`), or FinalizationRegistries before all (`registrations`); and of any commands
+(`any_jobs`). About as many are of agents that share blocks and post messages (`shared_plan`): of talks that were
+written by hand, mixed (`talks`); of suited commands, where each agent's next job and command is chosen where the others
+have come to (`grown`); of little but waiting (`waits`); and of any commands (`any_shared`). The others have faults
+(`doubtful_plan`). The callbacks of all but these were written by hand as well, and have any command among them here and
+there.
 """
 
 import copy
 import json
 import random
+import re
 import subprocess
 import sys
 
 import rules
 
 NAMES = ["a", "b", "c", "w", "x", "y"]
-# where `tables` has most of its WeakMaps, WeakSets, WeakRefs and FinalizationRegistries, and assigns little else
-PLACES = {"weakmap": ["m", "n"], "weakset": ["s"], "weakref": ["u", "v"], "registry": ["f", "g"]}
+# where suited commands have most of their WeakMaps, WeakSets, WeakRefs, FinalizationRegistries and buffers, and assign
+# little else
+PLACES = {"weakmap": ["m", "n"], "weakset": ["s"], "weakref": ["u", "v"], "registry": ["f", "g"], "buffer": ["d", "e"]}
 # where `registrations` has most of its tokens
 TOKENS = ["t", "k"]
 KEYS = ["p", "q", "r"]
 CALLBACKS = ["cb", "B", "_x"]
-# what the operands of each command are for: x is assigned, k a property's key, l a literal, t a text, and the others
-# are read: v as any value, o as an object, h as what can be held weakly, w as a WeakRef, m as a WeakMap, s as a WeakSet,
-# r as a FinalizationRegistry; c names a callback
+AGENTS = ["a", "main", "w", "B", "_", "x", "worker", "c8"]
+# what the operands of each command are for: x is assigned, k a property's key, l a literal, t a text, z a number of
+# words, i an index, n a number, and the others are read: v as any value, o as an object, h as what can be held weakly,
+# w as a WeakRef, m as a WeakMap, s as a WeakSet, r as a FinalizationRegistry, b as a shared buffer; c names a callback,
+# and a another agent
 USES = {
     "let": "xl", "new": "x", "symbol": "x", "symbolfor": "xt", "copy": "xv", "same": "xvv", "say": "v",
     "set": "okv", "get": "xok", "delete": "xok", "keys": "o", "weakref": "xh", "deref": "xw",
     "weakmap": "x", "wmset": "mhv", "wmget": "xmh", "wmhas": "xmh", "wmdelete": "xmh",
     "weakset": "x", "wsadd": "sh", "wshas": "xsh", "wsdelete": "xsh",
     "registry": "xc", "register": "rhv", "unregister": "xrh",
+    "buffer": "xz", "length": "xb", "sameblock": "xbb", "load": "xbi", "store": "bin", "add": "xbin", "post": "av",
     "collect": "",
 }
 # an operand that may stand after these
 ONE_MORE = {"register": "h"}
 assert USES.keys() == rules.OPERANDS.keys() and ONE_MORE.keys() == rules.ONE_MORE.keys()
+SHARING = ["buffer", "length", "sameblock", "load", "store", "add", "post"]
+ALONE = [word for word in USES if word not in SHARING]
 ASKING = ["wmhas", "wmdelete", "wshas", "wsdelete"]
 ANSWERING = ["same", "delete", "unregister", *ASKING]  # what assigns true or false
 WEAK_TABLES = ["weakmap", "wmset", "wmget", "wmhas", "wmdelete", "weakset", "wsadd", "wshas", "wsdelete"]
@@ -47,6 +59,12 @@ ODD_JSON = [
     *(b"[" * levels + b"]" * levels for levels in range(118, 126)),
 ]
 LITERALS = [None, True, False, 0, 1, -1, 9007199254740991, -9007199254740991, "", "k", "a text"]
+SIZES = [0, 1, 1, 2, 2, 3, 4, 5, 16384]
+INDEXES = [0, 0, 1, 2, 3, 4, -1, 16383, 16384, 4294967296, 9007199254740991, -9007199254740991]
+NUMBERS = [
+    0, 1, 2, 7, -1, -2, 2147483648, 4294967295, 4294967296, 4294967297, -4294967295, -4294967296, -4294967297,
+    9007199254740991, -9007199254740991,
+]
 
 # Lives of values, as commands in words; capitals stand for variables. At a slash a job ends, and it may end between any
 # two commands.
@@ -216,6 +234,99 @@ LIVES = [
     "/ let held null; collect; / let held null; collect; / let held null; collect",
 ]
 
+# Talks of two agents or more, in words as lives are; at a bar the next agent begins. `@0` is the first agent's name. `on`
+# is no command: it begins a job that waits for a message of an agent, for a variable.
+TALKS = [
+    # a block that two use, one after the other
+    "buffer A 4; store A 0 7; post @1 A; load X A 1; say X | on @0 M; load X M 0; say X; store M 1 9; say M",
+    "buffer A 1; post @1 A; / on @1 M; load X A 0; say X; add X A 0 1; say X "
+    "| on @0 M; add X M 0 -1; say X; let Y 1; post @0 Y; / load X M 0; say X",
+    # one block that is posted twice, and one that comes back: other objects over the same block
+    "buffer A 2; post @1 A; post @1 A "
+    "| on @0 M; copy A M; / on @0 M; same X A M; say X; sameblock Y A M; say Y; store A 0 3; add X M 0 4; say X; "
+    "load X A 0; say X",
+    "buffer A 1; post @1 A; / on @1 M; same X A M; say X; sameblock Y A M; say Y; store M 0 5; load X A 0; say X "
+    "| on @0 M; post @0 M; load X M 0; say X",
+    # two blocks of the same size
+    "buffer A 3; buffer B 3; sameblock X A B; say X; post @1 A; post @1 B; copy B A; sameblock X A B; say X "
+    "| on @0 M; copy A M; / on @0 M; sameblock X A M; say X; length Y M; say Y; store A 2 1; load Y M 2; say Y",
+    # a block that lives in a message alone, and is taken, or drained; and one that both gave up
+    "buffer A 2; store A 1 -1; post @1 A; let A null; collect | on @0 M; load X M 1; say X; let M null; collect",
+    "buffer A 2; post @1 A; let A null; collect | let X 1; say X",
+    "buffer A 1; post @1 A; let A null; collect; / on @1 M; load X M 0; say X "
+    "| on @0 M; store M 0 5; post @0 M; let M null; collect",
+    # one block for two receivers, who add to the same word
+    "buffer A 2; post @1 A; post @2 A; let A null; collect "
+    "| on @0 M; add X M 0 1; say X "
+    "| on @0 M; add X M 0 1; say X; length Y M; say Y; let M null; collect",
+    # a block that goes from hand to hand
+    "buffer A 1; store A 0 1; post @1 A; let A null; collect "
+    "| on @0 M; add X M 0 1; post @2 M; let M null; collect "
+    "| on @1 M; add X M 0 1; say X; load X M 0; say X",
+    # words modulo 2^32, and indexes that there are and that there are not
+    "buffer A 1; store A 0 -1; load X A 0; say X; add Y A 0 2; say Y; load Z A 0; say Z; post @1 A "
+    "| on @0 M; store M 0 9007199254740991; add X M 0 9007199254740991; say X; load X M 0; say X",
+    "buffer A 0; length X A; say X; post @1 A; load X A 0 | on @0 M; length X M; say X; store M 0 0",
+    "buffer A 2; post @1 A; post @1 A; post @1 A "
+    "| on @0 M; load X M 2; / on @0 M; store M -1 0; / on @0 M; add X M 2 1; / say X; add X M 1 1; say X; "
+    "load X M 4294967296",
+    # values of each kind that can be posted, in their order
+    "let A 1; post @1 A; symbolfor B k; post @1 B; post @1 C; same X A B; post @1 X; let A k; post @1 A "
+    "| on @0 M; say M; / on @0 M; symbolfor A k; same X A M; say X; say M; / on @0 M; say M; / on @0 M; say M; "
+    "/ on @0 M; say M; / on @0 M; say M",
+    # what can't be posted: the job ends, and nothing is posted
+    "new A; post @1 A; say A | on @0 M; say M",
+    "symbol A; let B 1; post @1 B; post @1 A; post @1 B | on @0 M; say M; / on @0 M; say M",
+    "buffer A 1; weakref W A; new B; set B p A; post @1 A; post @1 W; / post @1 B; / post @1 A "
+    "| on @0 M; say M; keys M",
+    "weakmap A; post @1 A; / weakset A; post @1 A; / registry A cb; post @1 A | on @0 M",
+    # what is no buffer, and what is none any more
+    "new A; length X A "
+    "| length X A "
+    "| buffer A 1; sameblock X A B "
+    "| buffer A 1; sameblock X B A; / copy B X; load B A 0",
+    "buffer A 1; let X 5; load X A 1; / say X; store X 0 1; / add X X 0 1; / buffer X 1; add X X 0 7; say X; "
+    "load X X 0 "
+    "| say X",
+    # agents that have ended: their messages are there to be taken, and then the others are skipped
+    "let A 1; post @1 A | on @0 M; say M; / on @0 M; say M; / say M",
+    " | let M 5; / on @0 M; say M; / say M",
+    "on @1 M; say M; / let A 1; post @1 A | on @0 M; say M; / on @0 M; say M",
+    # who waits for each other: the first is skipped, and goes on
+    "on @1 M; / let X 1; post @1 X | on @0 M; say M; post @0 M",
+    "on @1 M; say M; / let X 1; post @1 X; / on @1 M; say M | on @0 M; say M; post @0 M; / on @0 M; say M",
+    "on @2 M; say M; / let X 1; post @1 X | on @0 M; say M; post @2 M | on @1 M; say M; post @0 M",
+    "on @1 M; say M | on @2 M; say M; post @0 M | let X 1; post @1 X",
+    "on @1 M; say M | on @2 M; say M; / let X 2; post @0 X; / on @2 M; say M | on @0 M; say M; / let X 1; post @1 X",
+    # of two senders each has a port
+    "let X 1; post @2 X; / let X 3; post @2 X "
+    "| let X 2; post @2 X "
+    "| on @1 M; say M; / on @0 M; say M; / on @0 M; say M",
+    # a message for one who has ended
+    "on @1 M; say M; buffer A 1; post @1 A; / collect | let X 1; post @0 X",
+    # a received buffer has the next number, is held weakly like another, and is kept by what it is in
+    "buffer A 1; post @1 A; post @1 A; let A null; collect "
+    "| new A; / on @0 M; say M; weakref W M; let M null; collect; / collect; deref M W; say M; let M null; / on @0 M; "
+    "say M; symbol A; say A",
+    "buffer A 1; weakref W A; post @1 A; let A null; / collect; deref A W; say A "
+    "| on @0 M; weakmap N; wmset N M M; wmget A N M; sameblock X A M; say X; let A null; let M null; collect",
+    "buffer A 1; set A p A; keys A; get B A p; sameblock X A B; say X; weakset S; wsadd S A; wshas X S B; say X; "
+    "post @1 A; let A null; collect; let B null; collect "
+    "| on @0 M; keys M; new A; set A p M; let M null; collect; get M A p; load X M 0; say X",
+    # a buffer as a target, a token and a held value, and callbacks that use and post it
+    "registry f cb; buffer A 1; let X 1; register f A X A; post @1 A; let A null; collect | on @0 M; load X M 0; say X",
+    "registry f cb; new A; buffer B 2; register f A B; let A null; let B null; collect; / collect; / let held null; "
+    "collect "
+    "| on @0 M; load X M 0; say X; / on @0 M; say M",
+    "on @1 M; registry f cb; new A; register f A M; let A null; let M null; collect "
+    "| buffer A 1; post @0 A; / on @0 M; sameblock X A M; say X; load X A 0; say X",
+    # what a message's variable holds lasts, and a skip leaves it as it is
+    "buffer A 1; store A 0 8; post @1 A; / post @1 A "
+    "| on @0 M; / collect; load X M 0; say X; / on @0 M; / on @0 M; load X M 0; say X; collect",
+    # a job that was refused has taken its message all the same
+    "let X 1; post @1 X; let X 2; post @1 X; / on @1 M; say M | on @0 M; keys M; post @0 M; / on @0 M; say M",
+]
+
 # What callbacks do, in words; capitals stand for variables here too, and the others are those of PLACES and TOKENS
 CALLS = [
     "", "say held", "say held; say held", "say held; let held null",
@@ -238,6 +349,13 @@ CALLS = [
     "same X held A; say X; set z p z; say X", "copy z A; say held; set z p held",
     "wmset m held A; wmget B m held; say B", "wsadd s held; wshas X s held; say X", "symbol A; say A",
 ]
+# The same of agents that share blocks, in which `@1` is another agent
+SHARED_CALLS = [
+    "load A held 0; say A; add A held 0 1; store held 1 9", "add A held 0 1; say A; post @1 held; let held null",
+    "post @1 held; let held null", "post @1 held; say held", "buffer A 1; store A 0 7; post @1 A; let A null", "buffer d 2",
+    "say held; post @1 f", "length A held; say A; sameblock A held d; say A", "let A 1; post @1 A", "store d 0 5; post @1 d",
+    "new A; register f A held; post @1 A", "buffer A 3; new B; register f B A; let A null; let B null", "add A d 0 1; say A",
+]
 
 # Commands for spoiled plans: `collect`, written rightly and wrongly, and other faults
 COLLECTS = [
@@ -257,6 +375,23 @@ FAULTS = [
     ["unregister", "x", "x"], ["unregister", "x", "x", "x", "x"], ["unregister", "x", "x-", "x"],
     ["Register", "x", "x", "x"],
 ]
+SHARED_FAULTS = [
+    ["buffer"], ["buffer", "x"], ["buffer", "x", 1, 1], ["buffer", "x", "1"], ["buffer", "x", None], ["buffer", "1x", True],
+    ["buffer", "x", 0], ["buffer", "x", 16384], ["buffer", "x", 16385], ["buffer", "1x", 16385], ["buffer", "x", -1],
+    ["buffer", "y", 16385], ["buffer", "y", -9007199254740991], ["buffer", "y", 16384], ["buffer", "x", 1.5],
+    ["buffer", "x", -0.0], ["buffer", "x", 9007199254740992], ["buffer", "1x", []],
+    ["length", "x"], ["length", "x", 1], ["length", "x", "x-"], ["length", "x", "x", "x"],
+    ["sameblock", "x", "x"], ["sameblock", "x", "x", "1x"], ["sameblock", "x-", "x", 1], ["sameBlock", "x", "x", "x"],
+    ["load", "x", "x"], ["load", "x", "x", "0"], ["load", "x", "x", -1], ["load", "x", "1x", 1.5], ["load", "1x", "x", "x"],
+    ["load", "x", "x", 9007199254740992], ["load", "x", "x", None], ["load", "x", "x", 0, 0],
+    ["store", "x", 0], ["store", "x", 0, None], ["store", "x", "0", 0], ["store", "x", -0.0, "1x"], ["store", "x-", 1.5, 1],
+    ["store", "x", 1, 9007199254740992], ["store", "x", 1e3, 1.0], ["store", "x", 16384, -9007199254740991],
+    ["add", "x", "x", 1], ["add", "x", "x", 1, "x"], ["add", "x", "x", 1, 1, 1], ["add", "x", "x", 1, 1.5],
+    ["add", "x", "1x", 1.5, 1], ["add", "x", "x", True, 1], ["add", "x", "x", -1, -1],
+    ["post"], ["post", "main"], ["post", "main", 1], ["post", 1, "x"], ["post", "main", "x", "x"], ["post", None, "1x"],
+    ["post", "1x", "1x"], ["post", "", "x"], ["post", "nobody", "1x"], ["post", "main", "1x"], ["post", "A", "x"],
+    ["post", "a", "x"], ["post", "main", "x"], ["post", "w", "x"], ["post", "B", "x"], ["receive", "x"], ["wait", "x"],
+]
 
 
 def uses(rng, word):
@@ -264,25 +399,39 @@ def uses(rng, word):
     return USES[word] + (ONE_MORE.get(word, "") if rng.random() < 0.6 else "")
 
 
-def operand(rng, use):
-    drawn_from = {"l": LITERALS, "t": ["", "k", "a text"], "k": KEYS, "c": CALLBACKS}
+def operand(rng, use, others=()):
+    drawn_from = {
+        "l": LITERALS, "t": ["", "k", "a text"], "k": KEYS, "c": CALLBACKS,
+        "z": SIZES, "i": INDEXES, "n": NUMBERS, "a": others,
+    }
     return rng.choice(drawn_from.get(use, NAMES))
 
 
 def command(rng):
-    """Any command. The operands that are names of variables are drawn from few, whatever these hold."""
-    others = [word for word in USES if word not in WEAK_TABLES]
+    """Any command of an agent alone. The operands that are names of variables are drawn from few, whatever these hold."""
+    others = [word for word in ALONE if word not in WEAK_TABLES]
     often = ["new", "set", "weakref", "deref", "say", "collect"]
     word = rng.choice(WEAK_TABLES if rng.random() < 0.15 else others + often * 2)
     return [word, *(operand(rng, use) for use in uses(rng, word))]
 
 
-def callback(rng):
-    """What a callback does, now and then with any command, even with one that a callback can't have."""
+def shared_command(rng, others):
+    """Any command, half of them of those on blocks and messages; these are the other agents."""
+    word = rng.choice(SHARING)
+    if rng.random() < 0.5 or (word == "post" and not others):
+        return command(rng)
+    return [word, *(operand(rng, use, others) for use in uses(rng, word))]
+
+
+def callback(rng, others=()):
+    """What a callback does, now and then with any command, even with one that a callback can't have. Where there are
+    others, they may be posted to."""
     unregistering = [text for text in CALLS if "unregister" in text]
     run = [*written(rng, rng.choice(unregistering if rng.random() < 0.2 else CALLS))]
+    if others and rng.random() < 0.5:
+        run = [*written(rng, rng.choice(SHARED_CALLS), ["", rng.choice(others)])]
     if rng.random() < 0.15:
-        drawn = command(rng)
+        drawn = shared_command(rng, others) if others else command(rng)
         if drawn != ["collect"] or rng.random() < 0.05:
             run.insert(rng.randint(0, len(run)), drawn)
     return run
@@ -310,18 +459,19 @@ def any_jobs(rng, _calls):
     return [[command(rng) for _ in range(rng.randint(0, 25))] for _ in range(rng.randint(0, 6))]
 
 
-def written(rng, text):
-    """Commands in words, their capitals replaced by variables, and None where a job ends."""
+def written(rng, text, agents=()):
+    """Commands in words, their capitals replaced by variables, `@0` and the like by agents, and None where a job ends."""
     words = text.replace(";", " ;").split()
     capitals = sorted({word for word in words if word.isupper()})
     names = dict(zip(capitals, rng.sample(NAMES, len(capitals))))
+    names.update((f"@{number}", agent) for number, agent in enumerate(agents))
     if not words:
         return
     for piece in " ".join(names.get(word, word) for word in words).split(" ; "):
         if piece.startswith("/"):
             yield None
         words = piece.removeprefix("/").split()
-        yield [None if word == "null" else int(word) if word.isdigit() else word for word in words]
+        yield [None if word == "null" else int(word) if word.removeprefix("-").isdigit() else word for word in words]
 
 
 def life(rng):
@@ -370,26 +520,54 @@ def suits(agent, use, name):
         return value[0] in ("object", "symbol")
     right = {
         "o": agent.properties, "w": agent.targets, "m": agent.entries, "s": agent.members, "r": agent.registries,
+        "b": agent.buffers,
     }
     return value[0] == "object" and value[1] in right[use]
 
 
-# how often the commands come where most suit what the variables hold; the others come once
-OFTEN_TABLES = {
+# how often the commands come where most suit what the variables hold
+OFTEN_TABLES = dict.fromkeys(ALONE, 1) | {
     "let": 8, "new": 12, "symbol": 5, "set": 6, "get": 6, "copy": 4, "weakref": 8, "deref": 8, "collect": 6, "weakmap": 4,
     "wmset": 26, "wmget": 16, "wmhas": 6, "wmdelete": 4, "wsadd": 8, "wshas": 6, "weakset": 2, "register": 3,
 }
-OFTEN_REGISTRATIONS = {
+OFTEN_REGISTRATIONS = dict.fromkeys(ALONE, 1) | {
     "let": 10, "new": 15, "symbol": 6, "set": 4, "get": 3, "copy": 3, "weakref": 4, "deref": 3, "collect": 9, "wmset": 3,
     "registry": 3, "register": 45, "unregister": 12,
 }
+OFTEN_SHARED = dict.fromkeys(USES, 1) | {
+    "let": 8, "new": 6, "copy": 5, "set": 3, "get": 3, "weakref": 4, "deref": 4, "collect": 6, "weakmap": 2, "wmset": 5,
+    "wmget": 4, "registry": 2, "register": 6, "buffer": 14, "length": 4, "sameblock": 8, "load": 14, "store": 14, "add": 16,
+    "post": 34,
+}
+
+
+def variables(often):
+    """The variables that suited commands have."""
+    return NAMES + ["held"] + TOKENS + [name for word, places in PLACES.items() if word in often for name in places]
+
+
+def index(rng, agent, name):
+    """An index, most often of a word of the buffer in the variable."""
+    words = len(agent.words(name)) if suits(agent, "b", name) else 0
+    if words and rng.random() < 0.95:
+        return rng.choice([0, 0, words - 1, rng.randrange(words)])
+    return rng.choice([words, -1, *INDEXES])
+
+
+def to_post(rng, agent, names):
+    """A variable whose value can be posted, mostly; often one with a buffer."""
+    buffers = [name for name in names if suits(agent, "b", name)]
+    others = [name for name in names if agent.value(name)[0] not in ("object", "symbol")]
+    if buffers and rng.random() < 0.65:
+        return rng.choice(buffers)
+    return rng.choice(others if others and rng.random() < 0.95 else names)
 
 
 def suited(rng, agent, often):
     """A command whose operands mostly suit what the agent's variables hold, and what may follow it at once."""
-    names = NAMES + ["held"] + TOKENS + [name for places in PLACES.values() for name in places]
+    names = variables(often)
     while True:
-        word = rng.choices(list(USES), [often.get(word, 1) for word in USES])[0]
+        word = rng.choices(list(often), list(often.values()))[0]
         args, refused = [], False
         for use in uses(rng, word):
             if use == "x" and word in PLACES and rng.random() < 0.7:
@@ -400,8 +578,14 @@ def suited(rng, agent, often):
                 args.append(rng.choice(NAMES if rng.random() < 0.97 else names))
             elif use == "l" and rng.random() < 0.8:
                 args.append(None)
-            elif use in "kltc":
+            elif use in "kltczn":
                 args.append(operand(rng, use))
+            elif use == "i":
+                args.append(index(rng, agent, args[-1]))
+            elif use == "a":
+                args.append(agent.receiver())
+            elif word == "post":
+                args.append(to_post(rng, agent, names))
             else:
                 right = [name for name in names if suits(agent, use, name)]
                 if word == "register" and use == "v" and rng.random() < 0.9:
@@ -423,10 +607,15 @@ def suited(rng, agent, often):
         number = agent.value(args[1])[-1]
         tokens = [cell.token for cell in agent.cells.values() if cell.registry == number and cell.token[0] != "undefined"]
         args[2] = rng.choice([name for name in names if agent.value(name) in tokens] or [args[2]])
+    if word == "sameblock" and suits(agent, "b", args[1]) and rng.random() < 0.6:
+        # Another buffer over the same block, where there is one.
+        same = [name for name in names if suits(agent, "b", name) and agent.block(name) == agent.block(args[1])]
+        others = [name for name in same if agent.value(name) != agent.value(args[1])]
+        args[2] = rng.choice(others or same)
     yield [word, *args]
-    if word in ("deref", "wmget", "unregister", *ASKING) and rng.random() < 0.7:
+    if word in ("deref", "wmget", "unregister", "length", "sameblock", "load", "add", *ASKING) and rng.random() < 0.7:
         yield ["say", args[0]]
-    if word in ("set", "wmset", "wsadd", "weakref") and rng.random() < 0.5:
+    if word in ("set", "wmset", "wsadd", "weakref", "post") and rng.random() < (0.3 if word == "post" else 0.5):
         # Now something else may hold it, or nothing.
         yield ["let", args[-1], None]
     if word == "register" and rng.random() < 0.6:
@@ -447,11 +636,16 @@ def batch(rng):
     yield from [["let", at, None], ["collect"]]
 
 
+def without_collections(calls):
+    """A plan with a callback that collects is refused. Where commands are tried none does: it might never come to its
+    end."""
+    return {call: [step for step in run if step != ["collect"]] for call, run in calls.items()}
+
+
 def suited_jobs(rng, calls, often):
     """Jobs of suited commands, and at last what the maps, sets and WeakRefs still have, and which registrations are
     left when nothing is held any more."""
-    # A plan with a callback that collects is refused, so here none does: it might never come to its end.
-    agent = rules.Agent({call: [step for step in run if step != ["collect"]] for call, run in calls.items()})
+    agent = rules.Agent({"name": "a", "callbacks": without_collections(calls), "jobs": []}, rules.Ledger())
     jobs = [[]]
 
     def do(step):
@@ -523,9 +717,175 @@ def lives(rng, _calls):
     return jobs + [[["collect"], *(["say", name] for name in NAMES), ["collect"]]]
 
 
+class Growing(rules.Agent):
+    """An agent of which each job, and each command of it, is chosen when the agent comes to it."""
+
+    def __init__(self, rng, plan, ledger, agents):
+        calls = {call: [*map(as_read, run)] for call, run in without_collections(plan["callbacks"]).items()}
+        super().__init__({**plan, "callbacks": calls}, ledger)
+        self.rng, self.agents, self.left = rng, agents, rng.choice([0, 1, 2, 3, 4, 5, 6, 8])
+
+    def others(self):
+        return [name for name in self.agents if name != self.name]
+
+    def next_job(self):
+        if self.done == len(self.jobs) and self.left > 0:
+            self.left -= 1
+            self.jobs.append({"run": []})
+            if self.others() and self.rng.random() < 0.55:
+                self.jobs[-1]["on"] = [self.sender(), self.rng.choice(NAMES + PLACES["buffer"])]
+        return super().next_job()
+
+    def sender(self):
+        """Whom the next job waits for: one of whom a message is there, or one that has not ended, or any."""
+        there = [name for name in self.others() if self.ledger.ports[name, self.name]]
+        going = [name for name in self.others() if not self.agents[name].ended]
+        return self.rng.choice(self.rng.choice([there] * 6 + [going] * 4 + [[]]) or self.others())
+
+    def receiver(self):
+        """Whom a message is for: one that waits for it, or any."""
+        waiting = [name for name in self.others() if self.agents[name].waits_for(self.name)]
+        return self.rng.choice(waiting if waiting and self.rng.random() < 0.5 else self.others() or ["nobody"])
+
+    def waits_for(self, sender):
+        return self.done < len(self.jobs) and self.jobs[self.done].get("on", [None])[0] == sender
+
+    def job(self, job):
+        line = ""
+        for line in super().job({**job, "run": self.grown(job["run"])}):
+            yield line
+        if line.startswith("error "):
+            # Nothing after it is done.
+            job["run"] += [command(self.rng) for _ in range(self.rng.randint(0, 2))]
+
+    def grown(self, run):
+        """The commands of a job, as they are read, which are added to it in the plan."""
+        for steps in self.look() if self.left == 0 and self.rng.random() < 0.8 else self.chosen():
+            for step in steps:
+                run.append(step)
+                yield as_read(step)
+
+    def chosen(self):
+        often = OFTEN_SHARED if self.others() else OFTEN_SHARED | {"post": 0}
+        if self.done == 1 and self.rng.random() < 0.7:
+            yield [["registry", name, self.rng.choice(CALLBACKS)] for name in PLACES["registry"]]
+            yield [["buffer", name, self.rng.choice(SIZES)] for name in PLACES["buffer"]]
+        for _ in range(self.rng.randint(0, 16)):
+            yield suited(self.rng, self, often)
+
+    def look(self):
+        """What the variables hold at last, and the words of their buffers."""
+        for name in variables(OFTEN_SHARED):
+            yield [["say", name]]
+            if suits(self, "b", name):
+                yield [["length", "z", name], ["say", "z"]]
+                for at in range(min(len(self.words(name)), 4)):
+                    yield [["load", "z", name, at], ["say", "z"]]
+
+
+def as_read(step):
+    """A command as rules.py reads it."""
+    return json.loads(json.dumps(step), parse_int=rules.Number)
+
+
+def grown(rng, agents):
+    ledger, growing = rules.Ledger(), {}
+    for agent in agents:
+        growing[agent["name"]] = Growing(rng, agent, ledger, growing)
+    rules.run_turns(growing)
+
+
+def others_of(agent, agents):
+    return [other["name"] for other in agents if other is not agent]
+
+
+def roles(talk):
+    return [text.strip() for text in talk.split("|")]
+
+
+def talks(rng, agents):
+    """Talks, one after the other, and lives between them, in which jobs end, and other commands stand, here and there."""
+    for _ in range(rng.randint(1, 6)):
+        talk = rng.choice([talk for talk in map(roles, TALKS) if len(talk) <= len(agents)])
+        speaking = rng.sample(agents, len(talk))
+        names = [agent["name"] for agent in speaking]
+        for agent, text in zip(speaking, talk):
+            run_on(rng, agent, [None, *written(rng, text, names)], others_of(agent, agents))
+        if rng.random() < 0.25:
+            agent = rng.choice(agents)
+            run_on(rng, agent, [None, *life(rng)], others_of(agent, agents))
+    if rng.random() < 0.15:
+        rng.shuffle(rng.choice(agents)["jobs"])
+    for agent in agents:
+        if rng.random() < 0.5:
+            agent["jobs"].append({"run": [["collect"], *(["say", name] for name in NAMES)]})
+
+
+def run_on(rng, agent, steps, others):
+    """Puts commands last into an agent's jobs, and the jobs that they begin."""
+    jobs = agent["jobs"]
+    for step in steps:
+        begins = step is not None and step[0] == "on"
+        if step is None or (not begins and rng.random() < 0.05):
+            jobs.append({"run": []})
+        if rng.random() < 0.03:
+            jobs[-1]["run"].append(shared_command(rng, others))
+        if begins:
+            jobs[-1]["on"] = step[1:]
+        elif step is not None:
+            jobs[-1]["run"].append([*step[:2], rng.choice(CALLBACKS)] if step[0] == "registry" else step)
+
+
+def waits(rng, agents):
+    """Jobs that wait, for the next agent, for the one before, or for any, and few messages; or too many."""
+    names = [agent["name"] for agent in agents]
+    to = rng.choice([[1], [-1], [1, -1], [*range(1, len(names))]])
+    for number, agent in enumerate(agents):
+        for _ in range(rng.randint(0, 5)):
+            run, near = [["let", "x", rng.randint(0, 99)]], [names[(number + step) % len(names)] for step in to]
+            near = [name for name in near if name != agent["name"]]
+            for _ in range(rng.choice([0, 0, 0, 1, 1, 2])):
+                run += [["post", rng.choice(near), "x"]] if near else []
+            job = {"run": [["say", "m"], *run]}
+            if near and rng.random() < 0.75:
+                job["on"] = [rng.choice(near), "m"]
+            agent["jobs"].append(job)
+    if len(names) > 1 and rng.random() < 0.15:
+        # more than an agent can post, or open
+        post = ["post", names[1], "y"]
+        many, most = rng.choice([(post, 10000), (["buffer", "y", 1], 256), (["buffer", "y", 1], 256)])
+        rest = [many, ["collect"], post, ["say", "x"], many, post, many]
+        before = [many] * (most - rng.choice([1, 2, 2, 3]))
+        agents[0]["jobs"] += [{"run": run} for run in (before, rest, [["new", "y"], post])]
+
+
+def any_shared(rng, agents):
+    for agent in agents:
+        others = others_of(agent, agents)
+        for _ in range(rng.randint(0, 6)):
+            job = {"run": [shared_command(rng, others) for _ in range(rng.randint(0, 20))]}
+            if others and rng.random() < 0.4:
+                job["on"] = [rng.choice(others), rng.choice(NAMES)]
+            agent["jobs"].append(job)
+
+
+def shared_plan(rng):
+    """A plan of agents that share blocks and post messages."""
+    jobs_of = rng.choices([talks, grown, waits, any_shared], [8, 9, 3, 3])[0]
+    fewest = 2 if jobs_of is talks else 1
+    names = rng.sample(AGENTS, max(fewest, rng.choice([1, 2, 2, 2, 3, 3, 4, 5, 6, 7, 8])))
+    agents = []
+    for name in names:
+        others = [other for other in names if other != name]
+        agents.append({"name": name, "callbacks": {call: callback(rng, others) for call in CALLBACKS}, "jobs": []})
+    jobs_of(rng, agents)
+    return {"version": 1, "agents": agents}
+
+
 def doubtful_run(rng):
     """Few commands, faults among them; now and then as many as a run may have, or one more."""
-    drawn = [["say", "x"], ["collect"], *rng.sample(COLLECTS, 2), rng.choice(FAULTS)]
+    faults = rng.choice([FAULTS, SHARED_FAULTS])
+    drawn = [["say", "x"], ["collect"], *rng.sample(COLLECTS, rng.randint(0, 2)), rng.choice(faults)]
     run = [rng.choice(drawn) for _ in range(rng.randint(0, 3))]
     if rng.random() < 0.08:
         run += [rng.choice([["collect"], ["say", "x"]])] * (rng.choice([10000, 10001]) - len(run))
@@ -540,7 +900,32 @@ def doubtful_agent(rng, name):
     runs = {name: doubtful_run(rng) for name in names}
     if rng.random() < 0.05:
         runs.update((f"c{number}", []) for number in range(rng.randint(997, 1001)))
-    return {"name": name, "callbacks": runs, "jobs": [{"run": doubtful_run(rng)} for _ in range(rng.randint(0, 2))]}
+    return {"name": name, "callbacks": runs, "jobs": [doubtful_job(rng) for _ in range(rng.randint(0, 2))]}
+
+
+def doubtful_job(rng):
+    """A job that may wait, also for an agent that it can't wait for."""
+    job = {"run": doubtful_run(rng)}
+    if rng.random() < 0.4:
+        job["on"] = doubtful_on(rng)
+    return job
+
+
+def doubtful_on(rng):
+    if rng.random() < 0.08:
+        return rng.choice([None, "a", [], ["a"], ["a", "x", "x"], ["a", 1], [None, "x"], {"a": "x"}])
+    return [rng.choice(["a", "main", "w", "B", "w", "B", "nobody", "1x"]), rng.choice(["x", "x", "x", "x-"])]
+
+
+def put_fault(rng, plan):
+    """Puts one command or one `on` into a plan of agents that share, which is a fault, mostly."""
+    agent = rng.choice(plan["agents"])
+    runs = [*agent["callbacks"].values(), *(job["run"] for job in agent["jobs"])]
+    if agent["jobs"] and rng.random() < 0.3:
+        rng.choice(agent["jobs"])["on"] = doubtful_on(rng)
+    elif runs:
+        run = rng.choice(runs)
+        run.insert(rng.randint(0, len(run)), rng.choice(SHARED_FAULTS))
 
 
 def doubtful_plan(rng):
@@ -568,7 +953,7 @@ def spoil(rng, value):
     if kind == 0:
         del holder[key]
     elif kind == 1 and isinstance(holder, list):
-        holder.insert(key, rng.choice([None, 1.5, "1x", "", [], {}, *COLLECTS, *FAULTS, holder[key]]))
+        holder.insert(key, rng.choice([None, 1.5, "1x", "", [], {}, *COLLECTS, *FAULTS, *SHARED_FAULTS, holder[key]]))
     elif kind == 1:
         holder[rng.choice(["x", "on", "1x", "run", "name"])] = rng.choice([[], {}, None, holder[key]])
     else:
@@ -580,9 +965,11 @@ def spoil(rng, value):
 
 def text(rng):
     kind = rng.random()
-    jobs_of = lives if kind < 0.45 else tables if kind < 0.6 else registrations if kind < 0.8 else any_jobs
-    value = doubtful_plan(rng) if kind < 0.2 else plan_of(rng, jobs_of)
-    for _ in range(rng.choice([0, 0, 0, 0, 1] if kind < 0.8 else [0, 0, 1, 1, 2])):
+    jobs_of = lives if kind < 0.27 else tables if kind < 0.35 else registrations if kind < 0.46 else any_jobs
+    value = doubtful_plan(rng) if kind < 0.14 else plan_of(rng, jobs_of) if kind < 0.53 else shared_plan(rng)
+    if kind > 0.93:
+        put_fault(rng, value)
+    for _ in range(rng.choice([0, 0, 1, 1, 2] if 0.46 <= kind < 0.57 else [0, 0, 0, 0, 1])):
         value = spoil(rng, value)
     data = json.dumps(value, ensure_ascii=rng.random() < 0.5).encode()
     if rng.random() < 0.05:
@@ -597,18 +984,32 @@ def text(rng):
     return data
 
 
+# what a plan that runs may have, as what its report then has
+PARTS = {
+    "cleanups": r"^cleanup ", "blocks or messages": r"^(blocks|messages posted) [1-9]", "blocks": r"^blocks [1-9]",
+    "messages": r"^messages posted [1-9]",
+    "taken messages": r"^messages .* taken [1-9]", "drained messages": r"^messages .* drained [1-9]",
+    "skipped jobs": r"^skipped ",
+}
+
+
 def main():
     program, count, seed = sys.argv[1], int(sys.argv[2]), int(sys.argv[3])
     rng = random.Random(seed)
     failed = 0
+    have = dict.fromkeys(["refused", *PARTS], 0)
     for number in range(count):
         data = text(rng)
         ran = subprocess.run([program, "run"], input=data, capture_output=True, timeout=60, check=False)
         got = (ran.returncode, ran.stdout.decode(), ran.stderr.decode())
         want = rules.answer(data)
+        have["refused"] += want[0]
+        for part, line in PARTS.items():
+            have[part] += bool(re.search(line, want[1], re.MULTILINE))
         if got != want:
             failed += 1
             print(f"plan {number} of seed {seed}: {data!r}\n  wanted {want}\n  got {got}")
+    print(f"of {count} plans: " + ", ".join(f"{part} {number}" for part, number in have.items()))
     print(f"{count - failed} passed, {failed} failed")
     sys.exit(1 if failed else 0)
 

@@ -3,19 +3,22 @@
 Used by random_plans.py and side_by_side.py. It knows the commands that are built so far.
 """
 
+import collections
 import json
 import re
 
 NAME = re.compile(r"[A-Za-z_][A-Za-z0-9_]{0,31}\Z")
 LARGEST = 9007199254740991
 
-# the operands of each command: n a name, l a literal, t a text, c the name of a callback
+# the operands of each command: n a name, l a literal, t a text, c the name of a callback, a that of another agent,
+# i a number, w a number of words
 OPERANDS = {
     "let": "nl", "new": "n", "symbol": "n", "symbolfor": "nt", "copy": "nn", "same": "nnn", "say": "n",
     "set": "nnn", "get": "nnn", "delete": "nnn", "keys": "n", "weakref": "nn", "deref": "nn",
     "weakmap": "n", "wmset": "nnn", "wmget": "nnn", "wmhas": "nnn", "wmdelete": "nnn",
     "weakset": "n", "wsadd": "nn", "wshas": "nnn", "wsdelete": "nnn",
     "registry": "nc", "register": "nnn", "unregister": "nnn",
+    "buffer": "nw", "length": "nn", "sameblock": "nnn", "load": "nni", "store": "nii", "add": "nnii", "post": "an",
     "collect": "",
 }
 # an operand that may stand after these
@@ -93,7 +96,13 @@ def is_run(value):
     return isinstance(value, list) and all(isinstance(c, list) and c and isinstance(c[0], str) for c in value)
 
 
+def is_on(value):
+    return isinstance(value, list) and len(value) == 2 and all(isinstance(name, str) for name in value)
+
+
 def is_job(value):
+    if has_keys(value, "on", "run"):
+        return is_on(value["on"]) and is_run(value["run"])
     return has_keys(value, "run") and is_run(value["run"])
 
 
@@ -117,7 +126,14 @@ def is_plan(value):
     )
 
 
-def check_command(command, callbacks, where, number):
+def has_kind(kind, operand):
+    """Whether an operand is of the right JSON kind: a text, a number, or anything but an array and an object."""
+    if kind == "l":
+        return not isinstance(operand, (list, dict))
+    return isinstance(operand, Number if kind in "iw" else str)
+
+
+def check_command(command, known, where, number):
     kinds = OPERANDS.get(command[0])
     operands = command[1:]
     if kinds is not None and len(operands) > len(kinds):
@@ -125,26 +141,37 @@ def check_command(command, callbacks, where, number):
     if kinds is None or len(kinds) != len(operands):
         raise Refused(7, *where, number)
     for kind, operand in zip(kinds, operands):
-        if isinstance(operand, (list, dict)) or (kind != "l" and not isinstance(operand, str)):
+        if not has_kind(kind, operand):
             raise Refused(7, *where, number)
     if command[0] == "collect" and where[1][0] == "callback":
         raise Refused(9, *where, number)
     for kind, operand in zip(kinds, operands):
-        if kind in "nc" and not NAME.match(operand):
+        if kind in "nca" and not NAME.match(operand):
             raise Refused(5, *where, number)
-        if kind == "c" and operand not in callbacks:
+        if kind in known and operand not in known[kind]:
             raise Refused(6, *where, number)
         if kind in "lt" and isinstance(operand, str) and not is_text(operand):
             raise Refused(8, *where, number)
         if isinstance(operand, Number) and (operand.whole() is None or abs(operand.whole()) > LARGEST):
             raise Refused(8, *where, number)
+        if kind == "w" and not 0 <= operand.whole() <= 16384:
+            raise Refused(10, *where, number)
 
 
-def check_run(run, callbacks, where):
+def check_run(run, known, where):
     if len(run) > 10000:
         raise Refused(10, *where)
     for number, command in enumerate(run, 1):
-        check_command(command, callbacks, where, number)
+        check_command(command, known, where, number)
+
+
+def check_on(on, known, where):
+    if not NAME.match(on[0]):
+        raise Refused(5, *where)
+    if on[0] not in known["a"]:
+        raise Refused(6, *where)
+    if not NAME.match(on[1]):
+        raise Refused(5, *where)
 
 
 def read_plan(data):
@@ -164,12 +191,15 @@ def read_plan(data):
     for number, agent in enumerate(agents):
         if len(agent["callbacks"]) > 1000 or len(agent["jobs"]) > 1000:
             raise Refused(10, number)
+        known = {"c": agent["callbacks"], "a": names - {agent["name"]}}
         for k, name in enumerate(sorted(agent["callbacks"], key=str.encode), 1):
             if not NAME.match(name):
                 raise Refused(5, number, ("callback", k))
-            check_run(agent["callbacks"][name], agent["callbacks"], (number, ("callback", k)))
+            check_run(agent["callbacks"][name], known, (number, ("callback", k)))
         for j, job in enumerate(agent["jobs"], 1):
-            check_run(job["run"], agent["callbacks"], (number, ("job", j)))
+            if "on" in job:
+                check_on(job["on"], known, (number, ("job", j)))
+            check_run(job["run"], known, (number, ("job", j)))
     return plan
 
 
@@ -184,14 +214,67 @@ class Cell:
         self.registry, self.target, self.held, self.token = registry, target, held, token
 
 
+class Ledger:
+    """What the agents share: the words of each block, how many tickets each block has, in agents and in messages, and
+    the messages that were posted and neither taken nor drained. A message is a value, or a block."""
+
+    def __init__(self):
+        self.words, self.tickets, self.released = [], [], 0
+        self.ports = collections.defaultdict(collections.deque)  # by sender and receiver, the oldest message first
+        self.posted, self.taken, self.drained = 0, 0, 0
+
+    def open(self, words):
+        """A new block of so many words, with one ticket."""
+        self.words.append([0] * words)
+        self.tickets.append(1)
+        return len(self.words) - 1
+
+    def spend(self, block):
+        """Spends a ticket of the block, which with the last one is released."""
+        self.tickets[block] -= 1
+        if self.tickets[block] == 0:
+            self.words[block] = None
+            self.released += 1
+
+    def post(self, sender, receiver, message):
+        """A block's message has a ticket of its own."""
+        if message[0] == "block":
+            self.tickets[message[1]] += 1
+        self.posted += 1
+        self.ports[sender, receiver].append(message)
+
+    def take(self, sender, receiver):
+        """The oldest message, with the ticket that it may have."""
+        self.taken += 1
+        return self.ports[sender, receiver].popleft()
+
+    def drain(self):
+        """Takes out what nobody took. In which order it is done, no report shows."""
+        for port in self.ports.values():
+            while port:
+                message = port.popleft()
+                self.drained += 1
+                if message[0] == "block":
+                    self.spend(message[1])
+
+    def lines(self):
+        yield "cluster"
+        yield f"blocks {len(self.words)} released {self.released}"
+        yield f"messages posted {self.posted} taken {self.taken} drained {self.drained}"
+
+
 class Agent:
     """One agent: variables, objects with their properties, WeakRefs with their targets, WeakMaps with their entries,
-    WeakSets with their members, FinalizationRegistries with their callbacks, the registrations, what the running job
-    keeps alive, and the numbers of all that was emptied."""
+    WeakSets with their members, FinalizationRegistries with their callbacks, the registrations, shared buffers with
+    their blocks, what the running job keeps alive, and the numbers of all that was emptied; and what it reported."""
 
-    def __init__(self, callbacks):
-        self.callbacks = callbacks  # their commands, by name
+    def __init__(self, plan, ledger):
+        self.name, self.ledger, self.jobs, self.done, self.ended = plan["name"], ledger, plan["jobs"], 0, False
+        self.lines = [f"agent {self.name}"]
+        self.callbacks = plan["callbacks"]  # their commands, by name
         self.variables, self.made, self.properties, self.targets = {}, 0, {}, {}
+        self.buffers = {}  # their blocks, by their numbers, of those that are not emptied: each has a ticket
+        self.opened, self.posted = 0, 0
         self.entries, self.members = {}, {}  # by the number of the WeakMap or WeakSet
         self.registries = {}  # the names of their callbacks, by their numbers
         self.cells = {}  # by the numbers of the registrations, which rise
@@ -202,9 +285,12 @@ class Agent:
     def value(self, name):
         return self.variables.get(name, ("undefined",))
 
-    def identity(self):
+    def needs_room(self):
         if self.made >= 1000000:
             raise TypeRefused("limit: values")
+
+    def identity(self):
+        self.needs_room()
         self.made += 1
         return self.made
 
@@ -289,6 +375,60 @@ class Agent:
         self.unregistered += len(found)
         return bool(found)
 
+    def open_buffer(self, words):
+        """A new buffer over a new block."""
+        self.needs_room()
+        if self.opened >= 256:
+            raise TypeRefused("limit: blocks")
+        self.opened += 1
+        return self.buffer_over(self.ledger.open(words))
+
+    def buffer_over(self, block):
+        """A new buffer, which has a ticket of the block from now on."""
+        buffer = self.new_object()
+        self.buffers[buffer[1]] = block
+        return buffer
+
+    def block(self, name):
+        """The block of the shared buffer in a variable."""
+        value = self.value(name)
+        if value[0] != "object" or value[1] not in self.buffers:
+            raise TypeRefused("TypeError: not a SharedArrayBuffer")
+        return self.buffers[value[1]]
+
+    def words(self, name):
+        return self.ledger.words[self.block(name)]
+
+    def place(self, name, index):
+        """The words of the shared buffer in a variable, and the index of one of them."""
+        words = self.words(name)
+        if not 0 <= index.whole() < len(words):
+            raise TypeRefused("RangeError: index")
+        return words, index.whole()
+
+    def post(self, receiver, value):
+        message = value
+        if value[0] == "object" and value[1] in self.buffers:
+            message = ("block", self.buffers[value[1]])
+        elif value[0] in ("object", "symbol"):
+            raise TypeRefused("DataCloneError: value cannot be posted")
+        if self.posted >= 10000:
+            raise TypeRefused("limit: posts")
+        self.posted += 1
+        self.ledger.post(self.name, receiver, message)
+
+    def receive(self, sender, name):
+        """Takes a message, whose value the variable gets. A block becomes a new buffer, and its ticket that of the
+        buffer; where there is no room for one the ticket is spent."""
+        message = self.ledger.take(sender, self.name)
+        if message[0] == "block":
+            try:
+                message = self.buffer_over(message[1])
+            except TypeRefused:
+                self.ledger.spend(message[1])
+                raise
+        self.variables[name] = message
+
     def awaiting(self, registry):
         """The numbers of the registrations with an emptied target, the oldest first."""
         cells = self.cells.items()
@@ -320,6 +460,8 @@ class Agent:
         for tables in (self.entries, self.members):
             for number in dead & set(tables):
                 del tables[number]
+        for number in dead & set(self.buffers):
+            self.ledger.spend(self.buffers.pop(number))
         for entries in self.entries.values():
             for key in [key for key in entries if key[1] in dead]:
                 del entries[key]
@@ -336,10 +478,13 @@ class Agent:
             if line is not None:
                 yield line
 
-    def job(self, commands):
-        """The lines of a job. It ends with its first refusal, and keeps nothing alive from then on."""
+    def job(self, job):
+        """The lines of a job. It ends with its first refusal, and keeps nothing alive from then on. One that waited
+        takes its message first, and ends before its first command where there is no room for what came."""
         try:
-            yield from self.run(commands)
+            if "on" in job:
+                self.receive(*job["on"])
+            yield from self.run(job["run"])
         except TypeRefused as refused:
             yield f"error {refused}"
         self.kept = []
@@ -375,14 +520,35 @@ class Agent:
         """The number of the registration that the cleanup job takes next; there is one with an emptied target."""
         return self.awaiting(registry)[0]
 
-    def lines(self, jobs):
-        """The lines of the agent, from its first job to its end."""
-        for job in jobs:
-            yield from self.job(job["run"])
-            yield from self.cleanup_jobs()
+    def next_job(self):
+        """The job that comes next, if any."""
+        return self.jobs[self.done] if self.done < len(self.jobs) else None
+
+    def has_message(self, job):
+        """Whether a message is there for a job that waits."""
+        return bool(self.ledger.ports[job["on"][0], self.name])
+
+    def move(self):
+        """Runs the next job with its cleanup jobs, or skips it where it waits and no message is there, or ends."""
+        job = self.next_job()
+        if job is None:
+            self.end()
+            return
+        self.done += 1
+        if "on" in job and not self.has_message(job):
+            self.lines.append(f"skipped {self.done}")
+        else:
+            self.lines += self.job(job)
+            self.lines += self.cleanup_jobs()
+
+    def end(self):
+        """Spends the tickets of all buffers, and counts what became of the registrations."""
+        for block in self.buffers.values():
+            self.ledger.spend(block)
+        self.buffers, self.ended = {}, True
         awaiting = sum(cell.target[1] in self.gone for cell in self.cells.values())
         live = len(self.cells) - awaiting
-        yield f"end live {live} awaiting {awaiting} unregistered {self.unregistered} taken {self.taken}"
+        self.lines.append(f"end live {live} awaiting {awaiting} unregistered {self.unregistered} taken {self.taken}")
 
     def do(self, word, args):
         """Does a command; gives the line that it reports, if any."""
@@ -443,6 +609,24 @@ class Agent:
         elif word == "unregister":
             removed = self.unregister(self.registry(args[1]), self.value(args[2]))
             self.variables[args[0]] = ("boolean", removed)
+        elif word == "buffer":
+            self.variables[args[0]] = self.open_buffer(args[1].whole())
+        elif word == "length":
+            self.variables[args[0]] = ("number", len(self.words(args[1])))
+        elif word == "sameblock":
+            self.variables[args[0]] = ("boolean", self.block(args[1]) == self.block(args[2]))
+        elif word == "load":
+            words, index = self.place(args[1], args[2])
+            self.variables[args[0]] = ("number", words[index])
+        elif word == "store":
+            words, index = self.place(args[0], args[1])
+            words[index] = args[2].whole() % 2**32
+        elif word == "add":
+            words, index = self.place(args[1], args[2])
+            self.variables[args[0]] = ("number", words[index])
+            words[index] = (words[index] + args[3].whole()) % 2**32
+        elif word == "post":
+            self.post(args[0], self.value(args[1]))
         elif word == "collect":
             return f"emptied {self.collect()}"
         return None
@@ -480,12 +664,26 @@ def printed(value):
     return f"{kind} {value[1]}"
 
 
+def stays(agent, agents):
+    """Whether an agent's next job waits for an agent that has not ended, of which no message is there."""
+    job = agent.next_job()
+    return job is not None and "on" in job and not agent.has_message(job) and not agents[job["on"][0]].ended
+
+
+def run_turns(agents):
+    """Runs agents, by name in their order, to their ends. Each time the first moves that can, of those that have not
+    ended: one that stays can't. Where all of them stay, the first skips its job."""
+    while going := [agent for agent in agents.values() if not agent.ended]:
+        next((agent for agent in going if not stays(agent, agents)), going[0]).move()
+
+
 def report(plan):
-    lines = []
-    for agent in plan["agents"]:
-        lines += [f"agent {agent['name']}", *Agent(agent["callbacks"]).lines(agent["jobs"])]
-    lines += ["cluster", "blocks 0 released 0", "messages posted 0 taken 0 drained 0"]
-    return "\n".join(lines) + "\n"
+    ledger = Ledger()
+    agents = {agent["name"]: Agent(agent, ledger) for agent in plan["agents"]}
+    run_turns(agents)
+    ledger.drain()
+    lines = [line for agent in agents.values() for line in agent.lines]
+    return "\n".join([*lines, *ledger.lines()]) + "\n"
 
 
 def answer(data):

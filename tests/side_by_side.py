@@ -3,7 +3,8 @@
 
 Usage: side_by_side.py PROGRAM COUNT SEED. It needs node, and engine.mjs beside it, which runs a plan with the engine's
 own objects, WeakRefs, WeakMaps, WeakSets, FinalizationRegistries and full collections. Prints each plan that differs,
-how many were compared in the engine's own order, and `N passed, M failed` last.
+how many were compared in the engine's own order, and `N passed, M failed` last. The plans are of agents alone: what
+runs them knows neither messages nor shared blocks.
 
 Compared are the lines `say`, `keys`, `error` and `cleanup` of each agent, in their order: so also which registrations
 are cleaned up after which job, with which held values, and what their callbacks do. How many values a collection
@@ -31,16 +32,26 @@ ENGINE = os.path.join(os.path.dirname(os.path.abspath(__file__)), "engine.mjs")
 
 
 def accepted_plans(program, count, rng):
-    """Plans that the program runs, each as text with what the program reports."""
+    """Plans of agents alone that the program runs, each as text with what the program reports."""
     plans = []
     while len(plans) < count:
         kinds = [random_plans.lives, random_plans.tables, random_plans.registrations, random_plans.any_jobs]
         plan = random_plans.plan_of(rng, rng.choices(kinds, [4, 2, 3, 1])[0])
+        if not is_alone(plan):
+            continue
         text = json.dumps(plan)
         ended = subprocess.run([program, "run"], input=text.encode(), capture_output=True)
         if ended.returncode == 0:
             plans.append((text, ended.stdout.decode()))
     return plans
+
+
+def is_alone(plan):
+    """Whether no job waits for a message, and no command is one on blocks and messages."""
+    jobs = [job for agent in plan["agents"] for job in agent["jobs"]]
+    runs = [run for agent in plan["agents"] for run in agent["callbacks"].values()] + [job["run"] for job in jobs]
+    sharing = [step for run in runs for step in run if step[0] in random_plans.SHARING]
+    return not sharing and not any("on" in job for job in jobs)
 
 
 def said(report):
@@ -61,10 +72,10 @@ def is_told(line):
 class Following(rules.Agent):
     """An agent that chooses what is cleaned up next as an engine did, where the rules allow it."""
 
-    def __init__(self, callbacks, lines):
-        super().__init__(callbacks)
+    def __init__(self, plan, answer):
+        super().__init__(plan, rules.Ledger())
         # the numbers of the registrations that the engine cleaned up, the next one last
-        self.ahead = [int(line.split()[1]) for line in reversed(lines) if line.startswith("cleanup ")]
+        self.ahead = [int(line.split()[1]) for line in reversed(answer) if line.startswith("cleanup ")]
 
     def next_registry(self):
         cell = self.cells.get(self.ahead[-1]) if self.ahead else None
@@ -79,11 +90,9 @@ class Following(rules.Agent):
 
 def as_the_engine_chose(plan, answer):
     """The lines of each agent by the rules, each choice of the next registration being the engine's."""
-    agents = []
-    for agent, lines in zip(plan["agents"], answer, strict=True):
-        core = Following(agent["callbacks"], lines)
-        agents.append([line for line in core.lines(agent["jobs"]) if is_told(line)])
-    return agents
+    agents = {agent["name"]: Following(agent, lines) for agent, lines in zip(plan["agents"], answer, strict=True)}
+    rules.run_turns(agents)
+    return [[line for line in agent.lines if is_told(line)] for agent in agents.values()]
 
 
 def main():

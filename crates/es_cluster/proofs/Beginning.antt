@@ -1,5 +1,5 @@
 -- A cluster before its first event.
-use Rattle.std.proofs.Common.{◌≡◌, ℕ, zero, suc, ◌+◌, ◌<◌, true, sym, ◌∙◌, ap, refl, subst, arith, List, [], ◌∷◌, ◌++◌, reverse, length, Some}
+use Rattle.std.proofs.Common.{◌≡◌, ℕ, zero, suc, ◌+◌, ◌<◌, true, sym, ◌∙◌, ap, refl, subst, arith, List, [], ◌∷◌, ◌++◌, reverse, length, map, Some}
 use Rattle.std.specs.Prelude.{slice_get}
 use Rattle.std.proofs.lemmas.Bool.{and_parts}
 use Rattle.std.proofs.lemmas.List.{map-append, reverse-append}
@@ -13,7 +13,7 @@ use Rattle.es_ticket.specs.Shares.{Share}
 use Rattle.es_record.specs.Book.{Book}
 use Rattle.es_member.specs.Seats.{Seat}
 use Rattle.es_member.specs.Tied.{IsTied}
-use Rattle.es_cluster.specs.State.{books, first_books, IsPlaced, ArePlaced, AreTied}
+use Rattle.es_cluster.specs.State.{books, names_of, first_books, IsPlaced, ArePlaced, AreTied}
 
 abbrev pub first_book : ℕ → ℕ → AgentPlan → Book
 first_book agents n p = record { plan = p; number = n; agents = agents; over = []; history = [] }
@@ -38,10 +38,10 @@ pub first_length : (agents n : ℕ) (ps : List AgentPlan) → length (first_book
 first_length agents n [] = refl
 first_length agents n (p ∷ ps) = ap suc (first_length agents (n + 1) ps)
 
--- Stakes, the last first
+-- The last first
 
-pub next_stake : (all left : List Share) (s : Share) → all ≡ left ++ s ∷ [] → reverse all ≡ s ∷ reverse left
-next_stake all left s is = ap reverse is ∙ reverse-append left (s ∷ [])
+pub next_last : {X : Type 0} (all left : List X) (x : X) → all ≡ left ++ x ∷ [] → reverse all ≡ x ∷ reverse left
+next_last all left x is = ap reverse is ∙ reverse-append left (x ∷ [])
 
 -- What holds of it
 
@@ -95,3 +95,7 @@ first_holds ps bs l are size none others = subst (λ bs. ArePlaced bs l × AreTi
     drains_end = ap drained_last none;
   },
 )
+
+pub first_names : (agents n : ℕ) (ps : List AgentPlan) → names_of (first_books agents n ps) ≡ map (λ p. p.name) ps
+first_names agents n [] = refl
+first_names agents n (p ∷ ps) = ap (λ ns. p.name ∷ ns) (first_names agents (n + 1) ps)

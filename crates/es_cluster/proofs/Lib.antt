@@ -2,3 +2,10 @@ pub mod Named
 pub mod Standing
 pub mod Beginning
 pub mod Draining
+pub mod Resting
+pub mod Mover
+pub mod Rounds
+pub mod Finishing
+pub mod Turning
+pub mod Histories
+pub mod Ended

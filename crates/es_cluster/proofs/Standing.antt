@@ -43,6 +43,26 @@ set_length [] i x = refl
 set_length (y ∷ xs) zero x = refl
 set_length (y ∷ xs) (suc i) x = ap suc (set_length xs i x)
 
+pub set_same : {X : Type 0} (xs : List X) (i : ℕ) (x : X) → slice_get xs i ≡ Some x → slice_set xs i x ≡ xs
+set_same [] i x is = refl
+set_same (y ∷ xs) zero x is = let same : y ≡ x = cc in ap (λ x. x ∷ xs) (sym same)
+set_same (y ∷ xs) (suc i) x is = ap (λ ys. y ∷ ys) (set_same xs i x is)
+
+pub within : {X : Type 0} (xs : List X) (i : ℕ) (x : X) → slice_get xs i ≡ Some x → i < length xs
+within [] i x is = cc
+within (y ∷ xs) zero x is = omega arith
+within (y ∷ xs) (suc i) x is = let rest = within xs i x is in omega (arith, rest)
+
+pub books_length : (ms : List Seat) → length (books ms) ≡ length ms
+books_length [] = refl
+books_length (m ∷ ms) = ap suc (books_length ms)
+
+-- what is the same of both is the same of all
+pub mapped_still : {X Y : Type 0} (f : X → Y) (xs : List X) (i : ℕ) (x y : X) → slice_get xs i ≡ Some x → f y ≡ f x → map f (slice_set xs i y) ≡ map f xs
+mapped_still f [] i x y is same = refl
+mapped_still f (z ∷ xs) zero x y is same = let here : z ≡ x = cc in ap (λ v. v ∷ map f xs) (same ∙ ap f (sym here))
+mapped_still f (z ∷ xs) (suc i) x y is same = ap (λ vs. f z ∷ vs) (mapped_still f xs i x y is same)
+
 -- An agent after a turn of another
 
 seated_still : (b : Book) (l m : Books) (n : ℕ) → (b.number ≡ n → ⊥) → OthersStay n l m → IsSeated b l → IsSeated b m

@@ -21,6 +21,12 @@ pub record Cluster : Type 0 where
 abbrev pub books : List Seat → List Book
 books ms = map (λ m. m.book) ms
 
+abbrev pub plans : List Book → List AgentPlan
+plans bs = map (λ b. b.plan) bs
+
+abbrev pub names_of : List Book → List (List ℕ)
+names_of bs = map (λ b. b.plan.name) bs
+
 abbrev pub histories : Cluster → List History
 histories c = map (λ b. b.history) c.agents
 

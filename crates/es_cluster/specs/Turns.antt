@@ -23,6 +23,7 @@ pub record Turned (p : Progress) (n : ℕ) (old new : Cluster) : Type 0 where
   pub turn : Takes p before after
   pub told : Heard p before old.ledger new.ledger
   pub ledger : GrowsBy n old.ledger.history new.ledger.history
+  pub number : new.ledger.agents ≡ old.ledger.agents
   pub whole : (old.failed ≡ false) × (new.failed ≡ false)
 
 -- so did these agents, one after the other

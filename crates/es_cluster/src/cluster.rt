@@ -1,20 +1,22 @@
 //! Agents and their ledger, one turn after the other.
 
-ghost use Rattle.std.specs.Prelude.{◌≡◌, ◌<◌, ℕ, true, false, Some, length, reverse, slice_get, slice_index_or, IfOk, OnOk, OnErr, is_err};
+ghost use Rattle.std.specs.Prelude.{◌≡◌, ◌<◌, ℕ, ◌&&◌, not, true, false, Some, length, reverse, slice_get, slice_index_or, IfOk, IfSome, OnOk, OnErr, is_err, is_some};
 ghost use Rattle.es_event.specs.Ledger.{count};
 ghost use Rattle.es_event.specs.Others.{all_name_others};
 ghost use Rattle.es_match.specs.Cluster.{IsCluster};
-ghost use Rattle.es_cluster.specs.State.{histories, first_state};
+ghost use Rattle.es_cluster.specs.Ends.{EndsIn};
+ghost use Rattle.es_cluster.specs.Moves.{all_over};
+ghost use Rattle.es_cluster.specs.State.{histories, first_state, plans};
 ghost use Rattle.es_cluster.specs.Turns.{Turned, AllTurned};
 
-use crate::ending::give_up;
-use crate::seating::seat_all;
+use crate::ending::{all_have_ended, give_up, into_histories};
+use crate::seating::{copy_names, seat_all};
 use es_agent::AgentCore;
-use es_event::{LedgerEvent, Plan};
+use es_event::{Event, LedgerEvent, Outcome, Plan, Sequence};
 use es_ledger::LedgerCore;
 use es_member::{Member, Progress};
 use es_ticket::{Opened, Run};
-use es_value::NoMemory;
+use es_value::{Name, NoMemory};
 use std::alloc::Global;
 use std::marker::Model;
 
@@ -25,20 +27,23 @@ use std::marker::Model;
 /// ledger is, in order and with nothing besides, what its history asks. It holds tickets, so it
 /// can't be dropped, but ends by `abandon`.
 pub struct ClusterCore<L: Run> {
-    members: Vec<Member<L>>,
-    ledger: LedgerCore<L>,
-    failed: bool,
+    pub(crate) members: Vec<Member<L>>,
+    pub(crate) ledger: LedgerCore<L>,
+    pub(crate) failed: bool,
+    pub(crate) names: Sequence<Name>,
+    // the place of the histories that `end` gives
+    pub(crate) histories: Vec<Sequence<Event>>,
 }
 
 impl<L: Run> Model for ClusterCore<L> {
-    ghost use Rattle.std.specs.Prelude.{◌≡◌, false};
-    ghost use Rattle.es_cluster.specs.State.{Cluster, books, ArePlaced, AreTied};
+    ghost use Rattle.std.specs.Prelude.{◌≡◌, ◌≤◌, [], false, length, vec_capacity};
+    ghost use Rattle.es_cluster.specs.State.{Cluster, books, names_of, ArePlaced, AreTied};
 
     ghost Value = { Cluster };
 
     ghost view = { λ c. record { agents = books c.members.items; ledger = c.ledger; failed = c.failed } };
 
-    ghost invariant = { λ c. ArePlaced (books c.members.items) c.ledger × (c.failed ≡ false → AreTied (books c.members.items) c.ledger) };
+    ghost invariant = { λ c. ArePlaced (books c.members.items) c.ledger × (c.failed ≡ false → AreTied (books c.members.items) c.ledger) × (c.names ≡ names_of (books c.members.items)) × (c.histories.items ≡ []) × (length c.members.items ≤ vec_capacity c.histories) };
 }
 
 impl<L: Run> ClusterCore<L> {
@@ -52,12 +57,16 @@ impl<L: Run> ClusterCore<L> {
     {
         let agents = plan.agents.into_vec();
         let count = agents.len();
+        let names = copy_names(alloc, agents.as_slice())?;
+        let histories = Vec::with_capacity(alloc, count)?;
         let (ledger, stakes) = LedgerCore::<L>::new(alloc, opened, count)?;
         match seat_all(alloc, agents, stakes) {
             Ok(members) => Ok(ClusterCore {
                 members,
                 ledger,
                 failed: false,
+                names,
+                histories,
             }),
             Err((members, error)) => {
                 give_up(members, ledger, count);
@@ -74,6 +83,7 @@ impl<L: Run> ClusterCore<L> {
         ensures err { OnErr result (self.new.failed ≡ true) }
         ensures failed { self.old.failed ≡ true → is_err result ≡ true }
         ensures agents { length self.new.agents ≡ length self.old.agents }
+        ensures plans { plans self.new.agents ≡ plans self.old.agents }
     {
         if self.failed {
             return Err(NoMemory);
@@ -94,6 +104,7 @@ impl<L: Run> ClusterCore<L> {
         ensures err { OnErr result (self.new.failed ≡ true) }
         ensures failed { self.old.failed ≡ true → is_err result ≡ true }
         ensures agents { length self.new.agents ≡ length self.old.agents }
+        ensures plans { plans self.new.agents ≡ plans self.old.agents }
     {
         if self.failed {
             return Err(NoMemory);
@@ -102,6 +113,14 @@ impl<L: Run> ClusterCore<L> {
             self.step(turns[i])?;
         }
         Ok(())
+    }
+
+    /// How many agents there are.
+    pub fn agents(&self) -> usize
+        ensures count { result ≡ length self.now.agents }
+        ensures ledger { result ≡ self.now.ledger.agents }
+    {
+        self.members.len()
     }
 
     /// An agent.
@@ -125,9 +144,38 @@ impl<L: Run> ClusterCore<L> {
             members,
             ledger,
             failed: _,
+            names: _,
+            histories: _,
         } = self;
         let count = members.len();
         give_up(members, ledger, count);
+    }
+
+    /// The outcome, where all agents have ended and no step failed; `None` else. The messages that
+    /// nobody took are taken out first. All tickets are spent; it takes no memory.
+    pub fn end(self) -> Option<Outcome>
+        ensures some { is_some result ≡ (not self.failed && all_over self) }
+        ensures outcome { IfSome result (EndsIn self) }
+    {
+        if self.failed || !all_have_ended(&self.ledger, self.members.len()) {
+            self.abandon();
+            return None;
+        }
+        let ClusterCore {
+            members,
+            mut ledger,
+            failed: _,
+            names,
+            histories,
+        } = self;
+        let _ = ledger.history();
+        ledger.drain();
+        let histories = into_histories(members, &mut ledger, histories);
+        Some(Outcome {
+            names,
+            histories: Sequence::from_vec(histories),
+            ledger: ledger.into_history(),
+        })
     }
 
     /// What happened in the ledger, the oldest first. With the agents' histories it is that of one

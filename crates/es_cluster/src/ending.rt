@@ -1,9 +1,12 @@
 //! The end of members and their ledger.
 
-ghost use Rattle.std.specs.Prelude.{◌≡◌, ◌<◌, ℕ, true};
+ghost use Rattle.std.specs.Prelude.{◌≡◌, ◌≤◌, ◌<◌, ℕ, [], true, length, vec_capacity};
 ghost use Rattle.es_event.specs.Ledger.{ended};
 ghost use Rattle.es_event.specs.LegalLedger.{all_ended};
+ghost use Rattle.es_cluster.specs.Ends.{AreEnded, AreHistories, HaveNoTicket};
+ghost use Rattle.es_cluster.specs.State.{books};
 
+use es_event::{Event, Sequence};
 use es_ledger::LedgerCore;
 use es_member::Member;
 use es_ticket::Run;
@@ -44,4 +47,42 @@ fn end_agent<L: Run>(ledger: &mut LedgerCore<L>, agent: usize)
     if !ledger.has_ended(agent) {
         ledger.ended(agent);
     }
+}
+
+/// Whether all agents have ended.
+pub(crate) fn all_have_ended<L: Run>(ledger: &LedgerCore<L>, agents: usize) -> bool
+    requires { ledger.now.agents ≡ agents }
+    ensures { result ≡ all_ended ledger.now.history ledger.now.agents }
+{
+    for agent in 0..agents {
+        if !ledger.has_ended(agent) {
+            return false;
+        }
+    }
+    true
+}
+
+/// Gives up agents that have closed for their histories, by rising number, for which there is place.
+/// The ledger has no ticket of them. It takes no memory.
+pub(crate) fn into_histories<L: Run>(
+    mut members: Vec<Member<L>>,
+    ledger: &mut LedgerCore<L>,
+    mut histories: Vec<Sequence<Event>>,
+) -> Vec<Sequence<Event>>
+    requires ended { AreEnded (books members.items) }
+    requires empty { histories.items ≡ [] }
+    requires place { length members.items ≤ vec_capacity histories }
+    ensures same { ledger.new ≡ ledger.old }
+    ensures histories { AreHistories (books members.items) result.items }
+    ensures none { HaveNoTicket (books members.items) ledger.old.history }
+{
+    members.reverse();
+    for _ in 0..members.len() {
+        let Some(member) = members.pop() else {
+            unreachable!()
+        };
+        histories.push_reserved(member.into_history(ledger));
+    }
+    members.destroy_empty();
+    histories
 }

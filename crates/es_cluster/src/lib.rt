@@ -4,6 +4,7 @@
 mod cluster;
 mod ending;
 mod laws;
+mod moving;
 mod seating;
 #[cfg(test)]
 mod tests;

@@ -1,14 +1,14 @@
 //! Agents get their stakes.
 
-ghost use Rattle.std.specs.Prelude.{◌≡◌, ℕ, [], Some, length, slice_get, IfOk};
+ghost use Rattle.std.specs.Prelude.{◌≡◌, ℕ, [], Some, length, map, slice_get, IfOk};
 ghost use Rattle.es_ticket.specs.Shares.{Share};
 ghost use Rattle.es_cluster.specs.State.{books, first_books};
 
 use es_agent::AgentCore;
-use es_event::AgentPlan;
+use es_event::{AgentPlan, Sequence};
 use es_member::Member;
 use es_ticket::{Run, Stake};
-use es_value::NoMemory;
+use es_value::{Name, NoMemory};
 use std::alloc::Global;
 
 /// The members with these plans, by rising number, each with the stake of its number. Where memory ends,
@@ -38,4 +38,16 @@ pub(crate) fn seat_all<L: Run>(
         }
     }
     Ok(members)
+}
+
+/// The names of the agents with these plans.
+pub(crate) fn copy_names(alloc: Global, plans: &[AgentPlan]) -> Result<Sequence<Name>, NoMemory>
+    ensures { IfOk result (λ ns. ns ≡ map (λ p. p.name) plans.now) }
+{
+    let mut names = Sequence::new(alloc);
+    for plan in plans {
+        let name = plan.name.copy()?;
+        names.push(name)?;
+    }
+    Ok(names)
 }

@@ -1,20 +1,17 @@
 -- To believe: what a run does, on bytes: the reader's bytes to its end, and what is written for them.
-use Rattle.std.specs.Prelude.{ℕ, ◌≡◌, ◌≤◌, ⊤, Bool, true, false, List, [], Option, Some, Result, Ok, Err, length, codes}
+use Rattle.std.specs.Prelude.{ℕ, ◌≡◌, ◌≤◌, ⊤, Bool, true, false, List, [], Option, Some, Result, Ok, Err, length, map, reverse, codes}
 use Rattle.std.specs.Io.KnownBytes.{Appends, Consumes, IsAtEnd}
-use Rattle.std.specs.List.{list_all}
 use Rattle.es_value.specs.Limits.{longest_plan}
-use Rattle.es_event.specs.Jobs.{stays_alone}
+use Rattle.es_event.specs.Ledger.{count, port_of}
+use Rattle.es_event.specs.LegalLedger.{LegalLedger}
 use Rattle.es_event.specs.declared.outcome.Outcome.{Outcome}
 use Rattle.es_event.specs.declared.plan.Plan.{Plan}
 use Rattle.es_event.specs.Report.{report}
 use Rattle.es_event.specs.Runs.{IsOutcome}
+use Rattle.es_match.specs.Cluster.{IsCluster}
 use Rattle.es_engine.specs.declared.run_fault.RunFault.{RunFault}
 use Rattle.es_engine.specs.declared.run_fault.RunFault.TheVariants.{Script, NoMemory, Read, Write}
 use Rattle.es_script.specs.Fault.{IsPlanOf, fault_of}
-
--- each agent stays alone
-abbrev pub stay_alone : Plan → Bool
-stay_alone p = list_all stays_alone p.agents
 
 -- the reader gave these bytes and then its end, and they are no more than a plan has at most
 pub record GaveAll (old new : Option (List ℕ)) (bytes : List ℕ) : Type 0 where
@@ -36,11 +33,19 @@ IsAnswerFault NoMemory = ⊤
 IsAnswerFault Read = ⊥
 IsAnswerFault Write = ⊤
 
--- `ok` where the plan is only checked, and else the report of whole runs of its agents and of a ledger without events, since none
--- is kept yet
+-- the names of the plan, and whole runs of its agents; the ledger's history is legal and theirs are those of one cluster with it; no
+-- ticket of any block and no message is left (Agents and Agent Clusters)
+pub record IsClusterOutcome (p : Plan) (o : Outcome) : Type 0 where
+  pub outcome : IsOutcome p o
+  pub legal : LegalLedger (length p.agents) (reverse o.ledger)
+  pub cluster : IsCluster (map (λ h. reverse h) o.histories) (reverse o.ledger)
+  pub tickets : (b : ℕ) → count (reverse o.ledger) b ≡ 0
+  pub messages : (s r : ℕ) → port_of (reverse o.ledger) s r ≡ []
+
+-- `ok` where the plan is only checked, and else the report of an outcome of its cluster
 abbrev pub IsAnswer : Bool → Plan → List ℕ → Type 0
 IsAnswer true p text = text ≡ codes "ok\n"
-IsAnswer false p text = (o : Outcome) × IsOutcome p o × (o.ledger ≡ []) × (text ≡ report o)
+IsAnswer false p text = (o : Outcome) × IsClusterOutcome p o × (text ≡ report o)
 
 -- the answer for the plan is added to what the writer holds
 abbrev pub Answers : Bool → Plan → Option (List ℕ) → Option (List ℕ) → Type 0

@@ -1,7 +1,13 @@
 -- To believe: what is said of answers as a whole; the contract of a function that does nothing.
 use Rattle.std.specs.Prelude.{ℕ, ◌≡◌, Bool, true, List}
+use Rattle.std.specs.List.{list_all}
 use Rattle.es_event.specs.declared.plan.Plan.{Plan}
-use Rattle.es_engine.specs.Engine.{stay_alone, IsAnswer}
+use Rattle.es_event.specs.Jobs.{stays_alone}
+use Rattle.es_engine.specs.Engine.{IsAnswer}
+
+-- each agent stays alone: it neither posts nor waits for messages, and has no shared buffer
+abbrev pub stay_alone : Plan → Bool
+stay_alone p = list_all stays_alone p.agents
 
 -- A plan whose agents stay alone has one answer: what a run writes is the report of the plan.
 abbrev pub APlanHasOneAnswer : Type 0

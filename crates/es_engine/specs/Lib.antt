@@ -1,4 +1,3 @@
 pub mod Faults
-pub mod Agents
 pub mod Engine
 pub mod Laws

@@ -1,10 +1,11 @@
 //! A run: the bytes of a plan in, and its report out.
 
-ghost use Rattle.std.specs.Prelude.{◌≡◌, ◌≢◌, IfOk, IfErr, OnOk, OnErr, true};
+ghost use Rattle.std.specs.Prelude.{◌≡◌, ◌≢◌, ◌<◌, length, IfOk, IfErr, OnOk, OnErr, true};
+ghost use Rattle.es_event.specs.Others.{all_name_others};
 ghost use Rattle.es_script.specs.Grammar.{no_callback_collects};
-ghost use Rattle.es_engine.specs.Engine.{stay_alone, Answers, IsAnswerFault, ReadsPlan, RunsTo};
+ghost use Rattle.es_engine.specs.Engine.{Answers, IsAnswerFault, ReadsPlan, RunsTo};
 
-use crate::agents::run_plan;
+use crate::cluster::run_plan;
 use crate::input::read_all;
 use crate::run_fault::RunFault;
 use es_event::Plan;
@@ -15,7 +16,7 @@ use std::alloc::Global;
 use std::io::{Read, Write};
 
 /// Reads a plan to the reader's end, runs it, or only checks it, and writes the answer. Gives the
-/// number of audits of the shared blocks, which is 0 until they are built.
+/// number of audits of the shared blocks, which is 0 as long as agents run by turns.
 ///
 /// The report is written only after the run has ended well. On every fault but `Write` nothing is
 /// written.
@@ -36,7 +37,8 @@ pub fn run<H: AllocGlobal, R: Read, W: Write>(
 /// The plan that the reader's bytes stand for.
 fn plan_from<R: Read>(alloc: Global, reader: &mut R) -> Result<Plan, RunFault>
     ensures reads { ReadsPlan (R.remaining reader.old) (R.remaining reader.new) result }
-    ensures alone { IfOk result (λ p. stay_alone p ≡ true) }
+    ensures few { IfOk result (λ p. length p.agents < 9) }
+    ensures others { IfOk result (λ p. all_name_others p ≡ true) }
     ensures quiet { IfOk result (λ p. no_callback_collects p ≡ true) }
 {
     let bytes = read_all(alloc, reader)?;
@@ -46,7 +48,8 @@ fn plan_from<R: Read>(alloc: Global, reader: &mut R) -> Result<Plan, RunFault>
 
 /// Writes what there is to say of a plan.
 fn answer<W: Write>(alloc: Global, plan: Plan, check: bool, writer: &mut W) -> Result<(), RunFault>
-    requires alone { stay_alone plan ≡ true }
+    requires few { length plan.agents < 9 }
+    requires others { all_name_others plan ≡ true }
     requires collects { no_callback_collects plan ≡ true }
     ensures answers { OnOk result (Answers check plan (W.contents writer.old) (W.contents writer.new)) }
     ensures fault { IfErr result IsAnswerFault }
@@ -56,6 +59,11 @@ fn answer<W: Write>(alloc: Global, plan: Plan, check: bool, writer: &mut W) -> R
         return writer.write_all(b"ok\n").map_err(|_| RunFault::Write);
     }
     let ended = run_plan(alloc, plan)?;
-    // no block was made, so none was released
-    write_report(&ended.outcome, ended.tallies.as_slice(), 0, writer).map_err(|_| RunFault::Write)
+    write_report(
+        &ended.outcome,
+        ended.tallies.as_slice(),
+        ended.released,
+        writer,
+    )
+    .map_err(|_| RunFault::Write)
 }

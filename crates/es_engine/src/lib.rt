@@ -1,7 +1,7 @@
 //! The engine: a plan's bytes from a reader, the run of its agents, and the report to a writer.
 #![tactic(auto)]
 
-mod agents;
+mod cluster;
 mod engine;
 mod input;
 mod laws;

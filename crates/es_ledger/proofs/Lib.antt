@@ -2,6 +2,7 @@ pub mod Lines
 mod Numbered
 mod Queues
 pub mod Lying
+pub mod Mailed
 mod Untouched
 mod After
 mod Made

@@ -1,17 +1,18 @@
 -- Tickets and rows, counted.
-use Rattle.std.proofs.Common.{◌≡◌, ◌≤◌, ◌+◌, ◌∷◌, ◌++◌, [], List, map, ℕ, Bool, true, false, cond, refl, ap, ◌∙◌, arith, append_assoc, ◌==◌, Some}
+use Rattle.std.proofs.Common.{◌≡◌, ◌≤◌, ◌+◌, ◌∷◌, ◌++◌, [], List, map, ℕ, Bool, true, false, cond, refl, ap, subst, ◌∙◌, arith, append_assoc, ◌==◌, Some}
 use Rattle.std.specs.List.{count_by, Contains}
 use Rattle.std.proofs.lemmas.List.{map-append}
 use Rattle.std.proofs.lemmas.List.Sums.{sum_by-cons}
 use Rattle.es_event.specs.declared.row.Row.{Row}
 use Rattle.es_event.specs.Ledger.{Ledger, ended}
 use Rattle.es_event.specs.declared.ledger_event.LedgerEvent.TheVariants.{Spent}
+use Rattle.es_event.specs.Order.{phase}
 use Rattle.es_ticket.specs.Owned.{Owns}
 use Rattle.es_ticket.proofs.Counted.{counted_last, owned_last}
 use Rattle.es_ticket.specs.Shares.{Share, at}
 use Rattle.es_record.specs.Book.{Book}
-use Rattle.es_agent.specs.Tickets.{tickets}
-use Rattle.es_member.specs.Seats.{SameRows, Holds, HoldsBeside}
+use Rattle.es_agent.specs.Tickets.{is_ended, tickets}
+use Rattle.es_member.specs.Seats.{rows_of, SameRows, Holds, HoldsBeside}
 use Rattle.es_member.specs.Turned.{spent}
 
 pub counted_rows : (p : Row → Bool) (ts : List (ℕ × Row)) → count_by p (map (λ t. t.1) ts) ≡ count_by (λ t. p t.1) ts
@@ -57,3 +58,18 @@ ticket_held b s o r holds e = counted_there s.rows r (λ p. let a = at_counted p
 -- and so is one that the stake has beside the agent's
 pub beside_held : (b : Book) (s : Share) (r : Row) → HoldsBeside r b s → Contains s.rows r
 beside_held b s r holds = counted_there s.rows r (λ p. let a = holds.1 p in omega (arith, a))
+
+-- rows that are those of no ticket are none
+none_left : (rows : List Row) → SameRows [] rows → rows ≡ []
+none_left [] same = refl
+none_left (r ∷ rows) same =
+    let one = sum_by-cons (λ r. cond {A = ℕ} true 1 0) r rows in
+    let none = same (λ r. true) in
+    absurd (omega (arith, one, none))
+
+-- an agent that has ended has none
+pub none_over : (b : Book) (rows : List Row) → is_ended (phase b.history) ≡ true → SameRows (rows_of b) rows → rows ≡ []
+none_over b rows over same = none_left rows (subst (λ rs. SameRows rs rows) empty same)
+  where
+    empty : rows_of b ≡ []
+    empty = rw over refl

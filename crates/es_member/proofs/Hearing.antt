@@ -17,7 +17,8 @@ use Rattle.es_agent.specs.Tickets.{Skips}
 use Rattle.es_member.specs.Midway.{IsReady}
 use Rattle.es_member.specs.Seats.{Holds}
 use Rattle.es_member.specs.Tied.{GrowsBy, IsTied}
-use Rattle.es_member.specs.Turned.{Keeps}
+use Rattle.es_member.specs.Turned.{Heard, Keeps}
+use Rattle.es_member.specs.declared.member.Progress.TheVariants.{Moved}
 use Rattle.es_member.proofs.Growing.{grows_none, grows_one, grows_on}
 use Rattle.es_member.proofs.Midway.{awaits}
 use Rattle.es_member.proofs.Moving.{Stays, keeps, kept_after, skipped_stays, holds_still}
@@ -53,6 +54,17 @@ where_stay l k n a s is =
 pub where_skip : (l k : Ledger) (n a s : ℕ) → ◌≡◌ {A = Turn × Ledger} (Skip, k) (told l n a s) → k ≡ Passed a s ∷ asked l a s
 where_skip l k n a s is =
     by_message Skip l k n a s is (λ b is. let clash : Skip ≡ Ready = ap (λ p. p.0) is in cc) (λ is. judged_skips (waits_for (asked l a s) a s && skips (asked l a s) n a s) (asked l a s) k a s is)
+
+-- An agent that goes on was not told to stay
+
+pub goes_on : (b : Book) (l m : Books) (s : ℕ) (t : Turn) (k : Ledger) → need b ≡ asks_message s → ◌≡◌ {A = Turn × Ledger} (t, k) (told l.history l.agents b.number s) → (t ≡ Stay → ⊥) → Heard Moved b l m
+goes_on b l m s t k is heard other u asks stays =
+    let same : s ≡ u = cc in
+    other (ap (λ p. p.0) heard ∙ ap (λ s. (told l.history l.agents b.number s).0) same ∙ stays)
+
+pub goes_on_ready : (b : Book) (l m : Books) (s : ℕ) → need b ≡ asks_message s → has_message l.history s b.number ≡ true → Heard Moved b l m
+goes_on_ready b l m s is there =
+    goes_on b l m s Ready l.history is (ap (λ t. cond t (Ready, l.history) (judged (asked l.history b.number s) l.agents b.number s)) (sym there)) (λ e. cc)
 
 -- The wait is recorded, where it is not yet
 

@@ -48,9 +48,10 @@ Proceeds Moved old new = Moves old.book new.book
 Proceeds Waiting old new = (s : ℕ) × (need old.book ≡ asks_message s) × (new ≡ old)
 Proceeds Ended old new = (need old.book ≡ asks_nothing) × (new ≡ old)
 
--- an agent that waits on was told to by the rules, and one that has ended does nothing
+-- an agent that waits on was told to by the rules, one that asks for a message and goes on was not, and one that has ended does
+-- nothing
 abbrev pub Heard : Progress → Book → Books → Books → Type 0
-Heard Moved b old new = ⊤
+Heard Moved b old new = (s : ℕ) → need b ≡ asks_message s → (told old.history old.agents b.number s).0 ≢ Stay
 Heard Waiting b old new = (s : ℕ) × (need b ≡ asks_message s) × (◌≡◌ {A = Turn × Ledger} (Stay, new.history) (told old.history old.agents b.number s))
 Heard Ended b old new = new ≡ old
 

@@ -3,7 +3,9 @@
 ghost use Rattle.std.specs.Prelude.{◌≡◌, [], true, reverse, IfOk, OnOk, OnErr};
 ghost use Rattle.es_event.specs.Jobs.{receivers};
 ghost use Rattle.es_event.specs.Live.{Honest};
+ghost use Rattle.es_event.specs.Ledger.{table};
 ghost use Rattle.es_event.specs.Order.{phase};
+ghost use Rattle.es_event.specs.Rows.{held};
 ghost use Rattle.es_event.specs.Runs.{IsRunOver};
 ghost use Rattle.es_rules.specs.Needs.{need};
 ghost use Rattle.es_agent.specs.Tickets.{is_ended, tickets};
@@ -101,14 +103,18 @@ impl<L: Run> Member<L> {
         spend_all(ledger, &mut stake, rack);
     }
 
-    /// Gives up an agent that has closed for its events, the oldest first. It takes no memory.
-    pub fn into_history(self) -> Sequence<Event>
+    /// Gives up an agent that has closed for its events, the oldest first: the ledger has no ticket of
+    /// it. It takes no memory.
+    pub fn into_history(self, ledger: &mut LedgerCore<L>) -> Sequence<Event>
         requires { is_ended (phase self.book.history) ≡ true }
+        ensures same { ledger.new ≡ ledger.old }
+        ensures none { held self.book.number (table ledger.old.history) ≡ [] }
         ensures events { reverse result ≡ self.book.history }
         ensures run { IsRunOver self.book.over self.book.plan self.book.history }
         ensures honest { Honest (receivers self.book.plan.jobs) self.book.history }
     {
-        let Member { core, stake: _ } = self;
+        let Member { core, mut stake } = self;
+        ledger.look(&mut stake);
         core.into_history()
     }
 }

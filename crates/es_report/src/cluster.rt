@@ -3,7 +3,7 @@
 ghost use Rattle.std.specs.Prelude.{◌≡◌, count_by, reverse, OnOk};
 ghost use Rattle.std.specs.Option.{is_some};
 ghost use Rattle.std.specs.Io.KnownBytes.{Appends};
-ghost use Rattle.es_event.specs.Ledger.{opens};
+ghost use Rattle.es_event.specs.Ledger.{opened, opens};
 ghost use Rattle.es_event.specs.Report.{cluster_text};
 ghost use Rattle.es_event.specs.Totals.{is_drained, is_posted, is_taken, released as released_said};
 
@@ -22,7 +22,7 @@ pub(crate) fn write_cluster<W: Write>(
     ensures { OnOk result (Appends (W.contents writer.old) (W.contents writer.new) (cluster_text (reverse ledger.now))) }
 {
     let events = ledger.as_slice();
-    let opened = count_opened(events);
+    let opened = count_blocks(events);
     let posted = count_posted(events);
     let taken = count_taken(events);
     let drained = count_drained(events);
@@ -32,6 +32,13 @@ pub(crate) fn write_cluster<W: Write>(
          blocks {opened} released {released}\n\
          messages posted {posted} taken {taken} drained {drained}"
     )
+}
+
+/// How many blocks were made, by the ledger's events, the oldest first.
+pub fn count_blocks(events: &[LedgerEvent]) -> usize
+    ensures { result ≡ opened (reverse events.now) }
+{
+    count_opened(events)
 }
 
 fn count_opened(events: &[LedgerEvent]) -> usize

@@ -1,18 +1,21 @@
-//! Agents, their callbacks and their jobs.
+//! Agents and their callbacks.
 
 ghost use Rattle.std.specs.Prelude.{◌≡◌, [], option_map};
 ghost use Rattle.serde_json.specs.View.{view, items_view, members_view};
 ghost use Rattle.es_script.specs.Parts.{members_in};
-ghost use Rattle.es_script.specs.Reading.{Gives, said, callback_read, callbacks_read, job_read, jobs_read, names_read, agent_name_read, agent_read, agents_read};
+ghost use Rattle.es_script.specs.Scope.{agent_from};
+ghost use Rattle.es_script.specs.Reading.{Gives, numbered, said, callback_read, callbacks_read, names_read, agent_name_read, agent_read, agents_read};
 ghost use Rattle.es_script.specs.Grammar.{is_used};
 
-use crate::command::{callback_run, job_run};
+use crate::command::callback_run;
 use crate::fault::{FaultCode, Spot, fault_in};
-use crate::operand::name_of;
+use crate::job::jobs_of;
+use crate::number_table::{NumberTable, agent_numbers, callback_numbers};
 use crate::parts::{has_at_most, has_at_most_members, items, taken_items, text};
-use crate::scope::{CallbackNumbers, callback_numbers};
+use crate::scope::Scope;
+use crate::spelled::name_of;
 use crate::{Place, ReadFault};
-use es_event::{AgentPlan, Callback, Job, Sequence};
+use es_event::{AgentPlan, Callback, Sequence};
 use es_value::{MOST_CALLBACKS, MOST_JOBS, Name, Names};
 use serde_json::{Map, Value};
 use std::alloc::Global;
@@ -54,25 +57,47 @@ pub(crate) fn agents_of(
     alloc: Global,
     agents: &mut [Value],
 ) -> Result<Sequence<AgentPlan>, ReadFault>
-    ensures { Gives (λ s. s) result (agents_read 0 (items_view agents.old)) }
+    ensures { Gives (λ s. s) result (agents_read (agent_from 0 (items_view agents.old)) 0 (items_view agents.old)) }
+{
+    let numbers = agent_numbers(alloc, agents)?;
+    plans_of(alloc, &numbers, agents)
+}
+
+/// The plans, by the numbers of all agents.
+fn plans_of(
+    alloc: Global,
+    numbers: &NumberTable,
+    agents: &mut [Value],
+) -> Result<Sequence<AgentPlan>, ReadFault>
+    ensures { Gives (λ s. s) result (agents_read (numbered numbers.now) 0 (items_view agents.old)) }
 {
     let mut plans = Sequence::new(alloc);
     for (index, agent) in agents.iter_mut().enumerate() {
-        let plan = agent_of(alloc, index, agent.take())?;
+        let plan = agent_of(alloc, numbers, index, agent.take())?;
         plans.push(plan)?;
     }
     Ok(plans)
 }
 
 /// The plan of an agent. Its names share their texts with each other, and with no other agent's.
-fn agent_of(alloc: Global, agent: usize, value: Value) -> Result<AgentPlan, ReadFault>
-    ensures { Gives (λ a. a) result (agent_read agent (view value)) }
+fn agent_of(
+    alloc: Global,
+    numbers: &NumberTable,
+    agent: usize,
+    value: Value,
+) -> Result<AgentPlan, ReadFault>
+    ensures { Gives (λ a. a) result (agent_read (numbered numbers.now) agent (view value)) }
 {
-    agent_with(&mut Names::new(alloc), agent, value)
+    agent_with(&mut Names::new(alloc), numbers, agent, value)
 }
 
-fn agent_with(names: &mut Names, agent: usize, mut value: Value) -> Result<AgentPlan, ReadFault>
-    ensures { Gives (λ a. a) result (agent_read agent (view value)) }
+fn agent_with(
+    names: &mut Names,
+    numbers: &NumberTable,
+    agent: usize,
+    mut value: Value,
+) -> Result<AgentPlan, ReadFault>
+    ensures { Gives (λ a. a) result (agent_read (numbered numbers.now) agent (view value)) }
 {
     let name = agent_name(names, agent, &value)?;
     if !has_at_most_members(value.get("callbacks"), MOST_CALLBACKS) {
@@ -81,7 +106,8 @@ fn agent_with(names: &mut Names, agent: usize, mut value: Value) -> Result<Agent
     if !has_at_most(items(value.get("jobs")), MOST_JOBS) {
         return Err(fault_in(Place::Agent(agent), FaultCode::Limit));
     }
-    let scope = callback_numbers(names.allocator(), value.get("callbacks"))?;
+    let callbacks = callback_numbers(names.allocator(), value.get("callbacks"))?;
+    let scope = Scope::new(callbacks, numbers, agent);
     let callbacks = callbacks_of(names, &scope, agent, value.get("callbacks"))?;
     let mut jobs = taken_items(names.allocator(), value.get_mut("jobs"));
     let jobs = jobs_of(names, &scope, agent, jobs.as_mut_slice())?;
@@ -94,7 +120,7 @@ fn agent_with(names: &mut Names, agent: usize, mut value: Value) -> Result<Agent
 
 fn callbacks_of(
     names: &mut Names,
-    scope: &CallbackNumbers,
+    scope: &Scope,
     agent: usize,
     value: Option<&Value>,
 ) -> Result<Sequence<Callback>, ReadFault>
@@ -111,7 +137,7 @@ fn callbacks_of(
 /// come by rising names.
 fn callbacks_in(
     names: &mut Names,
-    scope: &CallbackNumbers,
+    scope: &Scope,
     agent: usize,
     members: &Map<String, Value>,
 ) -> Result<Sequence<Callback>, ReadFault>
@@ -128,7 +154,7 @@ fn callbacks_in(
 
 fn callback_of(
     names: &mut Names,
-    scope: &CallbackNumbers,
+    scope: &Scope,
     name: &str,
     value: &Value,
     place: Place,
@@ -138,33 +164,4 @@ fn callback_of(
     let name = name_of(names, name, Spot { place, command: 0 })?;
     let run = callback_run(names, scope, items(Some(value)), place)?;
     Ok(Callback { name, run })
-}
-
-fn jobs_of(
-    names: &mut Names,
-    scope: &CallbackNumbers,
-    agent: usize,
-    jobs: &mut [Value],
-) -> Result<Sequence<Job>, ReadFault>
-    ensures { Gives (λ s. s) result (jobs_read (said scope.now) agent 1 (items_view jobs.old)) }
-{
-    let mut all = Sequence::new(names.allocator());
-    for (index, value) in jobs.iter_mut().enumerate() {
-        let job = job_of(names, scope, value.take(), Place::Job(agent, index + 1))?;
-        all.push(job)?;
-    }
-    Ok(all)
-}
-
-fn job_of(
-    names: &mut Names,
-    scope: &CallbackNumbers,
-    mut value: Value,
-    place: Place,
-) -> Result<Job, ReadFault>
-    ensures { Gives (λ j. j) result (job_read (said scope.now) place (view value)) }
-{
-    let list = taken_items(names.allocator(), value.get_mut("run"));
-    let run = job_run(names, scope, list, place)?;
-    Ok(Job { on: None, run })
 }

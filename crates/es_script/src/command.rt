@@ -7,7 +7,7 @@ ghost use Rattle.es_script.specs.Reading.{Gives, said, command_read, commands_re
 use crate::fault::{FaultCode, Spot, fault_in};
 use crate::named::command_named;
 use crate::parts::has_at_most;
-use crate::scope::CallbackNumbers;
+use crate::scope::Scope;
 use crate::{Place, ReadFault};
 use es_event::{Command, Sequence};
 use es_value::{MOST_COMMANDS, Names};
@@ -17,7 +17,7 @@ use serde_json::Value;
 /// parts, so of an agent only the jobs are taken.
 pub(crate) fn callback_run(
     names: &mut Names,
-    scope: &CallbackNumbers,
+    scope: &Scope,
     list: &[Value],
     place: Place,
 ) -> Result<Sequence<Command>, ReadFault>
@@ -31,7 +31,7 @@ pub(crate) fn callback_run(
 
 fn commands_of(
     names: &mut Names,
-    scope: &CallbackNumbers,
+    scope: &Scope,
     list: &[Value],
     place: Place,
 ) -> Result<Sequence<Command>, ReadFault>
@@ -52,7 +52,7 @@ fn commands_of(
 /// The commands of a job, whose JSON is given up piece by piece as they are made.
 pub(crate) fn job_run(
     names: &mut Names,
-    scope: &CallbackNumbers,
+    scope: &Scope,
     mut list: Vec<Value>,
     place: Place,
 ) -> Result<Sequence<Command>, ReadFault>
@@ -66,7 +66,7 @@ pub(crate) fn job_run(
 
 fn commands_taken(
     names: &mut Names,
-    scope: &CallbackNumbers,
+    scope: &Scope,
     list: &mut [Value],
     place: Place,
 ) -> Result<Sequence<Command>, ReadFault>
@@ -86,7 +86,7 @@ fn commands_taken(
 
 fn command_of(
     names: &mut Names,
-    scope: &CallbackNumbers,
+    scope: &Scope,
     value: &Value,
     spot: Spot,
 ) -> Result<Command, ReadFault>

@@ -4,22 +4,25 @@
 ghost use Rattle.std.specs.Prelude.{◌≡◌};
 ghost use Rattle.serde_json.specs.View.{items_view};
 ghost use Rattle.serde_json.specs.Events.{items_len};
-ghost use Rattle.es_script.specs.Forms.{form, weak_form, registry_form, register_form};
+ghost use Rattle.es_script.specs.Forms.{form, weak_form};
 ghost use Rattle.es_script.specs.Reading.{Gives, said, outside_read, form_read};
 
+mod registry;
+mod shared;
+
 use crate::fault::{FaultCode, Spot};
-use crate::operand::{four, none, one, three, two};
-use crate::parts::has_exactly;
-use crate::scope::CallbackNumbers;
+use crate::operands::{none, one, three, two};
+use crate::scope::Scope;
 use crate::{Place, ReadFault};
 use es_event::Command;
 use es_value::Names;
 use serde_json::Value;
+use shared::shared_command;
 
 /// A command on values, variables or objects, or a collection, and then the others.
 pub(crate) fn command_named(
     names: &mut Names,
-    scope: &CallbackNumbers,
+    scope: &Scope,
     word: &str,
     operands: &[Value],
     spot: Spot,
@@ -83,7 +86,7 @@ pub(crate) fn command_named(
 /// A command on WeakRefs, WeakMaps or WeakSets, and then the others.
 fn weak_command(
     names: &mut Names,
-    scope: &CallbackNumbers,
+    scope: &Scope,
     word: &str,
     operands: &[Value],
     spot: Spot,
@@ -135,64 +138,8 @@ fn weak_command(
             let (to, set, member) = three(names, scope, operands, spot)?;
             Ok(Command::WeakSetDelete { to, set, member })
         }
-        _ => registry_command(names, scope, word, operands, spot),
+        _ => shared_command(names, scope, word, operands, spot),
     }
-}
-
-/// A command on FinalizationRegistries.
-fn registry_command(
-    names: &mut Names,
-    scope: &CallbackNumbers,
-    word: &str,
-    operands: &[Value],
-    spot: Spot,
-) -> Result<Command, ReadFault>
-    ensures { Gives (λ c. c) result (form_read (said scope.now) spot (registry_form word.now (items_len (items_view operands.now))) (items_view operands.now)) }
-{
-    match word {
-        "registry" => {
-            let (to, callback) = two(names, scope, operands, spot)?;
-            Ok(Command::FinalizationRegistry { to, callback })
-        }
-        "register" => register_of(names, scope, operands, spot),
-        "unregister" => {
-            let (to, registry, token) = three(names, scope, operands, spot)?;
-            Ok(Command::Unregister {
-                to,
-                registry,
-                token,
-            })
-        }
-        _ => Err(spot.fault(FaultCode::Operands)),
-    }
-}
-
-/// A `register`, with a token where there are four operands.
-fn register_of(
-    names: &mut Names,
-    scope: &CallbackNumbers,
-    operands: &[Value],
-    spot: Spot,
-) -> Result<Command, ReadFault>
-    ensures { Gives (λ c. c) result
-        (form_read (said scope.now) spot (register_form (items_len (items_view operands.now))) (items_view operands.now)) }
-{
-    if has_exactly(operands, 4) {
-        let (registry, target, held, token) = four(names, scope, operands, spot)?;
-        return Ok(Command::Register {
-            registry,
-            target,
-            held,
-            token: Some(token),
-        });
-    }
-    let (registry, target, held) = three(names, scope, operands, spot)?;
-    Ok(Command::Register {
-        registry,
-        target,
-        held,
-        token: None,
-    })
 }
 
 /// The fault of a command that no callback may have, where the spot is in one.

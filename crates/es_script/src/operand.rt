@@ -1,20 +1,18 @@
-//! The operands of commands.
+//! What can be an operand of a command.
 
-ghost use Rattle.std.specs.Prelude.{◌≡◌, ◌∷◌, [], None};
-ghost use Rattle.serde_json.specs.View.{view, items_view, number_view};
-ghost use Rattle.serde_json.specs.Find.{as_i64};
-ghost use Rattle.es_script.specs.Forms.{OperandType, name, literal, text, callback, Meaning};
+ghost use Rattle.std.specs.Prelude.{◌≡◌};
+ghost use Rattle.serde_json.specs.View.{view};
+ghost use Rattle.es_script.specs.Forms.{OperandType, name, literal, text, callback, agent, whole, words, Meaning};
 ghost use Rattle.es_script.specs.Fault.{fits};
-ghost use Rattle.es_script.specs.Grammar.{is_whole};
-ghost use Rattle.es_script.specs.Reading.{Gives, said, name_read, text_read, number_read, reference_read, operand_read, operands_read};
+ghost use Rattle.es_script.specs.Reading.{Gives, said, operand_read};
 
 use crate::ReadFault;
 use crate::fault::{FaultCode, Spot};
-use crate::scope::CallbackNumbers;
+use crate::scope::Scope;
+use crate::spelled::{agent_named, callback_named, name_of, text_of, whole_of, words_of};
 use es_event::Literal;
-use es_value::{Name, NameFault, Names, Text, TextFault};
-use serde_json::{Number, Value};
-use std::alloc::Global;
+use es_value::{Name, Names, Text};
+use serde_json::Value;
 
 /// What can be an operand of a command.
 pub(crate) trait Operand: Sized + Drop {
@@ -27,12 +25,7 @@ pub(crate) trait Operand: Sized + Drop {
         ensures { result ≡ fits kind (view value.now) };
 
     /// The operand that a value of its JSON kind stands for.
-    fn read(
-        names: &mut Names,
-        scope: &CallbackNumbers,
-        value: &Value,
-        spot: Spot,
-    ) -> Result<Self, ReadFault>
+    fn read(names: &mut Names, scope: &Scope, value: &Value, spot: Spot) -> Result<Self, ReadFault>
         ensures { Gives meaning result (operand_read (said scope.now) spot kind (view value.now)) };
 }
 
@@ -48,7 +41,7 @@ impl Operand for Name {
 
     fn read(
         names: &mut Names,
-        _scope: &CallbackNumbers,
+        _scope: &Scope,
         value: &Value,
         spot: Spot,
     ) -> Result<Name, ReadFault> {
@@ -70,14 +63,14 @@ impl Operand for Literal {
 
     fn read(
         names: &mut Names,
-        _scope: &CallbackNumbers,
+        _scope: &Scope,
         value: &Value,
         spot: Spot,
     ) -> Result<Literal, ReadFault> {
         match value {
             Value::Null => Ok(Literal::Undefined),
             Value::Bool(b) => Ok(Literal::Boolean(*b)),
-            Value::Number(number) => number_of(number, spot),
+            Value::Number(number) => Ok(Literal::Number(whole_of(number, spot)?)),
             Value::String(chars) => Ok(Literal::Text(text_of(
                 names.allocator(),
                 chars.as_str(),
@@ -99,7 +92,7 @@ impl Operand for Text {
 
     fn read(
         names: &mut Names,
-        _scope: &CallbackNumbers,
+        _scope: &Scope,
         value: &Value,
         spot: Spot,
     ) -> Result<Text, ReadFault> {
@@ -122,7 +115,7 @@ impl Operand for usize {
 
     fn read(
         names: &mut Names,
-        scope: &CallbackNumbers,
+        scope: &Scope,
         value: &Value,
         spot: Spot,
     ) -> Result<usize, ReadFault> {
@@ -133,170 +126,77 @@ impl Operand for usize {
     }
 }
 
-/// The name that is spelled so.
-pub(crate) fn name_of(names: &mut Names, chars: &str, spot: Spot) -> Result<Name, ReadFault>
-    ensures { Gives (λ n. n) result (name_read spot chars.now) }
-{
-    match names.read(chars) {
-        Ok(name) => Ok(name),
-        Err(NameFault::BadName) => Err(spot.fault(FaultCode::Name)),
-        Err(NameFault::NoMemory) => Err(ReadFault::NoMemory),
-    }
-}
+/// The number of another agent, which is named.
+#[derive(Clone, Copy)]
+pub(crate) struct AgentNumber(pub(crate) usize);
 
-/// The number of the callback that has this name.
-fn callback_named(
-    names: &mut Names,
-    scope: &CallbackNumbers,
-    chars: &str,
-    spot: Spot,
-) -> Result<usize, ReadFault>
-    ensures { Gives (λ n. n) result (reference_read (said scope.now) spot chars.now) }
-{
-    let name = name_of(names, chars, spot)?;
-    match scope.number(name.as_str()) {
-        Some(number) => Ok(number),
-        None => Err(spot.fault(FaultCode::Unknown)),
-    }
-}
+impl Operand for AgentNumber {
+    ghost kind = { agent };
 
-fn text_of(alloc: Global, chars: &str, spot: Spot) -> Result<Text, ReadFault>
-    ensures { Gives (λ t. t) result (text_read spot chars.now) }
-{
-    match Text::read(alloc, chars) {
-        Ok(text) => Ok(text),
-        Err(TextFault::BadText) => Err(spot.fault(FaultCode::Profile)),
-        Err(TextFault::NoMemory) => Err(ReadFault::NoMemory),
-    }
-}
+    ghost meaning = { λ a. a.0 };
 
-fn number_of(number: &Number, spot: Spot) -> Result<Literal, ReadFault>
-    ensures { Gives (λ l. l) result (number_read spot (as_i64 (number_view number.now))) }
-{
-    match number.as_i64() {
-        Some(number) if is_of_profile(number) => Ok(Literal::Number(number)),
-        _ => Err(spot.fault(FaultCode::Profile)),
+    fn fits(value: &Value) -> bool {
+        value.is_string()
     }
-}
 
-/// Whether a number is within ±9007199254740991.
-fn is_of_profile(number: i64) -> bool
-    ensures { result ≡ is_whole number }
-{
-    (-9007199254740991..=9007199254740991).contains(&number)
-}
-
-/// Nothing, where there is no operand.
-pub(crate) fn none(operands: &[Value], spot: Spot) -> Result<(), ReadFault>
-    ensures { Gives (λ _. tt) result (operands_read (λ _. None) spot [] (items_view operands.now)) }
-{
-    if !operands.is_empty() {
-        return Err(spot.fault(FaultCode::Operands));
-    }
-    Ok(())
-}
-
-/// The one operand that there is.
-pub(crate) fn one<A: Operand>(
-    names: &mut Names,
-    scope: &CallbackNumbers,
-    operands: &[Value],
-    spot: Spot,
-) -> Result<A, ReadFault>
-    ensures { Gives (λ x. (A.meaning x, tt)) result
-        (operands_read (said scope.now) spot (A.kind ∷ []) (items_view operands.now)) }
-{
-    if operands.len() != 1 {
-        return Err(spot.fault(FaultCode::Operands));
-    }
-    match operands {
-        [a] => {
-            if !A::fits(a) {
-                return Err(spot.fault(FaultCode::Operands));
+    fn read(
+        names: &mut Names,
+        scope: &Scope,
+        value: &Value,
+        spot: Spot,
+    ) -> Result<AgentNumber, ReadFault> {
+        match value {
+            Value::String(chars) => {
+                let number = agent_named(names, scope, chars.as_str(), spot)?;
+                Ok(AgentNumber(number))
             }
-            A::read(names, scope, a, spot)
+            _ => Err(spot.fault(FaultCode::Operands)),
         }
-        _ => unreachable!(),
     }
 }
 
-/// The two operands that there are.
-pub(crate) fn two<A: Operand, B: Operand>(
-    names: &mut Names,
-    scope: &CallbackNumbers,
-    operands: &[Value],
-    spot: Spot,
-) -> Result<(A, B), ReadFault>
-    ensures { Gives (λ p. (A.meaning p.0, (B.meaning p.1, tt))) result
-        (operands_read (said scope.now) spot (A.kind ∷ B.kind ∷ []) (items_view operands.now)) }
-{
-    if operands.len() != 2 {
-        return Err(spot.fault(FaultCode::Operands));
+/// A number of the profile.
+impl Operand for i64 {
+    ghost kind = { whole };
+
+    ghost meaning = { λ z. z };
+
+    fn fits(value: &Value) -> bool {
+        value.is_number()
     }
-    match operands {
-        [a, b] => {
-            if !(A::fits(a) && B::fits(b)) {
-                return Err(spot.fault(FaultCode::Operands));
-            }
-            let a = A::read(names, scope, a, spot)?;
-            let b = B::read(names, scope, b, spot)?;
-            Ok((a, b))
+
+    fn read(
+        _names: &mut Names,
+        _scope: &Scope,
+        value: &Value,
+        spot: Spot,
+    ) -> Result<i64, ReadFault> {
+        match value {
+            Value::Number(number) => whole_of(number, spot),
+            _ => Err(spot.fault(FaultCode::Operands)),
         }
-        _ => unreachable!(),
     }
 }
 
-/// The three operands that there are.
-pub(crate) fn three<A: Operand, B: Operand, C: Operand>(
-    names: &mut Names,
-    scope: &CallbackNumbers,
-    operands: &[Value],
-    spot: Spot,
-) -> Result<(A, B, C), ReadFault>
-    ensures { Gives (λ p. (A.meaning p.0, (B.meaning p.1, (C.meaning p.2, tt)))) result
-        (operands_read (said scope.now) spot (A.kind ∷ B.kind ∷ C.kind ∷ []) (items_view operands.now)) }
-{
-    if operands.len() != 3 {
-        return Err(spot.fault(FaultCode::Operands));
-    }
-    match operands {
-        [a, b, c] => {
-            if !(A::fits(a) && B::fits(b) && C::fits(c)) {
-                return Err(spot.fault(FaultCode::Operands));
-            }
-            let a = A::read(names, scope, a, spot)?;
-            let b = B::read(names, scope, b, spot)?;
-            let c = C::read(names, scope, c, spot)?;
-            Ok((a, b, c))
-        }
-        _ => unreachable!(),
-    }
-}
+/// A number of words.
+impl Operand for u32 {
+    ghost kind = { words };
 
-/// The four operands that there are.
-pub(crate) fn four<A: Operand, B: Operand, C: Operand, D: Operand>(
-    names: &mut Names,
-    scope: &CallbackNumbers,
-    operands: &[Value],
-    spot: Spot,
-) -> Result<(A, B, C, D), ReadFault>
-    ensures { Gives (λ p. (A.meaning p.0, (B.meaning p.1, (C.meaning p.2, (D.meaning p.3, tt))))) result
-        (operands_read (said scope.now) spot (A.kind ∷ B.kind ∷ C.kind ∷ D.kind ∷ []) (items_view operands.now)) }
-{
-    if operands.len() != 4 {
-        return Err(spot.fault(FaultCode::Operands));
+    ghost meaning = { λ n. n };
+
+    fn fits(value: &Value) -> bool {
+        value.is_number()
     }
-    match operands {
-        [a, b, c, d] => {
-            if !(A::fits(a) && B::fits(b) && C::fits(c) && D::fits(d)) {
-                return Err(spot.fault(FaultCode::Operands));
-            }
-            let a = A::read(names, scope, a, spot)?;
-            let b = B::read(names, scope, b, spot)?;
-            let c = C::read(names, scope, c, spot)?;
-            let d = D::read(names, scope, d, spot)?;
-            Ok((a, b, c, d))
+
+    fn read(
+        _names: &mut Names,
+        _scope: &Scope,
+        value: &Value,
+        spot: Spot,
+    ) -> Result<u32, ReadFault> {
+        match value {
+            Value::Number(number) => words_of(number, spot),
+            _ => Err(spot.fault(FaultCode::Operands)),
         }
-        _ => unreachable!(),
     }
 }

@@ -1,11 +1,10 @@
 //! Whole plans.
 
-ghost use Rattle.std.specs.Prelude.{◌≡◌, ◌&&◌, nat_le, IfOk, true};
-ghost use Rattle.std.specs.List.{list_all};
+ghost use Rattle.std.specs.Prelude.{◌≡◌, ◌<◌, ◌&&◌, length, nat_le, IfOk, true};
 ghost use Rattle.serde_json.specs.View.{view, items_view};
 ghost use Rattle.serde_json.specs.Events.{items_len};
 ghost use Rattle.es_value.specs.Limits.{most_agents};
-ghost use Rattle.es_event.specs.Jobs.{stays_alone};
+ghost use Rattle.es_event.specs.Others.{all_name_others};
 ghost use Rattle.es_script.specs.Grammar.{no_callback_collects};
 ghost use Rattle.es_script.specs.Fault.{Reads};
 ghost use Rattle.es_script.specs.Reading.{Gives, plan_read, agents_checked};
@@ -24,12 +23,14 @@ use std::alloc::Global;
 ///
 /// It answers the plan that the text stands for, or else the first fault: no JSON, the whole shape,
 /// the version, the number of agents, their names, and then agent by agent the limits, the callbacks
-/// by rising names and the jobs, with their commands in order. It answers `NoMemory` where memory
-/// ends before that fault is reached.
+/// by rising names and the jobs in order, of each job first whose message it waits for, and then its
+/// commands. It answers `NoMemory` where memory ends before that fault is reached.
 pub fn read_plan(alloc: Global, bytes: &[u8]) -> Result<Plan, ReadFault>
     ensures reads { Reads bytes.now result }
-    // No job waits for a message, and no command is one on buffers or messages, yet.
-    ensures alone { IfOk result (λ p. list_all stays_alone p.agents ≡ true) }
+    // There are at most eight agents.
+    ensures few { IfOk result (λ p. length p.agents < 9) }
+    // Each agent posts to other agents alone, and waits for messages of other agents alone.
+    ensures others { IfOk result (λ p. all_name_others p ≡ true) }
     // Only jobs collect.
     ensures harmless { IfOk result (λ p. no_callback_collects p ≡ true) }
 {

@@ -116,6 +116,66 @@ fn reports_what_the_rules_give(rt: HostRuntime) -> Result<(), Fail> {
     Ok(())
 }
 
+/// Plans of several agents, and their reports.
+static CLUSTERS: [(&str, &str); 5] = [
+    // a block goes to another agent, and outlives its maker's ticket
+    (
+        r#"{"version":1,"agents":[
+            {"name":"main","callbacks":{},"jobs":[{"run":[["buffer","b",16384],["store","b",16383,7],["post","worker","b"],["let","b",null],["collect"]]}]},
+            {"name":"worker","callbacks":{},"jobs":[{"on":["main","m"],"run":[["load","x","m",16383],["say","x"],["load","x","m",16384]]}]}]}"#,
+        "agent main\nemptied 1\nend live 0 awaiting 0 unregistered 0 taken 0\n\
+         agent worker\nsay 7\nerror RangeError: index\nend live 0 awaiting 0 unregistered 0 taken 0\n\
+         cluster\nblocks 1 released 1\nmessages posted 1 taken 1 drained 0\n",
+    ),
+    // a message that nobody takes
+    (
+        r#"{"version":1,"agents":[
+            {"name":"a","callbacks":{},"jobs":[{"run":[["buffer","b",4],["post","w","b"]]}]},
+            {"name":"w","callbacks":{},"jobs":[]}]}"#,
+        "agent a\nend live 0 awaiting 0 unregistered 0 taken 0\n\
+         agent w\nend live 0 awaiting 0 unregistered 0 taken 0\n\
+         cluster\nblocks 1 released 1\nmessages posted 1 taken 0 drained 1\n",
+    ),
+    // of two that wait for each other the lower skips
+    (
+        r#"{"version":1,"agents":[
+            {"name":"a","callbacks":{},"jobs":[{"on":["b","m"],"run":[]},{"run":[["let","x",1],["post","b","x"]]}]},
+            {"name":"b","callbacks":{},"jobs":[{"on":["a","m"],"run":[["say","m"]]}]}]}"#,
+        "agent a\nskipped 1\nend live 0 awaiting 0 unregistered 0 taken 0\n\
+         agent b\nsay 1\nend live 0 awaiting 0 unregistered 0 taken 0\n\
+         cluster\nblocks 0 released 0\nmessages posted 1 taken 1 drained 0\n",
+    ),
+    // one block in two messages is two objects
+    (
+        r#"{"version":1,"agents":[
+            {"name":"main","callbacks":{},"jobs":[{"run":[["buffer","b",2],["post","worker","b"],["post","worker","b"]]}]},
+            {"name":"worker","callbacks":{},"jobs":[{"on":["main","m"],"run":[["copy","p","m"]]},{"on":["main","m"],"run":[["same","x","p","m"],["say","x"],["sameblock","y","p","m"],["say","y"]]}]}]}"#,
+        "agent main\nend live 0 awaiting 0 unregistered 0 taken 0\n\
+         agent worker\nsay false\nsay true\nend live 0 awaiting 0 unregistered 0 taken 0\n\
+         cluster\nblocks 1 released 1\nmessages posted 2 taken 2 drained 0\n",
+    ),
+    // a wait for one that has ended
+    (
+        r#"{"version":1,"agents":[
+            {"name":"a","callbacks":{},"jobs":[]},
+            {"name":"b","callbacks":{},"jobs":[{"on":["a","m"],"run":[["say","m"]]}]}]}"#,
+        "agent a\nend live 0 awaiting 0 unregistered 0 taken 0\n\
+         agent b\nskipped 1\nend live 0 awaiting 0 unregistered 0 taken 0\n\
+         cluster\nblocks 0 released 0\nmessages posted 0 taken 0 drained 0\n",
+    ),
+];
+
+#[test]
+fn agents_share_blocks_and_wait_for_messages(rt: HostRuntime) -> Result<(), Fail> {
+    for (plan, report) in &CLUSTERS {
+        let mut written = Vec::new(rt.alloc());
+        let ended = run(&rt, &mut plan.as_bytes(), &mut written, Options::RUN);
+        assert_eq!(rt; ended, Ok(0));
+        assert_eq!(rt; written.as_slice(), report.as_bytes());
+    }
+    Ok(())
+}
+
 #[test]
 fn checking_says_ok(rt: HostRuntime) -> Result<(), Fail> {
     let alloc = rt.alloc();
@@ -165,7 +225,7 @@ static FAULTY: [(&str, &str); 25] = [
     ),
     (
         r#"{"version":1,"agents":[{"name":"a","callbacks":{},"jobs":[{"on":["a","x"],"run":[]}]}]}"#,
-        "refused S2",
+        "refused S6 agent 0 job 1",
     ),
     (
         r#"{"version":1,"agents":[{"name":"a","callbacks":{},"jobs":[{"run":[["fly"]]}]}]}"#,

@@ -3,12 +3,12 @@ use Rattle.std.specs.Prelude.{slice_get}
 use Rattle.es_agent.specs.Tickets.{tickets}
 use Rattle.es_member.specs.Seats.{Seat}
 use Rattle.es_cluster.specs.State.{books}
-use Rattle.es_cluster.proofs.Beginning.{one_seated, next_stake}
+use Rattle.es_cluster.proofs.Beginning.{one_seated, next_last}
 use Rattle.es_cluster.proofs.seating.seat_all.Goals as goal
 
 pub new-requires-in-Ok-new-clause-number : goal.new-requires-in-Ok-new-clause-number
 new-requires-in-Ok-new-clause-number g c =
-    let front = next_stake c.loop-plan.stakes.items c.pop.new.self.items c.in-Some-pop.stake c.in-Some-pop.ensures.items in
+    let front = next_last c.loop-plan.stakes.items c.pop.new.self.items c.in-Some-pop.stake c.in-Some-pop.ensures.items in
     let next = (c.loop-plan.invariant.next 0 c.in-Some-pop.stake (ap (λ ss. slice_get ss 0) front)).0 in
     let size = c.loop-plan.invariant.size in
     let number : c.in-Ok-new.core.number ≡ length c.loop-plan.members.items = ap (λ b. b.number) c.in-Ok-new.ensures ∙ c.len.ensures ∙ c.loop-plan.members.ok.0 in
@@ -16,13 +16,13 @@ new-requires-in-Ok-new-clause-number g c =
 
 pub new-requires-in-Ok-new-clause-empty : goal.new-requires-in-Ok-new-clause-empty
 new-requires-in-Ok-new-clause-empty g c =
-    let front = next_stake c.loop-plan.stakes.items c.pop.new.self.items c.in-Some-pop.stake c.in-Some-pop.ensures.items in
+    let front = next_last c.loop-plan.stakes.items c.pop.new.self.items c.in-Some-pop.stake c.in-Some-pop.ensures.items in
     (ap (λ b. tickets b) c.in-Ok-new.ensures, (c.loop-plan.invariant.next 0 c.in-Some-pop.stake (ap (λ ss. slice_get ss 0) front)).1)
 
 pub loop-plan-preserved : goal.loop-plan-preserved
 loop-plan-preserved g c =
     let was = c.loop-plan.invariant in
-    let front = next_stake c.loop-plan.stakes.items c.pop.new.self.items c.in-Some-pop.stake c.in-Some-pop.ensures.items in
+    let front = next_last c.loop-plan.stakes.items c.pop.new.self.items c.in-Some-pop.stake c.in-Some-pop.ensures.items in
     let long = length-append c.loop-plan.yielded (c.in-Some.plan ∷ []) in
     let short = ap length c.in-Some-pop.ensures.items ∙ length-append c.pop.new.self.items (c.in-Some-pop.stake ∷ []) in
     let more = ap length c.push_reserved.ensures.items ∙ length-append c.loop-plan.members.items (c.new-in-Ok-new.result ∷ []) in

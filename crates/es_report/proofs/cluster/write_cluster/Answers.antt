@@ -3,7 +3,7 @@ use Rattle.std.specs.Result.{OnOk}
 use Rattle.std.specs.Io.KnownBytes.{Appends}
 use Rattle.es_event.specs.Ledger.{opened}
 use Rattle.es_event.specs.Totals.{posted, taken, drained, is_posted, is_taken, is_drained}
-use Rattle.es_report.proofs.Counts.{count_reversed, opened_reversed}
+use Rattle.es_report.proofs.Counts.{count_reversed}
 use Rattle.es_report.proofs.cluster.write_cluster.Goals as goal
 
 -- what was counted from the oldest event on is what the history says, whose newest event comes first
@@ -12,5 +12,5 @@ returns g c =
     let events = c.args.ledger.now in
     let l = reverse events in
     let told : OnOk c.writeln.result (Appends (g.W.Write.contents c.args.writer.now) (g.W.Write.contents c.writeln.new.self) (codes "cluster\nblocks " ++ (decimal (opened l) ++ (codes " released " ++ (decimal c.args.released ++ (codes "\nmessages posted " ++ (decimal (posted l) ++ (codes " taken " ++ (decimal (taken l) ++ (codes " drained " ++ (decimal (drained l) ++ codes "\n")))))))))))
-    = rw (c.count_opened-opened.ensures, c.count_posted-posted.ensures, c.count_taken-taken.ensures, c.count_drained-drained.ensures, c.as_slice-events.ensures, sym (opened_reversed events), sym (count_reversed is_posted events), sym (count_reversed is_taken events), sym (count_reversed is_drained events)) at c.writeln.ensures.bytes in
+    = rw (c.count_blocks-opened.ensures, c.count_posted-posted.ensures, c.count_taken-taken.ensures, c.count_drained-drained.ensures, c.as_slice-events.ensures, sym (count_reversed is_posted events), sym (count_reversed is_taken events), sym (count_reversed is_drained events)) at c.writeln.ensures.bytes in
     simp append_assoc (rw c.requires at told)

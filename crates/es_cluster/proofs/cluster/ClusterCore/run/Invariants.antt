@@ -1,5 +1,5 @@
 use Rattle.std.proofs.Common.{◌≡◌, ◌≤◌, drop, false, length}
-use Rattle.es_cluster.specs.State.{Cluster}
+use Rattle.es_cluster.specs.State.{Cluster, plans}
 use Rattle.es_cluster.specs.Turns.{AllTurned}
 use Rattle.es_cluster.proofs.cluster.ClusterCore.run.Given as goal
 
@@ -8,6 +8,7 @@ invariant-loop-i g l = record {
   within : l.i ≤ length l.turns;
   whole : l.self.failed ≡ false;
   agents : length l.self.agents ≡ length l.fn.self.agents;
+  plans : plans l.self.agents ≡ plans l.fn.self.agents;
   -- what comes after the turns that are left
   turned : (end : Cluster) → AllTurned (drop l.i l.turns) l.self end → AllTurned l.turns l.fn.self end;
 }

@@ -1,9 +1,10 @@
-use Rattle.std.proofs.Common.{sym, ◌∙◌, ap, subst, Some}
+use Rattle.std.proofs.Common.{sym, ◌∙◌, ◌≤◌, ap, subst, Some}
+use Rattle.std.specs.Prelude.{vec_capacity}
 use Rattle.es_member.specs.Seats.{Seat}
 use Rattle.es_member.specs.Turned.{OthersStay}
-use Rattle.es_cluster.specs.State.{books, ArePlaced, AreTied}
+use Rattle.es_cluster.specs.State.{books, names_of, plans, ArePlaced, AreTied}
 use Rattle.es_cluster.proofs.Named.{names}
-use Rattle.es_cluster.proofs.Standing.{found_at, takes_of, placed_here, one_changed, placed_after, tied_after}
+use Rattle.es_cluster.proofs.Standing.{found_at, takes_of, placed_here, mapped_still, one_changed, placed_after, set_length, tied_after}
 use Rattle.es_cluster.proofs.cluster.ClusterCore.step.Goals as goal
 
 pub step-requires-clause-seated : goal.step-requires-clause-seated
@@ -36,6 +37,9 @@ invariant_of-self g c =
       subst (λ bs. ArePlaced bs c.step.new.ledger) (sym changed) (placed_after (books c.self.inside.members.items) c.self.inside.ledger c.step.new.ledger c.args.agent c.step.new.self.book within c.self.invariant.0 still stay),
       λ whole. subst (λ bs. AreTied bs c.step.new.ledger) (sym changed)
           (tied_after (books c.self.inside.members.items) c.self.inside.ledger c.step.new.ledger c.args.agent c.step.new.self.book within c.self.invariant.0 (c.self.invariant.1 whole) c.in-Ok.ensures.tied stay),
+      c.self.invariant.2 ∙ sym (ap names_of changed ∙ mapped_still (λ b. b.plan.name) (books c.self.inside.members.items) c.args.agent c.index_mut.result.now.book c.step.new.self.book here (ap (λ p. p.name) c.step.ensures.same.0)),
+      c.self.invariant.3,
+      subst (λ n. n ≤ vec_capacity c.self.inside.histories) (sym (set_length c.self.inside.members.items c.args.agent c.step.new.self)) c.self.invariant.4,
     )
 
 pub invariant_of-self-in-Err : goal.invariant_of-self-in-Err
@@ -46,7 +50,13 @@ invariant_of-self-in-Err g c =
     let stay = subst (λ n. OthersStay n c.self.inside.ledger c.step.new.ledger) placed.number c.step.ensures.others in
     let still = placed_here c.index_mut.result.now.book c.step.new.self.book c.self.inside.ledger c.step.new.ledger c.args.agent placed c.step.ensures.number c.step.ensures.same.0 c.step.ensures.seated stay.0 in
     let changed = one_changed c.self.inside.members.items c.args.agent c.step.new.self in
-    (subst (λ bs. ArePlaced bs c.step.new.ledger) (sym changed) (placed_after (books c.self.inside.members.items) c.self.inside.ledger c.step.new.ledger c.args.agent c.step.new.self.book within c.self.invariant.0 still stay), λ whole. cc)
+    (
+      subst (λ bs. ArePlaced bs c.step.new.ledger) (sym changed) (placed_after (books c.self.inside.members.items) c.self.inside.ledger c.step.new.ledger c.args.agent c.step.new.self.book within c.self.invariant.0 still stay),
+      λ whole. cc,
+      c.self.invariant.2 ∙ sym (ap names_of changed ∙ mapped_still (λ b. b.plan.name) (books c.self.inside.members.items) c.args.agent c.index_mut.result.now.book c.step.new.self.book here (ap (λ p. p.name) c.step.ensures.same.0)),
+      c.self.invariant.3,
+      subst (λ n. n ≤ vec_capacity c.self.inside.histories) (sym (set_length c.self.inside.members.items c.args.agent c.step.new.self)) c.self.invariant.4,
+    )
 
 pub returns-in-Ok-clause-turned : goal.returns-in-Ok-clause-turned
 returns-in-Ok-clause-turned g c =
@@ -62,5 +72,18 @@ returns-in-Ok-clause-turned g c =
       turn = takes_of c.in-Ok.progress c.index_mut.result.now c.step.new.self c.in-Ok.ensures.ok;
       told = c.in-Ok.ensures.told;
       ledger = stay.1;
+      number = stay.0;
       whole = (c.if-self.false, c.if-self.false);
     })
+
+pub returns-in-Ok-clause-plans : goal.returns-in-Ok-clause-plans
+returns-in-Ok-clause-plans g c =
+    let within = rw (← c.self.view_is) at c.requires in
+    let here = found_at c.self.inside.members.items c.args.agent _ within ∙ ap (λ (m : Seat). Some m.book) (sym c.index_mut.ensures.value) in
+    rw (← c.self.view_is) (ap plans (one_changed c.self.inside.members.items c.args.agent c.step.new.self) ∙ mapped_still (λ b. b.plan) (books c.self.inside.members.items) c.args.agent c.index_mut.result.now.book c.step.new.self.book here c.step.ensures.same.0)
+
+pub returns-in-Err-clause-plans : goal.returns-in-Err-clause-plans
+returns-in-Err-clause-plans g c =
+    let within = rw (← c.self.view_is) at c.requires in
+    let here = found_at c.self.inside.members.items c.args.agent _ within ∙ ap (λ (m : Seat). Some m.book) (sym c.index_mut.ensures.value) in
+    rw (← c.self.view_is) (ap plans (one_changed c.self.inside.members.items c.args.agent c.step.new.self) ∙ mapped_still (λ b. b.plan) (books c.self.inside.members.items) c.args.agent c.index_mut.result.now.book c.step.new.self.book here c.step.ensures.same.0)

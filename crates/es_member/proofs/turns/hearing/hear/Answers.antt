@@ -4,12 +4,12 @@ use Rattle.es_event.specs.Ledger.{Ledger}
 use Rattle.es_event.specs.LegalLedger.{has_message}
 use Rattle.es_ledger.specs.Turns.{told}
 use Rattle.es_ledger.specs.declared.turn.Turn.{Turn}
-use Rattle.es_ledger.specs.declared.turn.Turn.TheVariants.{Stay}
+use Rattle.es_ledger.specs.declared.turn.Turn.TheVariants.{Stay, Skip}
 use Rattle.es_member.specs.Midway.{IsReady}
 use Rattle.es_member.specs.Tied.{GrowsBy}
 use Rattle.es_member.specs.Turned.{Heard}
 use Rattle.es_member.proofs.Growing.{grows_none}
-use Rattle.es_member.proofs.Hearing.{where_ready, where_stay, where_skip, stay_ties, stay_keeps, skipped_ties, skipped_keeps, unskipped_keeps}
+use Rattle.es_member.proofs.Hearing.{goes_on, where_ready, where_stay, where_skip, stay_ties, stay_keeps, skipped_ties, skipped_keeps, unskipped_keeps}
 use Rattle.es_member.proofs.Moving.{kept, keeps_on}
 use Rattle.es_member.proofs.turns.hearing.hear.Goals as goal
 
@@ -71,3 +71,9 @@ pub returns-in_ok-skip-in-Skip-clause-keeps : goal.returns-in_ok-skip-in-Skip-cl
 returns-in_ok-skip-in-Skip-clause-keeps g c =
     skipped_keeps c.args.core.now c.skip.new.self c.args.stake.now c.args.ledger.now c.await_message.new.self c.number.result c.args.sender c.requires.ready c.number.ensures c.await_message.ensures.agents
     (where_skip c.args.ledger.now.history c.await_message.new.self.history c.args.ledger.now.agents c.number.result c.args.sender (subst (λ (t : Turn). ◌≡◌ {A = Turn × Ledger} (t, c.await_message.new.self.history) (told c.args.ledger.now.history c.args.ledger.now.agents c.number.result c.args.sender)) c.in-Skip.is c.in_ok-await_message.ensures.told)) c.in_ok-skip-in-Skip.ensures.ok
+
+pub returns-in_ok-skip-in-Skip-clause-told : goal.returns-in_ok-skip-in-Skip-clause-told
+returns-in_ok-skip-in-Skip-clause-told g c =
+    goes_on c.args.core.now c.args.ledger.now c.await_message.new.self c.args.sender Skip c.await_message.new.self.history c.requires.due
+    (subst (λ n. ◌≡◌ {A = Turn × Ledger} (Skip, c.await_message.new.self.history) (told c.args.ledger.now.history c.args.ledger.now.agents n c.args.sender)) c.number.ensures
+    (subst (λ (t : Turn). ◌≡◌ {A = Turn × Ledger} (t, c.await_message.new.self.history) (told c.args.ledger.now.history c.args.ledger.now.agents c.number.result c.args.sender)) c.in-Skip.is c.in_ok-await_message.ensures.told)) (λ e. cc)

@@ -1,7 +1,7 @@
 use Rattle.std.proofs.Common.{◌≡◌, subst, Some}
 use Rattle.es_event.specs.Ledger.{front}
 use Rattle.es_ledger.specs.Letters.{body_of, Received}
-use Rattle.es_member.proofs.Hearing.{message_keeps, unreceived_keeps}
+use Rattle.es_member.proofs.Hearing.{goes_on_ready, message_keeps, unreceived_keeps}
 use Rattle.es_member.proofs.Moving.{keeps_on, received_stays}
 use Rattle.es_member.proofs.Tying.{receive_ties, takes, taking_grows}
 use Rattle.es_member.proofs.turns.hearing.receive.Goals as goal
@@ -37,3 +37,9 @@ pub returns-in_ok-admit-in-Block-clause-keeps : goal.returns-in_ok-admit-in-Bloc
 returns-in_ok-admit-in-Block-clause-keeps g c =
     keeps_on c.args.core.now.number c.args.ledger.now c.take.new.self c.admit.new.ledger c.admit.new.core c.admit.new.stake c.admit.ensures.keeps c.in-Some.ensures.history.1
     (taking_grows c.args.core.now c.args.ledger.now.history c.take.new.self.history c.args.stake.now.agent c.args.sender c.requires.ready.held.0 c.in-Some.ensures.history.2)
+
+pub returns-in_ok-receive-in-Plain-clause-told : goal.returns-in_ok-receive-in-Plain-clause-told
+returns-in_ok-receive-in-Plain-clause-told g c = goes_on_ready c.args.core.now c.args.ledger.now c.take.new.self c.args.sender c.requires.due c.requires.there
+
+pub returns-in_ok-admit-in-Block-clause-told : goal.returns-in_ok-admit-in-Block-clause-told
+returns-in_ok-admit-in-Block-clause-told g c = goes_on_ready c.args.core.now c.args.ledger.now c.admit.new.ledger c.args.sender c.requires.due c.requires.there

@@ -1,0 +1,156 @@
+-- An agent that asks for a message, or for nothing, rests; and each turn leaves less of an agent's work.
+use Rattle.std.proofs.Common.{◌≡◌, ℕ, ◌<◌, Bool, true, false, cond, sym, ◌∙◌, ap, refl, subst, List, [], ◌∷◌, Option, Some, None}
+use Rattle.es_event.specs.declared.command.Command.{Command}
+use Rattle.es_event.specs.declared.event.Event.{Event}
+use Rattle.es_event.specs.declared.plan.AgentPlan.{AgentPlan}
+use Rattle.es_event.specs.Commands.{collects}
+use Rattle.es_event.specs.Follows.{Follows}
+use Rattle.es_event.specs.History.{History}
+use Rattle.es_event.specs.Jobs.{receivers, job, cleaning, callbacks_collect_nothing}
+use Rattle.es_event.specs.Order.{Phase, between, handed, inside, stopped, ended, phase, left, queue, due_at, due_job, due_between, due_inside, due_after, cleans_up, is_cleaning_up}
+use Rattle.es_event.specs.Runs.{IsRunOver}
+use Rattle.es_event.specs.Sharing.{Buffers}
+use Rattle.es_event.proofs.Awaiting.{between_clean}
+use Rattle.es_event.proofs.Coming.{Comes, begins_job, begins_handed, receives, skips, refuses_message, begins_cleanup, does, refuses, empties_dead, takes, ends, stops, closes, comes, next_cell}
+use Rattle.es_event.proofs.Work.{plan_work, cleanup_work, cleanup_less, plan_less}
+use Rattle.es_agent.specs.Tickets.{is_ended}
+use Rattle.es_member.specs.Turned.{Moves}
+use Rattle.es_member.specs.declared.member.Progress.{Progress}
+use Rattle.es_member.specs.declared.member.Progress.TheVariants.{Moved, Waiting, Ended}
+use Rattle.es_record.specs.Book.{Book, with_row}
+use Rattle.es_rules.specs.Needs.{Request, request, Need, asks_nobody, asks_marks, asks_ledger, asks_message, asks_closing, asks_nothing, ledger_or_nobody, need_of, need}
+use Rattle.es_cluster.specs.Moves.{is_between, rests}
+use Rattle.es_cluster.specs.Turns.{Takes}
+
+-- Outside of all jobs
+
+-- between two jobs, or at its end
+abbrev pub is_outside : Phase → Bool
+is_outside between = true
+is_outside handed = false
+is_outside inside = false
+is_outside stopped = false
+is_outside ended = true
+
+inside_not : {P : Type 0} (h : History) (at : Phase) → phase h ≡ at → at ≡ inside → is_outside (phase h) ≡ true → P
+inside_not h at here is out = let clash : false ≡ true = sym (ap is_outside (here ∙ is)) ∙ out in cc
+
+newest_next : (over : Buffers) (plan : AgentPlan) (h : History) (at : Phase) (e : Event) → Comes over (receivers plan.jobs) plan h at e → phase h ≡ at → is_outside (phase (e ∷ h)) ≡ true → is_between (e ∷ h) ≡ true
+newest_next over plan h at _ (begins_job k j b none is same) here out = cc
+newest_next over plan h at _ (begins_handed k i same) here out = cc
+newest_next over plan h at _ (receives j t v b none is on room) here out = cc
+newest_next over plan h at _ (skips k j t b none is on same) here out = refl
+newest_next over plan h at _ (refuses_message j code b none is on same) here out = cc
+newest_next over plan h at _ (begins_cleanup r rs b is) here out = cc
+newest_next over plan h at _ (does d cs vs a i is) here out = inside_not h at here i out
+newest_next over plan h at _ (refuses d cs code i is) here out = cc
+newest_next over plan h at _ (empties_dead d cs ids i is co dead) here out = inside_not h at here i out
+newest_next over plan h at _ (takes n v i is next) here out = inside_not h at here i out
+newest_next over plan h at _ (ends i is none) here out = refl
+newest_next over plan h at _ (stops s) here out = refl
+newest_next over plan h at _ (closes b none) here out = refl
+
+newest : (over : Buffers) (plan : AgentPlan) (h : History) → Follows over plan h → is_outside (phase h) ≡ true → is_between h ≡ true
+newest over plan [] follows out = refl
+newest over plan (e ∷ h) follows out = newest_next over plan h (phase h) e (comes over plan h e follows.0) refl out
+
+-- an agent that has closed cleans nothing up
+clean_next : (over : Buffers) (plan : AgentPlan) (h : History) (at : Phase) (e : Event) → Comes over (receivers plan.jobs) plan h at e → phase h ≡ at → phase (e ∷ h) ≡ ended → cleaning (e ∷ h) ≡ None
+clean_next over plan h at _ (begins_job k j b none is same) here e = cc
+clean_next over plan h at _ (begins_handed k i same) here e = cc
+clean_next over plan h at _ (receives j t v b none is on room) here e = cc
+clean_next over plan h at _ (skips k j t b none is on same) here e = let f : between ≡ ended = sym (here ∙ b) ∙ e in cc
+clean_next over plan h at _ (refuses_message j code b none is on same) here e = cc
+clean_next over plan h at _ (begins_cleanup r rs b is) here e = cc
+clean_next over plan h at _ (does d cs vs a i is) here e = let f : inside ≡ ended = sym (here ∙ i) ∙ e in cc
+clean_next over plan h at _ (refuses d cs code i is) here e = cc
+clean_next over plan h at _ (empties_dead d cs ids i is co dead) here e = let f : inside ≡ ended = sym (here ∙ i) ∙ e in cc
+clean_next over plan h at _ (takes n v i is next) here e = let f : inside ≡ ended = sym (here ∙ i) ∙ e in cc
+clean_next over plan h at _ (ends i is none) here e = refl
+clean_next over plan h at _ (stops s) here e = refl
+clean_next over plan h at _ (closes b none) here e = between_clean h (here ∙ b)
+
+ended_clean : (over : Buffers) (plan : AgentPlan) (h : History) → Follows over plan h → phase h ≡ ended → cleaning h ≡ None
+ended_clean over plan [] follows e = refl
+ended_clean over plan (x ∷ h) follows e = clean_next over plan h (phase h) x (comes over plan h x follows.0) refl e
+
+-- An agent that asks for a message, or for nothing
+
+abbrev pub is_idle : Need → Bool
+is_idle asks_nobody = false
+is_idle asks_marks = false
+is_idle (asks_ledger r) = false
+is_idle (asks_message s) = true
+is_idle asks_closing = false
+is_idle asks_nothing = true
+
+idle_command : {P : Type 0} (collects : Bool) (q : Option Request) → is_idle (cond collects asks_marks (ledger_or_nobody q)) ≡ true → P
+idle_command true q idle = cc
+idle_command false None idle = cc
+idle_command false (Some r) idle = cc
+
+idle_after : {P : Type 0} (b : Book) (o : Option ℕ) → is_idle (need_of b (due_after o)) ≡ true → P
+idle_after b None idle = cc
+idle_after b (Some n) idle = cc
+
+idle_inside : {P : Type 0} (b : Book) (h : History) (cs : List Command) → is_idle (need_of b (due_inside h cs)) ≡ true → P
+idle_inside b h [] idle = idle_after b (next_cell h) idle
+idle_inside b h (c ∷ cs) idle = idle_command (collects c) (request b c) idle
+
+resting : (h : History) (at : Phase) (q : List ℕ) → phase h ≡ at → queue h ≡ q → is_outside at ≡ true → is_between h ≡ true → cleans_up None at q ≡ false → cleaning h ≡ None → (b : Book) → b.history ≡ h → rests b ≡ true
+resting h at q here queued out newest none clean b is = rw (is, newest, here, queued, clean, none) refl
+
+idle_between : (b : Book) (q : List ℕ) → IsRunOver b.over b.plan b.history → phase b.history ≡ between → queue b.history ≡ q → is_idle (need_of b (due_between b.plan b.history q)) ≡ true → rests b ≡ true
+idle_between b [] run here queued idle =
+    resting b.history between [] here queued refl (newest b.over b.plan b.history run.1 (ap is_outside here)) refl (between_clean b.history here) b refl
+idle_between b (r ∷ rs) run here queued idle = cc
+
+idle_at : (b : Book) (at : Phase) → IsRunOver b.over b.plan b.history → phase b.history ≡ at → is_idle (need_of b (due_at b.plan b.history at)) ≡ true → rests b ≡ true
+idle_at b between run here idle = idle_between b (queue b.history) run here refl idle
+idle_at b handed run here idle = cc
+idle_at b inside run here idle = idle_inside b b.history (left b.plan b.history) idle
+idle_at b stopped run here idle = cc
+idle_at b ended run here idle =
+    resting b.history ended (queue b.history) here refl refl (newest b.over b.plan b.history run.1 (ap is_outside here)) refl (ended_clean b.over b.plan b.history run.1 here) b refl
+
+-- it rests
+pub idle_rests : (b : Book) → IsRunOver b.over b.plan b.history → is_idle (need b) ≡ true → rests b ≡ true
+idle_rests b run idle = idle_at b (phase b.history) run refl idle
+
+-- one that asks for nothing has ended
+
+job_asks : {P : Type 0} (b : Book) (n : ℕ) (o : Option (Option (ℕ × List ℕ))) → need_of b (due_job n o) ≡ asks_nothing → P
+job_asks b n None is = cc
+job_asks b n (Some None) is = cc
+job_asks b n (Some (Some on)) is = cc
+
+between_asks : {P : Type 0} (b : Book) (q : List ℕ) → need_of b (due_between b.plan b.history q) ≡ asks_nothing → P
+between_asks b [] is = job_asks b (job b.history) _ is
+between_asks b (r ∷ rs) is = cc
+
+nothing_at : (b : Book) (at : Phase) → need_of b (due_at b.plan b.history at) ≡ asks_nothing → is_ended at ≡ true
+nothing_at b between is = between_asks b (queue b.history) is
+nothing_at b handed is = cc
+nothing_at b inside is = idle_inside b b.history (left b.plan b.history) (ap is_idle is)
+nothing_at b stopped is = cc
+nothing_at b ended is = refl
+
+pub nothing_over : (b : Book) → need b ≡ asks_nothing → is_ended (phase b.history) ≡ true
+nothing_over b is = nothing_at b (phase b.history) is
+
+-- an agent that does not rest moves
+pub moves_on : (p : Progress) (old new : Book) → IsRunOver old.over old.plan old.history → rests old ≡ false → Takes p old new → p ≡ Moved
+moves_on Moved old new run not_yet turn = refl
+moves_on Waiting old new run not_yet turn = let clash : true ≡ false = sym (idle_rests old run (ap is_idle turn.1)) ∙ not_yet in cc
+moves_on Ended old new run not_yet turn = let clash : true ≡ false = sym (idle_rests old run (ap is_idle turn.0)) ∙ not_yet in cc
+
+-- A turn leaves less
+
+pub less_cleaning : (old new : Book) → callbacks_collect_nothing old.plan ≡ true → IsRunOver old.over old.plan old.history → is_cleaning_up old.history ≡ true → Moves old new
+    → (plan_work new.plan new.history ≡ plan_work old.plan old.history) × (cleanup_work new.plan new.history < cleanup_work old.plan old.history)
+less_cleaning old new quiet run up step =
+    let less = cleanup_less old.over (with_row step.1 old).over old.plan old.history step.0 quiet run.0 run.1 up (step.2.lawful, step.2.permitted) in
+    rw step.3 (less.1, less.0)
+
+pub less_next : (old new : Book) → IsRunOver old.over old.plan old.history → is_cleaning_up old.history ≡ false → Moves old new → plan_work new.plan new.history < plan_work old.plan old.history
+less_next old new run still step = rw step.3 (plan_less old.over (with_row step.1 old).over old.plan old.history step.0 run.1 still (step.2.lawful, step.2.permitted))

@@ -1,0 +1,15 @@
+use Rattle.std.proofs.Common.{◌≡◌, false}
+use Rattle.es_cluster.specs.Moves.{RunsOut}
+use Rattle.es_cluster.specs.State.{Cluster, plans}
+use Rattle.es_cluster.proofs.Finishing.{total_left}
+use Rattle.es_cluster.proofs.cluster.ClusterCore.run_turns.Given as goal
+
+abbrev pub invariant-loop-agent : goal.invariant-loop-agent
+invariant-loop-agent g l = record {
+  whole : l.self.failed ≡ false;
+  plans : plans l.self.agents ≡ plans l.fn.self.agents;
+  runs : (end : Cluster) → RunsOut l.self end → RunsOut l.fn.self end;
+}
+
+abbrev pub decreases-loop-agent : goal.decreases-loop-agent
+decreases-loop-agent g l = total_left l.self

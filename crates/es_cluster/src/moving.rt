@@ -1,0 +1,155 @@
+//! Agents move in order, each until it rests.
+
+ghost use Rattle.std.specs.Prelude.{◌≡◌, ◌≤◌, ◌<◌, false, true, length, reverse, IfOk, IfSome, OnOk, OnErr, is_err};
+ghost use Rattle.es_cluster.specs.Asked.{AskedEach, BeginsMove, GoesOn, Hears, Works, cleans_at, plan_left};
+ghost use Rattle.es_cluster.specs.Moves.{Rest, RunsToEnd, all_over, cleans_quietly, is_between as is_between_said, rests_at};
+ghost use Rattle.es_cluster.specs.State.{plans};
+ghost use Rattle.es_cluster.specs.Turns.{Turned};
+
+use crate::cluster::ClusterCore;
+use es_event::Event;
+use es_member::Progress;
+use es_ticket::Run;
+use es_value::NoMemory;
+
+impl<L: Run> ClusterCore<L> {
+    /// Runs all agents to their ends: as long as one has not ended, the lowest-numbered that can move
+    /// moves, by one whole job with its cleanup jobs, one skip, or its closing. Then the messages that
+    /// nobody took are taken out. After want of memory every later step fails.
+    pub fn run_turns(&mut self) -> Result<(), NoMemory>
+        requires { cleans_quietly self.old ≡ true }
+        ensures runs { OnOk result (RunsToEnd self.old self.new) }
+        ensures over { OnOk result ((all_over self.new ≡ true) × (self.new.failed ≡ false)) }
+        ensures err { OnErr result (self.new.failed ≡ true) }
+        ensures failed { self.old.failed ≡ true → is_err result ≡ true }
+        ensures plans { plans self.new.agents ≡ plans self.old.agents }
+        ensures agents { length self.new.agents ≡ length self.old.agents }
+    {
+        if self.failed {
+            return Err(NoMemory);
+        }
+        while let Some(agent) = self.begin_move()? {
+            self.finish_move(agent)?;
+        }
+        let _ = self.ledger.history();
+        self.ledger.drain();
+        Ok(())
+    }
+
+    // The first turn of the next move: its agent, or none where all have ended. Where none moves when
+    // it is asked, all wait; then the lowest is told to skip its job when it is asked again.
+    fn begin_move(&mut self) -> Result<Option<usize>, NoMemory>
+        requires quiet { cleans_quietly self.old ≡ true }
+        requires whole { self.old.failed ≡ false }
+        ensures begins { IfOk result (λ r. BeginsMove r self.old self.new) }
+        ensures known { IfOk result (λ r. IfSome r (λ n. n < length self.new.agents)) }
+        ensures err { OnErr result (self.new.failed ≡ true) }
+        ensures plans { plans self.new.agents ≡ plans self.old.agents }
+        ensures agents { length self.new.agents ≡ length self.old.agents }
+    {
+        match self.ask_each()? {
+            Some(agent) => Ok(Some(agent)),
+            None => self.ask_each(),
+        }
+    }
+
+    // Asks each agent for a turn, by rising number, until one moves.
+    fn ask_each(&mut self) -> Result<Option<usize>, NoMemory>
+        requires quiet { cleans_quietly self.old ≡ true }
+        requires whole { self.old.failed ≡ false }
+        ensures asked { IfOk result (λ r. AskedEach r self.old self.new) }
+        ensures known { IfOk result (λ r. IfSome r (λ n. n < length self.new.agents)) }
+        ensures err { OnErr result (self.new.failed ≡ true) }
+        ensures plans { plans self.new.agents ≡ plans self.old.agents }
+        ensures agents { length self.new.agents ≡ length self.old.agents }
+    {
+        for agent in 0..self.agents() {
+            match self.advance(agent)? {
+                Progress::Moved => return Ok(Some(agent)),
+                Progress::Waiting | Progress::Ended => (),
+            }
+        }
+        Ok(None)
+    }
+
+    // The rest of a move.
+    fn finish_move(&mut self, agent: usize) -> Result<(), NoMemory>
+        requires known { agent < length self.old.agents }
+        requires quiet { cleans_quietly self.old ≡ true }
+        requires whole { self.old.failed ≡ false }
+        ensures rests { OnOk result (Rest agent self.old self.new) }
+        ensures less { OnOk result ((plan_left agent self.new ≤ plan_left agent self.old) × (self.new.failed ≡ false)) }
+        ensures err { OnErr result (self.new.failed ≡ true) }
+        ensures plans { plans self.new.agents ≡ plans self.old.agents }
+        ensures agents { length self.new.agents ≡ length self.old.agents }
+    {
+        self.clean_up(agent)?;
+        while !self.is_at_rest(agent) {
+            let _ = self.advance(agent)?;
+            self.clean_up(agent)?;
+        }
+        Ok(())
+    }
+
+    // Works the agent's cleanup queue off.
+    fn clean_up(&mut self, agent: usize) -> Result<(), NoMemory>
+        requires known { agent < length self.old.agents }
+        requires quiet { cleans_quietly self.old ≡ true }
+        requires whole { self.old.failed ≡ false }
+        ensures goes { OnOk result (GoesOn agent self.old self.new) }
+        ensures done { OnOk result (cleans_at agent self.new ≡ false) }
+        ensures less { OnOk result ((plan_left agent self.new ≡ plan_left agent self.old) × (self.new.failed ≡ false)) }
+        ensures err { OnErr result (self.new.failed ≡ true) }
+        ensures plans { plans self.new.agents ≡ plans self.old.agents }
+        ensures agents { length self.new.agents ≡ length self.old.agents }
+    {
+        while self.is_cleaning(agent) {
+            let _ = self.advance(agent)?;
+        }
+        Ok(())
+    }
+
+    // A turn, with what it leaves of the agent's work.
+    fn advance(&mut self, agent: usize) -> Result<Progress, NoMemory>
+        requires known { agent < length self.old.agents }
+        requires quiet { cleans_quietly self.old ≡ true }
+        requires whole { self.old.failed ≡ false }
+        ensures turned { IfOk result (λ p. Turned p agent self.old self.new) }
+        ensures works { IfOk result (λ p. Works p agent self.old self.new) }
+        ensures hears { IfOk result (λ p. Hears p agent self.old self.new) }
+        ensures err { OnErr result (self.new.failed ≡ true) }
+        ensures plans { plans self.new.agents ≡ plans self.old.agents }
+        ensures agents { length self.new.agents ≡ length self.old.agents }
+    {
+        let _ = self.members[agent].core().history();
+        self.step(agent)
+    }
+
+    // Whether the agent's cleanup queue is worked off.
+    fn is_cleaning(&self, agent: usize) -> bool
+        requires { agent < length self.now.agents }
+        ensures { result ≡ cleans_at agent self.now }
+    {
+        self.members[agent].core().is_cleaning_up()
+    }
+
+    // Whether no job of the agent is under way, and no cleanup job is left to run.
+    fn is_at_rest(&self, agent: usize) -> bool
+        requires { agent < length self.now.agents }
+        ensures { result ≡ rests_at agent self.now }
+    {
+        let core = self.members[agent].core();
+        is_between(core.history()) && !core.is_cleaning_up()
+    }
+}
+
+// Whether the newest of these events, the oldest first, ended a job, or skipped one, or closed the
+// agent, or there is none.
+fn is_between(events: &[Event]) -> bool
+    ensures { result ≡ is_between_said (reverse events.now) }
+{
+    match events.last() {
+        None | Some(Event::JobEnded | Event::Skipped { .. } | Event::Closed) => true,
+        Some(_) => false,
+    }
+}

@@ -1,0 +1,18 @@
+use Rattle.std.proofs.Common.{sym, ◌∙◌, ap, reverse}
+use Rattle.es_event.specs.Ledger.{opened}
+use Rattle.es_engine.proofs.Whole.{all_released, outcome_of, plans_are, starts_quiet, tallies_of_outcome}
+use Rattle.es_engine.proofs.cluster.run_cluster.Goals as goal
+
+pub run_to_end-requires : goal.run_to_end-requires
+run_to_end-requires g c = starts_quiet c.args.plan c.in_ok-cluster.cluster c.in_ok-cluster.ensures c.requires.quiet
+
+pub returns-in-Some-clause-outcome : goal.returns-in-Some-clause-outcome
+returns-in-Some-clause-outcome g c =
+    outcome_of c.args.plan c.run_to_end.new.cluster c.in-Some.outcome (plans_are c.args.plan c.in_ok-cluster.cluster c.run_to_end.new.cluster c.in_ok-cluster.ensures c.in-Ok.ensures.plans) c.in-Ok.ensures.number c.in-Some.ensures.outcome
+
+pub returns-in-Some-clause-tallies : goal.returns-in-Some-clause-tallies
+returns-in-Some-clause-tallies g c = tallies_of_outcome c.run_to_end.new.cluster c.in-Some.outcome c.in-Ok.tallies.items c.in-Some.ensures.outcome c.in-Ok.ensures.tallies
+
+pub returns-in-Some-clause-released : goal.returns-in-Some-clause-released
+returns-in-Some-clause-released g c =
+    c.count_blocks-released.ensures ∙ ap (λ l. opened (reverse l)) c.as_slice.ensures ∙ sym (all_released (reverse c.in-Some.outcome.ledger) c.in-Some.ensures.outcome.tickets)

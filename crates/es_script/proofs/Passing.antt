@@ -1,0 +1,156 @@
+-- What holds of each command of a plan that is read, by the table of commands, holds of all its commands.
+use Rattle.std.proofs.Common.{ℕ, ◌≡◌, ◌==◌, Bool, true, false, List, [], ◌∷◌, Option, Some, None, refl, sym, subst}
+use Rattle.std.specs.Prelude.{if◌then◌else◌, codes}
+use Rattle.std.specs.List.{list_all}
+use Rattle.std.specs.Str.{bytes_eq}
+use Rattle.serde_json.specs.Data.{Data, string, array, object, Items, no_items, item, Members, no_members, member}
+use Rattle.serde_json.specs.Events.{items_len}
+use Rattle.es_event.specs.declared.command.Command.{Command}
+use Rattle.es_event.specs.declared.plan.Callback.{Callback}
+use Rattle.es_event.specs.Commands.{collects}
+use Rattle.es_event.specs.Others.{posts_where}
+use Rattle.es_script.specs.Scope.{Numbers, Scope}
+use Rattle.es_script.specs.Forms.{OperandType, name, literal, text, callback, agent, whole, words, Meaning, Makes, Form, form, weak_form, shared_form, registry_form, is_allowed}
+use Rattle.es_script.specs.Grammar.{IsReference, Means, AreOperands, IsCommand, AreCommands, IsBody, AreCallbacks, HasCallbacks}
+use Rattle.es_script.specs.Reading.{Meanings, made}
+use Rattle.es_script.proofs.Sound.{both_true}
+
+-- Agents that are named
+
+-- each number passes the test
+abbrev pub AllPass : (ℕ → Bool) → Numbers → Type 0
+AllPass test numbers = (n : List ℕ) (x : ℕ) → numbers n ≡ Some x → test x ≡ true
+
+pub reference_passes : (test : ℕ → Bool) (numbers : Numbers) → AllPass test numbers → (d : Data) (x : ℕ) → IsReference numbers d x → test x ≡ true
+reference_passes test numbers pass (string s) x h = pass s x h.1
+reference_passes test numbers pass _ x h = absurd h
+
+-- an agent among the operands passes the test
+abbrev is_passed : (ℕ → Bool) → (k : OperandType) → Meaning k → Bool
+is_passed test agent n = test n
+is_passed test _ x = true
+
+abbrev ArePassed : (ℕ → Bool) → (ks : List OperandType) → Meanings ks → Type 0
+ArePassed test [] xs = Unit {0}
+ArePassed test (k ∷ ks) xs = (is_passed test k xs.0 ≡ true) × ArePassed test ks xs.1
+
+operand_passes : (test : ℕ → Bool) (scope : Scope) → AllPass test scope.agents → (k : OperandType) (d : Data) (x : Meaning k) → Means scope k d x → is_passed test k x ≡ true
+operand_passes test scope pass agent d x h = reference_passes test scope.agents pass d x h
+operand_passes test scope pass name d x h = refl
+operand_passes test scope pass literal d x h = refl
+operand_passes test scope pass text d x h = refl
+operand_passes test scope pass callback d x h = refl
+operand_passes test scope pass whole d x h = refl
+operand_passes test scope pass words d x h = refl
+
+-- The table of commands
+
+-- where a callback may have the form, it makes no command that collects; it posts to agents among its operands alone
+abbrev Harmless : Option Form → Type 0
+Harmless None = Unit {0}
+Harmless (Some f) =
+    (xs : Meanings f.types)
+    → (is_allowed true f ≡ true → collects (made f.types f.makes xs) ≡ false)
+    × ((test : ℕ → Bool) → ArePassed test f.types xs → posts_where test (made f.types f.makes xs) ≡ true)
+
+harmless_if : (b : Bool) (o p : Option Form) → Harmless o → Harmless p → Harmless (if b then o else p)
+harmless_if true o p h k = h
+harmless_if false o p h k = k
+
+registry_harmless : (w : List ℕ) (n : ℕ) → Harmless (registry_form w n)
+registry_harmless w n =
+    harmless_if (bytes_eq w (codes "registry")) _ _ (λ xs. (λ a. refl, λ t p. refl))
+    (harmless_if (bytes_eq w (codes "register")) _ _ (harmless_if (n == 4) _ _ (λ xs. (λ a. refl, λ t p. refl)) (λ xs. (λ a. refl, λ t p. refl)))
+    (harmless_if (bytes_eq w (codes "unregister")) _ _ (λ xs. (λ a. refl, λ t p. refl))
+    tt))
+
+shared_harmless : (w : List ℕ) (n : ℕ) → Harmless (shared_form w n)
+shared_harmless w n =
+    harmless_if (bytes_eq w (codes "buffer")) _ _ (λ xs. (λ a. refl, λ t p. refl))
+    (harmless_if (bytes_eq w (codes "length")) _ _ (λ xs. (λ a. refl, λ t p. refl))
+    (harmless_if (bytes_eq w (codes "sameblock")) _ _ (λ xs. (λ a. refl, λ t p. refl))
+    (harmless_if (bytes_eq w (codes "load")) _ _ (λ xs. (λ a. refl, λ t p. refl))
+    (harmless_if (bytes_eq w (codes "store")) _ _ (λ xs. (λ a. refl, λ t p. refl))
+    (harmless_if (bytes_eq w (codes "add")) _ _ (λ xs. (λ a. refl, λ t p. refl))
+    (harmless_if (bytes_eq w (codes "post")) _ _ (λ xs. (λ a. refl, λ t p. p.0))
+    (registry_harmless w n)))))))
+
+weak_harmless : (w : List ℕ) (n : ℕ) → Harmless (weak_form w n)
+weak_harmless w n =
+    harmless_if (bytes_eq w (codes "weakref")) _ _ (λ xs. (λ a. refl, λ t p. refl))
+    (harmless_if (bytes_eq w (codes "deref")) _ _ (λ xs. (λ a. refl, λ t p. refl))
+    (harmless_if (bytes_eq w (codes "weakmap")) _ _ (λ xs. (λ a. refl, λ t p. refl))
+    (harmless_if (bytes_eq w (codes "wmset")) _ _ (λ xs. (λ a. refl, λ t p. refl))
+    (harmless_if (bytes_eq w (codes "wmget")) _ _ (λ xs. (λ a. refl, λ t p. refl))
+    (harmless_if (bytes_eq w (codes "wmhas")) _ _ (λ xs. (λ a. refl, λ t p. refl))
+    (harmless_if (bytes_eq w (codes "wmdelete")) _ _ (λ xs. (λ a. refl, λ t p. refl))
+    (harmless_if (bytes_eq w (codes "weakset")) _ _ (λ xs. (λ a. refl, λ t p. refl))
+    (harmless_if (bytes_eq w (codes "wsadd")) _ _ (λ xs. (λ a. refl, λ t p. refl))
+    (harmless_if (bytes_eq w (codes "wshas")) _ _ (λ xs. (λ a. refl, λ t p. refl))
+    (harmless_if (bytes_eq w (codes "wsdelete")) _ _ (λ xs. (λ a. refl, λ t p. refl))
+    (shared_harmless w n)))))))))))
+
+form_harmless : (w : List ℕ) (n : ℕ) → Harmless (form w n)
+form_harmless w n =
+    harmless_if (bytes_eq w (codes "let")) _ _ (λ xs. (λ a. refl, λ t p. refl))
+    (harmless_if (bytes_eq w (codes "new")) _ _ (λ xs. (λ a. refl, λ t p. refl))
+    (harmless_if (bytes_eq w (codes "symbol")) _ _ (λ xs. (λ a. refl, λ t p. refl))
+    (harmless_if (bytes_eq w (codes "symbolfor")) _ _ (λ xs. (λ a. refl, λ t p. refl))
+    (harmless_if (bytes_eq w (codes "copy")) _ _ (λ xs. (λ a. refl, λ t p. refl))
+    (harmless_if (bytes_eq w (codes "same")) _ _ (λ xs. (λ a. refl, λ t p. refl))
+    (harmless_if (bytes_eq w (codes "say")) _ _ (λ xs. (λ a. refl, λ t p. refl))
+    (harmless_if (bytes_eq w (codes "set")) _ _ (λ xs. (λ a. refl, λ t p. refl))
+    (harmless_if (bytes_eq w (codes "get")) _ _ (λ xs. (λ a. refl, λ t p. refl))
+    (harmless_if (bytes_eq w (codes "delete")) _ _ (λ xs. (λ a. refl, λ t p. refl))
+    (harmless_if (bytes_eq w (codes "keys")) _ _ (λ xs. (λ a. refl, λ t p. refl))
+    (harmless_if (bytes_eq w (codes "collect")) _ _ (λ xs. (λ a. sym a, λ t p. refl))
+    (weak_harmless w n))))))))))))
+
+-- Commands
+
+operands_made : (scope : Scope) (ks : List OperandType) (make : Makes ks) (ds : Items) (c : Command) → AreOperands scope ks make ds c
+    → (xs : Meanings ks) × (made ks make xs ≡ c) × ((test : ℕ → Bool) → AllPass test scope.agents → ArePassed test ks xs)
+operands_made scope [] make no_items c h = (tt, sym h, λ t p. tt)
+operands_made scope [] make (item d ds) c h = absurd h
+operands_made scope (k ∷ ks) make no_items c h = absurd h
+operands_made scope (k ∷ ks) make (item d ds) c h =
+    let rest = operands_made scope ks (make h.0) ds c h.2 in
+    ((h.0, rest.0), rest.1, λ t p. (operand_passes t scope p k d h.0 h.1, rest.2 t p))
+
+pub command_harmless : (scope : Scope) (d : Data) (c : Command) → IsCommand scope true d c → collects c ≡ false
+command_harmless scope (array (item (string w) ds)) c h =
+    let all = operands_made scope h.0.types h.0.makes ds c h.3 in
+    subst (λ c. collects c ≡ false) all.1 ((subst Harmless h.1 (form_harmless w (items_len ds)) all.0).0 h.2)
+command_harmless scope _ c h = absurd h
+
+pub command_posts : (test : ℕ → Bool) (scope : Scope) (in_callback : Bool) → AllPass test scope.agents → (d : Data) (c : Command) → IsCommand scope in_callback d c → posts_where test c ≡ true
+command_posts test scope in_callback pass (array (item (string w) ds)) c h =
+    let all = operands_made scope h.0.types h.0.makes ds c h.3 in
+    subst (λ c. posts_where test c ≡ true) all.1 ((subst Harmless h.1 (form_harmless w (items_len ds)) all.0).1 test (all.2 test pass))
+command_posts test scope in_callback pass _ c h = absurd h
+
+-- All commands
+
+commands_pass : (test : Command → Bool) (scope : Scope) (in_callback : Bool) → ((d : Data) (c : Command) → IsCommand scope in_callback d c → test c ≡ true)
+    → (ds : Items) (cs : List Command) → AreCommands scope in_callback ds cs → list_all test cs ≡ true
+commands_pass test scope in_callback each no_items [] h = refl
+commands_pass test scope in_callback each no_items (c ∷ cs) h = absurd h
+commands_pass test scope in_callback each (item d ds) [] h = absurd h
+commands_pass test scope in_callback each (item d ds) (c ∷ cs) h = both_true _ _ (each d c h.0) (commands_pass test scope in_callback each ds cs h.1)
+
+pub body_passes : (test : Command → Bool) (scope : Scope) (in_callback : Bool) → ((d : Data) (c : Command) → IsCommand scope in_callback d c → test c ≡ true)
+    → (o : Option Data) (cs : List Command) → IsBody scope in_callback o cs → list_all test cs ≡ true
+body_passes test scope in_callback each (Some (array ds)) cs h = commands_pass test scope in_callback each ds cs h.0
+body_passes test scope in_callback each _ cs h = absurd h
+
+callbacks_pass : (test : List Command → Bool) (scope : Scope) → ((o : Option Data) (cs : List Command) → IsBody scope true o cs → test cs ≡ true)
+    → (ms : Members) (cs : List Callback) → AreCallbacks scope ms cs → list_all (λ c. test c.run) cs ≡ true
+callbacks_pass test scope each no_members [] h = refl
+callbacks_pass test scope each no_members (c ∷ cs) h = absurd h
+callbacks_pass test scope each (member n d ms) [] h = absurd h
+callbacks_pass test scope each (member n d ms) (c ∷ cs) h = both_true _ _ (each (Some d) c.run h.2) (callbacks_pass test scope each ms cs h.3)
+
+pub callbacks_pass_at : (test : List Command → Bool) (scope : Scope) → ((o : Option Data) (cs : List Command) → IsBody scope true o cs → test cs ≡ true)
+    → (o : Option Data) (cs : List Callback) → HasCallbacks scope o cs → list_all (λ c. test c.run) cs ≡ true
+callbacks_pass_at test scope each (Some (object ms)) cs h = callbacks_pass test scope each ms cs h.0
+callbacks_pass_at test scope each _ cs h = absurd h
