@@ -4,8 +4,13 @@
 // call the callbacks of FinalizationRegistries, in its own order, until it calls none. No engine tells what became of the
 // other registrations either: in the line `end` each unregister that found one counts as one, as it is where no two
 // registrations share a token. The plan must be one without a fault: of faults only the words are looked at.
+// Where agents post or wait, each has a worker thread of its own, each pair of them a MessageChannel, and blocks are
+// SharedArrayBuffers; else all run in this thread, one after the other. The threads take no turns: the report is the
+// program's only where it is the same for each order of what they do. No job is skipped: where a job waits for a message
+// that never comes, so does this engine. A block counts as released at the end, as each is then.
 // Usage: node --expose-gc engine.mjs run|check FILE
 import { readFileSync } from "node:fs";
+import { MessageChannel, Worker, isMainThread, parentPort, workerData } from "node:worker_threads";
 
 class Refused extends Error {}
 // Each knows its number itself, so that no table of numbers holds it.
@@ -34,7 +39,22 @@ class Registry extends FinalizationRegistry {
   constructor(number, callback) { super(callback); this.#number = number; }
   static numberOf(registry) { return registry.#number; }
 }
-const kinds = [Thing, Ref, Entries, Members, Registry];
+// A buffer is an object of its agent alone. No engine tells whether two SharedArrayBuffers are the same memory, so each
+// block has a number.
+class Shared {
+  #number;
+  #block;
+  #words;
+  constructor(number, block, words) {
+    this.#number = number;
+    this.#block = block;
+    this.#words = words;
+  }
+  static numberOf(buffer) { return buffer.#number; }
+  static blockOf(buffer) { return buffer.#block; }
+  static wordsOf(buffer) { return buffer.#words; }
+}
+const kinds = [Thing, Ref, Entries, Members, Registry, Shared];
 // As the engine has them, since an object may have properties of these names.
 const { get: mapGet, set: mapSet, has: mapHas, delete: mapDelete } = WeakMap.prototype;
 const { add: setAdd, has: setHas, delete: setDelete } = WeakSet.prototype;
@@ -48,8 +68,26 @@ class Agent {
   registered = 0;
   unregistered = 0;
   taken = 0;
+  opened = 0;
+  posted = 0;
+  received = 0;
+  queues = new Map(); // for each other agent the messages that came from it
+  woken = () => {}; // called when one came
 
-  constructor(callbacks) { this.callbacks = callbacks; }
+  // The place is that among the agents, from 0; the ports lead to the others, by name.
+  constructor(callbacks, place, ports) {
+    this.callbacks = callbacks;
+    this.place = place;
+    this.ports = ports;
+    for (const [name, port] of ports) {
+      const queue = [];
+      this.queues.set(name, queue);
+      port.on("message", (message) => {
+        queue.push(message);
+        this.woken();
+      });
+    }
+  }
   symbol() {
     const value = Symbol();
     this.symbols.set(value, ++this.made);
@@ -91,6 +129,41 @@ class Agent {
     const value = this.vars.get(name);
     if (!(value instanceof FinalizationRegistry)) throw new Refused("TypeError: not a FinalizationRegistry");
     return value;
+  }
+  buffer(name) {
+    const value = this.vars.get(name);
+    if (!(value instanceof Shared)) throw new Refused("TypeError: not a SharedArrayBuffer");
+    return value;
+  }
+  words(name, index) {
+    const words = Shared.wordsOf(this.buffer(name));
+    if (index < 0 || index >= words.length) throw new Refused("RangeError: index");
+    return words;
+  }
+  // What goes through a port for a value, which would lose a symbol's key and a buffer's block.
+  message(value) {
+    if (value instanceof Shared) return { block: Shared.blockOf(value), words: Shared.wordsOf(value) };
+    const key = typeof value === "symbol" ? Symbol.keyFor(value) : undefined;
+    if (key !== undefined) return { key };
+    if (typeof value === "object" || typeof value === "symbol") {
+      throw new Refused("DataCloneError: value cannot be posted");
+    }
+    return value;
+  }
+  // The value that came as this message.
+  value(message) {
+    if (typeof message !== "object") return message;
+    if ("key" in message) return Symbol.for(message.key);
+    this.room();
+    return new Shared(++this.made, message.block, message.words);
+  }
+  // The oldest message of an agent, as soon as there is one, in a task of its own: that in which it came, or a new one.
+  async next(name) {
+    const queue = this.queues.get(name);
+    if (queue.length > 0) await task();
+    while (queue.length === 0) await new Promise((go) => { this.woken = go; });
+    this.received += 1;
+    return queue.shift();
   }
   // What the engine calls, with the number of a registration and its held value.
   clean(callback, [number, held]) {
@@ -180,20 +253,42 @@ class Agent {
         break;
       }
       case "collect": gc(); break;
+      case "buffer": {
+        this.room();
+        if (this.opened === 256) throw new Refused("limit: blocks");
+        const block = this.place * 256 + this.opened++;
+        vars.set(c[1], new Shared(++this.made, block, new Uint32Array(new SharedArrayBuffer(4 * c[2]))));
+        break;
+      }
+      case "length": vars.set(c[1], Shared.wordsOf(this.buffer(c[2])).length); break;
+      case "sameblock":
+        vars.set(c[1], Shared.blockOf(this.buffer(c[2])) === Shared.blockOf(this.buffer(c[3])));
+        break;
+      case "load": vars.set(c[1], Atomics.load(this.words(c[2], c[3]), c[3])); break;
+      case "store": Atomics.store(this.words(c[1], c[2]), c[2], c[3]); break;
+      case "add": vars.set(c[1], Atomics.add(this.words(c[2], c[3]), c[3], c[4])); break;
+      case "post": {
+        const message = this.message(vars.get(c[2]));
+        if (this.posted === 10000) throw new Refused("limit: posts");
+        this.posted += 1;
+        this.ports.get(c[1]).postMessage(message);
+        break;
+      }
     }
   }
-  // A refusal is told, and thrown on.
-  performAll(commands) {
+  // A refusal is told, and thrown on. Where the commands are of a job that waited, the message is assigned to X first.
+  performAll(commands, x, message) {
     try {
+      if (x !== undefined) this.vars.set(x, this.value(message));
       for (const command of commands) this.perform(command);
     } catch (e) {
       if (e instanceof Refused) this.out.push(`error ${e.message}`);
       throw e;
     }
   }
-  async run(job) {
-    await task();
-    try { this.performAll(job); } catch (e) { unlessRefused(e); }
+  async run({ on, run }) {
+    const message = await (on ? this.next(on[0]) : task());
+    try { this.performAll(run, on?.[1], message); } catch (e) { unlessRefused(e); }
     for (let before = -1; this.registries.length > 0 && before !== this.taken;) {
       before = this.taken;
       await task();
@@ -204,6 +299,12 @@ class Agent {
     const live = this.registered - this.unregistered - this.taken;
     return `end live ${live} awaiting 0 unregistered ${this.unregistered} taken ${this.taken}`;
   }
+  // Runs its jobs, and gives its lines and what it counted.
+  async live({ name, jobs }) {
+    for (const job of jobs) await this.run(job);
+    const { out, opened, posted, received } = this;
+    return { lines: [`agent ${name}`, ...out, this.end()], opened, posted, received };
+  }
 }
 function unlessRefused(e) {
   if (!(e instanceof Refused)) throw e;
@@ -213,25 +314,63 @@ process.on("uncaughtException", unlessRefused);
 const operands = {
   let: 2, new: 1, symbol: 1, symbolfor: 2, copy: 2, same: 3, say: 1, set: 3, get: 3, delete: 3, keys: 1, weakref: 2,
   deref: 2, weakmap: 1, wmset: 3, wmget: 3, wmhas: 3, wmdelete: 3, weakset: 1, wsadd: 2, wshas: 3, wsdelete: 3,
-  registry: 2, register: 3, unregister: 3, collect: 0,
+  registry: 2, register: 3, unregister: 3, collect: 0, buffer: 2, length: 2, sameblock: 3, load: 3, store: 3, add: 4,
+  post: 2,
 };
 const task = () => new Promise((go) => setImmediate(go));
 
-const plan = JSON.parse(readFileSync(process.argv[3], "utf8"));
-const lines = [];
-if (process.argv[2] === "check") {
-  const right = ([word, ...rest]) => operands[word] === rest.length - (word === "register" && rest.length === 4);
-  const runs = (agent) => [...agent.jobs.map((job) => job.run), ...Object.values(agent.callbacks)];
-  const all = plan.agents.every((agent) => runs(agent).every((run) => run.every(right)));
-  lines.push(all ? "ok" : "refused");
-} else {
-  for (const { name, callbacks, jobs } of plan.agents) {
-    const agent = new Agent(callbacks);
-    for (const { run } of jobs) await agent.run(run);
-    lines.push(`agent ${name}`);
-    for (const line of agent.out) lines.push(line);
-    lines.push(agent.end());
+// All in this thread, one after the other.
+async function inTurn(agents) {
+  const ended = [];
+  for (const [place, agent] of agents.entries()) {
+    ended.push(await new Agent(agent.callbacks, place, new Map()).live(agent));
   }
-  lines.push("cluster", "blocks 0 released 0", "messages posted 0 taken 0 drained 0");
+  return ended;
 }
-process.stdout.write(lines.join("\n") + "\n");
+// Each in a thread of its own, with ports to all others.
+function inThreads(agents) {
+  const ports = agents.map(() => new Map());
+  for (const [place, { name }] of agents.entries()) {
+    for (let other = 0; other < place; other++) {
+      const { port1, port2 } = new MessageChannel();
+      ports[place].set(agents[other].name, port1);
+      ports[other].set(name, port2);
+    }
+  }
+  return Promise.all(agents.map((agent, place) => new Promise((ended, failed) => {
+    const given = { workerData: { agent, place, ports: ports[place] }, transferList: [...ports[place].values()] };
+    const worker = new Worker(new URL(import.meta.url), given);
+    worker.once("message", ended);
+    worker.once("error", failed);
+  })));
+}
+// An agent's thread.
+async function thread({ agent, place, ports }) {
+  parentPort.postMessage(await new Agent(agent.callbacks, place, ports).live(agent));
+  for (const port of ports.values()) port.close();
+}
+const runsOf = (agent) => [...agent.jobs.map((job) => job.run), ...Object.values(agent.callbacks)];
+// One agent has nobody to post to, so that its plan need not be looked through.
+function hasMessages(agents) {
+  const posts = (run) => run.some(([word]) => word === "post");
+  return agents.length > 1 && agents.some((agent) => agent.jobs.some((job) => job.on) || runsOf(agent).some(posts));
+}
+function check(agents) {
+  const right = ([word, ...rest]) => operands[word] === rest.length - (word === "register" && rest.length === 4);
+  return agents.every((agent) => runsOf(agent).every((run) => run.every(right)));
+}
+async function run(agents) {
+  const ended = await (hasMessages(agents) ? inThreads(agents) : inTurn(agents));
+  const sum = (count) => ended.reduce((total, agent) => total + agent[count], 0);
+  const opened = sum("opened"), posted = sum("posted"), received = sum("received");
+  const lines = ended.flatMap((agent) => agent.lines);
+  lines.push("cluster", `blocks ${opened} released ${opened}`);
+  lines.push(`messages posted ${posted} taken ${received} drained ${posted - received}`);
+  return lines;
+}
+async function main() {
+  const { agents } = JSON.parse(readFileSync(process.argv[3], "utf8"));
+  const lines = process.argv[2] === "check" ? [check(agents) ? "ok" : "refused"] : await run(agents);
+  process.stdout.write(lines.join("\n") + "\n");
+}
+await (isMainThread ? main() : thread(workerData));

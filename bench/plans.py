@@ -1,7 +1,7 @@
 #!/usr/bin/env python3
 """Prints a plan for measuring, always the same one for the same words.
 
-Usage: plans.py NAME [NUMBER]. Each plan has one agent. NAME is one of
+Usage: plans.py NAME [NUMBER]. NAME is one of these, whose plans have one agent,
   start     nothing to do
   commands  NUMBER commands let, set, get and copy over 8 objects (1,000,000)
   new       NUMBER objects, none of them held for long (900,000)
@@ -21,6 +21,16 @@ Usage: plans.py NAME [NUMBER]. Each plan has one agent. NAME is one of
             second one is unregistered, and after it a collection empties the targets of the rest, for each of which the
             callback runs one command (200,000)
   check     NUMBER jobs of 2,670 commands over few variables, every tenth a `say` (1,000, which are 50 MB)
+or of these, whose agents post messages:
+  posts     one agent posts NUMBER numbers, in turn to as few others as have the jobs for them; each job takes a number
+            and says it (7,000, to seven agents)
+  ping-pong NUMBER posts to and fro between two agents, each job takes a message and posts it back; what is more than
+            two agents can post goes to and fro between the next two (1,999)
+  ring      the same in a ring of eight agents (7,999)
+  words     NUMBER commands add, load and store of each of two agents, on one block (100,000)
+Since an agent has 1,000 jobs at most and a job takes one message at most, the numbers of posts, ping-pong and ring are
+the largest of which each message is taken, with one ring. Of up to 10,000 posts those past 7,000 are drained; ping-pong
+goes up to 7,996.
 With wide the collections empty 0 and NUMBER + 1, with list 0 and NUMBER, with entries-* 1 (what held the keys while the
 entries were set) and NUMBER + 2, with maps 0 and three times NUMBER, with nested 0 and twice NUMBER, with registrations
 0 and twice NUMBER and one. Where there are entries, the value to which most of them lead is asked for after each
@@ -32,6 +42,7 @@ import random
 import sys
 
 LONGEST = 10000  # the most commands that a job has
+MOST = 1000  # the most jobs that an agent has
 
 
 def commands(count):
@@ -155,6 +166,56 @@ def mixed(count):
         ]
 
 
+def posts(count):
+    takers = [f"w{number}" for number in range(min(7, -(-count // MOST)))]
+    pieces = [[["let", "x", number], ["post", takers[number % len(takers)], "x"]] for number in range(count)]
+    yield "a", [{"run": run} for run in jobs(pieces)]
+    for number, taker in enumerate(takers):
+        taken = min(MOST, len(range(number, count, len(takers))))
+        yield taker, [{"on": ["a", "m"], "run": [["say", "m"]]}] * taken
+
+
+def rounds(names, count):
+    """A message goes round the agents, until it was posted so often; who takes it then says it."""
+    made = {name: [] for name in names}
+    made[names[0]].append({"run": [["let", "m", 1], ["post", names[1], "m"]]})
+    for number in range(1, count + 1):
+        before, here, after = (names[at % len(names)] for at in (number - 1, number, number + 1))
+        made[here].append({"on": [before, "m"], "run": [["post", after, "m"] if number < count else ["say", "m"]]})
+    yield from made.items()
+
+
+def ping_pong(count):
+    most = 2 * MOST - 1
+    for number, first in enumerate(range(0, count, most)):
+        yield from rounds([f"a{number}", f"b{number}"], min(most, count - first))
+
+
+def ring(count):
+    yield from rounds([f"a{number}" for number in range(8)], count)
+
+
+def words(count):
+    """Each adds to the same word and stores to one of its own; at the end the second says all three."""
+
+    def run(own):
+        return [
+            [["add", "x", "b", 0, 1], ["load", "x", "b", own], ["store", "b", own, number]][number % 3]
+            for number in range(count)
+        ]
+
+    def straight(own):
+        return [{"run": part} for part in jobs([[command] for command in run(own)])]
+
+    def asked(index):
+        return [["load", "x", "b", index], ["say", "x"]]
+
+    made = {"run": [["buffer", "b", 3], ["post", "w", "b"]]}
+    yield "a", [made, *straight(1), {"run": [["post", "w", "b"]]}]
+    last = {"on": ["a", "c"], "run": [["sameblock", "s", "b", "c"], ["say", "s"], *asked(0), *asked(1), *asked(2)]}
+    yield "w", [{"on": ["a", "b"], "run": []}, *straight(2), last]
+
+
 def jobs(pieces):
     """Jobs of as many pieces as one job has room for; all pieces are as long as the first."""
     size = LONGEST // len(pieces[0]) if pieces else 1
@@ -193,20 +254,31 @@ PLANS = {
     "check": (mixed, 1000),
 }
 CALLBACKS = {"registrations": {"cb": [["copy", "last", "held"]]}}
+CLUSTERS = {
+    "posts": (posts, 7000),
+    "ping-pong": (ping_pong, 1999),
+    "ring": (ring, 7999),
+    "words": (words, 100000),
+}
 
 
 def main():
-    if len(sys.argv) not in (2, 3) or sys.argv[1] not in PLANS:
+    name = sys.argv[1] if len(sys.argv) in (2, 3) else None
+    if name not in PLANS and name not in CLUSTERS:
         sys.exit(__doc__)
-    runs, usual = PLANS[sys.argv[1]]
+    made, usual = PLANS.get(name) or CLUSTERS[name]
     count = int(sys.argv[2]) if len(sys.argv) == 3 else usual
+    agents = made(count) if name in CLUSTERS else [("a", ({"run": run} for run in made(count)))]
     # Job by job, since a plan as one value takes much memory.
     text = json.JSONEncoder(separators=(",", ":")).encode
-    callbacks = text(CALLBACKS.get(sys.argv[1], {}))
-    sys.stdout.write(f'{{"version":1,"agents":[{{"name":"a","callbacks":{callbacks},"jobs":[')
-    for number, run in enumerate(runs(count)):
-        sys.stdout.write("," * (number > 0) + text({"run": run}))
-    sys.stdout.write("]}]}\n")
+    callbacks = text(CALLBACKS.get(name, {}))
+    sys.stdout.write('{"version":1,"agents":[')
+    for place, (agent, listed) in enumerate(agents):
+        sys.stdout.write("," * (place > 0) + f'{{"name":{text(agent)},"callbacks":{callbacks},"jobs":[')
+        for number, job in enumerate(listed):
+            sys.stdout.write("," * (number > 0) + text(job))
+        sys.stdout.write("]}")
+    sys.stdout.write("]}\n")
 
 
 main()

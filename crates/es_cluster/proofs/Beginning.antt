@@ -9,7 +9,6 @@ use Rattle.es_event.specs.Ledger.{ended}
 use Rattle.es_ledger.specs.Books.{Books}
 use Rattle.es_match.specs.Cluster.{patient, drained_last}
 use Rattle.es_match.specs.Deeds.{part}
-use Rattle.es_ticket.specs.Shares.{Share}
 use Rattle.es_record.specs.Book.{Book}
 use Rattle.es_member.specs.Seats.{Seat}
 use Rattle.es_member.specs.Tied.{IsTied}

@@ -1,5 +1,5 @@
 -- What is drained is nobody's.
-use Rattle.std.proofs.Common.{◌≡◌, ℕ, zero, suc, ◌==◌, ◌&&◌, ◌||◌, Bool, true, false, cond, not, sym, ◌∙◌, ap, refl, subst, List, [], ◌∷◌, ◌++◌, append-nil, drop, eq-eqb, Option, Some, None}
+use Rattle.std.proofs.Common.{◌≡◌, ℕ, zero, suc, ◌==◌, ◌&&◌, ◌||◌, true, cond, not, sym, ◌∙◌, ap, refl, subst, List, [], ◌∷◌, ◌++◌, append-nil, drop, eq-eqb, Option, Some, None}
 use Rattle.std.specs.Prelude.{slice_get, is_some}
 use Rattle.std.specs.Option.{option_and_then, option_map}
 use Rattle.es_event.specs.History.{History}
@@ -16,12 +16,10 @@ use Rattle.es_event.specs.Ledger.{Ledger, front, port_of, serial_in, table, by_a
 use Rattle.es_event.specs.LegalLedger.{ComesNext, LegalLedger, LegalSoFar, all_ended, owed}
 use Rattle.es_ledger.specs.Books.{Books}
 use Rattle.es_ledger.specs.Draining.{drained_one, drained_each, drained_to, drained_below, drained}
-use Rattle.es_ledger.proofs.Lines.{holder_at}
 use Rattle.es_ledger.proofs.Lying.{lies_in_front, lying_all}
 use Rattle.es_match.specs.Cluster.{Ties, IsCluster, is_patient, patient, is_nobodys, drained_last, history_of}
 use Rattle.es_match.specs.Cluster.{drained as was_drained}
-use Rattle.es_match.specs.Deeds.{Spends, deed, by_holder, part, part_of}
-use Rattle.es_match.specs.Meets.{Tickets}
+use Rattle.es_match.specs.Deeds.{Spends, deed, part, part_of}
 use Rattle.es_agent.specs.Tickets.{tickets}
 use Rattle.es_member.proofs.Midway.{still_over}
 use Rattle.es_record.specs.Book.{Book}

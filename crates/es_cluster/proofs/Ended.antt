@@ -2,7 +2,7 @@
 use Rattle.std.proofs.Common.{◌≡◌, ℕ, zero, suc, ◌<◌, true, sym, ◌∙◌, ap, subst, arith, List, [], ◌∷◌, refl, map, reverse, length, Some}
 use Rattle.std.specs.Prelude.{slice_get}
 use Rattle.es_event.specs.declared.outcome.Outcome.{Outcome}
-use Rattle.es_event.specs.Ledger.{Ledger, count, port_of, table}
+use Rattle.es_event.specs.Ledger.{count, port_of, table}
 use Rattle.es_event.specs.LegalLedger.{LegalLedger, all_ended}
 use Rattle.es_event.specs.Rows.{held}
 use Rattle.es_ledger.specs.Books.{Books}

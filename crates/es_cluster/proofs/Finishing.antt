@@ -12,8 +12,8 @@ use Rattle.es_event.specs.Order.{is_cleaning_up}
 use Rattle.es_member.specs.declared.member.Progress.{Progress}
 use Rattle.es_member.specs.declared.member.Progress.TheVariants.{Moved, Waiting, Ended}
 use Rattle.es_record.specs.Book.{Book}
-use Rattle.es_cluster.specs.Asked.{plan_left, cleanup_left, cleans_at, IsLess, Works, Hears, Asked, AskedUpTo, AskedEach, BeginsMove, GoesOn}
-use Rattle.es_cluster.specs.Moves.{is_between, rests, rests_at, Rest, rested, turned, RunsOut, over, waits, moves, all_over}
+use Rattle.es_cluster.specs.Asked.{plan_left, cleans_at, IsLess, Works, Hears, Asked, AskedUpTo, AskedEach, BeginsMove, GoesOn}
+use Rattle.es_cluster.specs.Moves.{is_between, rests, rests_at, Rest, rested, turned, RunsOut, over, waits, moves}
 use Rattle.es_cluster.specs.State.{Cluster}
 use Rattle.es_cluster.specs.Turns.{Turned}
 use Rattle.es_cluster.proofs.Standing.{set_here, set_length, set_same, within}

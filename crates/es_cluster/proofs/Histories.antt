@@ -1,5 +1,5 @@
 -- The histories of agents that have ended, one more.
-use Rattle.std.proofs.Common.{◌≡◌, ℕ, zero, suc, ◌<◌, true, sym, ◌∙◌, ap, refl, subst, arith, List, [], ◌∷◌, ◌++◌, append-nil, map, reverse, length, Some}
+use Rattle.std.proofs.Common.{◌≡◌, ℕ, zero, suc, true, sym, ◌∙◌, ap, refl, subst, List, [], ◌∷◌, ◌++◌, append-nil, map, reverse, length, Some}
 use Rattle.std.specs.Prelude.{slice_get}
 use Rattle.std.proofs.lemmas.List.{map-append}
 use Rattle.es_event.specs.declared.event.Event.{Event}

@@ -1,5 +1,5 @@
 -- Which agents wait in vain, and which one moves next.
-use Rattle.std.proofs.Common.{◌≡◌, ℕ, zero, suc, ◌+◌, ◌<◌, ◌==◌, ◌&&◌, ◌||◌, Bool, true, false, cond, not, sym, ◌∙◌, ap, refl, subst, arith, List, [], ◌∷◌, length, Option, Some, None, eq-eqb, inl, inr}
+use Rattle.std.proofs.Common.{◌≡◌, ℕ, zero, suc, ◌+◌, ◌<◌, ◌==◌, ◌&&◌, ◌||◌, Bool, true, false, cond, not, sym, ◌∙◌, ap, refl, subst, arith, List, [], ◌∷◌, Option, Some, None, eq-eqb, inl, inr}
 use Rattle.std.specs.Prelude.{is_some, slice_get}
 use Rattle.std.specs.List.{position_from}
 use Rattle.std.specs.Option.{option_map_or}
@@ -9,15 +9,13 @@ use Rattle.es_event.specs.Ledger.{Ledger, ended, waits}
 use Rattle.es_event.specs.LegalLedger.{has_message, is_stuck, all_stuck, all_ended, is_chosen, skips}
 use Rattle.es_event.specs.Order.{Phase, between, handed, inside, stopped, ended as at_end, phase, due_at}
 use Rattle.es_agent.specs.Tickets.{is_ended}
-use Rattle.es_ledger.specs.Books.{Books}
-use Rattle.es_ledger.specs.Turns.{asked, judged, told, waits_for}
+use Rattle.es_ledger.specs.Turns.{asked, judged, told}
 use Rattle.es_ledger.specs.declared.turn.Turn.{Turn}
 use Rattle.es_ledger.specs.declared.turn.Turn.TheVariants.{Ready, Stay, Skip}
-use Rattle.es_member.specs.Tied.{IsTied}
 use Rattle.es_member.proofs.Hearing.{where_stay}
 use Rattle.es_member.proofs.Midway.{still_over}
 use Rattle.es_record.specs.Book.{Book}
-use Rattle.es_rules.specs.Needs.{Need, asks_nobody, asks_marks, asks_ledger, asks_message, asks_closing, asks_nothing, need_of, need}
+use Rattle.es_rules.specs.Needs.{asks_message, asks_nothing, need_of, need}
 use Rattle.es_cluster.specs.Moves.{goes_on_by, goes_on, is_over}
 
 -- The first that passes
@@ -85,6 +83,7 @@ settled_stays l b over awaits is = by_end (ended l b.number) refl is
         neither true q e f = cc
         neither false true e f = cc
         neither false false e f = refl
+
     by_end : (e : Bool) → ended l b.number ≡ e → (e || is_stuck l b.number) ≡ true → goes_on l b ≡ false
     by_end true e stuck = ap (goes_on_by l b.number) (over_asks_nothing b (sym over ∙ e))
     by_end false e stuck = by_wait (waits l b.number) refl stuck
@@ -160,8 +159,10 @@ stays_here b l k n s awaits is heard = subst (λ k. StaysHere l k n b s) (sym re
   where
     recorded : k ≡ asked l b.number s
     recorded = where_stay l k n b.number s heard
+
     waiting : waits (asked l b.number s) b.number ≡ Some s
     waiting = asked_awaits b l s awaits is
+
     here : has_message l s b.number ≡ false → (e c : Bool) → ended (asked l b.number s) s ≡ e → is_chosen (asked l b.number s) n b.number ≡ c → (e || c) ≡ false → StaysHere l (asked l b.number s) n b s
     here none true c e chosen neither = cc
     here none false true e chosen neither = cc
@@ -170,11 +171,13 @@ stays_here b l k n s awaits is heard = subst (λ k. StaysHere l k n b s) (sym re
       stuck = rw (waiting, asked_message l b.number s s b.number, none, e) refl;
       unchosen = chosen;
     }
+
     at_skip : has_message l s b.number ≡ false → (u : Bool) → skips (asked l b.number s) n b.number s ≡ u → ◌≡◌ {A = Turn × Ledger} (Stay, k) (cond u (Skip, Passed b.number s ∷ asked l b.number s) (Stay, asked l b.number s)) → StaysHere l (asked l b.number s) n b s
     at_skip none true u heard = let clash : Stay ≡ Skip = ap (λ p. p.0) heard in cc
     at_skip none false u heard =
         here none (ended (asked l b.number s) s) (is_chosen (asked l b.number s) n b.number) refl refl
         (sym (ap (λ m. not m && (ended (asked l b.number s) s || is_chosen (asked l b.number s) n b.number)) (asked_message l b.number s s b.number ∙ none)) ∙ u)
+
     at_port : (m : Bool) → has_message l s b.number ≡ m → ◌≡◌ {A = Turn × Ledger} (Stay, k) (cond m (Ready, l) (judged (asked l b.number s) n b.number s)) → StaysHere l (asked l b.number s) n b s
     at_port true m heard = let clash : Stay ≡ Ready = ap (λ p. p.0) heard in cc
     at_port false m heard =
@@ -189,6 +192,7 @@ goes_or_chosen b l n s awaits is heard stays = at_port (has_message l s b.number
   where
     waiting : waits (asked l b.number s) b.number ≡ Some s
     waiting = asked_awaits b l s awaits is
+
     at_port : (m e : Bool) → has_message l s b.number ≡ m → ended l s ≡ e → (m || e) ≡ false → ((cond m (Ready, l) (judged (asked l b.number s) n b.number s)).0 ≡ Stay → ⊥) → is_chosen (asked l b.number s) n b.number ≡ true
     at_port true e m at none not_stay = cc
     at_port false true m at none not_stay = cc
@@ -196,6 +200,7 @@ goes_or_chosen b l n s awaits is heard stays = at_port (has_message l s b.number
       where
         stay_there : is_chosen (asked l b.number s) n b.number ≡ false → (judged (asked l b.number s) n b.number s).0 ≡ Stay
         stay_there c = rw (waiting, eq-eqb s s refl, asked_message l b.number s s b.number, m, asked_ends l b.number s s, at, c) refl
+
         by_choice : (c : Bool) → is_chosen (asked l b.number s) n b.number ≡ c → is_chosen (asked l b.number s) n b.number ≡ true
         by_choice true c = c
         by_choice false c = absurd (not_stay (stay_there c))

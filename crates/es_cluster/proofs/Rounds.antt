@@ -1,9 +1,8 @@
 -- What a turn of one agent tells of who moves next, in a cluster.
-use Rattle.std.proofs.Common.{◌≡◌, ℕ, zero, suc, ◌+◌, ◌<◌, ◌==◌, ◌&&◌, ◌||◌, Bool, true, false, cond, not, sym, ◌∙◌, ap, refl, subst, arith, List, [], ◌∷◌, length, Option, Some, None, inl, inr}
+use Rattle.std.proofs.Common.{◌≡◌, ℕ, zero, suc, ◌+◌, ◌<◌, ◌==◌, ◌&&◌, ◌||◌, Bool, true, false, cond, not, sym, ◌∙◌, ap, refl, subst, arith, List, Option, Some, None, inl, inr}
 use Rattle.std.specs.Prelude.{slice_get, slice_set}
 use Rattle.std.specs.List.{position_from}
 use Rattle.std.proofs.lemmas.Bool.{and_parts, cases_Bool, eqb-true, eqb-false}
-use Rattle.es_event.specs.declared.command.Command.{Command}
 use Rattle.es_event.specs.declared.event.Event.{Event}
 use Rattle.es_event.specs.Commands.{collects}
 use Rattle.es_event.specs.Follows.{Permits}
@@ -14,17 +13,16 @@ use Rattle.es_event.specs.LegalLedger.{has_message, is_stuck, all_stuck, all_end
 use Rattle.es_event.specs.Order.{Due, begin, receive, run, clean, take_cell, end_job, close, nothing, due}
 use Rattle.es_event.specs.Sharing.{Buffers}
 use Rattle.es_ledger.specs.Books.{Books}
-use Rattle.es_ledger.specs.Turns.{asked, told}
-use Rattle.es_ledger.specs.declared.turn.Turn.TheVariants.{Stay}
+use Rattle.es_ledger.specs.Turns.{asked}
 use Rattle.es_member.specs.Turned.{Heard, Moves}
 use Rattle.es_member.specs.declared.member.Progress.{Progress}
 use Rattle.es_member.specs.declared.member.Progress.TheVariants.{Moved, Waiting, Ended}
 use Rattle.es_record.specs.Book.{Book, with_row}
 use Rattle.es_rules.specs.Needs.{Request, request, Need, asks_nobody, asks_marks, asks_ledger, asks_message, asks_closing, asks_nothing, ledger_or_nobody, need_of, need}
 use Rattle.es_cluster.specs.Asked.{Hears}
-use Rattle.es_cluster.specs.Moves.{goes_on_by, goes_on, is_over, mover, or_else}
+use Rattle.es_cluster.specs.Moves.{goes_on_by, goes_on, is_over, or_else}
 use Rattle.es_cluster.specs.State.{Cluster, ArePlaced, AreTied}
-use Rattle.es_cluster.specs.Turns.{Takes, Turned}
+use Rattle.es_cluster.specs.Turns.{Turned}
 use Rattle.es_cluster.proofs.Mover.{first_at, none_at_all, is_settled, settled_at, settled_stays, over_asks_nothing, asked_message, asked_ends, asked_waits, asked_awaits, asked_stuck, asked_all_ended, StaysHere, stays_here, goes_or_chosen}
 use Rattle.es_cluster.proofs.Resting.{nothing_over}
 use Rattle.es_cluster.proofs.Standing.{set_same, within}
@@ -96,10 +94,13 @@ module _ (bs : List Book) (l : Books) (placed : ArePlaced bs l) (tied : AreTied 
       where
         k : Ledger
         k = asked l.history b.number s
+
         parts : (all_stuck k l.agents ≡ true) × ((all_ended k b.number && not (ended k b.number)) ≡ true)
         parts = and_parts (all_stuck k l.agents) (all_ended k b.number && not (ended k b.number)) chosen
+
         rest : (all_ended k b.number ≡ true) × (not (ended k b.number) ≡ true)
         rest = and_parts (all_ended k b.number) (not (ended k b.number)) parts.1
+
         none : (i : ℕ) (y : Book) → slice_get bs i ≡ Some y → goes_on l.history y ≡ false
         none i y at =
             sym (goes_same l.history k y (asked_message l.history b.number s) (asked_ends l.history b.number s))
@@ -116,9 +117,11 @@ module _ (bs : List Book) (l : Books) (placed : ArePlaced bs l) (tied : AreTied 
                   let other = eqb-false i n e in
                   awaits_of i y at t (sym (asked_waits l.history b.number s y.number (λ same. other (sym (placed.each i y at).number ∙ same ∙ number_is))) ∙ waiting)
             ]
+
         lower : (i : ℕ) (y : Book) → i < n → slice_get bs i ≡ Some y → not (is_over y) ≡ false
         lower i y less at =
             ap not (sym (over_of i y at) ∙ sym (asked_ends l.history b.number s y.number) ∙ (ap (ended k) (placed.each i y at).number ∙ below_ended k b.number i rest.0 (let same = number_is in omega (arith, same, less))))
+
         left : not (is_over b) ≡ true
         left = ap not (sym (over_of n b here) ∙ sym (asked_ends l.history b.number s b.number)) ∙ rest.1
 
@@ -132,6 +135,7 @@ module _ (bs : List Book) (l : Books) (placed : ArePlaced bs l) (tied : AreTied 
         stays (asks_message s) is not_on = mover_chosen s is (goes_or_chosen b l.history l.agents s (awaits_of n b here) is (heard s is) (ap (goes_on_by l.history b.number) is ∙ not_on))
         stays asks_closing is not_on = cc
         stays asks_nothing is not_on = absurd (nothing_moves b new is step)
+
         by_going : (g : Bool) → goes_on l.history b ≡ g → or_else (position_from (goes_on l.history) 0 bs) (position_from (λ b. not (is_over b)) 0 bs) ≡ Some n
         by_going true g = ap (λ o. or_else o (position_from (λ b. not (is_over b)) 0 bs)) (first_at (goes_on l.history) bs n b (lower_stay n all) here g)
         by_going false g = stays (need b) refl g
@@ -158,6 +162,7 @@ hears Waiting n old new placed tied t =
     settled : (k : Ledger) (a : ℕ) → is_stuck k a ≡ true → (e : Bool) → ended k a ≡ e → is_settled k a ≡ true
     settled k a stuck true e = ap (λ e. e || is_stuck k a) e
     settled k a stuck false e = ap (λ e. e || is_stuck k a) e ∙ stuck
+
     stuck_here : (n : ℕ) (l k : Ledger) (a s : ℕ) → a ≡ n → k ≡ asked l a s → is_stuck k a ≡ true → all_stuck l n ≡ true → all_stuck k (n + 1) ≡ true
     stuck_here n l k a s number history stuck all =
         let next : suc n ≡ n + 1 = omega arith in
@@ -165,6 +170,7 @@ hears Waiting n old new placed tied t =
         let rest : all_stuck k n ≡ true = subst (λ k. all_stuck k n ≡ true) (sym history) (asked_stuck l a s n (subst (λ k. is_settled k a ≡ true) history here) all) in
         let mine : is_settled k n ≡ true = ap (is_settled k) (sym number) ∙ here in
         ap (all_stuck k) (sym next) ∙ rw (mine, rest) refl
+
     unchosen : (b : Book) (n : ℕ) (l k : Ledger) (agents s : ℕ) → b.number ≡ n → ended l b.number ≡ is_over b → need b ≡ asks_message s → StaysHere l k agents b s → all_stuck l agents ≡ true → all_ended l n ≡ true → ⊥
     unchosen b n l k agents s number over is here all lower =
         let settled_here = settled k b.number here.stuck (ended k b.number) refl in

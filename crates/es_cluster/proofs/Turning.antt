@@ -1,5 +1,5 @@
 -- What a step of one agent leaves of its work, and what it tells of who moves next.
-use Rattle.std.proofs.Common.{◌≡◌, ℕ, zero, suc, ◌<◌, Bool, true, false, sym, ◌∙◌, ap, refl, subst, arith, List, [], ◌∷◌, map, Option, Some, None, Result, Ok, Err}
+use Rattle.std.proofs.Common.{◌≡◌, ℕ, zero, suc, Bool, true, false, sym, ◌∙◌, ap, refl, subst, arith, List, [], ◌∷◌, map, Some, Result, Ok, Err}
 use Rattle.std.specs.Prelude.{IfOk, slice_get}
 use Rattle.std.specs.List.{list_all}
 use Rattle.std.specs.Option.{option_map_or}
@@ -13,8 +13,8 @@ use Rattle.es_event.specs.Runs.{IsRunOver}
 use Rattle.es_member.specs.declared.member.Progress.{Progress}
 use Rattle.es_member.specs.declared.member.Progress.TheVariants.{Moved, Waiting, Ended}
 use Rattle.es_record.specs.Book.{Book}
-use Rattle.es_cluster.specs.Asked.{plan_left, cleanup_left, cleans_at, IsLess, Works, Hears}
-use Rattle.es_cluster.specs.Moves.{cleans_quietly, rests, rests_at}
+use Rattle.es_cluster.specs.Asked.{plan_left, cleans_at, IsLess, Works, Hears}
+use Rattle.es_cluster.specs.Moves.{cleans_quietly, rests}
 use Rattle.es_cluster.specs.State.{Cluster, ArePlaced, AreTied}
 use Rattle.es_cluster.specs.Turns.{Turned}
 use Rattle.es_cluster.proofs.Resting.{is_idle, idle_rests, less_cleaning, less_next}
@@ -31,10 +31,13 @@ works Moved n old new quiet t run = by_cleaning (is_cleaning_up t.before.history
   where
     before : plan_left n old ≡ plan_work t.before.plan t.before.history
     before = ap (λ o. option_map_or (λ b. plan_work b.plan b.history) o 0) t.agent
+
     found : slice_get new.agents n ≡ Some t.after
     found = ap (λ bs. slice_get bs n) t.agents ∙ set_here old.agents n t.after (within old.agents n t.before t.agent)
+
     after : plan_left n new ≡ plan_work t.after.plan t.after.history
     after = ap (λ o. option_map_or (λ b. plan_work b.plan b.history) o 0) found
+
     by_cleaning : (b : Bool) → is_cleaning_up t.before.history ≡ b → IsLess (cleans_at n old) n old new
     by_cleaning true up =
         let less = less_cleaning t.before t.after (all_at callbacks_collect_nothing old.agents n t.before quiet t.agent) run up t.turn in

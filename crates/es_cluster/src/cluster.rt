@@ -25,7 +25,7 @@ use std::marker::Model;
 /// Each agent's history is legal and follows its plan so far, the ledger's is legal, and unless a
 /// step ended for want of memory they are the histories of one cluster: each agent's part in the
 /// ledger is, in order and with nothing besides, what its history asks. It holds tickets, so it
-/// can't be dropped, but ends by `abandon`.
+/// can't be dropped, but ends by `end` or `abandon`.
 pub struct ClusterCore<L: Run> {
     pub(crate) members: Vec<Member<L>>,
     pub(crate) ledger: LedgerCore<L>,

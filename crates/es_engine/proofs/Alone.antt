@@ -1,5 +1,5 @@
 -- A plan whose agents stay alone has one report.
-use Rattle.std.proofs.Common.{◌≡◌, ℕ, zero, suc, ◌&&◌, true, List, [], ◌∷◌, ◌++◌, map, reverse, sym, ◌∙◌, ap}
+use Rattle.std.proofs.Common.{◌≡◌, ℕ, zero, suc, true, List, [], ◌∷◌, ◌++◌, map, reverse, sym, ◌∙◌, ap}
 use Rattle.std.specs.List.{list_all}
 use Rattle.std.proofs.lemmas.Bool.{and_parts}
 use Rattle.es_event.specs.declared.event.Event.{Event}

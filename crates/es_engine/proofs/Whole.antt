@@ -1,6 +1,6 @@
 -- What a cluster's end says of the plan's outcome, and the totals of its agents.
-use Rattle.std.proofs.Common.{◌≡◌, ℕ, zero, suc, ◌+◌, ◌<◌, ◌≤◌, ◌==◌, ◌&&◌, Bool, true, false, cond, List, [], ◌∷◌, ◌++◌, map, take, reverse, length, sym, ◌∙◌, ap, refl, subst, arith, Some, eq-eqb}
-use Rattle.std.specs.Prelude.{slice_get, count_by, nat_le, nat_lt}
+use Rattle.std.proofs.Common.{◌≡◌, ℕ, zero, suc, ◌+◌, ◌<◌, ◌≤◌, ◌==◌, Bool, true, cond, List, [], ◌∷◌, ◌++◌, map, take, reverse, length, sym, ◌∙◌, ap, refl, subst, arith, Some}
+use Rattle.std.specs.Prelude.{slice_get, count_by}
 use Rattle.std.specs.List.{list_all, range_with_len}
 use Rattle.std.proofs.lemmas.Bool.Decides.{nat_tests}
 use Rattle.std.proofs.lemmas.List.Sums.{sum_by-cons}

@@ -1,5 +1,5 @@
 use Rattle.std.proofs.Common.{◌≡◌, ◌≤◌, refl, sym, ◌∙◌, ap, subst, arith, List, [], ◌∷◌, ◌++◌, append_assoc, length, length-append, reverse}
-use Rattle.std.specs.Prelude.{slice_get, vec_capacity}
+use Rattle.std.specs.Prelude.{slice_get}
 use Rattle.std.proofs.lemmas.List.{length-reverse, reverse-reverse}
 use Rattle.es_cluster.specs.Ends.{AreHistories, HaveNoTicket}
 use Rattle.es_cluster.specs.State.{books}

@@ -1,4 +1,4 @@
-use Rattle.std.proofs.Common.{◌≡◌, true, false, sym, ◌∙◌, ap}
+use Rattle.std.proofs.Common.{true, false, sym, ◌∙◌}
 use Rattle.es_engine.proofs.Alone.{one_report}
 use Rattle.es_engine.proofs.laws.a_plan_has_one_answer.Goals as goal
 

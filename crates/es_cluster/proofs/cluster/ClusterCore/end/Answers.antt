@@ -1,4 +1,4 @@
-use Rattle.std.proofs.Common.{◌≡◌, true, sym, ◌∙◌, ap, subst, ℕ, []}
+use Rattle.std.proofs.Common.{◌≡◌, sym, ◌∙◌, ap, subst, ℕ, []}
 use Rattle.es_event.specs.Ledger.{port_of}
 use Rattle.es_cluster.specs.Ends.{AreHistories, HaveNoTicket}
 use Rattle.es_cluster.specs.State.{books}

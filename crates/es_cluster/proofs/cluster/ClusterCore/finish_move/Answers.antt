@@ -1,6 +1,6 @@
-use Rattle.std.proofs.Common.{◌<◌, sym, ◌∙◌, subst, true, false, arith}
+use Rattle.std.proofs.Common.{◌<◌, sym, ◌∙◌, subst, false, arith}
 use Rattle.es_cluster.specs.Moves.{rested}
-use Rattle.es_cluster.proofs.Finishing.{goes_more, turned_length, unrested_moves, works_moved}
+use Rattle.es_cluster.proofs.Finishing.{goes_more, unrested_moves, works_moved}
 use Rattle.es_cluster.proofs.cluster.ClusterCore.finish_move.Goals as goal
 
 pub loop-self-preserved : goal.loop-self-preserved

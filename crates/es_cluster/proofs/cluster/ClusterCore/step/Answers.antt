@@ -49,8 +49,7 @@ invariant_of-self-in-Err g c =
     let placed = c.self.invariant.0.each c.args.agent c.index_mut.result.now.book here in
     let stay = subst (λ n. OthersStay n c.self.inside.ledger c.step.new.ledger) placed.number c.step.ensures.others in
     let still = placed_here c.index_mut.result.now.book c.step.new.self.book c.self.inside.ledger c.step.new.ledger c.args.agent placed c.step.ensures.number c.step.ensures.same.0 c.step.ensures.seated stay.0 in
-    let changed = one_changed c.self.inside.members.items c.args.agent c.step.new.self in
-    (
+    let changed = one_changed c.self.inside.members.items c.args.agent c.step.new.self in (
       subst (λ bs. ArePlaced bs c.step.new.ledger) (sym changed) (placed_after (books c.self.inside.members.items) c.self.inside.ledger c.step.new.ledger c.args.agent c.step.new.self.book within c.self.invariant.0 still stay),
       λ whole. cc,
       c.self.invariant.2 ∙ sym (ap names_of changed ∙ mapped_still (λ b. b.plan.name) (books c.self.inside.members.items) c.args.agent c.index_mut.result.now.book c.step.new.self.book here (ap (λ p. p.name) c.step.ensures.same.0)),
