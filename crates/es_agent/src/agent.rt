@@ -1,6 +1,6 @@
 //! The agent: its calls, each of which records one event or shows what stands.
 
-ghost use Rattle.std.specs.Prelude.{◌≡◌, ◌+◌, ℕ, [], true, Some, None, pos, is_some, reverse, IfOk, IfErr, OnOk, OnErr};
+ghost use Rattle.std.specs.Prelude.{◌≡◌, ◌+◌, ℕ, [], true, Some, None, pos, is_some, length, reverse, IfOk, IfErr, OnOk, OnErr};
 ghost use Rattle.es_value.specs.Values.{identity};
 ghost use Rattle.es_event.specs.Identities.{gone, is_in, made};
 ghost use Rattle.es_event.specs.Jobs.{receivers};
@@ -132,6 +132,13 @@ impl<L: Run> AgentCore<L> {
         ensures named { Some result.now ≡ row_at self.now.over buffer }
     {
         self.rack.get(buffer)
+    }
+
+    /// How many tickets it has.
+    pub fn ticket_count(&self) -> usize
+        ensures { result ≡ length (tickets self.now) }
+    {
+        self.rack.len()
     }
 
     /// What it asks for next. A command that a rule refuses asks for nothing.

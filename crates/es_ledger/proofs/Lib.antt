@@ -8,7 +8,8 @@ mod After
 mod Made
 mod Tallies
 mod Within
-mod Sums
+pub mod Sums
+pub mod Auditing
 mod InOrder
 mod Plain
 mod ExampleBlocks

@@ -22,7 +22,7 @@ abbrev pub Each : (Row → Type 0) → List Entry → Type 0
 Each P [] = Unit {0}
 Each P (e ∷ es) = P e.row × Each P es
 
-each_weaker : (P Q : Row → Type 0) (t : List Entry) → ((r : Row) → P r → Q r) → Each P t → Each Q t
+pub each_weaker : (P Q : Row → Type 0) (t : List Entry) → ((r : Row) → P r → Q r) → Each P t → Each Q t
 each_weaker P Q [] weaker each = tt
 each_weaker P Q (e ∷ es) weaker each = (weaker e.row each.0, each_weaker P Q es weaker each.1)
 

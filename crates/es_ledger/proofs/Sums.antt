@@ -1,40 +1,56 @@
 -- How many tickets of a block there are is the sum over the agents and the ports.
-use Rattle.std.proofs.Common.{◌≡◌, ℕ, zero, suc, ◌+◌, ◌<◌, ◌==◌, ◌&&◌, List, [], ◌∷◌, Bool, true, false, refl, ap, ◌∙◌, arith, ne_eqb}
+use Rattle.std.proofs.Common.{◌≡◌, ℕ, zero, suc, ◌+◌, ◌<◌, ◌≤◌, ◌==◌, ◌&&◌, List, [], ◌∷◌, Bool, true, false, refl, ap, ◌∙◌, arith, ne_eqb}
 use Rattle.std.proofs.lemmas.Bool.{eqb-true, eqb-false}
 use Rattle.es_event.specs.declared.row.Entry.{Entry}
+use Rattle.es_event.specs.declared.row.Row.{Row}
 use Rattle.es_event.specs.declared.row.Holder.{Holder}
 use Rattle.es_event.specs.declared.row.Holder.TheVariants.{Agent, Port, Nobody}
 use Rattle.es_event.specs.Rows.{is_agent, is_port, is_somebody, count_of, held, in_port}
 use Rattle.es_event.specs.Ledger.{Ledger, table, count}
 use Rattle.es_event.specs.LegalLedger.{LegalSoFar}
 use Rattle.es_ledger.specs.Laws.{sum_below}
-use Rattle.es_ledger.proofs.Tallies.{tally, weight, if_passed, tally_more}
+use Rattle.es_ledger.proofs.Tallies.{tally_such, weight_such, if_passed, tally_such_more, of_block}
 use Rattle.es_ledger.proofs.Within.{IsWithin, AllWithin, within_all}
 
 -- Sums over numbers
 
-sum_zero : (n : ℕ) (f : ℕ → ℕ) → ((k : ℕ) → k < n → f k ≡ 0) → sum_below n f ≡ 0
+pub sum_zero : (n : ℕ) (f : ℕ → ℕ) → ((k : ℕ) → k < n → f k ≡ 0) → sum_below n f ≡ 0
 sum_zero zero f each = refl
 sum_zero (suc n) f each = omega (arith, each n (omega arith), sum_zero n f (λ k less. each k (omega arith)))
 
-sum_none : (n : ℕ) → sum_below n (λ k. 0) ≡ 0
+pub sum_none : (n : ℕ) → sum_below n (λ k. 0) ≡ 0
 sum_none n = sum_zero n (λ k. 0) (λ k less. refl)
+
+-- the first is added last
+pub sum_first : (n : ℕ) (f : ℕ → ℕ) → sum_below (suc n) f ≡ f 0 + sum_below n (λ k. f (suc k))
+sum_first zero f = refl
+sum_first (suc n) f = omega (arith, sum_first n f)
+
+-- fewer numbers have no more
+pub sum_part : (n m : ℕ) (f : ℕ → ℕ) → m ≤ n → sum_below m f ≤ sum_below n f
+sum_part zero zero f less = omega arith
+sum_part zero (suc m) f less = absurd (omega (arith, less))
+sum_part (suc n) m f less = step (m == suc n) refl (λ fewer. sum_part n m f fewer)
+  where
+    step : (p : Bool) → (m == suc n) ≡ p → (m ≤ n → sum_below m f ≤ sum_below n f) → sum_below m f ≤ sum_below (suc n) f
+    step true same rest = (let here = ap (λ k. sum_below k f) (eqb-true m (suc n) same) in omega (arith, here))
+    step false other rest = (let apart = eqb-false m (suc n) other in let fewer = rest (omega (arith, less, apart)) in omega (arith, fewer))
 
 no_ports : (n : ℕ) → sum_below n (λ s. sum_below n (λ r. 0)) ≡ 0
 no_ports n = sum_zero n (λ s. sum_below n (λ r. 0)) (λ s less. sum_none n)
 
-sum_same : (n : ℕ) (f g : ℕ → ℕ) → ((k : ℕ) → f k ≡ g k) → sum_below n f ≡ sum_below n g
+pub sum_same : (n : ℕ) (f g : ℕ → ℕ) → ((k : ℕ) → f k ≡ g k) → sum_below n f ≡ sum_below n g
 sum_same zero f g same = refl
 sum_same (suc n) f g same = omega (arith, same n, sum_same n f g same)
 
-sum_plus : (n : ℕ) (f g h : ℕ → ℕ) → ((k : ℕ) → f k ≡ g k + h k) → sum_below n f ≡ sum_below n g + sum_below n h
+pub sum_plus : (n : ℕ) (f g h : ℕ → ℕ) → ((k : ℕ) → f k ≡ g k + h k) → sum_below n f ≡ sum_below n g + sum_below n h
 sum_plus zero f g h same = refl
 sum_plus (suc n) f g h same = omega (arith, same n, sum_plus n f g h same)
 
 unlike : (k j w : ℕ) → (k ≡ j → ⊥) → if_passed (k == j) w ≡ 0
 unlike k j w other = ap (λ p. if_passed p w) (ne_eqb k j other)
 
-sum_one : (n j w : ℕ) → j < n → sum_below n (λ k. if_passed (k == j) w) ≡ w
+pub sum_one : (n j w : ℕ) → j < n → sum_below n (λ k. if_passed (k == j) w) ≡ w
 sum_one zero j w less = absurd (omega arith)
 sum_one (suc n) j w less = step (n == j) refl (sum_one n j w)
   where
@@ -57,17 +73,17 @@ counted_once n w (Agent a) within = omega (arith, sum_one n a w within, no_ports
 counted_once n w (Port t u) within = omega (arith, sum_port n t u w within.0 within.1, sum_none n)
 counted_once n w Nobody within = omega (arith, sum_none n, no_ports n)
 
-sums_add_up : (n b : ℕ) (t : List Entry) → AllWithin n t
-    → tally is_somebody b t ≡ sum_below n (λ a. tally (is_agent a) b t) + sum_below n (λ s. sum_below n (λ r. tally (is_port s r) b t))
-sums_add_up n b [] within = omega (arith, sum_none n, no_ports n)
-sums_add_up n b (e ∷ t) within =
-    let once = counted_once n (weight b e) e.holder within.0 in
-    let agents = sum_plus n (λ a. tally (is_agent a) b (e ∷ t)) (λ a. if_passed (is_agent a e.holder) (weight b e)) (λ a. tally (is_agent a) b t) (λ a. tally_more (is_agent a) b e t) in
+pub sums_add_up : (n : ℕ) (such : Row → Bool) (t : List Entry) → AllWithin n t
+    → tally_such such is_somebody t ≡ sum_below n (λ a. tally_such such (is_agent a) t) + sum_below n (λ s. sum_below n (λ r. tally_such such (is_port s r) t))
+sums_add_up n such [] within = omega (arith, sum_none n, no_ports n)
+sums_add_up n such (e ∷ t) within =
+    let once = counted_once n (weight_such such e) e.holder within.0 in
+    let agents = sum_plus n (λ a. tally_such such (is_agent a) (e ∷ t)) (λ a. if_passed (is_agent a e.holder) (weight_such such e)) (λ a. tally_such such (is_agent a) t) (λ a. tally_such_more such (is_agent a) e t) in
     let ports =
-    sum_plus n (λ s. sum_below n (λ r. tally (is_port s r) b (e ∷ t))) (λ s. sum_below n (λ r. if_passed (is_port s r e.holder) (weight b e))) (λ s. sum_below n (λ r. tally (is_port s r) b t))
-    (λ s. sum_plus n (λ r. tally (is_port s r) b (e ∷ t)) (λ r. if_passed (is_port s r e.holder) (weight b e)) (λ r. tally (is_port s r) b t) (λ r. tally_more (is_port s r) b e t)) in
-    omega (arith, once, agents, ports, tally_more is_somebody b e t, sums_add_up n b t within.1)
+    sum_plus n (λ s. sum_below n (λ r. tally_such such (is_port s r) (e ∷ t))) (λ s. sum_below n (λ r. if_passed (is_port s r e.holder) (weight_such such e))) (λ s. sum_below n (λ r. tally_such such (is_port s r) t))
+    (λ s. sum_plus n (λ r. tally_such such (is_port s r) (e ∷ t)) (λ r. if_passed (is_port s r e.holder) (weight_such such e)) (λ r. tally_such such (is_port s r) t) (λ r. tally_such_more such (is_port s r) e t)) in
+    omega (arith, once, agents, ports, tally_such_more such is_somebody e t, sums_add_up n such t within.1)
 
 pub counts_add_up : (n : ℕ) (l : Ledger) (b : ℕ) → LegalSoFar n l
     → count l b ≡ sum_below n (λ a. count_of (held a (table l)) b) + sum_below n (λ s. sum_below n (λ r. count_of (in_port s r (table l)) b))
-counts_add_up n l b legal = sums_add_up n b (table l) (within_all n l legal)
+counts_add_up n l b legal = sums_add_up n (of_block b) (table l) (within_all n l legal)

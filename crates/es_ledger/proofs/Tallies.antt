@@ -1,6 +1,7 @@
 -- How many tickets of a block some holders have; a block is released where none of them has one.
 use Rattle.std.proofs.Common.{◌≡◌, ℕ, ◌+◌, ◌≤◌, ◌==◌, List, [], ◌∷◌, Bool, true, false, cond, refl, ap, ◌∙◌, arith, eq-eqb}
-use Rattle.std.specs.Prelude.{◌↔◌}
+use Rattle.std.specs.Prelude.{◌↔◌, count_by}
+use Rattle.es_event.specs.declared.row.Row.{Row}
 use Rattle.std.proofs.lemmas.Bool.{eqb-true, and_parts, and_from}
 use Rattle.std.proofs.lemmas.List.Sums.{sum_by-cons}
 use Rattle.es_event.specs.declared.row.Entry.{Entry}
@@ -9,22 +10,36 @@ use Rattle.es_event.specs.declared.row.Holder.TheVariants.{Agent, Port, Nobody}
 use Rattle.es_event.specs.Rows.{rows_by, is_agent, is_port, is_somebody, count_of, held, in_port}
 use Rattle.es_event.specs.Ledger.{Ledger, table, count, is_opened, is_released}
 
--- how many tickets of block b those holders have who pass the test
-abbrev pub tally : (Holder → Bool) → ℕ → List Entry → ℕ
-tally test b t = count_of (rows_by test t) b
+-- how many tickets that are such those holders have who pass the test
+abbrev pub tally_such : (Row → Bool) → (Holder → Bool) → List Entry → ℕ
+tally_such such test t = count_by such (rows_by test t)
 
-abbrev pub weight : ℕ → Entry → ℕ
-weight b e = cond (e.row.block == b) 1 0
+abbrev pub weight_such : (Row → Bool) → Entry → ℕ
+weight_such such e = cond (such e.row) 1 0
 
 abbrev pub if_passed : Bool → ℕ → ℕ
 if_passed p w = cond p w 0
 
-pub tally_more : (test : Holder → Bool) (b : ℕ) (e : Entry) (t : List Entry) → tally test b (e ∷ t) ≡ if_passed (test e.holder) (weight b e) + tally test b t
-tally_more test b e t = step (test e.holder)
+pub tally_such_more : (such : Row → Bool) (test : Holder → Bool) (e : Entry) (t : List Entry) → tally_such such test (e ∷ t) ≡ if_passed (test e.holder) (weight_such such e) + tally_such such test t
+tally_such_more such test e t = step (test e.holder)
   where
-    step : (p : Bool) → count_of (cond p (e.row ∷ rows_by test t) (rows_by test t)) b ≡ if_passed p (weight b e) + tally test b t
-    step true = sum_by-cons (λ r. cond (r.block == b) 1 0) e.row (rows_by test t)
+    step : (p : Bool) → count_by such (cond p (e.row ∷ rows_by test t) (rows_by test t)) ≡ if_passed p (weight_such such e) + tally_such such test t
+    step true = sum_by-cons (λ r. cond (such r) 1 0) e.row (rows_by test t)
     step false = omega arith
+
+-- those of block b
+
+abbrev pub of_block : ℕ → Row → Bool
+of_block b r = r.block == b
+
+abbrev pub tally : (Holder → Bool) → ℕ → List Entry → ℕ
+tally test b t = tally_such (of_block b) test t
+
+abbrev pub weight : ℕ → Entry → ℕ
+weight b e = weight_such (of_block b) e
+
+pub tally_more : (test : Holder → Bool) (b : ℕ) (e : Entry) (t : List Entry) → tally test b (e ∷ t) ≡ if_passed (test e.holder) (weight b e) + tally test b t
+tally_more test b e t = tally_such_more (of_block b) test e t
 
 -- who are among others have no more than these
 fewer : (test other : Holder → Bool) (b : ℕ) (t : List Entry) → ((h : Holder) → test h ≡ true → other h ≡ true) → tally test b t ≤ tally other b t

@@ -5,5 +5,6 @@ pub mod Handing
 pub mod Ports
 pub mod Ties
 pub mod Laws
+pub mod Audits
 pub mod Turns
 pub mod Draining

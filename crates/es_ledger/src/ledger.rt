@@ -7,6 +7,7 @@ ghost use Rattle.es_event.specs.declared.row.Row.{Row};
 ghost use Rattle.es_event.specs.Rows.{row, held};
 ghost use Rattle.es_event.specs.Ledger.{opened, serials, table, count, word, ended, holder_of};
 ghost use Rattle.es_event.specs.LegalLedger.{LegalLedger};
+ghost use Rattle.es_ledger.specs.Audits.{held_below};
 ghost use Rattle.es_event.specs.declared.ledger_event.LedgerEvent.TheVariants.{Opened as OpenedEvent, Spent as SpentEvent, Loaded, Stored, Added, Ended as EndedEvent};
 
 use crate::blocks::Blocks;
@@ -133,14 +134,16 @@ impl<L: Run> LedgerCore<L> {
         Spent { released }
     }
 
-    /// Changes nothing, and tells that the history is legal, and that the stake's tickets are those
-    /// that it says its agent holds.
+    /// Changes nothing, and tells that the history is legal, that the stake's tickets are those that it
+    /// says its agent holds, and that all agents' tickets can be counted.
     pub fn look(&mut self, stake: &mut Stake<L>)
         ensures same { (self.new ≡ self.old) × (stake.new ≡ stake.old) }
         ensures told { stake.old.rows ≡ held stake.old.agent (table self.old.history) }
         ensures holder { (r : Row) → Contains stake.old.rows r → holder_of self.old.history r.serial ≡ Some (stake.old.agent, r) }
         ensures legal { LegalLedger self.old.agents self.old.history }
+        ensures few { held_below self.old.agents self.old.history < 2 ^ 63 }
     {
+        let _ = self.rows.made();
         self.rows.look(stake);
     }
 

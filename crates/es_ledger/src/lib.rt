@@ -2,6 +2,7 @@
 //! which messages lie in the ports, and what happened.
 #![tactic(auto)]
 
+mod audit;
 mod blocks;
 mod draining;
 mod laws;
@@ -14,6 +15,7 @@ mod tests;
 mod turn;
 mod waiting;
 
+pub use audit::Audit;
 pub use laws::{
     counts_are_sums, ports_are_first_in_first_out, released_where_nobody_holds,
     tickets_are_numbered, what_one_agent_does_changes_no_other,

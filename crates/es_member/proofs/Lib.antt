@@ -8,3 +8,4 @@ pub mod SpentAll
 pub mod Moving
 pub mod Tying
 pub mod Hearing
+pub mod Audited

@@ -2,3 +2,4 @@ pub mod Seats
 pub mod Tied
 pub mod Turned
 pub mod Midway
+pub mod Audits

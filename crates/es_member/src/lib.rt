@@ -1,6 +1,7 @@
 //! One agent and the ledger together: a turn of an agent, with what the ledger answers to it.
 #![tactic(auto)]
 
+mod auditing;
 mod member;
 mod spending;
 mod turns;
