@@ -1,9 +1,12 @@
 -- A cluster before its first event.
 use Rattle.std.proofs.Common.{◌≡◌, ℕ, zero, suc, ◌+◌, ◌<◌, true, sym, ◌∙◌, ap, refl, subst, arith, List, [], ◌∷◌, ◌++◌, reverse, length, map, Some}
 use Rattle.std.specs.Prelude.{slice_get}
+use Rattle.std.specs.List.{list_all}
 use Rattle.std.proofs.lemmas.Bool.{and_parts}
 use Rattle.std.proofs.lemmas.List.{map-append, reverse-append}
 use Rattle.es_event.specs.declared.plan.AgentPlan.{AgentPlan}
+use Rattle.es_event.specs.declared.plan.Plan.{Plan}
+use Rattle.es_event.specs.Jobs.{callbacks_collect_nothing}
 use Rattle.es_event.specs.Others.{names_others, each_names_others}
 use Rattle.es_event.specs.Ledger.{ended}
 use Rattle.es_ledger.specs.Books.{Books}
@@ -12,10 +15,19 @@ use Rattle.es_match.specs.Deeds.{part}
 use Rattle.es_record.specs.Book.{Book}
 use Rattle.es_member.specs.Seats.{Seat}
 use Rattle.es_member.specs.Tied.{IsTied}
-use Rattle.es_cluster.specs.State.{books, names_of, first_books, IsPlaced, ArePlaced, AreTied}
+use Rattle.es_cluster.specs.Moves.{cleans_quietly}
+use Rattle.es_cluster.specs.State.{Cluster, books, names_of, plans, first_books, first_state, IsPlaced, ArePlaced, AreTied}
 
 abbrev pub first_book : ℕ → ℕ → AgentPlan → Book
 first_book agents n p = record { plan = p; number = n; agents = agents; over = []; history = [] }
+
+pub first_plans : (agents n : ℕ) (ps : List AgentPlan) → plans (first_books agents n ps) ≡ ps
+first_plans agents n [] = refl
+first_plans agents n (p ∷ ps) = ap (λ qs. p ∷ qs) (first_plans agents (n + 1) ps)
+
+-- its plans are those of the plan, so no callback collects where none of the plan's does
+pub starts_quiet : (p : Plan) (c : Cluster) → c ≡ first_state p → list_all callbacks_collect_nothing p.agents ≡ true → cleans_quietly c ≡ true
+starts_quiet p c is quiet = ap cleans_quietly is ∙ ap (list_all callbacks_collect_nothing) (first_plans (length p.agents) 0 p.agents) ∙ quiet
 
 -- one more
 pub first_more : (agents n : ℕ) (ps : List AgentPlan) (p : AgentPlan) → first_books agents n (ps ++ p ∷ []) ≡ first_books agents n ps ++ first_book agents (n + length ps) p ∷ []

@@ -1,5 +1,6 @@
 pub mod Named
 pub mod Standing
+pub mod Counting
 pub mod Beginning
 pub mod Draining
 pub mod Resting

@@ -1,6 +1,7 @@
 //! A cluster of agents, run by turns.
 #![tactic(auto)]
 
+mod auditing;
 mod cluster;
 mod ending;
 mod laws;
@@ -10,6 +11,7 @@ mod seating;
 mod tests;
 
 pub use cluster::ClusterCore;
+pub use es_ledger::Audit;
 pub use es_match::matches;
 pub use es_member::{Member, Progress};
 pub use laws::what_is_drained_is_nobodys;

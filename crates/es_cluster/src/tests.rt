@@ -267,7 +267,7 @@ fn of_two_that_wait_the_lower_skips(rt: HostRuntime) -> Result<(), Fail> {
     Ok(())
 }
 
-fn tickets_counted<L: Run>(
+fn audited<L: Run>(
     alloc: Global,
     opened: Opened,
     first: AgentPlan,
@@ -283,28 +283,40 @@ fn tickets_counted<L: Run>(
     agents.push(first)?;
     agents.push(second)?;
     let mut cluster = ClusterCore::<L>::new(alloc, opened, Plan { agents })?;
-    let told = count_tickets(&mut cluster, &mut text);
+    let told = audit_between_turns(&mut cluster, &mut text);
     cluster.abandon();
     told?;
     Ok(text)
 }
 
-/// How many tickets the block has after each stretch of turns.
-fn count_tickets<L: Run>(cluster: &mut ClusterCore<L>, text: &mut Vec<u8>) -> Result<(), Fail>
+/// The blocks and how many of them are released, the tickets of each, and where all are.
+fn write_audit<L: Run>(cluster: &mut ClusterCore<L>, text: &mut Vec<u8>) -> Result<(), Fail>
+    ensures { cluster.new ≡ cluster.old }
+{
+    let audit = cluster.audit()?;
+    write!(text, "{} {}", audit.blocks, audit.released)?;
+    for count in audit.counts.as_slice() {
+        write!(text, " [{count}]")?;
+    }
+    Ok(write!(text, " {} {};", audit.in_agents, audit.in_ports)?)
+}
+
+/// The audit after each stretch of turns.
+fn audit_between_turns<L: Run>(cluster: &mut ClusterCore<L>, text: &mut Vec<u8>) -> Result<(), Fail>
     requires { length cluster.old.agents ≡ 2 }
 {
-    let _ = cluster.step(0)?;
-    let _ = cluster.step(0)?;
-    let _ = cluster.step(0)?;
-    write!(text, "{};", cluster.count(1))?;
-    let _ = cluster.step(0)?;
-    let _ = cluster.step(0)?;
-    write!(text, "{};", cluster.count(1))?;
-    let _ = cluster.step(1)?;
-    write!(text, "{};", cluster.count(1))?;
+    write_audit(cluster, text)?;
+    cluster.run(&[0, 0, 0])?;
+    write_audit(cluster, text)?;
+    cluster.run(&[0, 0])?;
+    write_audit(cluster, text)?;
+    cluster.run(&[1])?;
+    write_audit(cluster, text)?;
     let over = cluster.step(0)? == Progress::Ended;
-    write!(text, "{over}")?;
-    Ok(())
+    write!(text, "{over};")?;
+    write_audit(cluster, text)?;
+    cluster.run(&[1, 1, 1])?;
+    write_audit(cluster, text)
 }
 
 #[test]
@@ -313,7 +325,10 @@ fn a_message_has_a_ticket_of_its_own(rt: HostRuntime) -> Result<(), Fail> {
     let first = plan(&rt, rt.alloc(), &[alone(&posting, 1)], 1)?;
     let second = plan(&rt, rt.alloc(), &[on("m", &[])], 0)?;
     let opened = Opened::new(rt.alloc())?;
-    let told = tickets_counted::<Brand>(rt.alloc(), opened, first, second)?;
-    assert_eq!(rt; told.as_slice(), b"2;1;1;true".as_slice());
+    let told = audited::<Brand>(rt.alloc(), opened, first, second)?;
+    assert_eq!(rt;
+        told.as_slice(),
+        b"0 0 0 0;1 0 [2] 1 1;1 0 [1] 0 1;1 0 [1] 1 0;true;1 0 [1] 1 0;1 1 [0] 0 0;".as_slice()
+    );
     Ok(())
 }

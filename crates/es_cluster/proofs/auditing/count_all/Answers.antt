@@ -1,0 +1,54 @@
+use Rattle.std.proofs.Common.{◌<◌, ◌+◌, ◌∙◌, Some, ap, sym, subst, length, arith}
+use Rattle.std.specs.Prelude.{slice_get}
+use Rattle.es_event.specs.Ledger.{table}
+use Rattle.es_event.specs.Rows.{held}
+use Rattle.es_ledger.specs.Audits.{held_below}
+use Rattle.es_ledger.specs.Books.{Books}
+use Rattle.es_member.specs.Seats.{Seat, SameRows, rows_of}
+use Rattle.es_cluster.specs.State.{books}
+use Rattle.es_cluster.proofs.Counting.{rows_so_far, set_again}
+use Rattle.es_cluster.proofs.Standing.{books_length, found_at, within}
+use Rattle.es_cluster.proofs.auditing.count_all.Goals as goal
+
+pub count_with-count-requires-clause-known : goal.count_with-count-requires-clause-known
+count_with-count-requires-clause-known g c =
+    let v = c.loop-agent.invariant in
+    let size = books_length c.loop-agent.members.items in
+    let inside : c.loop-agent.agent < length (books c.loop-agent.members.items) = omega (arith, c.loop-agent-test.true, c.len-agent-end.ensures, ap (λ (ms : _). length ms) v.same, size) in
+    let here = found_at c.loop-agent.members.items c.loop-agent.agent _ inside ∙ ap (λ (m : Seat). Some m.book) (sym c.index_mut.ensures.value) in
+    let placed = c.requires.placed.each c.loop-agent.agent c.index_mut.result.now.book (ap (λ (ms : _). slice_get (books ms) c.loop-agent.agent) (sym v.same) ∙ here) in
+    subst (λ n. c.index_mut.result.now.book.number < n) (sym (ap (λ (l : Books). l.agents) v.ledger)) placed.seated.known
+
+pub count_with-count-requires-clause-before : goal.count_with-count-requires-clause-before
+count_with-count-requires-clause-before g c =
+    let v = c.loop-agent.invariant in
+    let size = books_length c.loop-agent.members.items in
+    let inside : c.loop-agent.agent < length (books c.loop-agent.members.items) = omega (arith, c.loop-agent-test.true, c.len-agent-end.ensures, ap (λ (ms : _). length ms) v.same, size) in
+    let here = found_at c.loop-agent.members.items c.loop-agent.agent _ inside ∙ ap (λ (m : Seat). Some m.book) (sym c.index_mut.ensures.value) in
+    let placed = c.requires.placed.each c.loop-agent.agent c.index_mut.result.now.book (ap (λ (ms : _). slice_get (books ms) c.loop-agent.agent) (sym v.same) ∙ here) in
+    v.count ∙ ap (λ n. held_below n c.args.ledger.now.history) (sym placed.number) ∙ ap (λ (l : Books). held_below c.index_mut.result.now.book.number l.history) (sym v.ledger)
+
+pub loop-agent-preserved : goal.loop-agent-preserved
+loop-agent-preserved g c =
+    let v = c.loop-agent.invariant in
+    let size = books_length c.loop-agent.members.items in
+    let inside : c.loop-agent.agent < length (books c.loop-agent.members.items) = omega (arith, c.loop-agent-test.true, c.len-agent-end.ensures, ap (λ (ms : _). length ms) v.same, size) in
+    let found = found_at c.loop-agent.members.items c.loop-agent.agent _ inside ∙ ap (λ (m : Seat). Some m.book) (sym c.index_mut.ensures.value) in
+    let here = ap (λ (ms : _). slice_get (books ms) c.loop-agent.agent) (sym v.same) ∙ found in
+    let number = (c.requires.placed.each c.loop-agent.agent c.index_mut.result.now.book here).number in
+    let after = c.count_with-count.ensures in
+    record {
+      same =
+      set_again c.loop-agent.members.items c.loop-agent.agent c.count_with-count.new.self _ (after.same.0 ∙ c.index_mut.ensures.value) (omega (arith, inside, size)) ∙ v.same;
+      ledger = after.same.1 ∙ v.ledger;
+      count = after.count ∙ ap (λ n. held_below (n + 1) c.loop-agent.ledger.history) number ∙ ap (λ (l : Books). held_below (c.loop-agent.agent + 1) l.history) v.ledger;
+      rows =
+      rows_so_far (books c.args.members.now.items) c.args.ledger.now.history c.loop-agent.agent c.index_mut.result.now.book here number
+      (subst (λ (l : Books). SameRows (rows_of c.index_mut.result.now.book) (held c.index_mut.result.now.book.number (table l.history))) v.ledger after.rows) v.rows;
+    }
+
+pub returns-clause-rows : goal.returns-clause-rows
+returns-clause-rows g c = λ n b is.
+    let few = within (books c.args.members.now.items) n b is in
+    let size = books_length c.args.members.now.items in
+    c.loop-agent.invariant.rows n b (omega (arith, few, size, c.loop-agent-test.false, c.len-agent-end.ensures)) is
