@@ -21,8 +21,8 @@ rows_so_far bs l i b here number mine before n c less is = step (n == i) refl
   where
     step : (p : Bool) → (n == i) ≡ p → SameRows (rows_of c) (held n (table l))
     step true same =
-      let at = eqb-true n i same in
-      let one : Some b ≡ Some c = sym here ∙ ap (λ k. slice_get bs k) (sym at) ∙ is in
-      let equal : b ≡ c = cc in
-      subst (λ x. SameRows (rows_of x) (held n (table l))) equal (subst (λ k. SameRows (rows_of b) (held k (table l))) (number ∙ sym at) mine)
+        let at = eqb-true n i same in
+        let one : Some b ≡ Some c = sym here ∙ ap (λ k. slice_get bs k) (sym at) ∙ is in
+        let equal : b ≡ c = cc in
+        subst (λ x. SameRows (rows_of x) (held n (table l))) equal (subst (λ k. SameRows (rows_of b) (held k (table l))) (number ∙ sym at) mine)
     step false other = let apart = eqb-false n i other in before n c (omega (arith, less, apart)) is

@@ -137,14 +137,15 @@ pub audited : (n : ℕ) (l : Ledger) (made : ℕ) (counts said : List ℕ) (tick
 audited n l made counts said tickets released agents legal all same counted is =
     let held = all_held n l legal in
     let sums = all_blocks n l legal in
-    let below = counted.below ∙ ap (λ m. counted_below m l) all in
-    ((omega (arith, held, sums, is, below)),
-    (record {
-      blocks = all;
-      released = counted.gone ∙ ap (λ m. released_below m l) all;
-      size = ap (λ xs. length xs) same ∙ counted.size ∙ all;
-      counts = λ k less. ap (λ xs. slice_index_or xs k 0) same ∙ counted.each k (omega (arith, less, all));
-      in_agents = is;
-      in_ports = omega (arith, held, sums, is, below);
-      together = (let sum_is = ap (λ xs. sum xs) same in omega (arith, sum_is, held, sums, is, below, counted.total));
-    }))
+    let below = counted.below ∙ ap (λ m. counted_below m l) all in (
+      (omega (arith, held, sums, is, below)),
+      (record {
+        blocks = all;
+        released = counted.gone ∙ ap (λ m. released_below m l) all;
+        size = ap (λ xs. length xs) same ∙ counted.size ∙ all;
+        counts = λ k less. ap (λ xs. slice_index_or xs k 0) same ∙ counted.each k (omega (arith, less, all));
+        in_agents = is;
+        in_ports = omega (arith, held, sums, is, below);
+        together = (let sum_is = ap (λ xs. sum xs) same in omega (arith, sum_is, held, sums, is, below, counted.total));
+      }),
+    )

@@ -54,6 +54,6 @@ audits bs l a size legal same is = record {
   where
     of_block : (k : ℕ) → k < a.blocks → slice_index_or a.counts k 0 ≡ racked bs (k + 1) + ported l.agents l.history (k + 1)
     of_block k less =
-      let here : sum_below (length bs) (λ n. count_of (held n (table l.history)) (k + 1)) ≡ sum_below l.agents (λ n. count_of (held n (table l.history)) (k + 1)) = ap (λ n. sum_below n (λ j. count_of (held j (table l.history)) (k + 1))) size in
-      let racks = sum_list bs (λ b. count_of (rows_of b) (k + 1)) (λ n. count_of (held n (table l.history)) (k + 1)) (λ n b at. same n b at (λ r. r.block == (k + 1))) in
-      omega (arith, is.counts k (omega (arith, less, is.blocks)), counts_add_up l.agents l.history (k + 1) legal.0, racks, here)
+        let here : sum_below (length bs) (λ n. count_of (held n (table l.history)) (k + 1)) ≡ sum_below l.agents (λ n. count_of (held n (table l.history)) (k + 1)) = ap (λ n. sum_below n (λ j. count_of (held j (table l.history)) (k + 1))) size in
+        let racks = sum_list bs (λ b. count_of (rows_of b) (k + 1)) (λ n. count_of (held n (table l.history)) (k + 1)) (λ n b at. same n b at (λ r. r.block == (k + 1))) in
+        omega (arith, is.counts k (omega (arith, less, is.blocks)), counts_add_up l.agents l.history (k + 1) legal.0, racks, here)

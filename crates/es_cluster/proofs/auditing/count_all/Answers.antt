@@ -39,12 +39,12 @@ loop-agent-preserved g c =
     let after = c.count_with-count.ensures in
     record {
       same =
-      set_again c.loop-agent.members.items c.loop-agent.agent c.count_with-count.new.self _ (after.same.0 ∙ c.index_mut.ensures.value) (omega (arith, inside, size)) ∙ v.same;
+          set_again c.loop-agent.members.items c.loop-agent.agent c.count_with-count.new.self _ (after.same.0 ∙ c.index_mut.ensures.value) (omega (arith, inside, size)) ∙ v.same;
       ledger = after.same.1 ∙ v.ledger;
       count = after.count ∙ ap (λ n. held_below (n + 1) c.loop-agent.ledger.history) number ∙ ap (λ (l : Books). held_below (c.loop-agent.agent + 1) l.history) v.ledger;
       rows =
-      rows_so_far (books c.args.members.now.items) c.args.ledger.now.history c.loop-agent.agent c.index_mut.result.now.book here number
-      (subst (λ (l : Books). SameRows (rows_of c.index_mut.result.now.book) (held c.index_mut.result.now.book.number (table l.history))) v.ledger after.rows) v.rows;
+          rows_so_far (books c.args.members.now.items) c.args.ledger.now.history c.loop-agent.agent c.index_mut.result.now.book here number
+          (subst (λ (l : Books). SameRows (rows_of c.index_mut.result.now.book) (held c.index_mut.result.now.book.number (table l.history))) v.ledger after.rows) v.rows;
     }
 
 pub returns-clause-rows : goal.returns-clause-rows

@@ -18,14 +18,15 @@ loop-place-preserved g c =
     let within : c.loop-place.place < opened c.self.inside.history.events = omega (arith, c.loop-place-test.true, c.made-blocks.ensures.count, c.self.invariant.made) in
     let gone : c.if-count-eq0.released ≡ c.loop-place.released + cond {A = ℕ} (c.tickets-count.result == 0) 1 0 =
     elim c.if-count-eq0.branch [
-      then-count-eq0 w ↦ one_gone _ _ _ w.if-count-eq0.true w.released-is
-      | else-count-eq0 w ↦ none_gone _ _ _ w.if-count-eq0.false w.released-is ] in
+      | then-count-eq0 w ↦ one_gone _ _ _ w.if-count-eq0.true w.released-is
+      | else-count-eq0 w ↦ none_gone _ _ _ w.if-count-eq0.false w.released-is
+    ] in
     record {
       room = omega (arith, c.push_reserved.ensures.capacity, c.loop-place.invariant.room);
       counted =
-      rw (← c.self.view_is)
-      (one_more_is c.loop-place.place c.self.inside.history.events c.loop-place.counts.items c.push_reserved.new.self.items c.loop-place.tickets c.loop-place.released c.if-count-eq0.released c.tickets-count.result
-      within (c.tickets-count.ensures ∙ c.self.invariant.tickets (c.loop-place.place + 1)) c.push_reserved.ensures.items gone counted);
+          rw (← c.self.view_is)
+          (one_more_is c.loop-place.place c.self.inside.history.events c.loop-place.counts.items c.push_reserved.new.self.items c.loop-place.tickets c.loop-place.released c.if-count-eq0.released c.tickets-count.result
+          within (c.tickets-count.ensures ∙ c.self.invariant.tickets (c.loop-place.place + 1)) c.push_reserved.ensures.items gone counted);
     }
 
 pub overflow_sub-result : goal.overflow_sub-result
