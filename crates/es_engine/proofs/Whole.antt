@@ -16,6 +16,7 @@ use Rattle.es_event.specs.Registrations.{live, awaiting, unregistered, taken, ta
 use Rattle.es_event.specs.Runs.{AreWholeRuns}
 use Rattle.es_event.specs.Totals.{released}
 use Rattle.es_script.specs.Grammar.{no_callback_collects}
+use Rattle.es_cluster.proofs.Beginning.{first_plans}
 use Rattle.es_cluster.specs.Ends.{EndsIn}
 use Rattle.es_cluster.specs.Moves.{cleans_quietly}
 use Rattle.es_cluster.specs.State.{Cluster, first_books, first_state, names_of, plans}
@@ -25,10 +26,6 @@ use Rattle.es_report.specs.Tallies.{end_tally, AreTallies}
 use Rattle.es_engine.specs.Engine.{IsClusterOutcome}
 
 -- Plans
-
-pub first_plans : (agents n : ℕ) (ps : List AgentPlan) → plans (first_books agents n ps) ≡ ps
-first_plans agents n [] = refl
-first_plans agents n (p ∷ ps) = ap (λ qs. p ∷ qs) (first_plans agents (n + 1) ps)
 
 names_by_plans : (bs : List Book) → names_of bs ≡ map (λ p. p.name) (plans bs)
 names_by_plans [] = refl
@@ -115,9 +112,6 @@ all_released l none = all_counted (is_released l) (opened l) 1 (λ b from to. ea
         rw (made, zero_left) refl
 
 -- A cluster of the plan
-
-pub starts_quiet : (plan : Plan) (c : Cluster) → c ≡ first_state plan → no_callback_collects plan ≡ true → cleans_quietly c ≡ true
-starts_quiet plan c is quiet = ap cleans_quietly is ∙ ap (list_all callbacks_collect_nothing) (first_plans (length plan.agents) 0 plan.agents) ∙ quiet
 
 pub plans_are : (plan : Plan) (c d : Cluster) → c ≡ first_state plan → plans d.agents ≡ plans c.agents → plans d.agents ≡ plan.agents
 plans_are plan c d is same = same ∙ ap (λ c. plans c.agents) is ∙ first_plans (length plan.agents) 0 plan.agents

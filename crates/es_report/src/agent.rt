@@ -40,8 +40,8 @@ fn write_events<W: Write>(
     write_lines(history.as_slice(), writer)
 }
 
-/// Writes the lines of events.
-pub(crate) fn write_lines<W: Write>(events: &[Event], writer: &mut W) -> Result<(), io::Error>
+/// Writes the lines of events, those that a report has of them.
+pub fn write_lines<W: Write>(events: &[Event], writer: &mut W) -> Result<(), io::Error>
     ensures { OnOk result (Appends (W.contents writer.old) (W.contents writer.new) (flat_map line events.now)) }
 {
     for event in events {

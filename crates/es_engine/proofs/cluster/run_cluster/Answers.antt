@@ -1,6 +1,7 @@
 use Rattle.std.proofs.Common.{sym, ◌∙◌, ap, reverse}
 use Rattle.es_event.specs.Ledger.{opened}
-use Rattle.es_engine.proofs.Whole.{all_released, outcome_of, plans_are, starts_quiet, tallies_of_outcome}
+use Rattle.es_cluster.proofs.Beginning.{starts_quiet}
+use Rattle.es_engine.proofs.Whole.{all_released, outcome_of, plans_are, tallies_of_outcome}
 use Rattle.es_engine.proofs.cluster.run_cluster.Goals as goal
 
 pub run_to_end-requires : goal.run_to_end-requires
