@@ -500,17 +500,21 @@ class Agent:
         """The lines of a cleanup job. It ends with the first refusal of a callback as well."""
         try:
             while self.awaiting(registry):
-                number = self.next_cell(registry)
-                held = self.cells.pop(number).held
-                self.taken += 1
-                self.variables["held"] = held
-                yield f"cleanup {number} held {printed(held)}"
+                yield self.take_cell(registry)
                 yield from self.run(self.callbacks[self.registries[registry]])
         except TypeRefused as refused:
             yield f"error {refused}"
             if self.awaiting(registry):
                 self.queue.append(registry)
         self.kept = []
+
+    def take_cell(self, registry):
+        """Takes the registration whose callback comes next; gives its line."""
+        number = self.next_cell(registry)
+        held = self.cells.pop(number).held
+        self.taken += 1
+        self.variables["held"] = held
+        return f"cleanup {number} held {printed(held)}"
 
     def next_registry(self):
         """The one of the queue whose cleanup job is next."""

@@ -64,11 +64,7 @@ class Player(rules.Agent):
         yield
         try:
             while self.awaiting(registry):
-                number = self.next_cell(registry)
-                held = self.cells.pop(number).held
-                self.taken += 1
-                self.variables["held"] = held
-                self.lines.append(f"cleanup {number} held {rules.printed(held)}")
+                self.lines.append(self.take_cell(registry))
                 yield
                 yield from self.command_events(self.callbacks[self.registries[registry]])
         except rules.TypeRefused as refused:
