@@ -36,6 +36,7 @@ impl<L: Run> ClusterCore<L> {
         ensures audit { IfOk result (λ a. Audits self.old.agents self.old.ledger a) }
         ensures same { self.new ≡ self.old }
     {
+        // It tells that the ledger's history is legal.
         let _ = self.ledger.history();
         let in_agents = count_all(&mut self.members, &mut self.ledger);
         self.ledger.audit(in_agents)

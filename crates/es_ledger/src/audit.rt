@@ -15,7 +15,7 @@ pub struct Audit {
     pub blocks: u64,
     /// How many of them are released.
     pub released: u64,
-    /// How many tickets of each block there are, by number of block.
+    /// How many tickets of each block there are, by number of block: that of block 1 first.
     pub counts: Sequence<u64>,
     /// How many tickets agents hold.
     pub in_agents: u64,
@@ -33,6 +33,7 @@ impl<L: Run> LedgerCore<L> {
         let mut counts = Vec::with_capacity(self.alloc, blocks)?;
         let mut tickets = 0;
         let mut released = 0;
+        // It tells that there are few, so that their sum fits.
         let _ = self.rows.made();
         for place in 0..blocks {
             let count = self.blocks.tickets(place as u64 + 1);

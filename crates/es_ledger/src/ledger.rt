@@ -143,6 +143,7 @@ impl<L: Run> LedgerCore<L> {
         ensures legal { LegalLedger self.old.agents self.old.history }
         ensures few { held_below self.old.agents self.old.history < 2 ^ 63 }
     {
+        // It tells that there are few.
         let _ = self.rows.made();
         self.rows.look(stake);
     }
