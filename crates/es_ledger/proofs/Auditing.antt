@@ -1,6 +1,7 @@
 -- All tickets counted, by block and by holder.
-use Rattle.std.proofs.Common.{◌≡◌, add-one, ℕ, ◌+◌, ◌-◌, ◌<◌, ◌≤◌, ◌==◌, ◌&&◌, List, [], ◌∷◌, ◌++◌, Bool, true, false, cond, length, refl, sym, ap, ◌∙◌, arith, eq-eqb, ne_eqb, length-append}
+use Rattle.std.proofs.Common.{◌≡◌, add-one, ℕ, zero, suc, ◌+◌, ◌-◌, ◌<◌, ◌≤◌, ◌==◌, ◌&&◌, List, [], ◌∷◌, ◌++◌, Bool, true, false, cond, length, refl, sym, ap, ◌∙◌, arith, eq-eqb, ne_eqb, length-append}
 use Rattle.std.specs.Prelude.{slice_index_or, sum, count_by, nat_lt, nat_le}
+use Rattle.std.specs.List.{range_with_len}
 use Rattle.std.proofs.lemmas.Bool.{eqb-true, eqb-false, and_from, le-leb, lt-ltb}
 use Rattle.std.proofs.lemmas.List.{get_or_append_left, get_or_push}
 use Rattle.std.proofs.lemmas.List.Sums.{sum_by-cons, sum_by_push}
@@ -8,12 +9,12 @@ use Rattle.es_event.specs.declared.row.Entry.{Entry}
 use Rattle.es_event.specs.Rows.{held, in_port, is_somebody}
 use Rattle.es_event.specs.Ledger.{Ledger, opened, table, rows, count, is_opened, is_released}
 use Rattle.es_event.specs.LegalLedger.{LegalSoFar}
-use Rattle.es_ledger.specs.Audits.{IsAudit, held_below, in_all_ports, released_below}
+use Rattle.es_ledger.specs.Audits.{IsAudit, held_below, in_all_ports}
 use Rattle.es_ledger.specs.Laws.{sum_below}
 use Rattle.es_ledger.proofs.After.{rows_few}
 use Rattle.es_ledger.proofs.Made.{Each, IsMade, each_weaker, all_made}
 use Rattle.es_ledger.proofs.Opening.{table_length}
-use Rattle.es_ledger.proofs.Sums.{sum_part, sum_none, sum_same, sum_plus, sum_one, sums_add_up}
+use Rattle.es_ledger.proofs.Sums.{sum_first, sum_part, sum_none, sum_same, sum_plus, sum_one, sums_add_up}
 use Rattle.es_ledger.proofs.Tallies.{tally, tally_such, weight, if_passed, tally_more, tally_such_more}
 use Rattle.es_ledger.proofs.Within.{within_all}
 
@@ -71,6 +72,18 @@ all_blocks n l legal =
 
 counted_less : (m : ℕ) (l : Ledger) → m ≤ opened l → counted_below m l ≤ counted_below (opened l) l
 counted_less m l within = sum_part (opened l) m (λ k. count l (k + 1)) within
+
+-- how many of the first m blocks are released
+abbrev pub released_below : ℕ → Ledger → ℕ
+released_below m l = sum_below m (λ k. cond {A = ℕ} (is_released l (k + 1)) 1 0)
+
+counted_range : (p : ℕ → Bool) (n a : ℕ) → count_by p (range_with_len a n) ≡ sum_below n (λ k. cond {A = ℕ} (p (k + a)) 1 0)
+counted_range p zero a = refl
+counted_range p (suc n) a =
+    let first = ap (λ b. cond {A = ℕ} (p b) 1 0) (let same : 0 + a ≡ a = omega arith in same) in
+    let rest = sum_same n (λ k. cond {A = ℕ} (p (suc k + a)) 1 0) (λ k. cond {A = ℕ} (p (k + (a + 1))) 1 0) (λ k. ap (λ b. cond {A = ℕ} (p b) 1 0) (let same : suc k + a ≡ k + (a + 1) = omega arith in same)) in
+    let all = sum_first n (λ k. cond {A = ℕ} (p (k + a)) 1 0) in
+    omega (arith, sum_by-cons (λ b. cond {A = ℕ} (p b) 1 0) a (range_with_len (a + 1) n), counted_range p n (a + 1), first, rest, all)
 
 -- the first m blocks were counted
 pub record Counted (m : ℕ) (l : Ledger) (counts : List ℕ) (tickets released : ℕ) : Type 0 where
@@ -141,7 +154,7 @@ audited n l made counts said tickets released agents legal all same counted is =
       (omega (arith, held, sums, is, below)),
       (record {
         blocks = all;
-        released = counted.gone ∙ ap (λ m. released_below m l) all;
+        released = counted.gone ∙ ap (λ m. released_below m l) all ∙ sym (counted_range (is_released l) (opened l) 1);
         size = ap (λ xs. length xs) same ∙ counted.size ∙ all;
         counts = λ k less. ap (λ xs. slice_index_or xs k 0) same ∙ counted.each k (omega (arith, less, all));
         in_agents = is;

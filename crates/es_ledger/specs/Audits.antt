@@ -1,7 +1,8 @@
 -- To believe: what an audit says of a ledger of n agents.
-use Rattle.std.specs.Prelude.{ℕ, ◌≡◌, ◌+◌, ◌<◌, length, slice_index_or, sum, if◌then◌else◌}
+use Rattle.std.specs.Prelude.{ℕ, ◌≡◌, ◌+◌, ◌<◌, length, slice_index_or, sum}
 use Rattle.es_event.specs.Rows.{held, in_port}
-use Rattle.es_event.specs.Ledger.{Ledger, opened, table, count, is_released}
+use Rattle.es_event.specs.Ledger.{Ledger, opened, table, count}
+use Rattle.es_event.specs.Totals.{released}
 use Rattle.es_ledger.specs.declared.audit.Audit.{Audit}
 use Rattle.es_ledger.specs.Laws.{sum_below}
 
@@ -13,15 +14,11 @@ held_below n l = sum_below n (λ a. length (held a (table l)))
 abbrev pub in_all_ports : ℕ → Ledger → ℕ
 in_all_ports n l = sum_below n (λ s. sum_below n (λ r. length (in_port s r (table l))))
 
--- how many of the first m blocks are released
-abbrev pub released_below : ℕ → Ledger → ℕ
-released_below m l = sum_below m (λ k. if is_released l (k + 1) then 1 else 0)
-
 -- the blocks that were made, how many of them are released, how many tickets of each there are, and of all these how many agents
 -- hold and how many lie in ports
 pub record IsAudit (n : ℕ) (l : Ledger) (a : Audit) : Type 0 where
   pub blocks : a.blocks ≡ opened l
-  pub released : a.released ≡ released_below (opened l) l
+  pub released : a.released ≡ released l
   pub size : length a.counts ≡ opened l
   pub counts : (k : ℕ) → k < opened l → slice_index_or a.counts k 0 ≡ count l (k + 1)
   pub in_agents : a.in_agents ≡ held_below n l
