@@ -3,7 +3,8 @@
 
 Usage: picture.py. The picture is the code block that begins with the line FIRST. Each further line has a crate, what it
 is, and after the word `on` all that it stands on, parted by two spaces or more. A crate stands above all that it stands
-on. Prints each difference, and `N passed, M failed` last.
+on. The crates NAME_tests, each with the tests of a crate NAME on which it stands, are not drawn. Prints each
+difference, and `N passed, M failed` last.
 """
 
 import os
@@ -12,6 +13,7 @@ import sys
 
 TOP = os.path.dirname(os.path.dirname(os.path.abspath(__file__)))
 FIRST = "Each crate, what it is, and what it stands on:"
+TESTS = "_tests"
 LINE = re.compile(r"(\w+) {2,}(\S.*?) {2,}on (\S.*)")
 
 
@@ -27,7 +29,12 @@ def listed():
         names, colon, below = line.partition("#")[0].partition(":")
         if colon:
             edges[names.split()[0]] = set(below.split())
-    return edges
+    return {name: below for name, below in edges.items() if not is_of_tests(name, below)}
+
+
+def is_of_tests(name, below):
+    """Whether a crate has the tests of one on which it stands."""
+    return name.endswith(TESTS) and name.removesuffix(TESTS) in below
 
 
 def drawn():

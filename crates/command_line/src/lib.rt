@@ -2,7 +2,5 @@
 #![tactic(auto)]
 
 mod options;
-#[cfg(test)]
-mod tests;
 
 pub use options::{not_text, options_of};

@@ -7,8 +7,6 @@ mod ending;
 mod laws;
 mod moving;
 mod seating;
-#[cfg(test)]
-mod tests;
 
 pub use cluster::ClusterCore;
 pub use es_ledger::Audit;

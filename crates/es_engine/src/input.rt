@@ -39,8 +39,8 @@ pub(crate) fn read_all<R: Read>(alloc: Global, reader: &mut R) -> Result<Vec<u8>
     }
 }
 
-/// Whether a plan of so many bytes may have so many more.
-pub(crate) fn is_room(length: usize, more: usize) -> bool
+// Whether a plan of so many bytes may have so many more.
+fn is_room(length: usize, more: usize) -> bool
     ensures { result ≡ nat_le (length + more) longest_plan }
 {
     more <= LONGEST_PLAN && length <= LONGEST_PLAN - more

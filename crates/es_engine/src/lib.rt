@@ -6,8 +6,6 @@ mod engine;
 mod input;
 mod laws;
 mod run_fault;
-#[cfg(test)]
-mod tests;
 
 pub use engine::run;
 pub use laws::a_plan_has_one_answer;

@@ -5,8 +5,6 @@ mod keyed;
 mod slot;
 mod slots;
 mod table;
-#[cfg(test)]
-mod tests;
 mod weak_tables;
 
 pub use weak_tables::WeakTables;

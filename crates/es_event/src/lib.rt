@@ -33,6 +33,3 @@ pub use outcome::Outcome;
 pub use plan::{AgentPlan, Callback, Job, Plan};
 pub use row::{Entry, Holder, Row};
 pub use sequence::Sequence;
-
-#[cfg(test)]
-mod tests;

@@ -10,8 +10,6 @@ mod ledger;
 mod message;
 mod ports;
 mod posting;
-#[cfg(test)]
-mod tests;
 mod turn;
 mod waiting;
 

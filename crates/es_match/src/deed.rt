@@ -3,7 +3,7 @@
 use es_event::Body;
 
 /// What an agent does to the ledger.
-#[derive(Clone, Copy, Debug)]
+#[derive(Clone, Copy)]
 pub(crate) enum Deed<'a> {
     /// It makes a block of so many words, and its first ticket.
     Open {

@@ -15,6 +15,3 @@ mod tickets;
 mod want;
 
 pub use matching::matches;
-
-#[cfg(test)]
-mod tests;

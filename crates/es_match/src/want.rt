@@ -11,7 +11,7 @@ use es_value::{Id, Value};
 
 /// What an event asks of the ledger. An answer is the value that the command gave; none stands for
 /// undefined.
-#[derive(Clone, Copy, Debug)]
+#[derive(Clone, Copy)]
 pub(crate) enum Want<'a> {
     /// Nothing.
     Nothing,

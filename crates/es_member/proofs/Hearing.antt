@@ -14,7 +14,7 @@ use Rattle.es_ticket.specs.Shares.{Share}
 use Rattle.es_record.specs.Book.{Book}
 use Rattle.es_rules.specs.Needs.{asks_message, need}
 use Rattle.es_agent.specs.Tickets.{Skips}
-use Rattle.es_member.specs.Midway.{IsReady}
+use Rattle.es_member.specs.Midway.{IsHeld, IsReady}
 use Rattle.es_member.specs.Seats.{Holds}
 use Rattle.es_member.specs.Tied.{GrowsBy, IsTied}
 use Rattle.es_member.specs.Turned.{Heard, Keeps}
@@ -94,7 +94,7 @@ pub stay_ties : (b : Book) (s : Share) (l : Books) (k : Ledger) (n t : ℕ) → 
 stay_ties b s l k n t ready is same more =
     subst (IsTied b) (sym (more ∙ ap (λ n. asked l.history n t) same)) (asked_tied b l.history t ready.tied (still_undrained b s l t ready is) is).0
 
-pub stay_keeps : (b : Book) (s : Share) (l m : Books) (n t : ℕ) → IsReady b s l → n ≡ b.number → m.agents ≡ l.agents → m.history ≡ asked l.history n t → Keeps b.number l b s m
+pub stay_keeps : (b : Book) (s : Share) (l m : Books) (n t : ℕ) → IsHeld b s l → n ≡ b.number → m.agents ≡ l.agents → m.history ≡ asked l.history n t → Keeps b l b s m
 stay_keeps b s l m n t ready same agents more =
     let is = more ∙ ap (λ n. asked l.history n t) same in
     kept_after b b s s l m ready refl refl agents (ap (λ l. ended l b.number) is ∙ asked_ends l.history b.number t b.number) (subst (GrowsBy b.number l.history) (sym is) (asked_grows l.history b.number t))
@@ -108,23 +108,23 @@ skipped_ties old new s l k n t ready is same more skips =
     let before = asked_tied old l.history t ready.tied (still_undrained old s l t ready is) is in
     skip_ties old new (asked l.history old.number t) k t before.0 before.1 is (more ∙ ap (λ n. Passed n t ∷ asked l.history n t) same) skips
 
-pub skipped_keeps : (old new : Book) (s : Share) (l m : Books) (n t : ℕ) → IsReady old s l → n ≡ old.number → m.agents ≡ l.agents → m.history ≡ Passed n t ∷ asked l.history n t → Skips old new → Keeps old.number l new s m
+pub skipped_keeps : (old new : Book) (s : Share) (l m : Books) (n t : ℕ) → IsHeld old s l → n ≡ old.number → m.agents ≡ l.agents → m.history ≡ Passed n t ∷ asked l.history n t → Skips old new → Keeps old l new s m
 skipped_keeps old new s l m n t ready same agents more skips =
     let is = more ∙ ap (λ n. Passed n t ∷ asked l.history n t) same in
     let stays = skipped_stays old new skips in
-    keeps old new l m s stays.step (holds_still old new s stays ready.held) ready.seated agents (ap (λ l. ended l old.number) is ∙ asked_ends l.history old.number t old.number) (skip_grows l.history m.history old.number t is)
+    keeps old new l m s stays.step (holds_still old new s stays ready.held) agents (ap (λ l. ended l old.number) is ∙ asked_ends l.history old.number t old.number) (skip_grows l.history m.history old.number t is)
 
-pub unskipped_keeps : (old new : Book) (s : Share) (l m : Books) (n t : ℕ) → IsReady old s l → n ≡ old.number → m.agents ≡ l.agents → m.history ≡ Passed n t ∷ asked l.history n t → new ≡ old → Keeps old.number l new s m
+pub unskipped_keeps : (old new : Book) (s : Share) (l m : Books) (n t : ℕ) → IsHeld old s l → n ≡ old.number → m.agents ≡ l.agents → m.history ≡ Passed n t ∷ asked l.history n t → new ≡ old → Keeps old l new s m
 unskipped_keeps old new s l m n t ready same agents more back =
     let is = more ∙ ap (λ n. Passed n t ∷ asked l.history n t) same in
     kept_after old new s s l m ready back refl agents (ap (λ l. ended l old.number) is ∙ asked_ends l.history old.number t old.number) (skip_grows l.history m.history old.number t is)
 
 -- A message is taken
 
-pub message_keeps : (old new : Book) (s t : Share) (l m : Books) (a k : ℕ) → IsReady old s l → Stays old new → t ≡ s → a ≡ old.number → m.agents ≡ l.agents → m.history ≡ Taken a k ∷ l.history → Keeps old.number l new t m
+pub message_keeps : (old new : Book) (s t : Share) (l m : Books) (a k : ℕ) → IsHeld old s l → Stays old new → t ≡ s → a ≡ old.number → m.agents ≡ l.agents → m.history ≡ Taken a k ∷ l.history → Keeps old l new t m
 message_keeps old new s t l m a k ready stays stake same agents more =
-    keeps old new l m t stays.step (subst (Holds new) (sym stake) (holds_still old new s stays ready.held)) ready.seated agents (ap (λ l. ended l old.number) more) (taking_grows old l.history m.history a k same more)
+    keeps old new l m t stays.step (subst (Holds new) (sym stake) (holds_still old new s stays ready.held)) agents (ap (λ l. ended l old.number) more) (taking_grows old l.history m.history a k same more)
 
-pub unreceived_keeps : (old new : Book) (s t : Share) (l m : Books) (a k : ℕ) → IsReady old s l → new ≡ old → t ≡ s → a ≡ old.number → m.agents ≡ l.agents → m.history ≡ Taken a k ∷ l.history → Keeps old.number l new t m
+pub unreceived_keeps : (old new : Book) (s t : Share) (l m : Books) (a k : ℕ) → IsHeld old s l → new ≡ old → t ≡ s → a ≡ old.number → m.agents ≡ l.agents → m.history ≡ Taken a k ∷ l.history → Keeps old l new t m
 unreceived_keeps old new s t l m a k ready back stake same agents more =
     kept_after old new s t l m ready back stake agents (ap (λ l. ended l old.number) more) (taking_grows old l.history m.history a k same more)

@@ -15,10 +15,15 @@ use Rattle.es_match.specs.Meets.{after}
 use Rattle.es_record.specs.Book.{Book}
 use Rattle.es_rules.specs.Needs.{asks_message, need}
 use Rattle.es_agent.specs.Tickets.{is_ended, tickets}
-use Rattle.es_member.specs.Midway.{Midway}
+use Rattle.es_ticket.specs.Shares.{Share}
+use Rattle.es_member.specs.Midway.{IsHeld, IsReady, Midway}
 use Rattle.es_member.specs.Tied.{IsTied}
 use Rattle.es_member.specs.Turned.{IsSeated}
 use Rattle.es_member.proofs.Growing.{part_own, part_waits}
+
+-- an agent that has its stake, with what makes it ready
+pub whole : {b : Book} {s : Share} {l : Books} → IsHeld b s l → IsSeated b l → IsTied b l.history → IsReady b s l
+whole held seated tied = record { held = held.held; seated = seated; tied = tied; legal = held.legal; holder = held.holder }
 
 pub begun : (b : Book) (l : Ledger) → IsTied b l → Midway b l []
 begun b l tied = record {

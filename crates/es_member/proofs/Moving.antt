@@ -33,10 +33,10 @@ use Rattle.es_agent.proofs.Racks.{open_before, open_after, local_stays, kept_tic
 use Rattle.es_member.specs.Seats.{Seat, rows_of, Holds, HoldsBeside}
 use Rattle.es_match.specs.Deeds.{Ends}
 use Rattle.es_member.specs.Tied.{AreDeedsOf, GrowsBy}
-use Rattle.es_member.specs.Turned.{IsSeated, Moves, Proceeds, Keeps, spent}
+use Rattle.es_member.specs.Turned.{Moves, Proceeds, Keeps, spent}
 use Rattle.es_member.specs.declared.member.Progress.{Progress}
 use Rattle.es_member.specs.declared.member.Progress.TheVariants.{Moved, Waiting, Ended}
-use Rattle.es_member.specs.Midway.{IsReady}
+use Rattle.es_member.specs.Midway.{IsHeld}
 use Rattle.es_member.proofs.Counting.{counted_rows}
 use Rattle.es_member.proofs.Growing.{grows_none, grows_on}
 
@@ -174,12 +174,12 @@ admitted_holds old new s r run a holds = (
 
 -- Its place
 
-pub keeps : (old new : Book) (before after : Books) (s : Share) → Step old new → Holds new s → IsSeated old before → after.agents ≡ before.agents
-    → has_ended after.history old.number ≡ has_ended before.history old.number → GrowsBy old.number before.history after.history → Keeps old.number before new s after
-keeps old new before after s step holds seated agents over deeds = record {
+pub keeps : (old new : Book) (before after : Books) (s : Share) → Step old new → Holds new s → after.agents ≡ before.agents
+    → has_ended after.history old.number ≡ has_ended before.history old.number → GrowsBy old.number before.history after.history → Keeps old before new s after
+keeps old new before after s step holds agents over deeds = record {
   number = step.number;
   held = holds;
-  seated = record {
+  seated = λ seated. record {
     known = (let a = step.number in let b = seated.known in omega (arith, a, b, agents));
     agents = step.agents ∙ seated.agents ∙ sym agents;
     over = ap (has_ended after.history) step.number ∙ over ∙ seated.over ∙ sym step.going;
@@ -189,45 +189,45 @@ keeps old new before after s step holds seated agents over deeds = record {
 
 -- where a ticket that came was spent
 pub refused_keeps : (old new : Book) (before after : Books) (s t : Share) (r q : Row) → Stays old new → HoldsBeside r old s → q ≡ r → t.agent ≡ s.agent → ((p : Row → Bool) → count_by p s.rows ≡ count_by p t.rows + cond {A = ℕ} (p q) 1 0)
-    → IsSeated old before → after.agents ≡ before.agents → has_ended after.history old.number ≡ has_ended before.history old.number → GrowsBy old.number before.history after.history → Keeps old.number before new t after
-refused_keeps old new before after s t r q stays holds ticket agent counts seated agents over deeds =
-    keeps old new before after t stays.step (spent_holds old new s t r q stays.step.number stays.same holds ticket agent counts) seated agents over deeds
+    → after.agents ≡ before.agents → has_ended after.history old.number ≡ has_ended before.history old.number → GrowsBy old.number before.history after.history → Keeps old before new t after
+refused_keeps old new before after s t r q stays holds ticket agent counts agents over deeds =
+    keeps old new before after t stays.step (spent_holds old new s t r q stays.step.number stays.same holds ticket agent counts) agents over deeds
 
 -- and where the agent did not change
 pub returned_keeps : (old new : Book) (before after : Books) (s t : Share) (r q : Row) → new ≡ old → HoldsBeside r old s → q ≡ r → t.agent ≡ s.agent → ((p : Row → Bool) → count_by p s.rows ≡ count_by p t.rows + cond {A = ℕ} (p q) 1 0)
-    → IsSeated old before → after.agents ≡ before.agents → has_ended after.history old.number ≡ has_ended before.history old.number → GrowsBy old.number before.history after.history → Keeps old.number before new t after
-returned_keeps old new before after s t r q same holds ticket agent counts seated agents over deeds =
-    subst (λ b. Keeps old.number before b t after) (sym same) (keeps old old before after t (no_step old) (spent_holds old old s t r q refl refl holds ticket agent counts) seated agents over deeds)
+    → after.agents ≡ before.agents → has_ended after.history old.number ≡ has_ended before.history old.number → GrowsBy old.number before.history after.history → Keeps old before new t after
+returned_keeps old new before after s t r q same holds ticket agent counts agents over deeds =
+    subst (λ b. Keeps old before b t after) (sym same) (keeps old old before after t (no_step old) (spent_holds old old s t r q refl refl holds ticket agent counts) agents over deeds)
 
 -- where nothing changed
-pub kept : (old new : Book) (s t : Share) (l m : Books) → IsReady old s l → new ≡ old → t ≡ s → m ≡ l → Keeps old.number l new t m
-kept old new s t l m ready same stake ledger = subst (λ b. Keeps old.number l b t m) (sym same) (subst (λ t. Keeps old.number l old t m) (sym stake) (subst (Keeps old.number l old s) (sym ledger) (record {
+pub kept : (old new : Book) (s t : Share) (l m : Books) → IsHeld old s l → new ≡ old → t ≡ s → m ≡ l → Keeps old l new t m
+kept old new s t l m ready same stake ledger = subst (λ b. Keeps old l b t m) (sym same) (subst (λ t. Keeps old l old t m) (sym stake) (subst (Keeps old l old s) (sym ledger) (record {
   number = refl;
   held = ready.held;
-  seated = ready.seated;
+  seated = λ seated. seated;
   others = (refl, grows_none old.number l.history);
 })))
 
 -- where the agent has done something in the ledger alone
-pub kept_after : (old new : Book) (s t : Share) (l m : Books) → IsReady old s l → new ≡ old → t ≡ s → m.agents ≡ l.agents → has_ended m.history old.number ≡ has_ended l.history old.number → GrowsBy old.number l.history m.history → Keeps old.number l new t m
+pub kept_after : (old new : Book) (s t : Share) (l m : Books) → IsHeld old s l → new ≡ old → t ≡ s → m.agents ≡ l.agents → has_ended m.history old.number ≡ has_ended l.history old.number → GrowsBy old.number l.history m.history → Keeps old l new t m
 kept_after old new s t l m ready same stake agents over deeds =
-    subst (λ b. Keeps old.number l b t m) (sym same) (keeps old old l m t (no_step old) (subst (Holds old) (sym stake) ready.held) ready.seated agents over deeds)
+    subst (λ b. Keeps old l b t m) (sym same) (keeps old old l m t (no_step old) (subst (Holds old) (sym stake) ready.held) agents over deeds)
 
 -- where it had done something before
-pub keeps_on : (n : ℕ) (l m k : Books) (b : Book) (s : Share) → Keeps n m b s k → m.agents ≡ l.agents → GrowsBy n l.history m.history → Keeps n l b s k
-keeps_on n l m k b s after agents deeds = record {
+pub keeps_on : (old : Book) (l m k : Books) (b : Book) (s : Share) → Keeps old m b s k → m.agents ≡ l.agents → has_ended m.history old.number ≡ has_ended l.history old.number → GrowsBy old.number l.history m.history → Keeps old l b s k
+keeps_on old l m k b s after agents over deeds = record {
   number = after.number;
   held = after.held;
-  seated = after.seated;
-  others = (after.others.0 ∙ agents, grows_on n l.history m.history k.history deeds after.others.1);
+  seated = λ seated. after.seated (record { known = (let a = seated.known in omega (arith, a, agents)); agents = seated.agents ∙ sym agents; over = over ∙ seated.over });
+  others = (after.others.0 ∙ agents, grows_on old.number l.history m.history k.history deeds after.others.1);
 }
 
 -- a command was done in the ledger, and the stake stays
-pub done_keeps : (old new : Book) (a : Answer) (before after : Books) (s t : Share) → DoesWith old a new → t ≡ s → Holds old s → IsSeated old before → after.agents ≡ before.agents
-    → has_ended after.history old.number ≡ has_ended before.history old.number → GrowsBy old.number before.history after.history → Keeps old.number before new t after
-done_keeps old new a before after s t done same holds seated agents over deeds =
+pub done_keeps : (old new : Book) (a : Answer) (before after : Books) (s t : Share) → DoesWith old a new → t ≡ s → Holds old s → after.agents ≡ before.agents
+    → has_ended after.history old.number ≡ has_ended before.history old.number → GrowsBy old.number before.history after.history → Keeps old before new t after
+done_keeps old new a before after s t done same holds agents over deeds =
     let stays = done_stays old new a done in
-    keeps old new before after t stays.step (subst (Holds new) (sym same) (holds_still old new s stays holds)) seated agents over deeds
+    keeps old new before after t stays.step (subst (Holds new) (sym same) (holds_still old new s stays holds)) agents over deeds
 
 -- The closing
 
@@ -251,9 +251,9 @@ ended_itself : (l : Ledger) (n a : ℕ) → a ≡ n → has_ended (EndedEvent n 
 ended_itself l n a e = ap (λ b. b || has_ended l a) (eq-eqb n a (sym e))
 
 pub closed_keeps : (old new : Book) (before after : Books) (s t : Share) (out : List (ℕ × Row)) → Records old Closed new → out ≡ tickets old → Holds old s → t.agent ≡ s.agent
-    → ((p : Row → Bool) → count_by p s.rows ≡ count_by p t.rows + count_by (λ t. p t.1) out) → IsSeated old before → after.agents ≡ before.agents
-    → after.history ≡ EndedEvent old.number ∷ spent out before.history → AreDeedsOf old.number (map (λ t. Spent t.1.serial) out) before.history → Keeps old.number before new t after
-closed_keeps old new before after s t out records is holds agent counts seated agents history deeds =
+    → ((p : Row → Bool) → count_by p s.rows ≡ count_by p t.rows + count_by (λ t. p t.1) out) → after.agents ≡ before.agents
+    → after.history ≡ EndedEvent old.number ∷ spent out before.history → AreDeedsOf old.number (map (λ t. Spent t.1.serial) out) before.history → Keeps old before new t after
+closed_keeps old new before after s t out records is holds agent counts agents history deeds =
     let number = ap (λ b. b.number) records in
     record {
       number = number;
@@ -261,7 +261,7 @@ closed_keeps old new before after s t out records is holds agent counts seated a
         agent ∙ holds.0 ∙ sym number,
         λ p. ap (λ b. count_by p (rows_of b)) records ∙ (let a = closed_owns old s out is holds p in let b = counts p in omega (arith, a, b)),
       );
-      seated = record {
+      seated = λ seated. record {
         known = (let a = number in let b = seated.known in omega (arith, a, b, agents));
         agents = ap (λ b. b.agents) records ∙ seated.agents ∙ sym agents;
         over = ap (λ l. has_ended l new.number) history ∙ ended_itself (spent out before.history) old.number new.number number ∙ sym (ap (λ b. is_ended (phase b.history)) records);

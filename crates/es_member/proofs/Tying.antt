@@ -78,27 +78,27 @@ done_ties old new s l m e d r a ready is more did wait same done met =
     one_deed old new s l m e d done.0 r ready is more did wait same (grown_history old new done.0 done.3) stays.step.number
     (ap (λ e. after (tickets old) (asks (between_jobs old.history) e) (d ∷ [])) done.1.2 ∙ met ∙ ap Some (sym stays.same))
 
-pub owned : (old : Book) (s : Share) (l : Books) (r : Row) (d : Deed) → IsReady old s l → Contains s.rows r → by_holder l.history r.serial d ≡ Some (old.number, d)
-owned old s l r d ready here = by_ticket l.history r.serial s.agent r d (ready.holder r here) ∙ ap (λ n. Some (n, d)) ready.held.0
+pub owned : (old : Book) (s : Share) (l : Books) (r : Row) (d : Deed) → s.agent ≡ old.number → ((r : Row) → Contains s.rows r → holder_of l.history r.serial ≡ Some (s.agent, r)) → Contains s.rows r → by_holder l.history r.serial d ≡ Some (old.number, d)
+owned old s l r d same holder here = by_ticket l.history r.serial s.agent r d (holder r here) ∙ ap (λ n. Some (n, d)) same
 
 pub load_ties : (old new : Book) (s : Share) (l : Books) (m : Ledger) (o i w : ℕ) (r : Row) → IsReady old s l → need old ≡ asks_ledger (for_load o i) → Contains s.rows r → Some r ≡ at o (tickets old)
     → m ≡ Loaded r.serial i w ∷ l.history → DoesWith old (Gives (Number (pos w))) new → IsTied new m
 load_ties old new s l m o i w r ready is mine here more done =
-    done_ties old new s l m (Loaded r.serial i w) (Loads r.serial i w) (for_load o i) (Gives (Number (pos w))) ready is more (owned old s l r (Loads r.serial i w) ready mine) refl refl done
+    done_ties old new s l m (Loaded r.serial i w) (Loads r.serial i w) (for_load o i) (Gives (Number (pos w))) ready is more (owned old s l r (Loads r.serial i w) ready.held.0 ready.holder mine) refl refl done
     (ap (λ a. after (tickets old) a (Loads r.serial i w ∷ [])) (load_asks old done.1.0 o i (Number (pos w)) (due_command old done.1.0 (for_load o i) done.1.1 is)) ∙ load_met (tickets old) o i w r here)
 
 pub store_ties : (old new : Book) (s : Share) (l : Books) (m : Ledger) (o i w : ℕ) (r : Row) → IsReady old s l → need old ≡ asks_ledger (for_store o i w) → Contains s.rows r → Some r ≡ at o (tickets old)
     → m ≡ Stored r.serial i w ∷ l.history → DoesWith old Nothing new → IsTied new m
 store_ties old new s l m o i w r ready is mine here more done =
     let asked = store_asks old done.1.0 o i w Nothing (due_command old done.1.0 (for_store o i w) done.1.1 is) in
-    done_ties old new s l m (Stored r.serial i w) (Stores r.serial i w) (for_store o i w) Nothing ready is more (owned old s l r (Stores r.serial i w) ready mine) refl refl done
+    done_ties old new s l m (Stored r.serial i w) (Stores r.serial i w) (for_store o i w) Nothing ready is more (owned old s l r (Stores r.serial i w) ready.held.0 ready.holder mine) refl refl done
     (ap (λ a. after (tickets old) a (Stores r.serial i w ∷ [])) asked.1 ∙ store_met (tickets old) o i w asked.0 r here asked.2)
 
 pub add_ties : (old new : Book) (s : Share) (l : Books) (m : Ledger) (o i w n : ℕ) (r : Row) → IsReady old s l → need old ≡ asks_ledger (for_add o i n) → Contains s.rows r → Some r ≡ at o (tickets old)
     → m ≡ Added r.serial i w n ∷ l.history → DoesWith old (Gives (Number (pos w))) new → IsTied new m
 add_ties old new s l m o i w n r ready is mine here more done =
     let asked = add_asks old done.1.0 o i n (Number (pos w)) (due_command old done.1.0 (for_add o i n) done.1.1 is) in
-    done_ties old new s l m (Added r.serial i w n) (Adds r.serial i w n) (for_add o i n) (Gives (Number (pos w))) ready is more (owned old s l r (Adds r.serial i w n) ready mine) refl refl done
+    done_ties old new s l m (Added r.serial i w n) (Adds r.serial i w n) (for_add o i n) (Gives (Number (pos w))) ready is more (owned old s l r (Adds r.serial i w n) ready.held.0 ready.holder mine) refl refl done
     (ap (λ a. after (tickets old) a (Adds r.serial i w n ∷ [])) asked.1 ∙ add_met (tickets old) o i w n asked.0 r here asked.2)
 
 pub post_grows : (old : Book) (l m : Ledger) (n a : ℕ) (b : Body) → n ≡ old.number → m ≡ Posted n a b ∷ l → GrowsBy old.number l m

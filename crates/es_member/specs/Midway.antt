@@ -1,23 +1,31 @@
 -- Internal: what stands before a turn, and an agent in the middle of one.
-use Rattle.std.specs.Prelude.{◌≡◌, true, false, List, [], ◌∷◌, ◌++◌, Some, None}
+use Rattle.std.specs.Prelude.{◌≡◌, ◌≢◌, ◌<◌, true, false, List, [], ◌∷◌, ◌++◌, Some, None}
 use Rattle.std.specs.List.{Contains}
 use Rattle.es_event.specs.declared.ledger_event.Body.TheVariants.{Block}
 use Rattle.es_event.specs.declared.row.Row.{Row}
-use Rattle.es_event.specs.Ledger.{Ledger, holder_of, waits}
+use Rattle.es_event.specs.Ledger.{Ledger, ended as has_ended, holder_of, waits}
 use Rattle.es_event.specs.LegalLedger.{LegalLedger}
 use Rattle.es_ledger.specs.Books.{Books}
 use Rattle.es_match.specs.Cluster.{Ties, patient, drained, drained_last}
 use Rattle.es_match.specs.Deeds.{Deed, Opens, Takes, part}
 use Rattle.es_ticket.specs.Shares.{Share}
 use Rattle.es_record.specs.Book.{Book}
-use Rattle.es_rules.specs.Needs.{for_block, Need, asks_ledger, asks_message, need}
+use Rattle.es_rules.specs.Needs.{for_block, Need, asks_ledger, asks_message, asks_nothing, need}
 use Rattle.es_agent.specs.Tickets.{tickets}
 use Rattle.es_member.specs.Seats.{Holds}
 use Rattle.es_member.specs.Tied.{IsTied}
 use Rattle.es_member.specs.Turned.{IsSeated}
 
--- the agent has its stake and its place, its history, tickets and part go together, and the ledger's history is legal and says
+-- the agent has its stake, it has not ended in the ledger while it asks for something, and the ledger's history is legal and says
 -- that the agent holds the tickets of its stake
+pub record IsHeld (b : Book) (s : Share) (l : Books) : Type 0 where
+  pub held : Holds b s
+  pub known : b.number < l.agents
+  pub going : need b ≢ asks_nothing → has_ended l.history b.number ≡ false
+  pub legal : LegalLedger l.agents l.history
+  pub holder : (r : Row) → Contains s.rows r → holder_of l.history r.serial ≡ Some (s.agent, r)
+
+-- besides, it has its place, and its history, tickets and part go together
 pub record IsReady (b : Book) (s : Share) (l : Books) : Type 0 where
   pub held : Holds b s
   pub seated : IsSeated b l

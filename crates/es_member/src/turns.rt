@@ -3,9 +3,8 @@
 ghost use Rattle.std.specs.Prelude.{◌≡◌, ◌<◌, OnOk, OnErr, IfOk};
 ghost use Rattle.es_rules.specs.Needs.{need, asks_nobody, asks_marks, asks_closing};
 ghost use Rattle.es_member.specs.Seats.{seat};
-ghost use Rattle.es_member.specs.Tied.{IsTied};
-ghost use Rattle.es_member.specs.Turned.{Heard, NamesOthers, Keeps, Proceeds};
-ghost use Rattle.es_member.specs.Midway.{IsReady};
+ghost use Rattle.es_member.specs.Turned.{Heard, Keeps, NamesOthers, Proceeds, StaysTied};
+ghost use Rattle.es_member.specs.Midway.{IsHeld};
 
 mod asking;
 mod hearing;
@@ -25,13 +24,13 @@ pub(crate) fn turn<L: Run>(
     stake: &mut Stake<L>,
     ledger: &mut LedgerCore<L>,
 ) -> Result<Progress, NoMemory>
-    requires ready { IsReady core.old stake.old ledger.old }
+    requires ready { IsHeld core.old stake.old ledger.old }
     requires others { NamesOthers (need core.old) core.old.number ledger.old.agents }
     ensures ok { IfOk result (λ p. Proceeds p (seat core.old stake.old) (seat core.new stake.new)) }
     ensures told { IfOk result (λ p. Heard p core.old ledger.old ledger.new) }
     ensures err { OnErr result (core.new ≡ core.old) }
-    ensures tied { OnOk result (IsTied core.new ledger.new.history) }
-    ensures keeps { Keeps core.old.number ledger.old core.new stake.new ledger.new }
+    ensures tied { OnOk result (StaysTied core.old ledger.old core.new ledger.new) }
+    ensures keeps { Keeps core.old ledger.old core.new stake.new ledger.new }
 {
     match core.next() {
         Need::Local => perform(core, stake, ledger),
@@ -70,12 +69,12 @@ fn perform<L: Run>(
     ledger: &LedgerCore<L>,
 ) -> Result<Progress, NoMemory>
     requires due { need core.old ≡ asks_nobody }
-    requires ready { IsReady core.old stake.now ledger.now }
+    requires ready { IsHeld core.old stake.now ledger.now }
     ensures ok { IfOk result (λ p. Proceeds p (seat core.old stake.now) (seat core.new stake.now)) }
     ensures told { IfOk result (λ p. Heard p core.old ledger.now ledger.now) }
     ensures err { OnErr result (core.new ≡ core.old) }
-    ensures tied { OnOk result (IsTied core.new ledger.now.history) }
-    ensures keeps { Keeps core.old.number ledger.now core.new stake.now ledger.now }
+    ensures tied { OnOk result (StaysTied core.old ledger.now core.new ledger.now) }
+    ensures keeps { Keeps core.old ledger.now core.new stake.now ledger.now }
 {
     let _ = core.history();
     core.perform()?;
@@ -89,12 +88,12 @@ fn collect<L: Run>(
     ledger: &mut LedgerCore<L>,
 ) -> Result<Progress, NoMemory>
     requires due { need core.old ≡ asks_marks }
-    requires ready { IsReady core.old stake.old ledger.old }
+    requires ready { IsHeld core.old stake.old ledger.old }
     ensures ok { IfOk result (λ p. Proceeds p (seat core.old stake.old) (seat core.new stake.new)) }
     ensures told { IfOk result (λ p. Heard p core.old ledger.old ledger.new) }
     ensures err { OnErr result (core.new ≡ core.old) }
-    ensures tied { OnOk result (IsTied core.new ledger.new.history) }
-    ensures keeps { Keeps core.old.number ledger.old core.new stake.new ledger.new }
+    ensures tied { OnOk result (StaysTied core.old ledger.old core.new ledger.new) }
+    ensures keeps { Keeps core.old ledger.old core.new stake.new ledger.new }
 {
     let marks = core.marks()?;
     let rack = core.collect(&marks)?;
@@ -109,12 +108,12 @@ fn close<L: Run>(
     ledger: &mut LedgerCore<L>,
 ) -> Result<Progress, NoMemory>
     requires due { need core.old ≡ asks_closing }
-    requires ready { IsReady core.old stake.old ledger.old }
+    requires ready { IsHeld core.old stake.old ledger.old }
     ensures ok { IfOk result (λ p. Proceeds p (seat core.old stake.old) (seat core.new stake.new)) }
     ensures told { IfOk result (λ p. Heard p core.old ledger.old ledger.new) }
     ensures err { OnErr result (core.new ≡ core.old) }
-    ensures tied { OnOk result (IsTied core.new ledger.new.history) }
-    ensures keeps { Keeps core.old.number ledger.old core.new stake.new ledger.new }
+    ensures tied { OnOk result (StaysTied core.old ledger.old core.new ledger.new) }
+    ensures keeps { Keeps core.old ledger.old core.new stake.new ledger.new }
 {
     let rack = core.close();
     spend_all(ledger, stake, rack);

@@ -7,8 +7,6 @@ mod places;
 mod registries;
 mod roots;
 mod slot;
-#[cfg(test)]
-mod tests;
 mod tokens;
 mod unregistering;
 mod waiting;

@@ -11,8 +11,6 @@ mod registries;
 mod table_change;
 mod tables;
 mod tags;
-#[cfg(test)]
-mod tests;
 mod variables;
 
 pub use effects::{Effects, effects_of};

@@ -9,8 +9,6 @@ mod rows;
 mod run;
 mod stake;
 mod steps;
-#[cfg(test)]
-mod tests;
 mod ticket;
 mod view;
 

@@ -4,8 +4,8 @@ ghost use Rattle.std.specs.Prelude.{◌≡◌, ◌≢◌, ◌<◌, OnOk, OnErr, 
 ghost use Rattle.es_rules.specs.Needs.{need, asks_ledger, for_block, for_post, for_buffer_post, for_load, for_store, for_add, TakesTicket};
 ghost use Rattle.es_member.specs.Seats.{HoldsBeside, seat};
 ghost use Rattle.es_member.specs.Tied.{IsTied};
-ghost use Rattle.es_member.specs.Turned.{Heard, IsSeated, Keeps, Moves, Proceeds};
-ghost use Rattle.es_member.specs.Midway.{IsReady, HasFetched};
+ghost use Rattle.es_member.specs.Turned.{Heard, Keeps, Moves, Proceeds, StaysTied};
+ghost use Rattle.es_member.specs.Midway.{IsHeld, HasFetched};
 
 use crate::member::Progress;
 use es_agent::{AdmitFault, AgentCore};
@@ -21,12 +21,12 @@ pub(crate) fn open<L: Run>(
     words: u32,
 ) -> Result<Progress, NoMemory>
     requires due { need core.old ≡ asks_ledger (for_block words) }
-    requires ready { IsReady core.old stake.old ledger.old }
+    requires ready { IsHeld core.old stake.old ledger.old }
     ensures ok { IfOk result (λ p. Proceeds p (seat core.old stake.old) (seat core.new stake.new)) }
     ensures told { IfOk result (λ p. Heard p core.old ledger.old ledger.new) }
     ensures err { OnErr result (core.new ≡ core.old) }
-    ensures tied { OnOk result (IsTied core.new ledger.new.history) }
-    ensures keeps { Keeps core.old.number ledger.old core.new stake.new ledger.new }
+    ensures tied { OnOk result (StaysTied core.old ledger.old core.new ledger.new) }
+    ensures keeps { Keeps core.old ledger.old core.new stake.new ledger.new }
 {
     let ticket = ledger.open_block(stake, words)?;
     admit(core, stake, ledger, ticket)?;
@@ -43,12 +43,10 @@ pub(crate) fn admit<L: Run>(
 ) -> Result<(), NoMemory>
     requires takes { TakesTicket (need core.old) ticket }
     requires held { HoldsBeside ticket core.old stake.old }
-    requires seated { IsSeated core.old ledger.old }
-    requires fetched { HasFetched core.old ticket ledger.old.history }
     ensures ok { OnOk result (Moves core.old core.new) }
     ensures err { OnErr result (core.new ≡ core.old) }
-    ensures tied { OnOk result (IsTied core.new ledger.new.history) }
-    ensures keeps { Keeps core.old.number ledger.old core.new stake.new ledger.new }
+    ensures tied { OnOk result (HasFetched core.old ticket ledger.old.history → IsTied core.new ledger.new.history) }
+    ensures keeps { Keeps core.old ledger.old core.new stake.new ledger.new }
 {
     let _ = core.history();
     match core.admit(ticket) {
@@ -73,12 +71,12 @@ pub(crate) fn post<L: Run>(
 ) -> Result<Progress, NoMemory>
     requires due { need core.old ≡ asks_ledger (for_post receiver value) }
     requires others { (receiver < ledger.old.agents) × (core.old.number ≢ receiver) }
-    requires ready { IsReady core.old stake.now ledger.old }
+    requires ready { IsHeld core.old stake.now ledger.old }
     ensures ok { IfOk result (λ p. Proceeds p (seat core.old stake.now) (seat core.new stake.now)) }
     ensures told { IfOk result (λ p. Heard p core.old ledger.old ledger.new) }
     ensures err { OnErr result (core.new ≡ core.old) }
-    ensures tied { OnOk result (IsTied core.new ledger.new.history) }
-    ensures keeps { Keeps core.old.number ledger.old core.new stake.now ledger.new }
+    ensures tied { OnOk result (StaysTied core.old ledger.old core.new ledger.new) }
+    ensures keeps { Keeps core.old ledger.old core.new stake.now ledger.new }
 {
     ledger.post(core.number(), receiver, value)?;
     core.answer_done()?;
@@ -95,12 +93,12 @@ pub(crate) fn post_buffer<L: Run>(
 ) -> Result<Progress, NoMemory>
     requires due { need core.old ≡ asks_ledger (for_buffer_post receiver buffer) }
     requires others { (receiver < ledger.old.agents) × (core.old.number ≢ receiver) }
-    requires ready { IsReady core.old stake.old ledger.old }
+    requires ready { IsHeld core.old stake.old ledger.old }
     ensures ok { IfOk result (λ p. Proceeds p (seat core.old stake.old) (seat core.new stake.new)) }
     ensures told { IfOk result (λ p. Heard p core.old ledger.old ledger.new) }
     ensures err { OnErr result (core.new ≡ core.old) }
-    ensures tied { OnOk result (IsTied core.new ledger.new.history) }
-    ensures keeps { Keeps core.old.number ledger.old core.new stake.new ledger.new }
+    ensures tied { OnOk result (StaysTied core.old ledger.old core.new ledger.new) }
+    ensures keeps { Keeps core.old ledger.old core.new stake.new ledger.new }
 {
     let _ = core.history();
     ledger.post_buffer(stake, receiver, core.ticket(buffer))?;
@@ -117,12 +115,12 @@ pub(crate) fn load<L: Run>(
     index: usize,
 ) -> Result<Progress, NoMemory>
     requires due { need core.old ≡ asks_ledger (for_load buffer index) }
-    requires ready { IsReady core.old stake.old ledger.old }
+    requires ready { IsHeld core.old stake.old ledger.old }
     ensures ok { IfOk result (λ p. Proceeds p (seat core.old stake.old) (seat core.new stake.new)) }
     ensures told { IfOk result (λ p. Heard p core.old ledger.old ledger.new) }
     ensures err { OnErr result (core.new ≡ core.old) }
-    ensures tied { OnOk result (IsTied core.new ledger.new.history) }
-    ensures keeps { Keeps core.old.number ledger.old core.new stake.new ledger.new }
+    ensures tied { OnOk result (StaysTied core.old ledger.old core.new ledger.new) }
+    ensures keeps { Keeps core.old ledger.old core.new stake.new ledger.new }
 {
     let _ = core.history();
     let word = ledger.load(stake, core.ticket(buffer), index)?;
@@ -140,12 +138,12 @@ pub(crate) fn store<L: Run>(
     word: u32,
 ) -> Result<Progress, NoMemory>
     requires due { need core.old ≡ asks_ledger (for_store buffer index word) }
-    requires ready { IsReady core.old stake.old ledger.old }
+    requires ready { IsHeld core.old stake.old ledger.old }
     ensures ok { IfOk result (λ p. Proceeds p (seat core.old stake.old) (seat core.new stake.new)) }
     ensures told { IfOk result (λ p. Heard p core.old ledger.old ledger.new) }
     ensures err { OnErr result (core.new ≡ core.old) }
-    ensures tied { OnOk result (IsTied core.new ledger.new.history) }
-    ensures keeps { Keeps core.old.number ledger.old core.new stake.new ledger.new }
+    ensures tied { OnOk result (StaysTied core.old ledger.old core.new ledger.new) }
+    ensures keeps { Keeps core.old ledger.old core.new stake.new ledger.new }
 {
     let _ = core.history();
     ledger.store(stake, core.ticket(buffer), index, word)?;
@@ -163,12 +161,12 @@ pub(crate) fn add<L: Run>(
     addend: u32,
 ) -> Result<Progress, NoMemory>
     requires due { need core.old ≡ asks_ledger (for_add buffer index addend) }
-    requires ready { IsReady core.old stake.old ledger.old }
+    requires ready { IsHeld core.old stake.old ledger.old }
     ensures ok { IfOk result (λ p. Proceeds p (seat core.old stake.old) (seat core.new stake.new)) }
     ensures told { IfOk result (λ p. Heard p core.old ledger.old ledger.new) }
     ensures err { OnErr result (core.new ≡ core.old) }
-    ensures tied { OnOk result (IsTied core.new ledger.new.history) }
-    ensures keeps { Keeps core.old.number ledger.old core.new stake.new ledger.new }
+    ensures tied { OnOk result (StaysTied core.old ledger.old core.new ledger.new) }
+    ensures keeps { Keeps core.old ledger.old core.new stake.new ledger.new }
 {
     let _ = core.history();
     let old = ledger.add(stake, core.ticket(buffer), index, addend)?;

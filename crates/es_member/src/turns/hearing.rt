@@ -4,9 +4,8 @@ ghost use Rattle.std.specs.Prelude.{◌≡◌, ◌≢◌, ◌<◌, true, OnOk, O
 ghost use Rattle.es_event.specs.LegalLedger.{has_message};
 ghost use Rattle.es_rules.specs.Needs.{need, asks_message};
 ghost use Rattle.es_member.specs.Seats.{seat};
-ghost use Rattle.es_member.specs.Tied.{IsTied};
-ghost use Rattle.es_member.specs.Turned.{Heard, Keeps, Proceeds};
-ghost use Rattle.es_member.specs.Midway.{IsReady};
+ghost use Rattle.es_member.specs.Turned.{Heard, Keeps, Proceeds, StaysTied};
+ghost use Rattle.es_member.specs.Midway.{IsHeld};
 
 use super::asking::admit;
 use crate::member::Progress;
@@ -24,12 +23,12 @@ pub(crate) fn hear<L: Run>(
 ) -> Result<Progress, NoMemory>
     requires due { need core.old ≡ asks_message sender }
     requires others { (sender < ledger.old.agents) × (core.old.number ≢ sender) }
-    requires ready { IsReady core.old stake.old ledger.old }
+    requires ready { IsHeld core.old stake.old ledger.old }
     ensures ok { IfOk result (λ p. Proceeds p (seat core.old stake.old) (seat core.new stake.new)) }
     ensures told { IfOk result (λ p. Heard p core.old ledger.old ledger.new) }
     ensures err { OnErr result (core.new ≡ core.old) }
-    ensures tied { OnOk result (IsTied core.new ledger.new.history) }
-    ensures keeps { Keeps core.old.number ledger.old core.new stake.new ledger.new }
+    ensures tied { OnOk result (StaysTied core.old ledger.old core.new ledger.new) }
+    ensures keeps { Keeps core.old ledger.old core.new stake.new ledger.new }
 {
     match ledger.await_message(core.number(), sender)? {
         Turn::Ready => receive(core, stake, ledger, sender),
@@ -51,12 +50,12 @@ fn receive<L: Run>(
     requires due { need core.old ≡ asks_message sender }
     requires known { sender < ledger.old.agents }
     requires there { has_message ledger.old.history sender core.old.number ≡ true }
-    requires ready { IsReady core.old stake.old ledger.old }
+    requires ready { IsHeld core.old stake.old ledger.old }
     ensures ok { IfOk result (λ p. Proceeds p (seat core.old stake.old) (seat core.new stake.new)) }
     ensures told { IfOk result (λ p. Heard p core.old ledger.old ledger.new) }
     ensures err { OnErr result (core.new ≡ core.old) }
-    ensures tied { OnOk result (IsTied core.new ledger.new.history) }
-    ensures keeps { Keeps core.old.number ledger.old core.new stake.new ledger.new }
+    ensures tied { OnOk result (StaysTied core.old ledger.old core.new ledger.new) }
+    ensures keeps { Keeps core.old ledger.old core.new stake.new ledger.new }
 {
     let Some(Message { sender: _, body }) = ledger.take(stake, sender) else {
         unreachable!()

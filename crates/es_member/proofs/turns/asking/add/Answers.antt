@@ -6,6 +6,7 @@ use Rattle.es_member.proofs.Counting.{ticket_held}
 use Rattle.es_member.proofs.Growing.{grows_one}
 use Rattle.es_member.proofs.Moving.{kept, kept_after, done_keeps}
 use Rattle.es_member.proofs.Tying.{owned, add_ties}
+use Rattle.es_member.proofs.Midway.{whole}
 use Rattle.es_member.proofs.turns.asking.add.Goals as goal
 
 pub ticket-requires : goal.ticket-requires
@@ -21,19 +22,19 @@ returns-in_err-old-clause-keeps g c =
 pub returns-in_err-answer_word-clause-keeps : goal.returns-in_err-answer_word-clause-keeps
 returns-in_err-answer_word-clause-keeps g c =
     let mine = ticket_held c.args.core.now c.args.stake.now c.args.buffer c.ticket.result.now c.requires.ready.held c.ticket.ensures.here in
-    let deeds = grows_one c.args.core.now.number c.args.ledger.now.history c.add.new.self.history _ _ c.in_ok-old.ensures.history.1 (owned c.args.core.now c.args.stake.now c.args.ledger.now c.ticket.result.now _ c.requires.ready mine) in
+    let deeds = grows_one c.args.core.now.number c.args.ledger.now.history c.add.new.self.history _ _ c.in_ok-old.ensures.history.1 (owned c.args.core.now c.args.stake.now c.args.ledger.now c.ticket.result.now _ c.requires.ready.held.0 c.requires.ready.holder mine) in
     kept_after c.args.core.now c.answer_word.new.self c.args.stake.now c.add.new.stake c.args.ledger.now c.add.new.self c.requires.ready c.in_err-answer_word.ensures.err c.add.ensures.stake
     c.in_ok-old.ensures.history.0 (ap (λ l. ended l c.args.core.now.number) c.in_ok-old.ensures.history.1) deeds
 
 pub returns-clause-tied : goal.returns-clause-tied
 returns-clause-tied g c =
     let mine = ticket_held c.args.core.now c.args.stake.now c.args.buffer c.ticket.result.now c.requires.ready.held c.ticket.ensures.here in
-    add_ties c.args.core.now c.answer_word.new.self c.args.stake.now c.args.ledger.now c.add.new.self.history c.args.buffer c.args.index _ c.args.addend c.ticket.result.now c.requires.ready c.requires.due mine c.ticket.ensures.here
+    λ seated tied. add_ties c.args.core.now c.answer_word.new.self c.args.stake.now c.args.ledger.now c.add.new.self.history c.args.buffer c.args.index _ c.args.addend c.ticket.result.now (whole c.requires.ready seated tied) c.requires.due mine c.ticket.ensures.here
     c.in_ok-old.ensures.history.1 c.in_ok-answer_word.ensures.ok
 
 pub returns-clause-keeps : goal.returns-clause-keeps
 returns-clause-keeps g c =
     let mine = ticket_held c.args.core.now c.args.stake.now c.args.buffer c.ticket.result.now c.requires.ready.held c.ticket.ensures.here in
-    let deeds = grows_one c.args.core.now.number c.args.ledger.now.history c.add.new.self.history _ _ c.in_ok-old.ensures.history.1 (owned c.args.core.now c.args.stake.now c.args.ledger.now c.ticket.result.now _ c.requires.ready mine) in
-    done_keeps c.args.core.now c.answer_word.new.self _ c.args.ledger.now c.add.new.self c.args.stake.now c.add.new.stake c.in_ok-answer_word.ensures.ok c.add.ensures.stake c.requires.ready.held c.requires.ready.seated
+    let deeds = grows_one c.args.core.now.number c.args.ledger.now.history c.add.new.self.history _ _ c.in_ok-old.ensures.history.1 (owned c.args.core.now c.args.stake.now c.args.ledger.now c.ticket.result.now _ c.requires.ready.held.0 c.requires.ready.holder mine) in
+    done_keeps c.args.core.now c.answer_word.new.self _ c.args.ledger.now c.add.new.self c.args.stake.now c.add.new.stake c.in_ok-answer_word.ensures.ok c.add.ensures.stake c.requires.ready.held
     c.in_ok-old.ensures.history.0 (ap (λ l. ended l c.args.core.now.number) c.in_ok-old.ensures.history.1) deeds

@@ -5,6 +5,7 @@ use Rattle.es_member.proofs.Aims.{aims_at_ticket}
 use Rattle.es_member.proofs.Counting.{ticket_held}
 use Rattle.es_member.proofs.Moving.{kept, kept_after, done_keeps}
 use Rattle.es_member.proofs.Tying.{post_grows, buffer_ties}
+use Rattle.es_member.proofs.Midway.{whole}
 use Rattle.es_member.proofs.turns.asking.post_buffer.Goals as goal
 
 pub ticket-requires : goal.ticket-requires
@@ -25,11 +26,11 @@ returns-in_err-answer_done-clause-keeps g c =
 
 pub returns-clause-tied : goal.returns-clause-tied
 returns-clause-tied g c =
-    buffer_ties c.args.core.now c.answer_done.new.self c.args.stake.now c.args.ledger.now c.post_buffer.new.self.history c.args.receiver c.args.buffer _ c.ticket.result.now c.requires.ready c.requires.due
+    λ seated tied. buffer_ties c.args.core.now c.answer_done.new.self c.args.stake.now c.args.ledger.now c.post_buffer.new.self.history c.args.receiver c.args.buffer _ c.ticket.result.now (whole c.requires.ready seated tied) c.requires.due
     c.ticket.ensures.here c.in_ok-post_buffer.ensures.history.1 c.in_ok-answer_done.ensures.ok
 
 pub returns-clause-keeps : goal.returns-clause-keeps
 returns-clause-keeps g c =
     let deeds = post_grows c.args.core.now c.args.ledger.now.history c.post_buffer.new.self.history c.args.stake.now.agent c.args.receiver _ c.requires.ready.held.0 c.in_ok-post_buffer.ensures.history.1 in
-    done_keeps c.args.core.now c.answer_done.new.self _ c.args.ledger.now c.post_buffer.new.self c.args.stake.now c.post_buffer.new.stake c.in_ok-answer_done.ensures.ok c.post_buffer.ensures.stake c.requires.ready.held c.requires.ready.seated
+    done_keeps c.args.core.now c.answer_done.new.self _ c.args.ledger.now c.post_buffer.new.self c.args.stake.now c.post_buffer.new.stake c.in_ok-answer_done.ensures.ok c.post_buffer.ensures.stake c.requires.ready.held
     c.in_ok-post_buffer.ensures.history.0 (ap (λ l. ended l c.args.core.now.number) c.in_ok-post_buffer.ensures.history.1) deeds

@@ -1,16 +1,17 @@
 use Rattle.std.proofs.Common.{◌≡◌, refl, ap, subst, sym, ◌∙◌}
-use Rattle.std.specs.Prelude.{IfOk}
-use Rattle.es_event.specs.Ledger.{Ledger}
+use Rattle.std.specs.Prelude.{IfOk, OnOk}
+use Rattle.es_event.specs.Ledger.{Ledger, ended}
 use Rattle.es_event.specs.LegalLedger.{has_message}
 use Rattle.es_ledger.specs.Turns.{told}
 use Rattle.es_ledger.specs.declared.turn.Turn.{Turn}
 use Rattle.es_ledger.specs.declared.turn.Turn.TheVariants.{Stay, Skip}
-use Rattle.es_member.specs.Midway.{IsReady}
+use Rattle.es_member.specs.Midway.{IsHeld}
 use Rattle.es_member.specs.Tied.{GrowsBy}
-use Rattle.es_member.specs.Turned.{Heard}
+use Rattle.es_member.specs.Turned.{Heard, StaysTied}
 use Rattle.es_member.proofs.Growing.{grows_none}
 use Rattle.es_member.proofs.Hearing.{goes_on, where_ready, where_stay, where_skip, stay_ties, stay_keeps, skipped_ties, skipped_keeps, unskipped_keeps}
 use Rattle.es_member.proofs.Moving.{kept, keeps_on}
+use Rattle.es_member.proofs.Midway.{whole}
 use Rattle.es_member.proofs.turns.hearing.hear.Goals as goal
 
 pub returns-in_err-await_message-clause-keeps : goal.returns-in_err-await_message-clause-keeps
@@ -20,7 +21,7 @@ returns-in_err-await_message-clause-keeps g c =
 pub receive-requires-clause-ready : goal.receive-requires-clause-ready
 receive-requires-clause-ready g c =
     let same = where_ready c.args.ledger.now.history c.await_message.new.self.history c.args.ledger.now.agents c.number.result c.args.sender (subst (λ (t : Turn). ◌≡◌ {A = Turn × Ledger} (t, c.await_message.new.self.history) (told c.args.ledger.now.history c.args.ledger.now.agents c.number.result c.args.sender)) c.in-Ready.is c.in_ok-await_message.ensures.told) in
-    subst (IsReady c.args.core.now c.args.stake.now) (sym (λ i. record { agents = c.await_message.ensures.agents i; history = same.0 i })) c.requires.ready
+    subst (IsHeld c.args.core.now c.args.stake.now) (sym (λ i. record { agents = c.await_message.ensures.agents i; history = same.0 i })) c.requires.ready
 
 pub receive-requires-clause-there : goal.receive-requires-clause-there
 receive-requires-clause-there g c =
@@ -30,7 +31,7 @@ receive-requires-clause-there g c =
 pub returns-in-Ready-clause-keeps : goal.returns-in-Ready-clause-keeps
 returns-in-Ready-clause-keeps g c =
     let same = where_ready c.args.ledger.now.history c.await_message.new.self.history c.args.ledger.now.agents c.number.result c.args.sender (subst (λ (t : Turn). ◌≡◌ {A = Turn × Ledger} (t, c.await_message.new.self.history) (told c.args.ledger.now.history c.args.ledger.now.agents c.number.result c.args.sender)) c.in-Ready.is c.in_ok-await_message.ensures.told) in
-    keeps_on c.args.core.now.number c.args.ledger.now c.await_message.new.self c.receive.new.ledger c.receive.new.core c.receive.new.stake c.receive.ensures.keeps c.await_message.ensures.agents
+    keeps_on c.args.core.now c.args.ledger.now c.await_message.new.self c.receive.new.ledger c.receive.new.core c.receive.new.stake c.receive.ensures.keeps c.await_message.ensures.agents (ap (λ l. ended l c.args.core.now.number) same.0)
     (subst (GrowsBy c.args.core.now.number c.args.ledger.now.history) (sym same.0) (grows_none c.args.core.now.number c.args.ledger.now.history))
 
 pub returns-in-Ready-clause-told : goal.returns-in-Ready-clause-told
@@ -38,6 +39,12 @@ returns-in-Ready-clause-told g c =
     let same = where_ready c.args.ledger.now.history c.await_message.new.self.history c.args.ledger.now.agents c.number.result c.args.sender (subst (λ (t : Turn). ◌≡◌ {A = Turn × Ledger} (t, c.await_message.new.self.history) (told c.args.ledger.now.history c.args.ledger.now.agents c.number.result c.args.sender)) c.in-Ready.is c.in_ok-await_message.ensures.told) in
     let ledger : c.await_message.new.self ≡ c.args.ledger.now = λ i. record { agents = c.await_message.ensures.agents i; history = same.0 i } in
     subst (λ l. IfOk c.receive.result (λ p. Heard p c.args.core.now l c.receive.new.ledger)) ledger c.receive.ensures.told
+
+pub returns-in-Ready-clause-tied : goal.returns-in-Ready-clause-tied
+returns-in-Ready-clause-tied g c =
+    let same = where_ready c.args.ledger.now.history c.await_message.new.self.history c.args.ledger.now.agents c.number.result c.args.sender (subst (λ (t : Turn). ◌≡◌ {A = Turn × Ledger} (t, c.await_message.new.self.history) (told c.args.ledger.now.history c.args.ledger.now.agents c.number.result c.args.sender)) c.in-Ready.is c.in_ok-await_message.ensures.told) in
+    let ledger : c.await_message.new.self ≡ c.args.ledger.now = λ i. record { agents = c.await_message.ensures.agents i; history = same.0 i } in
+    subst (λ l. OnOk c.receive.result (StaysTied c.args.core.now l c.receive.new.core c.receive.new.ledger)) ledger c.receive.ensures.tied
 
 pub returns-in-Stay-clause-told : goal.returns-in-Stay-clause-told
 returns-in-Stay-clause-told g c = (
@@ -49,7 +56,7 @@ returns-in-Stay-clause-told g c = (
 
 pub returns-in-Stay-clause-tied : goal.returns-in-Stay-clause-tied
 returns-in-Stay-clause-tied g c =
-    stay_ties c.args.core.now c.args.stake.now c.args.ledger.now c.await_message.new.self.history c.number.result c.args.sender c.requires.ready c.requires.due c.number.ensures
+    λ seated tied. stay_ties c.args.core.now c.args.stake.now c.args.ledger.now c.await_message.new.self.history c.number.result c.args.sender (whole c.requires.ready seated tied) c.requires.due c.number.ensures
     (where_stay c.args.ledger.now.history c.await_message.new.self.history c.args.ledger.now.agents c.number.result c.args.sender (subst (λ (t : Turn). ◌≡◌ {A = Turn × Ledger} (t, c.await_message.new.self.history) (told c.args.ledger.now.history c.args.ledger.now.agents c.number.result c.args.sender)) c.in-Stay.is c.in_ok-await_message.ensures.told))
 
 pub returns-in-Stay-clause-keeps : goal.returns-in-Stay-clause-keeps
@@ -64,7 +71,7 @@ returns-in_err-skip-in-Skip-clause-keeps g c =
 
 pub returns-in_ok-skip-in-Skip-clause-tied : goal.returns-in_ok-skip-in-Skip-clause-tied
 returns-in_ok-skip-in-Skip-clause-tied g c =
-    skipped_ties c.args.core.now c.skip.new.self c.args.stake.now c.args.ledger.now c.await_message.new.self.history c.number.result c.args.sender c.requires.ready c.requires.due c.number.ensures
+    λ seated tied. skipped_ties c.args.core.now c.skip.new.self c.args.stake.now c.args.ledger.now c.await_message.new.self.history c.number.result c.args.sender (whole c.requires.ready seated tied) c.requires.due c.number.ensures
     (where_skip c.args.ledger.now.history c.await_message.new.self.history c.args.ledger.now.agents c.number.result c.args.sender (subst (λ (t : Turn). ◌≡◌ {A = Turn × Ledger} (t, c.await_message.new.self.history) (told c.args.ledger.now.history c.args.ledger.now.agents c.number.result c.args.sender)) c.in-Skip.is c.in_ok-await_message.ensures.told)) c.in_ok-skip-in-Skip.ensures.ok
 
 pub returns-in_ok-skip-in-Skip-clause-keeps : goal.returns-in_ok-skip-in-Skip-clause-keeps
