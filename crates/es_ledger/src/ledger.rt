@@ -244,6 +244,13 @@ impl<L: Run> LedgerCore<L> {
         self.history.append(LedgerEvent::Ended { agent });
     }
 
+    /// How many agents there are.
+    pub fn agents(&self) -> usize
+        ensures { result ≡ self.now.agents }
+    {
+        self.ended.len()
+    }
+
     /// Whether an agent ended.
     pub fn has_ended(&self, agent: usize) -> bool
         requires { agent < self.now.agents }

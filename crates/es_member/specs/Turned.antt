@@ -48,6 +48,12 @@ Proceeds Moved old new = Moves old.book new.book
 Proceeds Waiting old new = (s : ℕ) × (need old.book ≡ asks_message s) × (new ≡ old)
 Proceeds Ended old new = (need old.book ≡ asks_nothing) × (new ≡ old)
 
+-- beside others it has ended too where the ledger says so; then it has not changed
+abbrev pub ProceedsBeside : Progress → Seat → Seat → Type 0
+ProceedsBeside Moved old new = Proceeds Moved old new
+ProceedsBeside Waiting old new = Proceeds Waiting old new
+ProceedsBeside Ended old new = new ≡ old
+
 -- an agent that waits on was told to by the rules, one that asks for a message and goes on was not, and one that has ended does
 -- nothing
 abbrev pub Heard : Progress → Book → Books → Books → Type 0

@@ -2,6 +2,7 @@
 #![tactic(auto)]
 
 mod auditing;
+mod beside;
 mod member;
 mod spending;
 mod turns;

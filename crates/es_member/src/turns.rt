@@ -1,6 +1,7 @@
 //! A turn of an agent: what it asks for is done in the ledger, and it takes the answer.
 
 ghost use Rattle.std.specs.Prelude.{◌≡◌, ◌<◌, OnOk, OnErr, IfOk};
+ghost use Rattle.es_record.specs.Graph.{AreMarksOf};
 ghost use Rattle.es_rules.specs.Needs.{need, asks_nobody, asks_marks, asks_closing};
 ghost use Rattle.es_member.specs.Seats.{seat};
 ghost use Rattle.es_member.specs.Turned.{Heard, Keeps, NamesOthers, Proceeds, StaysTied};
@@ -14,6 +15,7 @@ use crate::spending::spend_all;
 use asking::{add, load, open, post, post_buffer, store};
 use es_agent::{AgentCore, Need, Request};
 use es_ledger::LedgerCore;
+use es_mark::Marks;
 use es_ticket::{Run, Stake};
 use es_value::NoMemory;
 use hearing::hear;
@@ -81,7 +83,7 @@ fn perform<L: Run>(
     Ok(Progress::Moved)
 }
 
-// A collection: the tickets of emptied buffer objects are spent.
+// A collection by the agent's own marks.
 fn collect<L: Run>(
     core: &mut AgentCore<L>,
     stake: &mut Stake<L>,
@@ -96,7 +98,26 @@ fn collect<L: Run>(
     ensures keeps { Keeps core.old ledger.old core.new stake.new ledger.new }
 {
     let marks = core.marks()?;
-    let rack = core.collect(&marks)?;
+    empty(core, stake, ledger, &marks)
+}
+
+/// A collection by these marks: the tickets of emptied buffer objects are spent.
+pub(crate) fn empty<L: Run>(
+    core: &mut AgentCore<L>,
+    stake: &mut Stake<L>,
+    ledger: &mut LedgerCore<L>,
+    marks: &Marks,
+) -> Result<Progress, NoMemory>
+    requires due { need core.old ≡ asks_marks }
+    requires marks { AreMarksOf core.old marks.now }
+    requires ready { IsHeld core.old stake.old ledger.old }
+    ensures ok { IfOk result (λ p. Proceeds p (seat core.old stake.old) (seat core.new stake.new)) }
+    ensures told { IfOk result (λ p. Heard p core.old ledger.old ledger.new) }
+    ensures err { OnErr result (core.new ≡ core.old) }
+    ensures tied { OnOk result (StaysTied core.old ledger.old core.new ledger.new) }
+    ensures keeps { Keeps core.old ledger.old core.new stake.new ledger.new }
+{
+    let rack = core.collect(marks)?;
     spend_all(ledger, stake, rack);
     Ok(Progress::Moved)
 }
