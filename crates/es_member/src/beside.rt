@@ -45,8 +45,9 @@ impl<L: Run> Member<L> {
         }
     }
 
-    /// One turn, beside other agents, by the marks that `marks` gave where it is a collection. It is as
-    /// `step` where the agent has its place; else it may end, and then nothing has changed.
+    /// One turn, beside other agents, by the marks that `marks` gave where it is a collection. Where the
+    /// agent has its place and names other agents alone, it proceeds as by `step`; else it may end, and
+    /// then nothing has changed. That a wait was told by the rule is not promised here.
     pub fn turn_beside(
         &mut self,
         ledger: &mut LedgerCore<L>,
