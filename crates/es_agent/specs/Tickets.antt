@@ -10,7 +10,7 @@ use Rattle.es_event.specs.declared.row.Row.{Row}
 use Rattle.es_event.specs.Identities.{is_gone, made}
 use Rattle.es_event.specs.Jobs.{receivers}
 use Rattle.es_event.specs.Reach.{AreDead}
-use Rattle.es_event.specs.Order.{Phase, between, handed, inside, stopped, ended, phase, receive, due}
+use Rattle.es_event.specs.Order.{Phase, between, handed, inside, stopped, ended, phase, Due, begin, receive, run, clean, take_cell, end_job, close, nothing, due}
 use Rattle.es_ticket.specs.Shares.{among}
 use Rattle.es_record.specs.Book.{Book, IsNext, Records, with_buffer}
 use Rattle.es_rules.specs.Needs.{asks_message, need, IsDone, Brings}
@@ -26,6 +26,17 @@ is_ended ended = true
 -- until it closes, when it hands out all
 abbrev pub tickets : Book → List (ℕ × Row)
 tickets b = if is_ended (phase b.history) then [] else filter (λ t. not (is_gone b.history t.0)) (reverse b.over)
+
+-- a command comes next, of a job or of a callback
+abbrev pub is_command : Due → Bool
+is_command (begin n) = false
+is_command (receive n s) = false
+is_command (run c) = true
+is_command (clean r) = false
+is_command (take_cell n) = false
+is_command end_job = false
+is_command close = false
+is_command nothing = false
 
 -- one event was appended, the next by the rules and the plan
 abbrev pub RecordsNext : Book → Book → Type 0

@@ -9,19 +9,20 @@ ghost use Rattle.es_event.specs.declared.row.Row.{Row};
 ghost use Rattle.es_event.specs.Sharing.{row_at};
 ghost use Rattle.es_event.specs.Registrations.{live, awaiting, unregistered, taken, tally as tally_said};
 ghost use Rattle.es_event.specs.Live.{Honest};
-ghost use Rattle.es_event.specs.Order.{is_cleaning_up};
+ghost use Rattle.es_event.specs.Order.{due, is_cleaning_up};
 ghost use Rattle.es_event.specs.Runs.{IsRunOver};
 ghost use Rattle.es_ticket.specs.Shares.{at};
 ghost use Rattle.es_record.specs.Book.{Records};
 ghost use Rattle.es_record.specs.Graph.{AreMarksOf, AreReached};
 ghost use Rattle.es_rules.specs.Needs.{need, asks_nobody, asks_marks, asks_message, asks_closing, TakesTicket, TakesWord, TakesDone};
 ghost use Rattle.es_rules.specs.Shown.{shown};
-ghost use Rattle.es_agent.specs.Tickets.{tickets, RecordsNext, Collects, Admits, Receives, DoesWith, Skips};
+ghost use Rattle.es_agent.specs.Tickets.{is_command, tickets, RecordsNext, Collects, Admits, Receives, DoesWith, Skips};
 ghost use Rattle.es_agent.specs.Failing.{FailsToAdmit};
 
 mod reach;
 
 use crate::admission::{AdmitFault, enter};
+use es_cursor::Due;
 use es_event::{AgentPlan, Answer, Event, Sequence};
 use es_mark::Marks;
 use es_record::AgentRecord;
@@ -146,6 +147,13 @@ impl<L: Run> AgentCore<L> {
         ensures { shown result ≡ need self.now }
     {
         asks(&self.record)
+    }
+
+    /// Whether what comes next is a command, of a job or of a callback.
+    pub fn is_at_command(&self) -> bool
+        ensures { result ≡ is_command (due self.now.plan self.now.history) }
+    {
+        matches!(self.record.due(), Due::Run(_))
     }
 
     /// Takes the next step that asks nobody else, and records its one event; where there is no

@@ -1,5 +1,5 @@
 -- A cluster before its first event.
-use Rattle.std.proofs.Common.{◌≡◌, ℕ, zero, suc, ◌+◌, ◌<◌, true, sym, ◌∙◌, ap, refl, subst, arith, List, [], ◌∷◌, ◌++◌, reverse, length, map, Some}
+use Rattle.std.proofs.Common.{◌≡◌, ℕ, zero, suc, ◌+◌, ◌<◌, true, sym, ◌∙◌, ap, refl, subst, arith, List, [], ◌∷◌, ◌++◌, reverse, length, map, get_or, Some}
 use Rattle.std.specs.Prelude.{slice_get}
 use Rattle.std.specs.List.{list_all}
 use Rattle.std.proofs.lemmas.Bool.{and_parts}
@@ -48,6 +48,13 @@ one_seated ms m agents ps p before size is =
 pub first_length : (agents n : ℕ) (ps : List AgentPlan) → length (first_books agents n ps) ≡ length ps
 first_length agents n [] = refl
 first_length agents n (p ∷ ps) = ap suc (first_length agents (n + 1) ps)
+
+-- What is at a place
+
+pub got : {X : Type 0} (xs : List X) (i : ℕ) (x : X) → i < length xs → x ≡ get_or xs i x → slice_get xs i ≡ Some x
+got [] i x within is = absurd (omega (arith, within))
+got (y ∷ xs) zero x within is = ap (λ z. Some z) (sym is)
+got (y ∷ xs) (suc i) x within is = got xs i x (omega (arith, within)) is
 
 -- The last first
 

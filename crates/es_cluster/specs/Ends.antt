@@ -1,8 +1,9 @@
 -- To believe: what comes of a cluster whose agents have all ended.
-use Rattle.std.specs.Prelude.{ℕ, ◌≡◌, List, [], Some, map, reverse, slice_get, true}
+use Rattle.std.specs.Prelude.{ℕ, zero, suc, ◌≡◌, List, [], ◌∷◌, Some, map, reverse, slice_get, true, if◌then◌else◌}
 use Rattle.es_event.specs.declared.event.Event.{Event}
 use Rattle.es_event.specs.declared.outcome.Outcome.{Outcome}
-use Rattle.es_event.specs.Ledger.{Ledger, count, port_of, table}
+use Rattle.es_event.specs.declared.ledger_event.LedgerEvent.TheVariants.{Ended}
+use Rattle.es_event.specs.Ledger.{Ledger, count, ended as has_ended, port_of, table}
 use Rattle.es_event.specs.LegalLedger.{LegalLedger}
 use Rattle.es_event.specs.Rows.{held}
 use Rattle.es_event.specs.Runs.{AreWholeRuns}
@@ -11,6 +12,14 @@ use Rattle.es_match.specs.Cluster.{IsCluster}
 use Rattle.es_record.specs.Book.{Book}
 use Rattle.es_cluster.specs.Moves.{is_over}
 use Rattle.es_cluster.specs.State.{Cluster, names_of, plans}
+
+-- agent n ends where it has not ended; so does each of the first n agents, by rising number
+abbrev pub with_end : ℕ → Ledger → Ledger
+with_end n l = if has_ended l n then l else Ended n ∷ l
+
+abbrev pub with_ends : ℕ → Ledger → Ledger
+with_ends zero l = l
+with_ends (suc n) l = with_end n (with_ends n l)
 
 abbrev pub AreEnded : List Book → Type 0
 AreEnded bs = (n : ℕ) (b : Book) → slice_get bs n ≡ Some b → is_over b ≡ true

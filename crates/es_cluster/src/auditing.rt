@@ -11,13 +11,12 @@ ghost use Rattle.es_cluster.specs.State.{books, ArePlaced};
 
 use crate::cluster::ClusterCore;
 use es_ledger::{Audit, LedgerCore};
-use es_member::Member;
-use es_ticket::Run;
+use es_member::{Member, Planned};
 use es_value::NoMemory;
 
 /// How many tickets all agents have. Those of each are the ones that the ledger has for it. Nothing
 /// changes.
-fn count_all<L: Run>(members: &mut Vec<Member<L>>, ledger: &mut LedgerCore<L>) -> u64
+fn count_all<L: Planned>(members: &mut Vec<Member<L>>, ledger: &mut LedgerCore<L>) -> u64
     requires placed { ArePlaced (books members.old.items) ledger.old }
     ensures same { (members.new.items ≡ members.old.items) × (ledger.new ≡ ledger.old) }
     ensures rows { (n : ℕ) (b : Book) → slice_get (books members.old.items) n ≡ Some b → SameRows (rows_of b) (held n (table ledger.old.history)) }
@@ -30,7 +29,7 @@ fn count_all<L: Run>(members: &mut Vec<Member<L>>, ledger: &mut LedgerCore<L>) -
     count
 }
 
-impl<L: Run> ClusterCore<L> {
+impl<L: Planned> ClusterCore<L> {
     /// All tickets, counted now. It changes nothing, whether a step failed or not.
     pub fn audit(&mut self) -> Result<Audit, NoMemory>
         ensures audit { IfOk result (λ a. Audits self.old.agents self.old.ledger a) }

@@ -1,12 +1,12 @@
 //! Agents and their ledger, one turn after the other.
 
-ghost use Rattle.std.specs.Prelude.{◌≡◌, ◌<◌, ℕ, ◌&&◌, not, true, false, Some, length, reverse, slice_get, slice_index_or, IfOk, IfSome, OnOk, OnErr, is_err, is_some};
+ghost use Rattle.std.specs.Prelude.{◌≡◌, ◌<◌, ◌≤◌, ℕ, [], vec_capacity, ◌&&◌, not, true, false, Some, length, reverse, slice_get, slice_index_or, IfOk, IfSome, OnOk, OnErr, is_err, is_some};
 ghost use Rattle.es_event.specs.Ledger.{count};
 ghost use Rattle.es_event.specs.Others.{all_name_others};
 ghost use Rattle.es_match.specs.Cluster.{IsCluster};
 ghost use Rattle.es_cluster.specs.Ends.{EndsIn};
 ghost use Rattle.es_cluster.specs.Moves.{all_over};
-ghost use Rattle.es_cluster.specs.State.{histories, first_state, plans};
+ghost use Rattle.es_cluster.specs.State.{books, histories, first_state, names_of, plans};
 ghost use Rattle.es_cluster.specs.Turns.{Turned, AllTurned};
 
 use crate::ending::{all_have_ended, give_up, into_histories};
@@ -14,8 +14,8 @@ use crate::seating::{copy_names, seat_all};
 use es_agent::AgentCore;
 use es_event::{Event, LedgerEvent, Outcome, Plan, Sequence};
 use es_ledger::LedgerCore;
-use es_member::{Member, Progress};
-use es_ticket::{Opened, Run};
+use es_member::{Member, Planned, Progress};
+use es_ticket::Opened;
 use es_value::{Name, NoMemory};
 use std::alloc::Global;
 use std::marker::Model;
@@ -26,7 +26,7 @@ use std::marker::Model;
 /// step ended for want of memory they are the histories of one cluster: each agent's part in the
 /// ledger is, in order and with nothing besides, what its history asks. It holds tickets, so it
 /// can't be dropped, but ends by `end` or `abandon`.
-pub struct ClusterCore<L: Run> {
+pub struct ClusterCore<L: Planned> {
     pub(crate) members: Vec<Member<L>>,
     pub(crate) ledger: LedgerCore<L>,
     pub(crate) failed: bool,
@@ -35,7 +35,21 @@ pub struct ClusterCore<L: Run> {
     pub(crate) histories: Vec<Sequence<Event>>,
 }
 
-impl<L: Run> Model for ClusterCore<L> {
+/// A cluster taken apart, for agents that run beside each other: each can stand under a lock of its own.
+/// It holds tickets, so it can't be dropped, but ends by `give_up`, or by `into_histories` and the end of
+/// its ledger.
+pub struct Parts<L: Planned> {
+    /// The agents, by rising number.
+    pub members: Vec<Member<L>>,
+    /// What is theirs together.
+    pub ledger: LedgerCore<L>,
+    /// The agents' names.
+    pub names: Sequence<Name>,
+    /// The place of the histories that `into_histories` gives, reserved.
+    pub histories: Vec<Sequence<Event>>,
+}
+
+impl<L: Planned> Model for ClusterCore<L> {
     ghost use Rattle.std.specs.Prelude.{◌≡◌, ◌≤◌, [], false, length, vec_capacity};
     ghost use Rattle.es_cluster.specs.State.{Cluster, books, names_of, ArePlaced, AreTied};
 
@@ -46,11 +60,12 @@ impl<L: Run> Model for ClusterCore<L> {
     ghost invariant = { λ c. ArePlaced (books c.members.items) c.ledger × (c.failed ≡ false → AreTied (books c.members.items) c.ledger) × (c.names ≡ names_of (books c.members.items)) × (c.histories.items ≡ []) × (length c.members.items ≤ vec_capacity c.histories) };
 }
 
-impl<L: Run> ClusterCore<L> {
+impl<L: Planned> ClusterCore<L> {
     /// The cluster of a plan, before the first event of any agent. Each agent posts to other agents
     /// alone, and waits for messages of other agents alone.
     pub fn new(alloc: Global, opened: Opened, plan: Plan) -> Result<ClusterCore<L>, NoMemory>
         requires name { opened ≡ L.table }
+        requires planned { plan ≡ L.plan }
         requires few { length plan.agents < 9 }
         requires others { all_name_others plan ≡ true }
         ensures { IfOk result (λ c. c ≡ first_state plan) }
@@ -123,6 +138,13 @@ impl<L: Run> ClusterCore<L> {
         self.members.len()
     }
 
+    /// The agents, by rising number, each with its side of the ledger.
+    pub fn members(&self) -> &[Member<L>]
+        ensures { books result.now ≡ self.now.agents }
+    {
+        self.members.as_slice()
+    }
+
     /// An agent.
     pub fn agent(&self, agent: usize) -> &AgentCore<L>
         requires { agent < length self.now.agents }
@@ -136,6 +158,28 @@ impl<L: Run> ClusterCore<L> {
         ensures { result ≡ count self.now.ledger.history block }
     {
         self.ledger.count(block)
+    }
+
+    /// Takes the cluster apart, for agents that run beside each other.
+    pub fn into_parts(self) -> Parts<L>
+        ensures agents { books result.members.items ≡ self.agents }
+        ensures ledger { result.ledger ≡ self.ledger }
+        ensures names { result.names ≡ names_of self.agents }
+        ensures place { (result.histories.items ≡ []) × (length result.members.items ≤ vec_capacity result.histories) }
+    {
+        let ClusterCore {
+            members,
+            ledger,
+            failed: _,
+            names,
+            histories,
+        } = self;
+        Parts {
+            members,
+            ledger,
+            names,
+            histories,
+        }
     }
 
     /// Gives all up, however far the agents are: every ticket is spent. It takes no memory.

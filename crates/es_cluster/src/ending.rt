@@ -3,17 +3,16 @@
 ghost use Rattle.std.specs.Prelude.{◌≡◌, ◌≤◌, ◌<◌, ℕ, [], true, length, vec_capacity};
 ghost use Rattle.es_event.specs.Ledger.{ended};
 ghost use Rattle.es_event.specs.LegalLedger.{all_ended};
-ghost use Rattle.es_cluster.specs.Ends.{AreEnded, AreHistories, HaveNoTicket};
+ghost use Rattle.es_cluster.specs.Ends.{AreEnded, AreHistories, HaveNoTicket, with_end, with_ends};
 ghost use Rattle.es_cluster.specs.State.{books};
 
 use es_event::{Event, Sequence};
 use es_ledger::LedgerCore;
-use es_member::Member;
-use es_ticket::Run;
+use es_member::{Member, Planned};
 
 /// Gives members and the ledger of so many agents up: every ticket is spent, each agent counts as
 /// ended, and the messages that are left are taken out. It takes no memory.
-pub(crate) fn give_up<L: Run>(mut members: Vec<Member<L>>, mut ledger: LedgerCore<L>, agents: usize)
+pub fn give_up<L: Planned>(mut members: Vec<Member<L>>, mut ledger: LedgerCore<L>, agents: usize)
     requires { ledger.agents ≡ agents }
 {
     for _ in 0..members.len() {
@@ -28,19 +27,21 @@ pub(crate) fn give_up<L: Run>(mut members: Vec<Member<L>>, mut ledger: LedgerCor
     let _ = ledger.into_history();
 }
 
-/// Each agent that has not ended ends.
-fn end_all<L: Run>(ledger: &mut LedgerCore<L>, agents: usize)
+/// Each agent that has not ended ends. It takes no memory.
+pub fn end_all<L: Planned>(ledger: &mut LedgerCore<L>, agents: usize)
     requires { ledger.old.agents ≡ agents }
-    ensures { (ledger.new.agents ≡ agents) × (all_ended ledger.new.history agents ≡ true) }
+    ensures over { (ledger.new.agents ≡ agents) × (all_ended ledger.new.history agents ≡ true) }
+    ensures history { ledger.new.history ≡ with_ends agents ledger.old.history }
 {
     for agent in 0..agents {
         end_agent(ledger, agent);
     }
 }
 
-fn end_agent<L: Run>(ledger: &mut LedgerCore<L>, agent: usize)
+fn end_agent<L: Planned>(ledger: &mut LedgerCore<L>, agent: usize)
     requires { agent < ledger.old.agents }
     ensures agents { ledger.new.agents ≡ ledger.old.agents }
+    ensures history { ledger.new.history ≡ with_end agent ledger.old.history }
     ensures over { ended ledger.new.history agent ≡ true }
     ensures others { (n : ℕ) → all_ended ledger.old.history n ≡ true → all_ended ledger.new.history n ≡ true }
 {
@@ -50,7 +51,7 @@ fn end_agent<L: Run>(ledger: &mut LedgerCore<L>, agent: usize)
 }
 
 /// Whether all agents have ended.
-pub(crate) fn all_have_ended<L: Run>(ledger: &LedgerCore<L>, agents: usize) -> bool
+pub(crate) fn all_have_ended<L: Planned>(ledger: &LedgerCore<L>, agents: usize) -> bool
     requires { ledger.now.agents ≡ agents }
     ensures { result ≡ all_ended ledger.now.history ledger.now.agents }
 {
@@ -64,7 +65,7 @@ pub(crate) fn all_have_ended<L: Run>(ledger: &LedgerCore<L>, agents: usize) -> b
 
 /// Gives up agents that have closed for their histories, by rising number, for which there is place.
 /// The ledger has no ticket of them. It takes no memory.
-pub(crate) fn into_histories<L: Run>(
+pub fn into_histories<L: Planned>(
     mut members: Vec<Member<L>>,
     ledger: &mut LedgerCore<L>,
     mut histories: Vec<Sequence<Event>>,

@@ -8,8 +8,9 @@ mod laws;
 mod moving;
 mod seating;
 
-pub use cluster::ClusterCore;
+pub use cluster::{ClusterCore, Parts};
+pub use ending::{end_all, give_up, into_histories};
 pub use es_ledger::Audit;
 pub use es_match::matches;
-pub use es_member::{Member, Progress};
+pub use es_member::{Member, Planned, Progress};
 pub use laws::what_is_drained_is_nobodys;

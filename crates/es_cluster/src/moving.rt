@@ -8,11 +8,10 @@ ghost use Rattle.es_cluster.specs.Turns.{Turned};
 
 use crate::cluster::ClusterCore;
 use es_event::Event;
-use es_member::Progress;
-use es_ticket::Run;
+use es_member::{Planned, Progress};
 use es_value::NoMemory;
 
-impl<L: Run> ClusterCore<L> {
+impl<L: Planned> ClusterCore<L> {
     /// Runs all agents to their ends: as long as one has not ended, the lowest-numbered that can move
     /// moves, by one whole job with its cleanup jobs, one skip, or its closing. Then the messages that
     /// nobody took are taken out. After want of memory every later step fails.

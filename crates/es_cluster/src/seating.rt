@@ -6,18 +6,19 @@ ghost use Rattle.es_cluster.specs.State.{books, first_books};
 
 use es_agent::AgentCore;
 use es_event::{AgentPlan, Sequence};
-use es_member::Member;
-use es_ticket::{Run, Stake};
+use es_member::{Member, Planned};
+use es_ticket::Stake;
 use es_value::{Name, NoMemory};
 use std::alloc::Global;
 
 /// The members with these plans, by rising number, each with the stake of its number. Where memory ends,
 /// those that there are come back.
-pub(crate) fn seat_all<L: Run>(
+pub(crate) fn seat_all<L: Planned>(
     alloc: Global,
     plans: Vec<AgentPlan>,
     mut stakes: Vec<Stake<L>>,
 ) -> Result<Vec<Member<L>>, (Vec<Member<L>>, NoMemory)>
+    requires planned { plans.items ≡ L.plan.agents }
     requires size { length stakes.items ≡ length plans.items }
     requires stakes { (i : ℕ) (s : Share) → slice_get stakes.items i ≡ Some s → (s.agent ≡ i) × (s.rows ≡ []) }
     ensures { IfOk result (λ ms. books ms.items ≡ first_books (length plans.items) 0 plans.items) }

@@ -1,13 +1,14 @@
 //! Agents and their ledger, through the turns of a cluster of two.
 
-ghost use Rattle.std.specs.Prelude.{◌≡◌, ◌<◌, length};
+ghost use Rattle.std.specs.Prelude.{◌≡◌, ◌<◌, length, true, IfOk, IfSome};
+ghost use Rattle.es_event.specs.Others.{all_name_others};
 
 mod naming;
 mod plans;
 
-use es_cluster::{ClusterCore, Progress};
+use es_cluster::{ClusterCore, Planned, Progress};
 use es_event::{AgentPlan, Answer, Command, Event, LedgerEvent, Plan, Sequence};
-use es_ticket::{Opened, Run};
+use es_ticket::Opened;
 use es_value::{Value, write_value};
 use naming::both_name_others;
 use plans::{Part, Step, plan};
@@ -56,7 +57,7 @@ fn is_opened(event: &LedgerEvent) -> bool {
 
 /// What the first said and what the second said, how many tickets the first block has, and how many
 /// blocks were opened and messages posted.
-fn told_of<L: Run>(alloc: Global, cluster: &ClusterCore<L>) -> Result<Vec<u8>, Fail>
+fn told_of<L: Planned>(alloc: Global, cluster: &ClusterCore<L>) -> Result<Vec<u8>, Fail>
     requires { 1 < length cluster.now.agents }
 {
     let mut text = Vec::new(alloc);
@@ -69,7 +70,7 @@ fn told_of<L: Run>(alloc: Global, cluster: &ClusterCore<L>) -> Result<Vec<u8>, F
 }
 
 /// So many turns of each, in turn, the second first.
-fn play<L: Run>(cluster: &mut ClusterCore<L>, turns: usize) -> Result<(), Fail>
+fn play<L: Planned>(cluster: &mut ClusterCore<L>, turns: usize) -> Result<(), Fail>
     requires { 1 < length cluster.old.agents }
     ensures { length cluster.new.agents ≡ length cluster.old.agents }
 {
@@ -80,23 +81,18 @@ fn play<L: Run>(cluster: &mut ClusterCore<L>, turns: usize) -> Result<(), Fail>
     Ok(())
 }
 
-/// The same after so many turns of each.
-fn played<L: Run>(
+/// The same of a plan of two after so many turns of each.
+fn played<L: Planned>(
     alloc: Global,
     opened: Opened,
-    first: AgentPlan,
-    second: AgentPlan,
+    plan: Plan,
     turns: usize,
 ) -> Result<Vec<u8>, Fail>
-    requires { opened ≡ L.table }
+    requires name { opened ≡ L.table }
+    requires planned { plan ≡ L.plan }
+    requires two { length plan.agents ≡ 2 }
+    requires others { all_name_others plan ≡ true }
 {
-    if !both_name_others(&first, &second) {
-        return Ok(Vec::new(alloc));
-    }
-    let mut agents = Sequence::new(alloc);
-    agents.push(first)?;
-    agents.push(second)?;
-    let plan = Plan { agents };
     let mut cluster = ClusterCore::<L>::new(alloc, opened, plan)?;
     let told = match play(&mut cluster, turns) {
         Ok(()) => told_of(alloc, &cluster),
@@ -106,6 +102,20 @@ fn played<L: Run>(
     told
 }
 
+/// A plan of two agents, each of which names the other alone, or none.
+fn plan_of_two(alloc: Global, first: AgentPlan, second: AgentPlan) -> Result<Option<Plan>, Fail>
+    ensures two { IfOk result (λ o. IfSome o (λ p. length p.agents ≡ 2)) }
+    ensures others { IfOk result (λ o. IfSome o (λ p. all_name_others p ≡ true)) }
+{
+    if !both_name_others(&first, &second) {
+        return Ok(None);
+    }
+    let mut agents = Sequence::new(alloc);
+    agents.push(first)?;
+    agents.push(second)?;
+    Ok(Some(Plan { agents }))
+}
+
 /// The same of two agents with these jobs.
 fn told<R: Abort + AllocGlobal>(
     rt: &R,
@@ -113,10 +123,14 @@ fn told<R: Abort + AllocGlobal>(
     second: &[Part<'_>],
     turns: usize,
 ) -> Result<Vec<u8>, Fail> {
-    let first = plan(rt, rt.alloc(), first, 1)?;
-    let second = plan(rt, rt.alloc(), second, 0)?;
-    let opened = Opened::new(rt.alloc())?;
-    played::<Brand>(rt.alloc(), opened, first, second, turns)
+    let alloc = rt.alloc();
+    let first = plan(rt, alloc, first, 1)?;
+    let second = plan(rt, alloc, second, 0)?;
+    let opened = Opened::new(alloc)?;
+    match plan_of_two(alloc, first, second)? {
+        Some(plan) => played::<Brand>(alloc, opened, plan, turns),
+        None => Ok(Vec::new(alloc)),
+    }
 }
 
 /// A job that waits for nothing.
@@ -267,30 +281,31 @@ fn of_two_that_wait_the_lower_skips(rt: HostRuntime) -> Result<(), Fail> {
     Ok(())
 }
 
-fn audited<L: Run>(
-    alloc: Global,
-    opened: Opened,
-    first: AgentPlan,
-    second: AgentPlan,
-) -> Result<Vec<u8>, Fail>
-    requires { opened ≡ L.table }
+fn audited<L: Planned>(alloc: Global, opened: Opened, plan: Plan) -> Result<Vec<u8>, Fail>
+    requires name { opened ≡ L.table }
+    requires planned { plan ≡ L.plan }
+    requires two { length plan.agents ≡ 2 }
+    requires others { all_name_others plan ≡ true }
 {
     let mut text = Vec::new(alloc);
-    if !both_name_others(&first, &second) {
-        return Ok(text);
-    }
-    let mut agents = Sequence::new(alloc);
-    agents.push(first)?;
-    agents.push(second)?;
-    let mut cluster = ClusterCore::<L>::new(alloc, opened, Plan { agents })?;
+    let mut cluster = ClusterCore::<L>::new(alloc, opened, plan)?;
     let told = audit_between_turns(&mut cluster, &mut text);
     cluster.abandon();
     told?;
     Ok(text)
 }
 
+/// The audits of two agents with these plans, of which each names the other alone.
+fn audits_of(alloc: Global, first: AgentPlan, second: AgentPlan) -> Result<Vec<u8>, Fail> {
+    let opened = Opened::new(alloc)?;
+    match plan_of_two(alloc, first, second)? {
+        Some(plan) => audited::<Brand>(alloc, opened, plan),
+        None => Ok(Vec::new(alloc)),
+    }
+}
+
 /// The blocks and how many of them are released, the tickets of each, and where all are.
-fn write_audit<L: Run>(cluster: &mut ClusterCore<L>, text: &mut Vec<u8>) -> Result<(), Fail>
+fn write_audit<L: Planned>(cluster: &mut ClusterCore<L>, text: &mut Vec<u8>) -> Result<(), Fail>
     ensures { cluster.new ≡ cluster.old }
 {
     let audit = cluster.audit()?;
@@ -302,7 +317,10 @@ fn write_audit<L: Run>(cluster: &mut ClusterCore<L>, text: &mut Vec<u8>) -> Resu
 }
 
 /// The audit after each stretch of turns.
-fn audit_between_turns<L: Run>(cluster: &mut ClusterCore<L>, text: &mut Vec<u8>) -> Result<(), Fail>
+fn audit_between_turns<L: Planned>(
+    cluster: &mut ClusterCore<L>,
+    text: &mut Vec<u8>,
+) -> Result<(), Fail>
     requires { length cluster.old.agents ≡ 2 }
 {
     write_audit(cluster, text)?;
@@ -324,8 +342,7 @@ fn a_message_has_a_ticket_of_its_own(rt: HostRuntime) -> Result<(), Fail> {
     let posting = [Step::Buffer("b", 1), Step::Post("b")];
     let first = plan(&rt, rt.alloc(), &[alone(&posting, 1)], 1)?;
     let second = plan(&rt, rt.alloc(), &[on("m", &[])], 0)?;
-    let opened = Opened::new(rt.alloc())?;
-    let told = audited::<Brand>(rt.alloc(), opened, first, second)?;
+    let told = audits_of(rt.alloc(), first, second)?;
     assert_eq!(rt;
         told.as_slice(),
         b"0 0 0 0;1 0 [2] 1 1;1 0 [1] 0 1;1 0 [1] 1 0;true;1 0 [1] 1 0;1 1 [0] 0 0;".as_slice()

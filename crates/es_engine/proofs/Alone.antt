@@ -13,7 +13,7 @@ use Rattle.es_event.proofs.OneOutcome.{one_outcome}
 use Rattle.es_match.specs.Cluster.{Ties, history_of}
 use Rattle.es_match.specs.Deeds.{Deed, part}
 use Rattle.es_match.specs.Meets.{Tickets}
-use Rattle.es_engine.specs.Engine.{IsClusterOutcome}
+use Rattle.es_run.specs.Outcomes.{IsClusterOutcome}
 use Rattle.es_engine.specs.Laws.{stay_alone}
 use Rattle.es_engine.proofs.Quiet.{alone_deeds, is_end, quiet_ledger}
 

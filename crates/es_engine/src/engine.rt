@@ -3,7 +3,7 @@
 ghost use Rattle.std.specs.Prelude.{◌≡◌, ◌≢◌, ◌<◌, length, IfOk, IfErr, OnOk, OnErr, true};
 ghost use Rattle.es_event.specs.Others.{all_name_others};
 ghost use Rattle.es_script.specs.Grammar.{no_callback_collects};
-ghost use Rattle.es_engine.specs.Engine.{Answers, IsAnswerFault, ReadsPlan, RunsTo};
+ghost use Rattle.es_engine.specs.Engine.{Answers, IsAnswerFault, ReadsPlan, RunsTo, audits_of};
 
 use crate::cluster::run_plan;
 use crate::input::read_all;
@@ -14,24 +14,38 @@ use es_report::write_report;
 use es_script::read_plan;
 use std::alloc::Global;
 use std::io::{Read, Write};
+use std::sync::Wait;
+use std::thread::Threads;
 
-/// Reads a plan to the reader's end, runs it, or only checks it, and writes the answer. Gives the
-/// number of audits of the shared blocks, which is 0 as long as agents run by turns.
+/// Reads a plan to the reader's end, runs it, or only checks it, and writes the answer. Its agents are
+/// threads, or run by turns in this one. Gives the number of audits that were made beside the agents: as
+/// many as the options ask for, and none by turns or where the plan is only checked.
 ///
 /// The report is written only after the run has ended well. On every fault but `Write` nothing is
 /// written.
-pub fn run<H: AllocGlobal, R: Read, W: Write>(
+pub fn run<H: AllocGlobal + Threads + Wait + Sync, R: Read, W: Write>(
     rt: &H,
     reader: &mut R,
     writer: &mut W,
     options: Options,
 ) -> Result<u32, RunFault>
-    ensures runs { RunsTo options.check (R.remaining reader.old) (R.remaining reader.new) (W.contents writer.old) (W.contents writer.new) result }
+    ensures runs { RunsTo options (R.remaining reader.old) (R.remaining reader.new) (W.contents writer.old) (W.contents writer.new) result }
     ensures unwritten { IfErr result (λ e. e ≢ RunFault.Write → writer.new ≡ writer.old) }
 {
     let plan = plan_from(rt.alloc(), reader)?;
-    answer(rt.alloc(), plan, options.check, writer)?;
-    Ok(0)
+    answer(rt, plan, options, writer)?;
+    Ok(audits_of(options))
+}
+
+/// How many audits are made beside the agents.
+fn audits_of(options: Options) -> u32
+    ensures { result ≡ audits_of options }
+{
+    if options.check || options.turns {
+        0
+    } else {
+        u32::from(options.watch)
+    }
 }
 
 /// The plan that the reader's bytes stand for.
@@ -47,18 +61,23 @@ fn plan_from<R: Read>(alloc: Global, reader: &mut R) -> Result<Plan, RunFault>
 }
 
 /// Writes what there is to say of a plan.
-fn answer<W: Write>(alloc: Global, plan: Plan, check: bool, writer: &mut W) -> Result<(), RunFault>
+fn answer<H: AllocGlobal + Threads + Wait + Sync, W: Write>(
+    rt: &H,
+    plan: Plan,
+    options: Options,
+    writer: &mut W,
+) -> Result<(), RunFault>
     requires few { length plan.agents < 9 }
     requires others { all_name_others plan ≡ true }
     requires collects { no_callback_collects plan ≡ true }
-    ensures answers { OnOk result (Answers check plan (W.contents writer.old) (W.contents writer.new)) }
+    ensures answers { OnOk result (Answers options.check plan (W.contents writer.old) (W.contents writer.new)) }
     ensures fault { IfErr result IsAnswerFault }
     ensures unwritten { IfErr result (λ e. e ≢ RunFault.Write → writer.new ≡ writer.old) }
 {
-    if check {
+    if options.check {
         return writer.write_all(b"ok\n").map_err(|_| RunFault::Write);
     }
-    let ended = run_plan(alloc, plan)?;
+    let ended = run_plan(rt, rt.alloc(), plan, options)?;
     write_report(
         &ended.outcome,
         ended.tallies.as_slice(),

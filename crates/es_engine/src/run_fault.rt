@@ -1,5 +1,6 @@
 //! Why a run did not end well.
 
+use es_run::RunStop;
 use es_script::{ReadFault, ScriptFault};
 use es_value::NoMemory;
 use thiserror::Error;
@@ -10,9 +11,12 @@ pub enum RunFault {
     /// The plan has a fault.
     #[error("faulty plan")]
     Script(ScriptFault),
-    /// There was no memory.
+    /// There was no memory, or a thread could not be made.
     #[error("no memory")]
     NoMemory,
+    /// The histories of a run in threads are not those of one cluster.
+    #[error("no match")]
+    Mismatch,
     /// The reader failed, or gave more bytes than a plan has at most.
     #[error("failed reading")]
     Read,
@@ -42,6 +46,20 @@ impl From<ReadFault> for RunFault {
         match fault {
             ReadFault::Script(fault) => RunFault::Script(fault),
             ReadFault::NoMemory => RunFault::NoMemory,
+        }
+    }
+}
+
+impl From<RunStop> for RunFault {
+    ghost use Rattle.std.specs.Prelude.{◌≡◌};
+    ghost use Rattle.es_engine.specs.Faults.{stop_fault};
+
+    ghost from_gives = { λ s e. e ≡ stop_fault s };
+
+    fn from(stop: RunStop) -> Self {
+        match stop {
+            RunStop::NoMemory => RunFault::NoMemory,
+            RunStop::Mismatch => RunFault::Mismatch,
         }
     }
 }

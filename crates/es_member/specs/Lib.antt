@@ -3,3 +3,4 @@ pub mod Tied
 pub mod Turned
 pub mod Midway
 pub mod Audits
+pub mod NoPlan

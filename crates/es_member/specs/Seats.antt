@@ -1,5 +1,6 @@
--- To believe: what contracts see of a member, and that its tickets are the ledger's rows of its agent.
-use Rattle.std.specs.Prelude.{◌≡◌, ◌+◌, Bool, List, map, count_by, if◌then◌else◌}
+-- To believe: what contracts see of a member, that its tickets are the ledger's rows of its agent, and that it has its plan.
+use Rattle.std.specs.Prelude.{◌≡◌, ◌+◌, Bool, List, Some, map, count_by, slice_get, if◌then◌else◌}
+use Rattle.es_event.specs.declared.plan.Plan.{Plan}
 use Rattle.es_event.specs.declared.row.Row.{Row}
 use Rattle.es_ticket.specs.Shares.{Share}
 use Rattle.es_record.specs.Book.{Book}
@@ -25,6 +26,10 @@ Holds b s = (s.agent ≡ b.number) × SameRows (rows_of b) s.rows
 -- it has one ticket more
 abbrev pub HoldsBeside : Row → Book → Share → Type 0
 HoldsBeside r b s = (s.agent ≡ b.number) × ((p : Row → Bool) → count_by p s.rows ≡ count_by p (rows_of b) + (if p r then 1 else 0))
+
+-- its plan is what the whole plan has for the agent of its number
+abbrev pub IsPlanned : Plan → Book → Type 0
+IsPlanned p b = slice_get p.agents b.number ≡ Some b.plan
 
 abbrev pub seat : Book → Share → Seat
 seat b s = record { book = b; share = s }

@@ -7,10 +7,10 @@ ghost use Rattle.es_ledger.specs.Audits.{held_below};
 ghost use Rattle.es_member.specs.Seats.{rows_of, SameRows};
 
 use crate::member::Member;
+use crate::planned::Planned;
 use es_ledger::LedgerCore;
-use es_ticket::Run;
 
-impl<L: Run> Member<L> {
+impl<L: Planned> Member<L> {
     /// How many tickets the agents up to this one have, where those before it have so many. Its own
     /// are those that the ledger has for it. Nothing changes.
     pub fn count_with(&mut self, ledger: &mut LedgerCore<L>, before: u64) -> u64

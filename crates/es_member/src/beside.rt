@@ -3,24 +3,31 @@
 
 ghost use Rattle.std.specs.Prelude.{◌≡◌, ◌≢◌, ◌↔◌, IsTrue, IfOk, IfSome, IfNone, OnOk, OnErr};
 ghost use Rattle.es_record.specs.Graph.{AreMarksOf};
-ghost use Rattle.es_rules.specs.Needs.{need, asks_nobody, asks_marks};
+ghost use Rattle.es_rules.specs.Needs.{need, asks_nobody, asks_marks, asks_nothing};
 ghost use Rattle.es_rules.specs.Shown.{shown};
 ghost use Rattle.es_member.specs.Turned.{IsSeated, Moves, Proceeds, NamesOthers, OthersStay, ProceedsBeside};
 
 use crate::member::{Member, Progress};
+use crate::planned::Planned;
 use crate::turns::{empty, turn};
 use es_agent::{Need, Request};
 use es_ledger::LedgerCore;
 use es_mark::Marks;
-use es_ticket::Run;
 use es_value::NoMemory;
 
-impl<L: Run> Member<L> {
+impl<L: Planned> Member<L> {
     /// Whether its next event asks nobody else.
     pub fn is_alone(&self) -> bool
         ensures { IsTrue result ↔ (need self.now.book ≡ asks_nobody) }
     {
         matches!(self.core.next(), Need::Local)
+    }
+
+    /// Whether it has closed, and asks for nothing any more.
+    pub fn has_closed(&self) -> bool
+        ensures { IsTrue result ↔ (need self.now.book ≡ asks_nothing) }
+    {
+        matches!(self.core.next(), Need::Ended)
     }
 
     /// Its next event, which asks nobody else. Where there is no memory nothing has changed.

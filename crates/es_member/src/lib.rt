@@ -4,7 +4,9 @@
 mod auditing;
 mod beside;
 mod member;
+mod planned;
 mod spending;
 mod turns;
 
 pub use member::{Member, Progress};
+pub use planned::Planned;

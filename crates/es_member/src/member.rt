@@ -10,14 +10,16 @@ ghost use Rattle.es_event.specs.Runs.{IsRunOver};
 ghost use Rattle.es_rules.specs.Needs.{need};
 ghost use Rattle.es_agent.specs.Tickets.{is_ended, tickets};
 ghost use Rattle.es_member.specs.Tied.{IsTied};
+ghost use Rattle.es_member.specs.Seats.{IsPlanned};
 ghost use Rattle.es_member.specs.Turned.{Heard, IsSeated, NamesOthers, OthersStay, Proceeds, spent};
 
+use crate::planned::Planned;
 use crate::spending::spend_all;
 use crate::turns::turn;
 use es_agent::AgentCore;
 use es_event::{Event, Sequence};
 use es_ledger::LedgerCore;
-use es_ticket::{Run, Stake};
+use es_ticket::Stake;
 use es_value::NoMemory;
 use std::marker::Model;
 
@@ -32,26 +34,27 @@ pub enum Progress {
     Ended,
 }
 
-/// An agent with its side of the ledger: its tickets are the ledger's rows of this agent.
-pub struct Member<L: Run> {
+/// An agent with its side of the ledger: its tickets are the ledger's rows of this agent, and its plan
+/// is the run's plan of its number.
+pub struct Member<L: Planned> {
     pub(crate) core: AgentCore<L>,
     pub(crate) stake: Stake<L>,
 }
 
-impl<L: Run> Model for Member<L> {
-    ghost use Rattle.std.specs.Prelude.{◌≡◌};
-    ghost use Rattle.es_member.specs.Seats.{Seat, rows_of, SameRows};
+impl<L: Planned> Model for Member<L> {
+    ghost use Rattle.es_member.specs.Seats.{Seat, Holds, IsPlanned};
 
     ghost Value = { Seat };
 
     ghost view = { λ m. record { book = m.core; share = m.stake } };
 
-    ghost invariant = { λ m. (m.stake.agent ≡ m.core.number) × SameRows (rows_of m.core) m.stake.rows };
+    ghost invariant = { λ m. Holds m.core m.stake × IsPlanned L.plan m.core };
 }
 
-impl<L: Run> Member<L> {
+impl<L: Planned> Member<L> {
     /// An agent with its stake, neither of which has a ticket.
     pub fn new(core: AgentCore<L>, stake: Stake<L>) -> Member<L>
+        requires planned { IsPlanned L.plan core }
         requires number { stake.agent ≡ core.number }
         requires empty { (tickets core ≡ []) × (stake.rows ≡ []) }
         ensures { (result.book ≡ core) × (result.share ≡ stake) }
@@ -68,7 +71,8 @@ impl<L: Run> Member<L> {
 
     /// Its number among the agents, counted from 0.
     pub fn number(&self) -> usize
-        ensures { result ≡ self.now.book.number }
+        ensures number { result ≡ self.now.book.number }
+        ensures planned { IsPlanned L.plan self.now.book }
     {
         self.core.number()
     }
@@ -110,6 +114,7 @@ impl<L: Run> Member<L> {
         ensures same { ledger.new ≡ ledger.old }
         ensures none { held self.book.number (table ledger.old.history) ≡ [] }
         ensures events { reverse result ≡ self.book.history }
+        ensures planned { IsPlanned L.plan self.book }
         ensures run { IsRunOver self.book.over self.book.plan self.book.history }
         ensures honest { Honest (receivers self.book.plan.jobs) self.book.history }
     {

@@ -5,11 +5,11 @@
 pub struct Options {
     /// Only read the plan, and say that it is one.
     pub check: bool,
-    /// Move the agents in turns, in one thread; no effect yet.
+    /// Move the agents by turns, in one thread; else each has a thread of its own.
     pub turns: bool,
     /// How many helpers mark, 1 to 8; no effect yet.
     pub helpers: u8,
-    /// How many audits of the shared blocks are made beside the agents, at most 1000; no effect yet.
+    /// How many audits of the shared blocks are made beside the agents, at most 1000; by turns none are.
     pub watch: u16,
 }
 

@@ -7,11 +7,11 @@ ghost use Rattle.es_event.specs.Others.{all_name_others};
 ghost use Rattle.es_script.specs.Grammar.{no_callback_collects};
 
 use crate::fault::Fault;
-use es_cluster::{Audit, ClusterCore, Progress, matches};
+use es_cluster::{Audit, ClusterCore, Planned, Progress, matches};
 use es_event::Plan;
 use es_report::write_lines;
 use es_script::read_plan;
-use es_ticket::{Opened, Run};
+use es_ticket::Opened;
 use std::alloc::Global;
 use std::io::{BufWriter, Read, Write};
 use std::marker::Brand;
@@ -34,7 +34,7 @@ pub(crate) fn play_words<H: Runtime + AllocGlobal>(rt: &H) -> Result<(), Fault> 
     Ok(output.flush()?)
 }
 
-fn play_plan<L: Run, W: Write>(
+fn play_plan<L: Planned, W: Write>(
     alloc: Global,
     opened: Opened,
     plan: Plan,
@@ -42,6 +42,7 @@ fn play_plan<L: Run, W: Write>(
     writer: &mut W,
 ) -> Result<(), Fault>
     requires name { opened ≡ L.table }
+    requires planned { plan ≡ L.plan }
     requires few { length plan.agents < 9 }
     requires others { all_name_others plan ≡ true }
     requires quiet { no_callback_collects plan ≡ true }
@@ -57,7 +58,7 @@ fn play_plan<L: Run, W: Write>(
 }
 
 /// Plays each turn, and then the moves that are left.
-fn play_all<L: Run, W: Write>(
+fn play_all<L: Planned, W: Write>(
     cluster: &mut ClusterCore<L>,
     turns: &[u8],
     writer: &mut W,
@@ -79,7 +80,7 @@ fn play_all<L: Run, W: Write>(
 }
 
 /// One turn, the agent's newest line where it moved, and an audit.
-fn play_one<L: Run, W: Write>(
+fn play_one<L: Planned, W: Write>(
     cluster: &mut ClusterCore<L>,
     agent: usize,
     writer: &mut W,
@@ -113,7 +114,7 @@ fn write_audit<W: Write>(audit: &Audit, writer: &mut W) -> Result<(), Fault> {
 }
 
 /// Whether the histories match, once all agents have ended.
-fn end<L: Run, W: Write>(
+fn end<L: Planned, W: Write>(
     alloc: Global,
     cluster: ClusterCore<L>,
     writer: &mut W,

@@ -5,7 +5,9 @@ use es_engine::{RunFault, run};
 use es_options::Options;
 use es_script::write_fault;
 use std::alloc::{AllocError, Global};
+use std::sync::Wait;
 use std::test::Fail;
+use std::thread::Threads;
 
 /// A plan of one agent, by its jobs, and the lines that it reports.
 #[derive(Clone, Copy, Debug)]
@@ -114,7 +116,7 @@ fn reports_what_the_rules_give(rt: HostRuntime) -> Result<(), Fail> {
 }
 
 /// Plans of several agents, and their reports.
-static CLUSTERS: [(&str, &str); 5] = [
+static CLUSTERS: [(&str, &str); 6] = [
     // a block goes to another agent, and outlives its maker's ticket
     (
         r#"{"version":1,"agents":[
@@ -151,6 +153,12 @@ static CLUSTERS: [(&str, &str); 5] = [
          agent worker\nsay false\nsay true\nend live 0 awaiting 0 unregistered 0 taken 0\n\
          cluster\nblocks 1 released 1\nmessages posted 2 taken 2 drained 0\n",
     ),
+    // words are modulo 2^32
+    (
+        r#"{"version":1,"agents":[{"name":"a","callbacks":{},"jobs":[{"run":[["buffer","b",1],["store","b",0,-1],["load","x","b",0],["say","x"],["add","y","b",0,2],["say","y"],["load","z","b",0],["say","z"]]}]}]}"#,
+        "agent a\nsay 4294967295\nsay 4294967295\nsay 1\nend live 0 awaiting 0 unregistered 0 taken 0\n\
+         cluster\nblocks 1 released 1\nmessages posted 0 taken 0 drained 0\n",
+    ),
     // a wait for one that has ended
     (
         r#"{"version":1,"agents":[
@@ -162,12 +170,58 @@ static CLUSTERS: [(&str, &str); 5] = [
     ),
 ];
 
+const BY_TURNS: Options = Options {
+    check: false,
+    turns: true,
+    helpers: 1,
+    watch: 0,
+};
+
+const WATCHED: Options = Options {
+    check: false,
+    turns: false,
+    helpers: 8,
+    watch: 1000,
+};
+
+/// What a run of a plan answers, and what it writes.
+fn ran<H: AllocGlobal + Threads + Wait + Sync>(
+    rt: &H,
+    plan: &str,
+    options: Options,
+) -> (Result<u32, RunFault>, Vec<u8>) {
+    let mut written = Vec::new(rt.alloc());
+    let ended = run(rt, &mut plan.as_bytes(), &mut written, options);
+    (ended, written)
+}
+
 #[test]
-fn agents_share_blocks_and_wait_for_messages(rt: HostRuntime) -> Result<(), Fail> {
+fn agents_share_blocks_and_wait_for_messages_by_turns(rt: HostRuntime) -> Result<(), Fail> {
     for (plan, report) in &CLUSTERS {
-        let mut written = Vec::new(rt.alloc());
-        let ended = run(&rt, &mut plan.as_bytes(), &mut written, Options::RUN);
+        let (ended, written) = ran(&rt, plan, BY_TURNS);
         assert_eq!(rt; ended, Ok(0));
+        assert_eq!(rt; written.as_slice(), report.as_bytes());
+    }
+    Ok(())
+}
+
+#[test]
+fn agents_share_blocks_and_wait_for_messages_in_threads(rt: HostRuntime) -> Result<(), Fail> {
+    for (plan, report) in &CLUSTERS {
+        for _ in 0..100 {
+            let (ended, written) = ran(&rt, plan, Options::RUN);
+            assert_eq!(rt; ended, Ok(0));
+            assert_eq!(rt; written.as_slice(), report.as_bytes());
+        }
+    }
+    Ok(())
+}
+
+#[test]
+fn a_watched_run_has_its_audits(rt: HostRuntime) -> Result<(), Fail> {
+    for (plan, report) in &CLUSTERS {
+        let (ended, written) = ran(&rt, plan, WATCHED);
+        assert_eq!(rt; ended, Ok(1000));
         assert_eq!(rt; written.as_slice(), report.as_bytes());
     }
     Ok(())

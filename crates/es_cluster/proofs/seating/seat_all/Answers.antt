@@ -1,10 +1,21 @@
-use Rattle.std.proofs.Common.{◌≡◌, suc, List, ◌∷◌, [], arith, ap, ◌∙◌, length, length-append}
+use Rattle.std.proofs.Common.{◌≡◌, suc, List, ◌∷◌, [], arith, ap, sym, ◌∙◌, length, length-append, Some}
 use Rattle.std.specs.Prelude.{slice_get}
+use Rattle.std.proofs.lemmas.Iterator.Adapters.{YieldsList-from_vec}
+use Rattle.std.proofs.lemmas.Iterator.Consumers.{YieldsList-turn}
 use Rattle.es_agent.specs.Tickets.{tickets}
 use Rattle.es_member.specs.Seats.{Seat}
 use Rattle.es_cluster.specs.State.{books}
-use Rattle.es_cluster.proofs.Beginning.{one_seated, next_last}
+use Rattle.es_cluster.proofs.Beginning.{got, one_seated, next_last}
 use Rattle.es_cluster.proofs.seating.seat_all.Goals as goal
+
+pub new-requires-in-Ok-new-clause-planned : goal.new-requires-in-Ok-new-clause-planned
+new-requires-in-Ok-new-clause-planned g c =
+    let turn = YieldsList-turn (YieldsList-from_vec c.args.plans.items c.into_iter-plan-iterator.ensures.into_iter_gives.0 (c.into_iter-plan-iterator.ensures.into_iter_gives.1 ∙ c.args.plans.ok.0)) c.loop-plan.yielded c.loop-plan.plan-iterator c.loop-plan.yielded_by c.next.result c.next.new.self c.in-Some.plan c.in-Some.is c.next.ensures.steps in
+    let number : c.in-Ok-new.core.number ≡ length c.loop-plan.yielded = ap (λ b. b.number) c.in-Ok-new.ensures ∙ c.len.ensures ∙ c.loop-plan.members.ok.0 ∙ c.loop-plan.invariant.size in
+    ap (λ ps. slice_get ps c.in-Ok-new.core.number) (sym c.requires.planned)
+    ∙ ap (λ n. slice_get c.args.plans.items n) number
+    ∙ got c.args.plans.items (length c.loop-plan.yielded) c.in-Some.plan turn.0 turn.1
+    ∙ ap (λ b. Some b.plan) (sym c.in-Ok-new.ensures)
 
 pub new-requires-in-Ok-new-clause-number : goal.new-requires-in-Ok-new-clause-number
 new-requires-in-Ok-new-clause-number g c =

@@ -1,7 +1,5 @@
-use Rattle.std.proofs.Common.{sym, ◌∙◌, ap, reverse}
-use Rattle.es_event.specs.Ledger.{opened}
 use Rattle.es_cluster.proofs.Beginning.{starts_quiet}
-use Rattle.es_engine.proofs.Whole.{all_released, outcome_of, plans_are, tallies_of_outcome}
+use Rattle.es_engine.proofs.Whole.{outcome_of, plans_are, tallies_of_outcome}
 use Rattle.es_engine.proofs.cluster.run_cluster.Goals as goal
 
 pub run_to_end-requires : goal.run_to_end-requires
@@ -13,7 +11,3 @@ returns-in-Some-clause-outcome g c =
 
 pub returns-in-Some-clause-tallies : goal.returns-in-Some-clause-tallies
 returns-in-Some-clause-tallies g c = tallies_of_outcome c.run_to_end.new.cluster c.in-Some.outcome c.in-Ok.tallies.items c.in-Some.ensures.outcome c.in-Ok.ensures.tallies
-
-pub returns-in-Some-clause-released : goal.returns-in-Some-clause-released
-returns-in-Some-clause-released g c =
-    c.count_blocks-released.ensures ∙ ap (λ l. opened (reverse l)) c.as_slice.ensures ∙ sym (all_released (reverse c.in-Some.outcome.ledger) c.in-Some.ensures.outcome.tickets)

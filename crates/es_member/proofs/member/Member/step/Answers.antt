@@ -10,7 +10,7 @@ turn-requires-clause-ready g c =
     let seated = rw (← c.self.view_is) at c.requires.seated in
     subst (IsHeld c.self.inside.core c.look.new.stake) (sym same.0)
     (subst (λ s. IsHeld c.self.inside.core s c.args.ledger.now) (sym same.1) (record {
-      held = c.self.invariant;
+      held = c.self.invariant.0;
       known = seated.known;
       going = λ asks. seated.over ∙ open_for c.self.inside.core (need c.self.inside.core) (λ e. asks (sym e)) refl;
       legal = c.look.ensures.legal;

@@ -1,0 +1,17 @@
+//! Runs whose plan is known by name.
+
+use es_ticket::Run;
+use std::marker::Brand;
+
+/// One run of a plan: besides its ledger, which plan it is. The plan is named by contracts alone.
+pub trait Planned: Run {
+    ghost use Rattle.es_event.specs.declared.plan.Plan.{Plan};
+
+    ghost plan: { Plan };
+}
+
+impl Planned for Brand {
+    ghost use Rattle.es_member.specs.NoPlan.{no_plan};
+
+    ghost plan = { no_plan };
+}

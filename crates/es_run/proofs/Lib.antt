@@ -1,0 +1,4 @@
+pub mod Tallied
+pub mod Placed
+pub mod Closing
+pub mod Ended

@@ -1,0 +1,40 @@
+use Rattle.std.proofs.Common.{◌≡◌, true, false, map, reverse, sym, ap, ◌∙◌, subst}
+use Rattle.es_match.specs.Cluster.{IsCluster}
+use Rattle.es_report.specs.Tallies.{end_tally}
+use Rattle.es_cluster.proofs.Standing.{books_length}
+use Rattle.es_cluster.specs.State.{books}
+use Rattle.es_run.specs.Places.{AreAtPlaces, ArePlanned, SomeGoesOn}
+use Rattle.es_run.proofs.Ended.{comes_to, goes_on_alone, tallies_are}
+use Rattle.es_run.proofs.ending.outcome_of.Goals.{then-len-agents-via-then-len-agents, then-len-agents-via-else-len-agents+then-not-are_at_places, then-len-agents-via-else-len-agents+else-not-are_at_places+then-not-have_closed}
+use Rattle.es_run.proofs.ending.outcome_of.Goals as goal
+
+pub returns-then-len-agents-clause-mismatch : goal.returns-then-len-agents-clause-mismatch
+returns-then-len-agents-clause-mismatch g c = λ is placed size cluster.
+    elim c.then-len-agents.branch [
+      | then-len-agents-via-then-len-agents w ↦ absurd (w.if-len-agents.true (c.len.ensures ∙ c.args.parts.members.ok.0 ∙ sym (books_length c.args.parts.members.items) ∙ size ∙ sym c.agents-agents.ensures))
+      | then-len-agents-via-else-len-agents+then-not-are_at_places w ↦
+          let clash : false ≡ true = sym w.if-not-are_at_places.true ∙ w.are_at_places.ensures.placed.1 (subst (λ ms. AreAtPlaces (books ms)) (sym w.as_slice.ensures.value) placed) in cc
+      | then-len-agents-via-else-len-agents+else-not-are_at_places+then-not-have_closed w ↦
+          goes_on_alone (books c.args.parts.members.items) c.args.parts.ledger (subst (λ ms. SomeGoesOn (books ms)) w.as_slice-else-not-are_at_places.ensures.value (w.have_closed.ensures.open w.if-not-have_closed.true)) size cluster
+    ]
+
+pub returns-then-branch-clause-outcome : goal.returns-then-branch-clause-outcome
+returns-then-branch-clause-outcome g c =
+    let size = books_length c.args.parts.members.items in
+    let cluster = c.in_ok-matches.ensures.0 c.if-branch.true in
+    comes_to g.L.Planned.plan (books c.args.parts.members.items) c.args.parts.ledger.agents
+    (record { names = c.finish-outcome.result.names; histories = c.finish-outcome.result.histories; ledger = c.finish-outcome.result.ledger })
+    (size ∙ c.requires.size)
+    (size ∙ sym c.args.parts.members.ok.0 ∙ sym c.len.ensures ∙ c.if-len-agents.false ∙ c.agents-agents.ensures)
+    (subst (λ ms. AreAtPlaces (books ms)) c.as_slice.ensures.value (c.are_at_places.ensures.placed.0 c.if-not-are_at_places.false))
+    (subst (λ ms. ArePlanned g.L.Planned.plan (books ms)) c.as_slice.ensures.value (c.are_at_places.ensures.planned c.if-not-are_at_places.false))
+    (c.finish-outcome.ensures.names ∙ c.requires.names)
+    c.finish-outcome.ensures.histories c.finish-outcome.ensures.legal
+    (subst (λ l. IsCluster (map (λ h. reverse h) c.finish-outcome.result.histories) (reverse l)) c.as_slice-3.ensures (subst (λ hs. IsCluster (map (λ h. reverse h) hs) (reverse c.as_slice-3.result.now)) c.as_slice-histories.ensures cluster))
+    c.finish-outcome.ensures.tickets c.finish-outcome.ensures.messages
+
+pub returns-then-branch-clause-tallies : goal.returns-then-branch-clause-tallies
+returns-then-branch-clause-tallies g c =
+    tallies_are (books c.args.parts.members.items) (record { names = c.finish-outcome.result.names; histories = c.finish-outcome.result.histories; ledger = c.finish-outcome.result.ledger }) c.in-Ok.tallies.items
+    c.finish-outcome.ensures.histories
+    (c.in-Ok.ensures ∙ ap (λ ms. map (λ b. end_tally b.history) (books ms)) c.as_slice-2.ensures.value)

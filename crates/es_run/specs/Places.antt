@@ -1,0 +1,23 @@
+-- To believe: that agents stand in order, that each has its plan, and that one has not ended.
+use Rattle.std.specs.Prelude.{ℕ, ◌≡◌, false, List, Some, slice_get}
+use Rattle.es_event.specs.declared.plan.Plan.{Plan}
+use Rattle.es_event.specs.Runs.{IsRunOver}
+use Rattle.es_record.specs.Book.{Book}
+use Rattle.es_cluster.specs.Moves.{is_over}
+use Rattle.es_member.specs.Seats.{IsPlanned}
+
+-- each is at the place of its number, counted from 0
+abbrev pub AreAtPlaces : List Book → Type 0
+AreAtPlaces bs = (n : ℕ) (b : Book) → slice_get bs n ≡ Some b → b.number ≡ n
+
+-- each has its plan of the whole one
+abbrev pub ArePlanned : Plan → List Book → Type 0
+ArePlanned p bs = (n : ℕ) (b : Book) → slice_get bs n ≡ Some b → IsPlanned p b
+
+-- one of them is a run so far that has not come to its end
+pub record SomeGoesOn (bs : List Book) : Type 0 where
+  pub number : ℕ
+  pub book : Book
+  pub here : slice_get bs number ≡ Some book
+  pub run : IsRunOver book.over book.plan book.history
+  pub going : is_over book ≡ false

@@ -1,0 +1,119 @@
+//! What agents that ran beside each other came to.
+
+ghost use Rattle.std.specs.Prelude.{◌≡◌, ◌≤◌, ◌↔◌, ℕ, [], true, false, map, length, reverse, vec_capacity, IfOk, IfErr};
+ghost use Rattle.es_event.specs.Ledger.{port_of};
+ghost use Rattle.es_event.specs.LegalLedger.{LegalLedger};
+ghost use Rattle.es_cluster.specs.Ends.{AreEnded, AreHistories, HaveNoTicket};
+ghost use Rattle.es_cluster.specs.State.{books};
+ghost use Rattle.es_report.specs.Tallies.{AreTallies};
+ghost use Rattle.es_run.specs.Outcomes.{DoNotMatch, IsClusterOutcome, at_last};
+ghost use Rattle.es_run.specs.Places.{AreAtPlaces, ArePlanned, SomeGoesOn};
+
+use crate::counting::tallies_of;
+use crate::run::Counted;
+use crate::stop::RunStop;
+use es_cluster::{Member, Parts, Planned, end_all, give_up, into_histories, matches};
+use es_event::{Outcome, Sequence};
+use std::alloc::Global;
+
+/// What agents that ran beside each other came to, if it is an outcome of their plan: each counts as
+/// ended, and the messages that nobody took are taken out. Whatever comes of it, all tickets are spent.
+pub(crate) fn outcome_of<L: Planned>(alloc: Global, parts: Parts<L>) -> Result<Counted, RunStop>
+    requires size { length parts.members.items ≡ length L.plan.agents }
+    requires names { parts.names ≡ map (λ p. p.name) L.plan.agents }
+    requires place { (parts.histories.items ≡ []) × (length parts.members.items ≤ vec_capacity parts.histories) }
+    ensures outcome { IfOk result (λ r. IsClusterOutcome L.plan r.outcome) }
+    ensures tallies { IfOk result (λ r. AreTallies r.outcome.histories r.tallies.items) }
+    ensures mismatch { IfErr result (λ e. e ≡ RunStop.Mismatch → DoNotMatch (books parts.members.items) parts.ledger) }
+{
+    let agents = parts.ledger.agents();
+    if parts.members.len() != agents
+        || !are_at_places(parts.members.as_slice())
+        || !have_closed(parts.members.as_slice())
+    {
+        abandon(parts);
+        return Err(RunStop::Mismatch);
+    }
+    let tallies = match tallies_of(alloc, parts.members.as_slice()) {
+        Ok(tallies) => tallies,
+        Err(error) => {
+            abandon(parts);
+            return Err(error.into());
+        }
+    };
+    let outcome = finish(parts);
+    let histories = outcome.histories.as_slice();
+    if matches(alloc, histories, outcome.ledger.as_slice())? {
+        Ok(Counted { outcome, tallies })
+    } else {
+        Err(RunStop::Mismatch)
+    }
+}
+
+/// Gives all agents up: every ticket is spent. It takes no memory.
+pub(crate) fn abandon<L: Planned>(parts: Parts<L>) {
+    let Parts {
+        members,
+        ledger,
+        names: _,
+        histories: _,
+    } = parts;
+    let agents = ledger.agents();
+    give_up(members, ledger, agents);
+}
+
+/// The outcome of agents that have closed, each of which counts as ended. It takes no memory.
+fn finish<L: Planned>(parts: Parts<L>) -> Outcome
+    requires closed { AreEnded (books parts.members.items) }
+    requires place { (parts.histories.items ≡ []) × (length parts.members.items ≤ vec_capacity parts.histories) }
+    ensures names { result.names ≡ parts.names }
+    ensures histories { AreHistories (books parts.members.items) result.histories }
+    ensures ledger { reverse result.ledger ≡ at_last parts.ledger }
+    ensures legal { LegalLedger parts.ledger.agents (reverse result.ledger) }
+    ensures tickets { HaveNoTicket (books parts.members.items) (reverse result.ledger) }
+    ensures messages { (s r : ℕ) → port_of (reverse result.ledger) s r ≡ [] }
+{
+    let Parts {
+        members,
+        mut ledger,
+        names,
+        histories,
+    } = parts;
+    let agents = ledger.agents();
+    end_all(&mut ledger, agents);
+    ledger.drain();
+    let histories = into_histories(members, &mut ledger, histories);
+    Outcome {
+        names,
+        histories: Sequence::from_vec(histories),
+        ledger: ledger.into_history(),
+    }
+}
+
+/// Whether each agent is at the place of its number.
+fn are_at_places<L: Planned>(members: &[Member<L>]) -> bool
+    ensures placed { (result ≡ true) ↔ AreAtPlaces (books members.now) }
+    ensures planned { result ≡ true → ArePlanned L.plan (books members.now) }
+{
+    for place in 0..members.len() {
+        if members[place].number() != place {
+            return false;
+        }
+    }
+    true
+}
+
+/// Whether each agent has closed.
+fn have_closed<L: Planned>(members: &[Member<L>]) -> bool
+    ensures closed { result ≡ true → AreEnded (books members.now) }
+    ensures open { result ≡ false → SomeGoesOn (books members.now) }
+{
+    for place in 0..members.len() {
+        // It tells that the agent's history is a run of its plan.
+        let _ = members[place].core().history();
+        if !members[place].has_closed() {
+            return false;
+        }
+    }
+    true
+}

@@ -1,0 +1,179 @@
+//! Runs of a plan, each agent in a thread of its own.
+
+ghost use Rattle.std.specs.Prelude.{◌≡◌, ◌<◌, ◌≤◌, [], true, length, vec_len, vec_capacity, IfOk, OnErr};
+ghost use Rattle.es_event.specs.Others.{all_name_others};
+ghost use Rattle.es_report.specs.Tallies.{AreTallies};
+ghost use Rattle.es_run.specs.Outcomes.{IsClusterOutcome};
+
+use crate::cluster::Cluster;
+use crate::ending::{abandon, outcome_of};
+use crate::gate::Gate;
+use crate::serving::run_all;
+use crate::stop::RunStop;
+use es_cluster::{ClusterCore, Member, Parts, Planned};
+use es_event::{Outcome, Plan};
+use es_registry::Tally;
+use es_ticket::Opened;
+use es_value::NoMemory;
+use std::alloc::Global;
+use std::marker::Brand;
+use std::sync::{Condvar, Mutex, Wait};
+use std::thread::Threads;
+
+/// What a plan's run came to, and how many registrations of each agent have each fate.
+#[derive(Drop)]
+pub struct Counted {
+    pub outcome: Outcome,
+    /// The totals of each agent, in the plan's order.
+    pub tallies: Vec<Tally>,
+}
+
+/// Runs a plan, each agent in a thread of its own, until all have ended. Each agent posts to other agents
+/// alone, and waits for messages of other agents alone. So many helpers may mark; none does yet.
+pub fn run_threads<G: Gate + Sync, R: Threads + Wait + Sync>(
+    rt: &R,
+    alloc: Global,
+    plan: Plan,
+    helpers: u8,
+    gate: &G,
+) -> Result<Outcome, RunStop>
+    requires few { length plan.agents < 9 }
+    requires others { all_name_others plan ≡ true }
+    ensures { IfOk result (λ o. IsClusterOutcome plan o) }
+{
+    let (outcome, _) = run_watched(rt, alloc, plan, helpers, 0, gate)?;
+    Ok(outcome)
+}
+
+/// The same, with a watcher that makes so many audits beside the agents. How many were made is answered
+/// beside the outcome.
+pub fn run_watched<G: Gate + Sync, R: Threads + Wait + Sync>(
+    rt: &R,
+    alloc: Global,
+    plan: Plan,
+    helpers: u8,
+    watch: u32,
+    gate: &G,
+) -> Result<(Outcome, u32), RunStop>
+    requires few { length plan.agents < 9 }
+    requires others { all_name_others plan ≡ true }
+    ensures outcome { IfOk result (λ r. IsClusterOutcome plan r.0) }
+    ensures audits { IfOk result (λ r. r.1 ≡ watch) }
+{
+    let counted = run_counted(rt, alloc, plan, helpers, watch, gate)?;
+    Ok((counted.outcome, watch))
+}
+
+/// The same, with the totals of registrations that a report has.
+pub fn run_counted<G: Gate + Sync, R: Threads + Wait + Sync>(
+    rt: &R,
+    alloc: Global,
+    plan: Plan,
+    _helpers: u8,
+    watch: u32,
+    gate: &G,
+) -> Result<Counted, RunStop>
+    requires few { length plan.agents < 9 }
+    requires others { all_name_others plan ≡ true }
+    ensures outcome { IfOk result (λ r. IsClusterOutcome plan r.outcome) }
+    ensures tallies { IfOk result (λ r. AreTallies r.outcome.histories r.tallies.items) }
+{
+    let opened = Opened::new(alloc)?;
+    run_in::<Brand, G, R>(rt, alloc, opened, plan, watch, gate)
+}
+
+/// The run of the plan that L names.
+fn run_in<L: Planned + Send + Sync, G: Gate + Sync, R: Threads + Wait + Sync>(
+    rt: &R,
+    alloc: Global,
+    opened: Opened,
+    plan: Plan,
+    watch: u32,
+    gate: &G,
+) -> Result<Counted, RunStop>
+    requires name { opened ≡ L.table }
+    requires planned { plan ≡ L.plan }
+    requires few { length plan.agents < 9 }
+    requires others { all_name_others plan ≡ true }
+    ensures outcome { IfOk result (λ r. IsClusterOutcome L.plan r.outcome) }
+    ensures tallies { IfOk result (λ r. AreTallies r.outcome.histories r.tallies.items) }
+{
+    let Parts {
+        mut members,
+        ledger,
+        names,
+        histories,
+    } = ClusterCore::<L>::new(alloc, opened, plan)?.into_parts();
+    let agents = match lock_all(alloc, &mut members) {
+        Ok(agents) => agents,
+        Err(error) => {
+            abandon(Parts {
+                members,
+                ledger,
+                names,
+                histories,
+            });
+            return Err(error.into());
+        }
+    };
+    let cluster = Cluster {
+        agents,
+        ledger: Mutex::new(ledger),
+        arrived: Condvar::new(),
+    };
+    let ended = run_all(rt, alloc, &cluster, watch, gate);
+    let Cluster {
+        agents,
+        ledger,
+        arrived: _,
+    } = cluster;
+    unlock_all(agents, &mut members);
+    let parts = Parts {
+        members,
+        ledger: ledger.into_inner(),
+        names,
+        histories,
+    };
+    if ended {
+        outcome_of(alloc, parts)
+    } else {
+        abandon(parts);
+        Err(RunStop::NoMemory)
+    }
+}
+
+/// Puts each agent under a lock of its own, and leaves their place empty. Where there is no memory
+/// nothing has changed.
+fn lock_all<L: Planned>(
+    alloc: Global,
+    members: &mut Vec<Member<L>>,
+) -> Result<Vec<Mutex<Member<L>>>, NoMemory>
+    ensures locks { IfOk result (λ locks. vec_len locks ≡ vec_len members.old) }
+    ensures place { IfOk result (λ locks. (members.new.items ≡ []) × (vec_len locks ≤ vec_capacity members.new)) }
+    ensures err { OnErr result (members.new ≡ members.old) }
+{
+    let mut locks = Vec::with_capacity(alloc, members.len())?;
+    members.reverse();
+    for _ in 0..members.len() {
+        let Some(member) = members.pop() else {
+            unreachable!()
+        };
+        locks.push_reserved(Mutex::new(member));
+    }
+    Ok(locks)
+}
+
+/// Takes the agents out of their locks, and back to their place. It takes no memory.
+fn unlock_all<L: Planned>(mut locks: Vec<Mutex<Member<L>>>, members: &mut Vec<Member<L>>)
+    requires { (members.old.items ≡ []) × (vec_len locks ≤ vec_capacity members.old) }
+    ensures { vec_len members.new ≡ vec_len locks }
+{
+    locks.reverse();
+    for _ in 0..locks.len() {
+        let Some(lock) = locks.pop() else {
+            unreachable!()
+        };
+        members.push_reserved(lock.into_inner());
+    }
+    locks.destroy_empty();
+}

@@ -1,0 +1,156 @@
+//! The threads of a run: each agent's, and that of the watcher.
+
+ghost use Rattle.std.specs.Prelude.{◌≡◌, ◌<◌, vec_len, IfSome};
+ghost use Rattle.es_record.specs.Graph.{AreMarksOf};
+ghost use Rattle.es_rules.specs.Needs.{asks_marks, need};
+
+use crate::cluster::Cluster;
+use crate::gate::Gate;
+use es_cluster::{Member, Planned, Progress};
+use es_event::LedgerEvent;
+use es_ledger::LedgerCore;
+use es_mark::Marks;
+use es_value::NoMemory;
+use std::alloc::Global;
+use std::sync::Wait;
+use std::sync::atomic::{AtomicBool, Ordering};
+use std::thread;
+use std::thread::Threads;
+
+impl<L: Planned> Cluster<L> {
+    /// Stops the run: no thread begins another event.
+    fn stop<R: Wait>(&self, rt: &R, stopped: &AtomicBool) {
+        // under the ledger's lock, so that who is about to wait sees it
+        let _ledger = self.ledger.lock(rt);
+        stopped.store(true, Ordering::SeqCst);
+        self.arrived.notify_all();
+    }
+
+    /// An agent's thread: its turns, until it has ended or the run is stopped.
+    fn serve<G: Gate, R: Wait>(&self, rt: &R, agent: usize, stopped: &AtomicBool, gate: &G)
+        requires { agent < vec_len self.now.agents }
+    {
+        let mut commands = 0;
+        for _ in rt.forever() {
+            if stopped.load(Ordering::SeqCst) {
+                return;
+            }
+            match self.turn(rt, agent, &mut commands, stopped, gate) {
+                Ok(Progress::Moved | Progress::Waiting) => (),
+                Ok(Progress::Ended) => return,
+                Err(NoMemory) => {
+                    self.stop(rt, stopped);
+                    return;
+                }
+            }
+        }
+    }
+
+    /// One turn of an agent; where it waits on for a message, until it is woken.
+    fn turn<G: Gate, R: Wait>(
+        &self,
+        rt: &R,
+        agent: usize,
+        commands: &mut u64,
+        stopped: &AtomicBool,
+        gate: &G,
+    ) -> Result<Progress, NoMemory>
+        requires { agent < vec_len self.now.agents }
+    {
+        let mut guard = self.agents[agent].lock(rt);
+        let member: &mut Member<L> = &mut guard;
+        if member.core().is_at_command() {
+            *commands = commands.saturating_add(1);
+            gate.at(agent, *commands);
+        }
+        if member.is_alone() {
+            member.perform()?;
+            return Ok(Progress::Moved);
+        }
+        // before the ledger's lock is taken, so that no other agent waits for the marking
+        let marks = member.marks()?;
+        let mut ledger = self.ledger.lock(rt);
+        let core: &mut LedgerCore<L> = &mut ledger;
+        let progress = self.ask(member, core, marks)?;
+        drop(guard);
+        if let Progress::Waiting = progress {
+            if !stopped.load(Ordering::SeqCst) {
+                drop(self.arrived.wait(rt, ledger));
+            }
+        }
+        Ok(progress)
+    }
+
+    /// One turn of an agent in the ledger; whoever waits is woken where it can change who goes on.
+    fn ask(
+        &self,
+        member: &mut Member<L>,
+        ledger: &mut LedgerCore<L>,
+        marks: Option<Marks>,
+    ) -> Result<Progress, NoMemory>
+        requires own { IfSome marks (AreMarksOf member.old.book) }
+        requires due { IfSome marks (λ m. need member.old.book ≡ asks_marks) }
+    {
+        let before = ledger.history().len();
+        let progress = member.turn_beside(ledger, marks)?;
+        let events = ledger.history();
+        if events.len() > before && events.last().is_some_and(wakes) {
+            self.arrived.notify_all();
+        }
+        Ok(progress)
+    }
+
+    /// The watcher's thread: so many audits, unless the run is stopped.
+    fn watch<R: Wait>(&self, rt: &R, alloc: Global, audits: u32, stopped: &AtomicBool) {
+        for _ in 0..audits {
+            if stopped.load(Ordering::SeqCst) {
+                return;
+            }
+            if self.audit(rt, alloc).is_err() {
+                self.stop(rt, stopped);
+                return;
+            }
+        }
+    }
+}
+
+// Whether an agent that waits may go on after this event of the ledger.
+fn wakes(event: &LedgerEvent) -> bool {
+    matches!(
+        event,
+        LedgerEvent::Posted { .. }
+            | LedgerEvent::Waiting { .. }
+            | LedgerEvent::Passed { .. }
+            | LedgerEvent::Ended { .. }
+    )
+}
+
+/// Runs each agent in a thread of its own, and a watcher that makes so many audits in one more, until
+/// all have ended. Whether none ran out of memory.
+pub(crate) fn run_all<L: Planned + Send + Sync, G: Gate + Sync, R: Threads + Wait + Sync>(
+    rt: &R,
+    alloc: Global,
+    cluster: &Cluster<L>,
+    audits: u32,
+    gate: &G,
+) -> bool {
+    let flag = AtomicBool::new(false);
+    let stopped = &flag;
+    thread::scope(thread::scope_env(), rt, |scope| {
+        for agent in 0..cluster.agents.len() {
+            if scope
+                .spawn(move || cluster.serve(rt, agent, stopped, gate))
+                .is_err()
+            {
+                cluster.stop(rt, stopped);
+            }
+        }
+        if audits > 0 {
+            let watcher = move || cluster.watch(rt, alloc, audits, stopped);
+            if scope.spawn(watcher).is_err() {
+                cluster.stop(rt, stopped);
+            }
+        }
+    });
+    !flag.load(Ordering::SeqCst)
+}

@@ -1,0 +1,5 @@
+//! Tests of es_run, by its public calls.
+#![tactic(auto)]
+
+#[cfg(test)]
+mod tests;

@@ -1,0 +1,3 @@
+//! Agents in threads.
+
+mod runs;
