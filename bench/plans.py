@@ -28,6 +28,10 @@ or of these, whose agents post messages:
             two agents can post goes to and fro between the next two (1,999)
   ring      the same in a ring of eight agents (7,999)
   words     NUMBER commands add, load and store of each of two agents, on one block (100,000)
+  adds-shared
+            NUMBER commands add of each of eight agents, all on one word: the first makes the block and posts it to the
+            others, who wait for it, and at the end says the word (100,000)
+  adds-own  the same on a block of its own of each, which says its word (100,000)
 Since an agent has 1,000 jobs at most and a job takes one message at most, the numbers of posts, ping-pong and ring are
 the largest of which each message is taken, with one ring. Of up to 10,000 posts those past 7,000 are drained; ping-pong
 goes up to 7,996.
@@ -216,6 +220,24 @@ def words(count):
     yield "w", [{"on": ["a", "b"], "run": []}, *straight(2), last]
 
 
+def adds(shared):
+    """At the end each of the others posts to the first, so that all have added before it says the word."""
+
+    def agents(count):
+        first, *others = (f"a{number}" for number in range(8))
+        made, asked = ["buffer", "b", 1], [["load", "x", "b", 0], ["say", "x"]]
+        given = [["post", other, "b"] for other in others if shared]
+        adding = [{"run": run} for run in jobs([[["add", "x", "b", 0, 1]]] * count)]
+        waited = [{"on": [other, "m"], "run": []} for other in others]
+        yield first, [{"run": [made, *given]}, *adding, *waited, {"run": asked}]
+        begun = {"on": [first, "b"], "run": []} if shared else {"run": [made]}
+        done = {"run": [*asked * (not shared), ["let", "m", True], ["post", first, "m"]]}
+        for other in others:
+            yield other, [begun, *adding, done]
+
+    return agents
+
+
 def jobs(pieces):
     """Jobs of as many pieces as one job has room for; all pieces are as long as the first."""
     size = LONGEST // len(pieces[0]) if pieces else 1
@@ -259,6 +281,8 @@ CLUSTERS = {
     "ping-pong": (ping_pong, 1999),
     "ring": (ring, 7999),
     "words": (words, 100000),
+    "adds-shared": (adds(True), 100000),
+    "adds-own": (adds(False), 100000),
 }
 
 

@@ -1,11 +1,13 @@
 #!/usr/bin/env python3
 """Times the built program on the plans of plans.py, and beside it, where there is node, an interpreter of the same plans.
 
-Usage: run.py [--times N] [--limit SECONDS] [NAME[=NUMBER] ..]
-       run.py [--times N] [--limit SECONDS] --growth NAME ..
-Without names all plans are run, without N three times each, the two in turn, and each run has 60 seconds. Prints a
-table: the median time by the clock and of all processors (which other load changes less), the highest peak memory, and
-the program's numbers as multiples of the interpreter's. With --growth each plan is run at 10,000, 30,000, 100,000 and
+Usage: run.py [--times N] [--limit SECONDS] [--threads] [NAME[=NUMBER] ..]
+       run.py [--times N] [--limit SECONDS] [--threads] --growth NAME ..
+The program runs each plan by turns, in one thread. Without names all plans but those of eight agents that add are run,
+without N three times each, the two in turn, and each run has 60 seconds. Prints a table: the median time by the clock
+and of all processors (which other load changes less), the highest peak memory, and the program's numbers as multiples
+of the interpreter's. With --threads the program runs each plan in threads as well, and the multiples are those of that
+run; without names the plans of several agents are run. With --growth each plan is run at 10,000, 30,000, 100,000 and
 300,000 in place of its usual number, and a line below it has the exponents between the first and the last: with 1 a
 time grows as the number, with 2 as its square; a constant part, such as node's start, lowers them. Reports that differ,
 but for `emptied N` and for the order of `cleanup` lines that follow each other, which is an engine's own, are told below
@@ -13,6 +15,7 @@ the table. It needs GNU time as `/usr/bin/time`.
 """
 
 import argparse
+import collections
 import itertools
 import math
 import os
@@ -31,8 +34,11 @@ NAMES = [
     "start", "commands", "new", "held", "wide", "list", "entries-forward", "entries-reversed", "entries-shuffled",
     "maps", "nested", "registrations", "check", "posts", "ping-pong", "ring", "words",
 ]
+THREADED = ["posts", "ping-pong", "ring", "words", "adds-shared", "adds-own"]
 FEW_JOBS = ["check", "posts", "ping-pong", "ring"]  # an agent has no room for as many jobs as larger numbers ask for
 SIZES = [10000, 30000, 100000, 300000]
+# what is measured: its name in the table, its first words, and what stands after a plan that is run
+Tool = collections.namedtuple("Tool", ["name", "words", "options"])
 
 
 class Row:
@@ -44,10 +50,11 @@ class Row:
         self.peak = 0.0
         self.fault = None
 
-    def cells(self):
-        if self.fault:
-            return [self.fault, "", ""]
-        return [f"{statistics.median(self.seconds):.2f}", f"{statistics.median(self.worked):.2f}", f"{self.peak:.0f}"]
+    def cells(self, digits):
+        if self.fault or not self.seconds:
+            return [self.fault or "", "", ""]
+        medians = [statistics.median(self.seconds), statistics.median(self.worked)]
+        return [*(f"{median:.{digits}f}" for median in medians), f"{self.peak:.0f}"]
 
 
 def measure(row, words, room, limit):
@@ -85,8 +92,14 @@ def ratio(ours, theirs):
     return f"{ours / theirs:.2f}" if theirs else ""
 
 
-def compare(name, times, limit, has_node):
-    """Runs a plan with both, and prints its line of the table. Gives both rows, and whether the reports were the same."""
+def tools(threads):
+    by_turns = Tool("turns" if threads else "clusterrun", [PROGRAM], ["--turns"])
+    return [Tool("threads", [PROGRAM], [])] * threads + [by_turns, Tool("node", ENGINE, [])]
+
+
+def compare(name, given, measured):
+    """Runs a plan with these tools, of which node may be missing, and prints its line of the table, in which the first
+    is compared with node. Gives a row of each, and whether the reports were the same."""
     what, _, number = name.partition("=")
     verb = "check" if what == "check" else "run"
     same = True
@@ -95,21 +108,24 @@ def compare(name, times, limit, has_node):
         with open(plan, "wb") as file:
             made = [sys.executable, os.path.join(HERE, "plans.py"), what, *[number] * bool(number)]
             subprocess.run(made, stdout=file, check=True)
-        ours, theirs = Row(), Row()
-        for _ in range(times):
+        rows = [Row() for _ in measured]
+        for _ in range(given.times):
             reports = []
-            for row, tool in [(ours, [PROGRAM]), (theirs, ENGINE)][: 1 + has_node]:
-                if not row.fault:
-                    reports.append(measure(row, [*tool, verb, plan], room, limit))
-            if len(reports) == 2 and None not in reports and reports[0] != reports[1]:
-                same = False
-        both = not ours.fault and not theirs.fault and has_node
-        cells = [f"`{name}`", f"{os.path.getsize(plan) / 1e6:.1f}", *ours.cells()]
-        cells += theirs.cells() if has_node else ["", "", ""]
+            for row, tool in zip(rows, measured):
+                if not row.fault and shutil.which(tool.words[0]) is not None:
+                    words = [*tool.words, verb, plan, *tool.options * (verb == "run")]
+                    reports.append(measure(row, words, room, given.limit))
+            ended = [report for report in reports if report is not None]
+            same = same and all(report == ended[0] for report in ended)
+        digits = 3 if given.threads else 2  # many of the plans in threads take few milliseconds
+        cells = [f"`{name}`", f"{os.path.getsize(plan) / 1e6:.1f}"]
+        cells += [cell for row in rows for cell in row.cells(digits)]
+        ours, theirs = rows[0], rows[-1]
+        both = not ours.fault and not theirs.fault and theirs.seconds
         cells.append(ratio(statistics.median(ours.seconds), statistics.median(theirs.seconds)) if both else "")
         cells.append(ratio(ours.peak, theirs.peak) if both else "")
         print("| " + " | ".join(cells) + " |", flush=True)
-    return ours, theirs, same
+    return rows, same
 
 
 def exponents(first, last):
@@ -127,6 +143,7 @@ def main():
     words.add_argument("names", nargs="*", metavar="NAME[=NUMBER]")
     words.add_argument("--times", type=int, default=3)
     words.add_argument("--limit", type=float, default=60)
+    words.add_argument("--threads", action="store_true")
     words.add_argument("--growth", action="store_true")
     given = words.parse_args()
     if given.growth and (not given.names or any("=" in name or name in FEW_JOBS for name in given.names)):
@@ -136,15 +153,16 @@ def main():
         sys.exit("the program is not built: run ./clusterrun first")
     if not os.path.isfile("/usr/bin/time"):
         sys.exit("/usr/bin/time is missing: install GNU time")
-    has_node = shutil.which("node") is not None
-    print("| Plan | MB | clusterrun, s | CPU, s | peak, MB | node, s | CPU, s | peak, MB | time, ratio | memory, ratio |")
-    print("|" + "---|" * 10, flush=True)
+    measured = tools(given.threads)
+    columns = [column for tool in measured for column in (f"{tool.name}, s", "CPU, s", "peak, MB")]
+    print("| " + " | ".join(["Plan", "MB", *columns, "time, ratio", "memory, ratio"]) + " |")
+    print("|" + "---|" * (len(columns) + 4), flush=True)
     differing = []
-    for name in given.names or NAMES:
+    for name in given.names or (THREADED if given.threads else NAMES):
         rows = []
         for sized in [f"{name}={size}" for size in SIZES] if given.growth else [name]:
-            ours, theirs, same = compare(sized, given.times, given.limit, has_node)
-            rows.append((ours, theirs))
+            row, same = compare(sized, given, measured)
+            rows.append(row)
             if not same and sized not in differing:
                 differing.append(sized)
         if given.growth:

@@ -1,6 +1,8 @@
 #!/bin/sh
 # Each growth refused in turn: the run ends with 'out of memory' and nothing written, or as if nothing
-# had been refused: with the report, or with the fault of its plan. A library of our own stands before the C library's malloc and realloc.
+# had been refused: with the report, or with the fault of its plan. Last, a few plans whose agents run in threads: there
+# the run ends with 'out of memory' wherever a growth is refused that `check` does not make and go on without. A library of
+# our own stands before the C library's malloc, realloc and pthread_create.
 # Usage: growths.sh PROGRAM. Prints each test that fails, and 'N passed, M failed' last.
 set -u
 
@@ -18,10 +20,12 @@ if ! "${CC:-cc}" -shared -fPIC -O1 -o "$room/refuse.so" "$tests/refuse.c"; then
 fi
 echo 'out of memory' >"$room/complaint"
 
-# Runs the program on these words with the growth of this number refused; 0 refuses none.
+# Runs the program on these words with the growth of this number refused; 0 refuses none. One that is killed tells no
+# growths.
 run() {
     number=$1
     shift
+    echo 0 >"$room/growths"
     REFUSE=$number GROWTHS="$room/growths" LD_PRELOAD="$room/refuse.so" "$program" "$@" \
         >"$room/out" 2>"$room/err"
     got=$?
@@ -54,22 +58,65 @@ each_growth() {
     done
 }
 
+# What the run did that has just ended: whether it made a growth of this number, ran out of memory, gave the report.
+met() { [ "$(cat "$room/growths")" -ge "$number" ]; }
+ran_out() { [ "$got" -eq 3 ] && [ ! -s "$room/out" ] && cmp -s "$room/err" "$room/complaint"; }
+reported() { [ "$got" -eq 0 ] && cmp -s "$room/out" "$room/wanted" && cmp -s "$room/err" "$room/told"; }
+
+# Tries the growths of a plan's run in threads, beside so many audits. They are not the same from run to run, nor as many:
+# the numbers go on until twenty in a row refuse nothing. Where a list is made of an iterator, room for all of it is asked
+# for at first, and then piece by piece; so a few growths can be done without.
+each_growth_in_threads() {
+    run 0 run "$1" --turns
+    cp "$room/out" "$room/wanted"
+    : >"$room/told"
+    [ "$2" -eq 0 ] || echo "audits $2" >"$room/told"
+    number=0
+    refused=0
+    without=0
+    in_a_row=0
+    while [ "$in_a_row" -lt 20 ]; do
+        number=$((number + 1))
+        echo 0 >"$room/growths"
+        timeout 60 env REFUSE="$number" GROWTHS="$room/growths" LD_PRELOAD="$room/refuse.so" "$program" \
+            run "$1" --watch "$2" >"$room/out" 2>"$room/err"
+        got=$?
+        in_a_row=$((in_a_row + 1))
+        if met && ran_out; then
+            in_a_row=0
+            refused=$((refused + 1))
+            passed=$((passed + 1))
+        elif reported; then
+            if met; then without=$((without + 1)); fi
+            passed=$((passed + 1))
+        else
+            failed=$((failed + 1))
+            echo "FAILED: $1 in threads: growth $number refused: status $got"
+        fi
+        [ "$number" -lt 5000 ] || break
+    done
+    if [ "$refused" -lt 100 ] || [ "$without" -gt $((refused / 8)) ]; then
+        failed=$((failed + 1))
+        echo "FAILED: $1 in threads: $refused growths refused, and $without more that it did without"
+    fi
+}
+
 examples=$tests/../examples
-each_growth 0 run "$examples/properties.json"
+each_growth 0 run "$examples/properties.json" --turns
 each_growth 0 run "$examples/kept.json" --turns --helpers 2
-each_growth 0 run "$examples/reaches.json"
-each_growth 0 run "$examples/cycle.json"
-each_growth 0 run "$examples/ephemerons.json"
-each_growth 0 run "$examples/entries.json"
-each_growth 0 run "$examples/members.json"
-each_growth 0 run "$examples/unregister.json"
-each_growth 0 run "$examples/queue.json"
-each_growth 0 run "$examples/anew.json"
-each_growth 0 run "$examples/agents.json"
-each_growth 0 run "$examples/worker.json"
+each_growth 0 run "$examples/reaches.json" --turns
+each_growth 0 run "$examples/cycle.json" --turns
+each_growth 0 run "$examples/ephemerons.json" --turns
+each_growth 0 run "$examples/entries.json" --turns
+each_growth 0 run "$examples/members.json" --turns
+each_growth 0 run "$examples/unregister.json" --turns
+each_growth 0 run "$examples/queue.json" --turns
+each_growth 0 run "$examples/anew.json" --turns
+each_growth 0 run "$examples/agents.json" --turns
+each_growth 0 run "$examples/worker.json" --turns
 each_growth 0 run "$examples/skipped.json" --turns
-each_growth 0 run "$examples/two_buffers.json"
-each_growth 0 run "$examples/nobody_takes.json"
+each_growth 0 run "$examples/two_buffers.json" --turns
+each_growth 0 run "$examples/nobody_takes.json" --turns
 each_growth 0 check "$examples/refusals.json"
 
 # a chain of entries, a key of several WeakMaps that is a member of several WeakSets, and each of the nine
@@ -86,7 +133,7 @@ forget='["let","l",null],["let","v",null],["let","m",null],["let","s",null]'
     printf '["wshas","x","s","k"],["say","x"],["wsdelete","x","s","k"],["say","x"],'
     printf '%s,["let","f",null],["let","k",null],["collect"]]}]}]}\n' "$forget"
 } >"$room/tables.json"
-each_growth 0 run "$room/tables.json"
+each_growth 0 run "$room/tables.json" --turns
 
 # registrations with a token each, with one that all share, and with none, in a FinalizationRegistry of each link, so that
 # several are queued at once; callbacks that are refused, register anew and unregister what awaits them
@@ -99,7 +146,7 @@ link=$link',["register","r","x","q"],["register","r","x","n","s"],["register","r
     yes "$link" | head -n 9 | paste -s -d ,
     printf ',["let","x",null],["collect"]]},{"run":[["collect"],["let","held",null],["let","t",null],["collect"]]}]}]}\n'
 } >"$room/cells.json"
-each_growth 0 run "$room/cells.json"
+each_growth 0 run "$room/cells.json" --turns
 
 # blocks of two agents that post them on and drop them, in callbacks too, and collect; more messages than are taken
 link='["buffer","b",3],["add","x","b",2,-1],["post","AGENT","b"],["post","AGENT","b"],["post","AGENT","x"],["new","y"]'
@@ -117,11 +164,11 @@ of_agent() {
     of_agent b | sed 's/AGENT/a/g'
     echo ']}'
 } >"$room/blocks.json"
-each_growth 0 run "$room/blocks.json"
+each_growth 0 run "$room/blocks.json" --turns
 
 # a fault in the last command of the last agent, so that all before it is read
 sed 's/\["keys", "x"\]/["keys", "1x"]/' "$examples/agents.json" >"$room/faulty.json"
-each_growth 1 run "$room/faulty.json"
+each_growth 1 run "$room/faulty.json" --turns
 
 # `check` takes no step of the plan: it makes as many growths for a plan that ends its job at once, by a
 # command that is refused, as for one that goes on with 50 objects. A run makes fewer for the former.
@@ -129,9 +176,10 @@ commands=$(yes '["new","o"]' | head -n 50 | paste -s -d ,)
 for first in get same; do
     printf '{"version":1,"agents":[{"name":"a","callbacks":{},"jobs":[{"run":[["%s","x","x","x"],%s]}]}]}\n' \
         "$first" "$commands" >"$room/$first.json"
-    for word in check run; do
-        run 0 "$word" "$room/$first.json"
-        cp "$room/growths" "$room/growths_$word"_"$first"
+    for word in check "run --turns"; do
+        # shellcheck disable=SC2086
+        run 0 $word "$room/$first.json"
+        cp "$room/growths" "$room/growths_${word% *}_$first"
         if [ "$got" -eq 0 ]; then
             passed=$((passed + 1))
         else
@@ -147,6 +195,12 @@ else
     failed=$((failed + 1))
     echo "FAILED: check makes growths that depend on the run: $(cat "$room"/growths_*_* | paste -s -d ' ')"
 fi
+
+# a block that two agents use in turn; one whose last message nobody takes; and one that comes as two objects
+each_growth_in_threads "$examples/worker.json" 0
+each_growth_in_threads "$examples/nobody_takes.json" 0
+each_growth_in_threads "$examples/two_buffers.json" 0
+each_growth_in_threads "$examples/worker.json" 4
 
 echo "$passed passed, $failed failed"
 [ "$failed" -eq 0 ]

@@ -123,7 +123,11 @@ told() {
         printf 'cluster\nblocks %s released %s\nmessages posted %s taken %s drained %s\n' $counts
     } >"$room/wanted"
     run run "$room/script"
-    expect "$name" 0 "$room/wanted" ""
+    expect "$name, in threads" 0 "$room/wanted" ""
+    run run --turns "$room/script"
+    expect "$name, by turns" 0 "$room/wanted" ""
+    run run --watch 9 "$room/script"
+    expect "$name, watched" 0 "$room/wanted" "audits 9"
 }
 
 # cleaned NAME FATES LINE..: the agent of the file script says these lines; at its end so many of its registrations are
@@ -140,7 +144,9 @@ cleaned() {
         tail -n 3 "$room/report"
     } >"$room/wanted"
     run run "$room/script"
-    expect "$name" 0 "$room/wanted" ""
+    expect "$name, in a thread" 0 "$room/wanted" ""
+    run run --turns "$room/script"
+    expect "$name, by turns" 0 "$room/wanted" ""
 }
 
 # reported NAME LINE..: the same of an agent without registrations
@@ -172,6 +178,10 @@ run run "$room/plan.json"
 expect "run of a file" 0 "$room/report" ""
 run run --turns --helpers 8 --watch 1000 "$room/plan.json"
 expect "run with every option" 0 "$room/report" ""
+run run --watch 1000 --helpers 8
+expect "a watched run" 0 "$room/report" "audits 1000"
+run run --watch 0
+expect "a run with no audits" 0 "$room/report" ""
 run check
 expect "check" 0 "$room/ok" ""
 run check "$room/plan.json"

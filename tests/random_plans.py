@@ -1,5 +1,5 @@
 #!/usr/bin/env python3
-"""Random plans, whole and spoiled, through the program and through rules.py: each answer must be the same.
+"""Random plans, whole and spoiled, through the program, by turns, and through rules.py: each answer must be the same.
 
 Usage: random_plans.py PROGRAM COUNT SEED. Prints each plan that differs, how many have what, and `N passed, M failed`
 last.
@@ -1000,7 +1000,7 @@ def main():
     have = dict.fromkeys(["refused", *PARTS], 0)
     for number in range(count):
         data = text(rng)
-        ran = subprocess.run([program, "run"], input=data, capture_output=True, timeout=60, check=False)
+        ran = subprocess.run([program, "run", "--turns"], input=data, capture_output=True, timeout=60, check=False)
         got = (ran.returncode, ran.stdout.decode(), ran.stderr.decode())
         want = rules.answer(data)
         have["refused"] += want[0]

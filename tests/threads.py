@@ -1,0 +1,242 @@
+#!/usr/bin/env python3
+"""Plans without races, whose agents the program runs in threads: each report must be that of the same plan by turns.
+
+Usage: threads.py PROGRAM COUNT SEED [--jobs N]
+       threads.py PROGRAM --waking RUNS
+It is no part of the gate. Each prints every run that differs, and `N passed, M failed` last. A run that has not ended
+after a minute has failed.
+
+The first tries COUNT random plans, N of them at a time (1), and prints how many had what. Each is run by turns, in
+threads, and in threads beside a watcher, who makes a number of audits that is drawn too. Status, report and what stands
+on standard error must be the same, but for the line `audits K`, which must stand there after a watched run that went
+well. The plan of a number is the same for each N.
+
+No plan has a race, so that its report is the same in whatever order the threads go on. Most are plans of agents that
+share, from random_plans.py, in which each agent has words of its own in every block (`apart`): of three agents the
+first has those whose indexes can be divided by 3, and the next those that follow them. In others blocks go from hand to
+hand (`handed_on`): an agent uses any word of a block, but only from taking it to posting it on. The rest are of agents
+that have nothing to do with each other.
+
+The second runs three plans RUNS times each, in which little is done and threads wake each other: two agents that post
+to and fro, a ring of eight, and eight that wait in vain again and again, until the first skips a job and posts. No run
+may take ten times as long as the plan's median: a thread that is not woken would hang, or show so. Other load on the
+machine shows so too, and so each is followed by a run by turns, whose times are printed, and no more.
+"""
+
+import argparse
+import collections
+import functools
+import json
+import multiprocessing
+import random
+import re
+import statistics
+import subprocess
+import sys
+import time
+
+import random_plans
+
+LIMIT = 60  # the seconds of a run
+MOST = 16384  # the most words of a block
+AUDITS = [1, 2, 5, 20, 100, 1000]
+# where in a command the index is
+INDEX_AT = {word: uses.index("i") + 1 for word, uses in random_plans.USES.items() if "i" in uses}
+# what a plan may have, as what its report then has
+PARTS = {**random_plans.PARTS, "refused commands": r"^error "}
+
+
+def step_apart(step, place, count):
+    """The command with the words that this agent of so many has. An index that a block has not stays one."""
+    if step[0] == "buffer":
+        return [*step[:2], min(step[2] * count, MOST)]
+    at = INDEX_AT.get(step[0])
+    if at is None or not 0 <= step[at] < MOST:
+        return step
+    return [*step[:at], step[at] % (MOST // count) * count + place, *step[at + 1 :]]
+
+
+def agent_apart(agent, place, count):
+    def run_apart(run):
+        return [step_apart(step, place, count) for step in run]
+
+    callbacks = {call: run_apart(run) for call, run in agent["callbacks"].items()}
+    jobs = [{**job, "run": run_apart(job["run"])} for job in agent["jobs"]]
+    return {**agent, "callbacks": callbacks, "jobs": jobs}
+
+
+def apart(plan):
+    """The plan with as many times the words in each block as there are agents, of which each has its own."""
+    agents = plan["agents"]
+    return {**plan, "agents": [agent_apart(agent, place, len(agents)) for place, agent in enumerate(agents)]}
+
+
+def plan_of(jobs):
+    """A plan without callbacks of these agents, by name."""
+    agents = [{"name": name, "callbacks": {}, "jobs": made} for name, made in jobs.items()]
+    return {"version": 1, "agents": agents}
+
+
+def uses_of_block(rng):
+    """Commands on words of the block in m, which now and then has no such word."""
+    for _ in range(rng.randint(0, 6)):
+        at, number = rng.choice([0, 0, 1, 2, 3] * 10 + [-1, 4]), rng.choice(random_plans.NUMBERS)
+        word = rng.choice(["load", "store", "add"])
+        if word == "store":
+            yield ["store", "m", at, number]
+        else:
+            yield from [["load", "x", "m", at] if word == "load" else ["add", "x", "m", at, number], ["say", "x"]]
+
+
+def handed_on(rng):
+    """A plan in which a few blocks go from hand to hand, each a way of its own."""
+    names = rng.sample(random_plans.AGENTS, rng.choice([2, 2, 3, 3, 4, 5, 6, 7, 8]))
+    jobs = {name: [] for name in names}
+
+    def job(here, begun):
+        """This agent uses the block in m and posts it on; gives who posts it to whom."""
+        after = rng.choice([name for name in names if name != here])
+        begun["run"] += [*uses_of_block(rng), ["post", after, "m"], ["let", "m", None]]
+        begun["run"] += [["collect"]] * (rng.random() < 0.2)
+        jobs[here].append(begun)
+        return here, after
+
+    ways = [job(rng.choice(names), {"run": [["buffer", "m", 4]]}) for _ in range(rng.randint(1, 4))]
+    for _ in range(rng.randint(5, 40)):
+        number = rng.randrange(len(ways))
+        before, here = ways[number]
+        ways[number] = job(here, {"on": [before, "m"], "run": []})
+    return plan_of(jobs)
+
+
+def random_plan(rng):
+    kind = rng.random()
+    if kind < 0.1:
+        jobs_of = rng.choice([random_plans.lives, random_plans.tables, random_plans.registrations])
+        return random_plans.plan_of(rng, jobs_of)
+    return handed_on(rng) if kind < 0.25 else apart(random_plans.shared_plan(rng))
+
+
+def answer(program, data, *options):
+    """The status, what was written, and what stands on standard error; or that the run did not end."""
+    try:
+        ran = subprocess.run([program, "run", *options], input=data, capture_output=True, timeout=LIMIT, check=False)
+    except subprocess.TimeoutExpired:
+        return f"no end after {LIMIT} seconds"
+    return ran.returncode, ran.stdout.decode(), ran.stderr.decode()
+
+
+def went_well(ran):
+    """Whether a run by turns ended as one can: with a report, or with a fault of its plan."""
+    return ran[0] == 0 and ran[2] == "" or ran[0] == 1 and ran[1] == ""
+
+
+def try_plan(program, seed, number):
+    """What is to be printed of the plan of this number, if anything, and what the plan had."""
+    rng = random.Random(f"{seed} {number}")
+    data, audits = json.dumps(random_plan(rng)).encode(), rng.choice(AUDITS)
+    want = answer(program, data, "--turns")
+    if not went_well(want):
+        return f"plan {number} of seed {seed} by turns: {data!r}\n  got {want}", []
+    watched = ["--watch", str(audits)]
+    said = ""
+    for options, told in [([], want[2]), (watched, f"audits {audits}\n" if want[0] == 0 else want[2])]:
+        got = answer(program, data, *options)
+        if got != (*want[:2], told):
+            words = " ".join(["in threads", *options])
+            said += f"plan {number} of seed {seed} {words}: {data!r}\n  wanted {(*want[:2], told)}\n  got {got}\n"
+    had = [part for part, line in PARTS.items() if re.search(line, want[1], re.MULTILINE)]
+    return said.rstrip("\n"), had + ["faults"] * want[0]
+
+
+def try_plans(program, count, seed, jobs):
+    """How many plans failed."""
+    failed, have = 0, collections.Counter(dict.fromkeys([*PARTS, "faults"], 0))
+    with multiprocessing.Pool(jobs) as pool:
+        for said, had in pool.imap_unordered(functools.partial(try_plan, program, seed), range(count), 20):
+            have.update(had)
+            if said:
+                failed += 1
+                print(said, flush=True)
+    print(f"of {count} plans: " + ", ".join(f"{part} {number}" for part, number in have.items()))
+    return failed
+
+
+def ring(agents, posts):
+    """A block that goes round until it was posted so often; who takes it adds to its word and says what it was."""
+    names = [f"a{number}" for number in range(agents)]
+    jobs = {name: [] for name in names}
+    jobs[names[0]].append({"run": [["buffer", "m", 1], ["post", names[1], "m"]]})
+    for number in range(1, posts + 1):
+        before, here, after = (names[at % agents] for at in (number - 1, number, number + 1))
+        posted = [["post", after, "m"]] * (number < posts)
+        jobs[here].append({"on": [before, "m"], "run": [["add", "x", "m", 0, 1], ["say", "x"], *posted]})
+    return plan_of(jobs)
+
+
+def skips(agents, rounds):
+    """Each round begins where all wait: the first for the last, which never posts, and each other for the one before.
+    The first skips its job and posts, and the message goes to the last."""
+    names = [f"a{number}" for number in range(agents)]
+    jobs = {name: [] for name in names}
+    for place, name in enumerate(names):
+        posted = [["post", names[place + 1], "m"]] if place + 1 < agents else []
+        waits = {"on": [names[place - 1], "m"], "run": posted if place else []}
+        jobs[name] += [waits, {"run": [["let", "m", 1], *posted]} if place == 0 else {"run": [["say", "m"]]}] * rounds
+    return plan_of(jobs)
+
+
+def timed(seconds, program, data, *options):
+    """The answer, with what it took put last into the list."""
+    started = time.monotonic()
+    got = answer(program, data, *options)
+    seconds.append(time.monotonic() - started)
+    return got
+
+
+def show_times(what, seconds):
+    median, longest = statistics.median(seconds), max(seconds)
+    print(f"{what}: median {median:.4f} s, maximum {longest:.4f} s, ratio {longest / median:.1f}", flush=True)
+
+
+def try_waking(program, name, plan, runs):
+    """How many of these runs failed."""
+    data = json.dumps(plan).encode()
+    threads, turns, failed = [], [], set()
+    for run in range(runs):
+        got = timed(threads, program, data)
+        want = timed(turns, program, data, "--turns")
+        if got != want or want[0] != 0:
+            failed.add(run)
+            print(f"run {run} of {name}: by turns {want}\n  in threads {got}", flush=True)
+    for run, seconds in enumerate(threads):
+        if seconds >= 10 * statistics.median(threads):
+            failed.add(run)
+            print(f"run {run} of {name} took {seconds:.4f} s in threads")
+    show_times(f"{name} in threads", threads)
+    show_times(f"{name} by turns", turns)
+    return len(failed)
+
+
+def main():
+    words = argparse.ArgumentParser(description=__doc__, formatter_class=argparse.RawDescriptionHelpFormatter)
+    words.add_argument("program", metavar="PROGRAM")
+    words.add_argument("count", nargs="?", type=int, metavar="COUNT")
+    words.add_argument("seed", nargs="?", type=int, metavar="SEED")
+    words.add_argument("--jobs", type=int, default=1, metavar="N")
+    words.add_argument("--waking", type=int, metavar="RUNS")
+    given = words.parse_args()
+    if (given.seed is None) != (given.waking is not None) or (given.waking is not None and given.count is not None):
+        words.error("either COUNT and SEED, or --waking RUNS")
+    if given.waking is None:
+        tried, failed = given.count, try_plans(given.program, given.count, given.seed, given.jobs)
+    else:
+        plans = {"ping-pong": ring(2, 400), "ring": ring(8, 200), "skips": skips(8, 25)}
+        tried = given.waking * len(plans)
+        failed = sum(try_waking(given.program, name, plan, given.waking) for name, plan in plans.items())
+    print(f"{tried - failed} passed, {failed} failed")
+    sys.exit(1 if failed else 0)
+
+
+if __name__ == "__main__":
+    main()
