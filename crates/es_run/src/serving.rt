@@ -12,8 +12,8 @@ use es_ledger::LedgerCore;
 use es_mark::Marks;
 use es_value::NoMemory;
 use std::alloc::Global;
-use std::sync::Wait;
 use std::sync::atomic::{AtomicBool, Ordering};
+use std::sync::{MutexGuard, Wait};
 use std::thread;
 use std::thread::Threads;
 
@@ -74,11 +74,26 @@ impl<L: Planned> Cluster<L> {
         let progress = self.ask(member, core, marks)?;
         drop(guard);
         if let Progress::Waiting = progress {
-            if !stopped.load(Ordering::SeqCst) {
-                drop(self.arrived.wait(rt, ledger));
-            }
+            self.wait(rt, ledger, agent, stopped);
         }
         Ok(progress)
+    }
+
+    /// Waits until something happened in the ledger that may let the agent go on, or the run is stopped.
+    fn wait<R: Wait>(
+        &self,
+        rt: &R,
+        mut ledger: MutexGuard<'_, LedgerCore<L>>,
+        agent: usize,
+        stopped: &AtomicBool,
+    ) {
+        let seen = ledger.history().len();
+        for _ in rt.forever() {
+            if stopped.load(Ordering::SeqCst) || may_go_on(&ledger, agent, seen) {
+                return;
+            }
+            ledger = self.arrived.wait(rt, ledger);
+        }
     }
 
     /// One turn of an agent in the ledger; whoever waits is woken where it can change who goes on.
@@ -112,6 +127,30 @@ impl<L: Planned> Cluster<L> {
             }
         }
     }
+}
+
+// Whether an agent that waits may go on, after what happened since the ledger had so many events: a message for it, or
+// an end. After another's wait or skip only the lowest of those that have not ended may, which then skips its job.
+fn may_go_on<L: Planned>(ledger: &LedgerCore<L>, agent: usize, seen: usize) -> bool {
+    let events = ledger.history();
+    let new = events.len().saturating_sub(seen);
+    let lowest = is_lowest(ledger, agent);
+    events.iter().rev().take(new).any(|event| match event {
+        LedgerEvent::Posted { receiver, .. } => *receiver == agent,
+        LedgerEvent::Ended { .. } => true,
+        LedgerEvent::Waiting { .. } | LedgerEvent::Passed { .. } => lowest,
+        _ => false,
+    })
+}
+
+// Whether all agents below this one have ended.
+fn is_lowest<L: Planned>(ledger: &LedgerCore<L>, agent: usize) -> bool {
+    for other in 0..agent {
+        if other < ledger.agents() && !ledger.has_ended(other) {
+            return false;
+        }
+    }
+    true
 }
 
 // Whether an agent that waits may go on after this event of the ledger.
