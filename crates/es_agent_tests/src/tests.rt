@@ -7,10 +7,11 @@ mod buffers;
 mod ephemerons;
 mod plans;
 mod registries;
+mod scripts;
 mod serving;
-mod symbols;
 
-use crate::tests::plans::{job, name, plan};
+use crate::tests::plans::plan;
+use crate::tests::scripts::plan_of;
 use es_agent::{AgentCore, Need};
 use es_event::{AgentPlan, Answer, Command, Event, Job, Sequence};
 use es_registry::Tally;
@@ -156,20 +157,6 @@ fn closes_at_once_without_jobs(rt: HostRuntime) -> Result<(), Fail> {
     Ok(())
 }
 
-/// A plan whose only job waits for a message, or opens a block.
-fn plan_of<R: Abort + AllocGlobal>(
-    rt: &R,
-    on: Option<(usize, Name)>,
-    command: Command,
-) -> Result<AgentPlan, Fail> {
-    let alloc = rt.alloc();
-    let mut run = Sequence::new(alloc);
-    run.push(command)?;
-    let mut jobs = Vec::new(alloc);
-    jobs.push(Job { on, run })?;
-    Ok(plan(rt, alloc, jobs))
-}
-
 /// Whether the agent's next need is for the ledger.
 fn asks_ledger<L: Run>(core: &AgentCore<L>) -> bool {
     matches!(core.next(), Need::Ledger(_))
@@ -198,11 +185,7 @@ fn asked_after_one(
 
 #[test]
 fn a_job_that_waits_asks_for_its_message(rt: HostRuntime) -> Result<(), Fail> {
-    let say = Command::Say {
-        from: name(&rt, "m"),
-    };
-    let on = Some((1, name(&rt, "m")));
-    let plan = plan_of(&rt, on, say)?;
+    let plan = plan_of(&rt, "on 1 m; say m;")?;
     let (stepped, asks, waits) = asked_after_one(rt.alloc(), plan)?;
     assert!(rt; !stepped && !asks);
     assert_eq!(rt; waits, Some(1));
@@ -211,11 +194,7 @@ fn a_job_that_waits_asks_for_its_message(rt: HostRuntime) -> Result<(), Fail> {
 
 #[test]
 fn a_command_on_buffers_asks_the_ledger(rt: HostRuntime) -> Result<(), Fail> {
-    let buffer = Command::SharedArrayBuffer {
-        to: name(&rt, "b"),
-        words: 1,
-    };
-    let plan = plan_of(&rt, None, buffer)?;
+    let plan = plan_of(&rt, "buffer b 1;")?;
     let (stepped, asks, _) = asked_after_one(rt.alloc(), plan)?;
     assert!(rt; stepped && asks);
     Ok(())
@@ -250,192 +229,16 @@ fn kept_in(alloc: Global, plan: AgentPlan, steps: usize) -> Result<(Vec<usize>, 
 
 #[test]
 fn keeps_targets_until_the_end_of_the_job(rt: HostRuntime) -> Result<(), Fail> {
-    let alloc = rt.alloc();
-    let first = job(&rt, alloc, &[&["new", "a"], &["weakref", "w", "a"]])?;
-    let second = job(
-        &rt,
-        alloc,
-        &[&["deref", "c", "w"], &["say", "c"], &["say", "d"]],
-    )?;
-    let plan = plan(&rt, alloc, vec![in alloc; first, second]?);
+    let script = "new a; weakref w a; | deref c w; say c; say d;";
     // begun, made, kept by the WeakRef, cleared; begun, kept by the deref until the second end
-    let (counts, said) = kept_in(alloc, plan, 9)?;
+    let (counts, said) = kept_in(rt.alloc(), plan_of(&rt, script)?, 9)?;
     assert_eq!(rt; counts.as_slice(), [0, 0, 1, 0, 0, 1, 1, 1, 0].as_slice());
     assert_eq!(rt; said.as_slice(), b"object 1;undefined;".as_slice());
     Ok(())
-}
-
-#[test]
-fn a_refusal_ends_its_job_and_changes_nothing_else(rt: HostRuntime) -> Result<(), Fail> {
-    let alloc = rt.alloc();
-    let first = job(
-        &rt,
-        alloc,
-        &[&["one", "x"], &["set", "x", "p", "x"], &["say", "x"]],
-    )?;
-    let second = job(&rt, alloc, &[&["weakref", "w", "x"], &["say", "x"]])?;
-    let third = job(&rt, alloc, &[&["deref", "y", "x"]])?;
-    let fourth = job(&rt, alloc, &[&["say", "x"], &["say", "w"], &["say", "y"]])?;
-    let plan = plan(&rt, alloc, vec![in alloc; first, second, third, fourth]?);
-    let said = said_in(alloc, plan)?;
-    let want = b"NotAnObject;NotHeldWeakly;NotAWeakRef;1;undefined;undefined;";
-    assert_eq!(rt; said.as_slice(), want.as_slice());
-    Ok(())
-}
-
-static KEYS: [&[&str]; 12] = [
-    &["new", "o"],
-    &["one", "x"],
-    &["set", "o", "b", "x"],
-    &["set", "o", "a", "x"],
-    &["set", "o", "b", "o"],
-    &["keys", "o"],
-    &["get", "y", "o", "b"],
-    &["say", "y"],
-    &["delete", "d", "o", "b"],
-    &["set", "o", "b", "x"],
-    &["keys", "o"],
-    &["say", "d"],
-];
-
-#[test]
-fn keys_stand_in_order_of_creation(rt: HostRuntime) -> Result<(), Fail> {
-    let alloc = rt.alloc();
-    let job = job(&rt, alloc, &KEYS)?;
-    let plan = plan(&rt, alloc, vec![in alloc; job]?);
-    let said = said_in(alloc, plan)?;
-    assert_eq!(rt; said.as_slice(), b"ba;object 1;ab;true;".as_slice());
-    Ok(())
-}
-
-/// What an agent says that runs these jobs.
-fn said_by<R: Abort + AllocGlobal>(
-    rt: &R,
-    first: &[&[&str]],
-    second: &[&[&str]],
-) -> Result<Vec<u8>, Fail> {
-    let alloc = rt.alloc();
-    let first = job(rt, alloc, first)?;
-    let second = job(rt, alloc, second)?;
-    let plan = plan(rt, alloc, vec![in alloc; first, second]?);
-    said_in(alloc, plan)
 }
 
 /// What an agent of this plan says.
 fn said_in(alloc: Global, plan: AgentPlan) -> Result<Vec<u8>, Fail> {
     let (text, _) = run_in(alloc, plan)?;
     Ok(text)
-}
-
-#[test]
-fn a_target_stays_while_it_is_kept_and_then_goes(rt: HostRuntime) -> Result<(), Fail> {
-    let said = said_by(
-        &rt,
-        &[
-            &["new", "a"],
-            &["weakref", "w", "a"],
-            &["one", "a"],
-            &["collect"],
-            &["deref", "b", "w"],
-            &["say", "b"],
-        ],
-        &[
-            &["one", "b"],
-            &["collect"],
-            &["deref", "b", "w"],
-            &["say", "b"],
-            &["new", "c"],
-            &["say", "c"],
-        ],
-    )?;
-    let want = b"emptied 0;object 1;emptied 1;undefined;object 3;";
-    assert_eq!(rt; said.as_slice(), want.as_slice());
-    Ok(())
-}
-
-#[test]
-fn what_reaches_the_dead_is_dead_with_it(rt: HostRuntime) -> Result<(), Fail> {
-    let said = said_by(
-        &rt,
-        &[
-            &["new", "t"],
-            &["new", "s"],
-            &["set", "t", "p", "s"],
-            &["weakref", "u", "t"],
-            &["weakref", "v", "s"],
-            &["one", "t"],
-            &["one", "s"],
-        ],
-        &[
-            &["collect"],
-            &["deref", "x", "u"],
-            &["deref", "y", "v"],
-            &["say", "x"],
-            &["say", "y"],
-        ],
-    )?;
-    assert_eq!(rt;
-        said.as_slice(),
-        b"emptied 2;undefined;undefined;".as_slice()
-    );
-    Ok(())
-}
-
-#[test]
-fn a_cycle_goes_as_a_whole_and_a_symbol_counts(rt: HostRuntime) -> Result<(), Fail> {
-    let said = said_by(
-        &rt,
-        &[
-            &["new", "a"],
-            &["new", "b"],
-            &["set", "a", "p", "b"],
-            &["set", "b", "p", "a"],
-            &["weakref", "w", "a"],
-            &["symbol", "s"],
-            &["one", "b"],
-            &["collect"],
-        ],
-        &[
-            &["one", "a"],
-            &["one", "s"],
-            &["collect"],
-            &["collect"],
-            &["deref", "x", "w"],
-            &["say", "x"],
-        ],
-    )?;
-    assert_eq!(rt;
-        said.as_slice(),
-        b"emptied 0;emptied 3;emptied 0;undefined;".as_slice()
-    );
-    Ok(())
-}
-
-#[test]
-fn what_a_property_holds_survives_its_variable(rt: HostRuntime) -> Result<(), Fail> {
-    let said = said_by(
-        &rt,
-        &[
-            &["new", "o"],
-            &["new", "p"],
-            &["set", "o", "k", "p"],
-            &["one", "p"],
-            &["weakref", "w", "o"],
-        ],
-        &[
-            &["collect"],
-            &["get", "p", "o", "k"],
-            &["say", "p"],
-            &["keys", "o"],
-            &["delete", "d", "o", "k"],
-            &["one", "p"],
-            &["collect"],
-            &["keys", "o"],
-        ],
-    )?;
-    assert_eq!(rt;
-        said.as_slice(),
-        b"emptied 0;object 2;k;emptied 1;;".as_slice()
-    );
-    Ok(())
 }

@@ -15,7 +15,8 @@ use Rattle.es_cluster.proofs.Draining.{drained_stands}
 use Rattle.es_ledger.proofs.Mailed.{none_counted}
 use Rattle.es_cluster.proofs.Standing.{are_cluster}
 
-there : (bs : List Book) (i : ℕ) → i < length bs → (b : Book) × (slice_get bs i ≡ Some b)
+-- an agent stands at each place
+pub there : (bs : List Book) (i : ℕ) → i < length bs → (b : Book) × (slice_get bs i ≡ Some b)
 there [] i within = absurd (omega (arith, within))
 there (b ∷ bs) zero within = (b, refl)
 there (b ∷ bs) (suc i) within = there bs i (omega (arith, within))

@@ -30,24 +30,12 @@ use Rattle.es_event.specs.Totals.{released, posted, taken, drained}
 use Rattle.es_event.specs.Report.{cluster_text}
 use Rattle.es_event.proofs.Alone.{left_alone, due_no_message}
 use Rattle.es_event.proofs.Coming.{Comes, begins_job, begins_handed, receives, skips, refuses_message, begins_cleanup, does, refuses, empties_dead, takes, ends, stops, closes, comes}
-use Rattle.es_match.specs.Deeds.{Deed, Opens, Posts, Takes, Spends, Loads, Stores, Adds, Waits, Passes, Ends, is_wait, deed, part_of, part}
+use Rattle.es_match.specs.Deeds.{Deed, Opens, Posts, Passes, Ends, is_wait, deed, part_of, part}
 use Rattle.es_match.specs.Asks.{Asking, nothing, to_empty, to_close, between_jobs, asks, asks_did}
 use Rattle.es_match.specs.Meets.{Tickets, after}
 use Rattle.es_match.specs.Cluster.{Ties}
 use Rattle.es_match.proofs.Bridge.{both}
-
--- the deed is the agent's end
-abbrev pub is_end : Deed → Bool
-is_end (Opens b w s) = false
-is_end (Posts r m) = false
-is_end (Takes s m w) = false
-is_end (Spends s) = false
-is_end (Loads s i w) = false
-is_end (Stores s i w) = false
-is_end (Adds s i old n) = false
-is_end (Waits s) = false
-is_end (Passes s) = false
-is_end Ends = true
+use Rattle.es_run.proofs.Closing.{is_end}
 
 -- An agent that stays alone
 

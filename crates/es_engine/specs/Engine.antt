@@ -1,5 +1,5 @@
 -- To believe: what a run does, on bytes: the reader's bytes to its end, and what is written for them.
-use Rattle.std.specs.Prelude.{ℕ, ◌≡◌, ◌≤◌, ◌||◌, ⊤, Bool, true, false, List, Option, Some, Result, Ok, Err, length, codes, if◌then◌else◌}
+use Rattle.std.specs.Prelude.{ℕ, ◌≡◌, ◌≤◌, ◌||◌, ⊤, Bool, true, false, not, List, Option, Some, Result, Ok, Err, length, codes, if◌then◌else◌}
 use Rattle.std.specs.Io.KnownBytes.{Appends, Consumes, IsAtEnd}
 use Rattle.es_value.specs.Limits.{longest_plan}
 use Rattle.es_event.specs.declared.outcome.Outcome.{Outcome}
@@ -25,13 +25,13 @@ IsInputFault Mismatch = ⊥
 IsInputFault Read = ⊤
 IsInputFault Write = ⊥
 
--- it came while a plan was run and the answer was written
-abbrev pub IsAnswerFault : RunFault → Type 0
-IsAnswerFault (Script f) = ⊥
-IsAnswerFault NoMemory = ⊤
-IsAnswerFault Mismatch = ⊤
-IsAnswerFault Read = ⊥
-IsAnswerFault Write = ⊤
+-- it came while a plan was run, in threads or not, and the answer was written
+abbrev pub IsAnswerFault : Bool → RunFault → Type 0
+IsAnswerFault threads (Script f) = ⊥
+IsAnswerFault threads NoMemory = ⊤
+IsAnswerFault threads Mismatch = threads ≡ true
+IsAnswerFault threads Read = ⊥
+IsAnswerFault threads Write = ⊤
 
 -- `ok` where the plan is only checked, and else the report of an outcome of its cluster
 abbrev pub IsAnswer : Bool → Plan → List ℕ → Type 0
@@ -58,17 +58,21 @@ ReadsPlan old new (Ok p) = GavePlan old new p
 ReadsPlan old new (Err (Script f)) = (bytes : List ℕ) × GaveAll old new bytes × (fault_of bytes ≡ Some f)
 ReadsPlan old new (Err e) = IsInputFault e
 
--- how many audits a run makes: as many as it is asked for, and none by turns or where the plan is only checked
-abbrev pub audits_of : Options → ℕ
-audits_of o = if o.check || o.turns then 0 else o.watch
+-- the agents run in threads: the plan is not only checked, and they do not run by turns
+abbrev pub runs_threads : Options → Bool
+runs_threads o = not (o.check || o.turns)
 
--- how a run ends: well, with the answer for the plan that the reader gave and the audits that were asked for; with the fault of what the
--- reader gave; for want of memory; by a failure of the reader; by one of the writer, or by histories that do not match, and that only
--- once a plan was read
+-- the number of audits that a run answers: the one that was asked for in threads, and else none
+abbrev pub audits_of : Options → ℕ
+audits_of o = if runs_threads o then o.watch else 0
+
+-- how a run ends: well, with the answer for the plan that the reader gave and that number of audits; with the fault of what the reader
+-- gave; for want of memory; by a failure of the reader; once a plan was read, by one of the writer, or in threads by histories that do
+-- not match
 abbrev pub RunsTo : Options → Option (List ℕ) → Option (List ℕ) → Option (List ℕ) → Option (List ℕ) → Result ℕ RunFault → Type 0
 RunsTo options before after old new (Ok audits) = (p : Plan) × GavePlan before after p × Answers options.check p old new × (audits ≡ audits_of options)
 RunsTo options before after old new (Err (Script f)) = (bytes : List ℕ) × GaveAll before after bytes × (fault_of bytes ≡ Some f)
 RunsTo options before after old new (Err NoMemory) = ⊤
-RunsTo options before after old new (Err Mismatch) = GaveSomePlan before after
+RunsTo options before after old new (Err Mismatch) = (runs_threads options ≡ true) × GaveSomePlan before after
 RunsTo options before after old new (Err Read) = ⊤
 RunsTo options before after old new (Err Write) = GaveSomePlan before after

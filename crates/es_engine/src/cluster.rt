@@ -1,6 +1,6 @@
 //! The cluster of a plan, run to its end.
 
-ghost use Rattle.std.specs.Prelude.{◌≡◌, ◌<◌, ℕ, false, true, length, map, reverse, IfOk, IfErr, OnOk};
+ghost use Rattle.std.specs.Prelude.{◌≡◌, ◌<◌, ℕ, false, true, not, length, map, reverse, IfOk, IfErr, OnOk};
 ghost use Rattle.es_cluster.specs.Moves.{all_over, cleans_quietly};
 ghost use Rattle.es_cluster.specs.State.{plans};
 ghost use Rattle.es_engine.specs.Engine.{IsAnswerFault};
@@ -47,7 +47,7 @@ pub(crate) fn run_plan<H: Threads + Wait + Sync>(
     ensures outcome { IfOk result (λ r. IsClusterOutcome plan r.outcome) }
     ensures tallies { IfOk result (λ r. AreTallies r.outcome.histories r.tallies.items) }
     ensures released { IfOk result (λ r. r.released ≡ released_said (reverse r.outcome.ledger)) }
-    ensures fault { IfErr result IsAnswerFault }
+    ensures fault { IfErr result (IsAnswerFault (not options.turns)) }
 {
     if options.turns {
         let counted = run_by_turns(alloc, plan)?;

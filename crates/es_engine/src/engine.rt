@@ -3,7 +3,7 @@
 ghost use Rattle.std.specs.Prelude.{◌≡◌, ◌≢◌, ◌<◌, length, IfOk, IfErr, OnOk, OnErr, true};
 ghost use Rattle.es_event.specs.Others.{all_name_others};
 ghost use Rattle.es_script.specs.Grammar.{no_callback_collects};
-ghost use Rattle.es_engine.specs.Engine.{Answers, IsAnswerFault, ReadsPlan, RunsTo, audits_of};
+ghost use Rattle.es_engine.specs.Engine.{Answers, IsAnswerFault, ReadsPlan, RunsTo, audits_of, runs_threads};
 
 use crate::cluster::run_plan;
 use crate::input::read_all;
@@ -18,8 +18,8 @@ use std::sync::Wait;
 use std::thread::Threads;
 
 /// Reads a plan to the reader's end, runs it, or only checks it, and writes the answer. Its agents are
-/// threads, or run by turns in this one. Gives the number of audits that were made beside the agents: as
-/// many as the options ask for, and none by turns or where the plan is only checked.
+/// threads, or run by turns in this one. Gives the number of audits beside the agents: as many as the
+/// options ask for, and none by turns or where the plan is only checked.
 ///
 /// The report is written only after the run has ended well. On every fault but `Write` nothing is
 /// written.
@@ -37,7 +37,7 @@ pub fn run<H: AllocGlobal + Threads + Wait + Sync, R: Read, W: Write>(
     Ok(audits_of(options))
 }
 
-/// How many audits are made beside the agents.
+/// How many audits there are beside the agents.
 fn audits_of(options: Options) -> u32
     ensures { result ≡ audits_of options }
 {
@@ -71,7 +71,7 @@ fn answer<H: AllocGlobal + Threads + Wait + Sync, W: Write>(
     requires others { all_name_others plan ≡ true }
     requires collects { no_callback_collects plan ≡ true }
     ensures answers { OnOk result (Answers options.check plan (W.contents writer.old) (W.contents writer.new)) }
-    ensures fault { IfErr result IsAnswerFault }
+    ensures fault { IfErr result (IsAnswerFault (runs_threads options)) }
     ensures unwritten { IfErr result (λ e. e ≢ RunFault.Write → writer.new ≡ writer.old) }
 {
     if options.check {

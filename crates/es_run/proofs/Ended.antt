@@ -1,6 +1,5 @@
 -- What agents that ran beside each other came to.
-use Rattle.std.proofs.Common.{◌≡◌, ℕ, zero, suc, ◌<◌, List, [], ◌∷◌, Some, map, reverse, length, refl, sym, ap, ◌∙◌, subst, arith, true, false}
-use Rattle.std.specs.Prelude.{slice_get}
+use Rattle.std.proofs.Common.{◌≡◌, ℕ, ◌<◌, List, [], map, reverse, length, sym, ap, ◌∙◌, subst, arith, true, false}
 use Rattle.es_event.specs.declared.outcome.Outcome.{Outcome}
 use Rattle.es_event.specs.declared.plan.Plan.{Plan}
 use Rattle.es_event.specs.Ledger.{Ledger, port_of, table}
@@ -13,17 +12,13 @@ use Rattle.es_match.specs.Cluster.{IsCluster}
 use Rattle.es_record.specs.Book.{Book}
 use Rattle.es_registry.specs.declared.slot.Tally.{Tally}
 use Rattle.es_report.specs.Tallies.{AreTallies, end_tally}
+use Rattle.es_cluster.proofs.Ended.{there}
 use Rattle.es_cluster.specs.Ends.{AreHistories, HaveNoTicket}
 use Rattle.es_run.specs.Outcomes.{IsClusterOutcome, at_last}
 use Rattle.es_run.specs.Places.{AreAtPlaces, ArePlanned, SomeGoesOn}
 use Rattle.es_run.proofs.Closing.{over_in_cluster, over_last}
 use Rattle.es_run.proofs.Placed.{planned}
 use Rattle.es_run.proofs.Tallied.{of_books, of_events}
-
-there : (bs : List Book) (n : ℕ) → n < length bs → (b : Book) × (slice_get bs n ≡ Some b)
-there [] n within = absurd (omega (arith, within))
-there (b ∷ bs) zero within = (b, refl)
-there (b ∷ bs) (suc n) within = there bs n (omega (arith, within))
 
 none_held : (bs : List Book) (l : Ledger) (n : ℕ) → length bs ≡ n → AreAtPlaces bs → HaveNoTicket bs l → (a : ℕ) → a < n → held a (table l) ≡ []
 none_held bs l n size placed none a less =

@@ -1,8 +1,7 @@
 -- Agents in order, one after the other, and the plans that they have.
-use Rattle.std.proofs.Common.{◌≡◌, ℕ, zero, suc, ◌+◌, ◌<◌, ◌==◌, Bool, true, false, List, [], ◌∷◌, Some, map, length, get_or, refl, sym, ap, ◌∙◌, subst, arith, MutBor}
+use Rattle.std.proofs.Common.{◌≡◌, ℕ, zero, suc, ◌<◌, Bool, true, false, List, [], ◌∷◌, Some, map, length, get_or, refl, sym, ap, ◌∙◌, arith, MutBor}
 use Rattle.std.specs.Prelude.{slice_get}
 use Rattle.std.specs.Option.{option_map}
-use Rattle.std.proofs.lemmas.Bool.{eqb-true, eqb-false}
 use Rattle.std.proofs.lemmas.Option.{slice_get-map}
 use Rattle.es_event.specs.declared.plan.AgentPlan.{AgentPlan}
 use Rattle.es_event.specs.declared.plan.Plan.{Plan}
@@ -31,19 +30,6 @@ still_going b closed back not_yet = by (is_over b) refl
     by : (o : Bool) → is_over b ≡ o → is_over b ≡ false
     by true is = let clash : false ≡ true = sym not_yet ∙ back (over_asks_nothing b is) in cc
     by false is = is
-
--- what holds of all before a place and at it holds of all before the next
-pub one_more : {X : Type 0} (P : ℕ → X → Type 0) (xs : List X) (i : ℕ) (x : X) → slice_get xs i ≡ Some x → P i x → ((n : ℕ) (y : X) → n < i → slice_get xs n ≡ Some y → P n y)
-    → (n : ℕ) (y : X) → n < i + 1 → slice_get xs n ≡ Some y → P n y
-one_more P xs i x here holds before n y less is = step (n == i) refl
-  where
-    step : (b : Bool) → (n == i) ≡ b → P n y
-    step true same =
-        let at = eqb-true n i same in
-        let one : Some x ≡ Some y = sym here ∙ ap (λ k. slice_get xs k) (sym at) ∙ is in
-        let equal : x ≡ y = cc in
-        subst (λ z. P n z) equal (subst (λ k. P k x) (sym at) holds)
-    step false other = let apart = eqb-false n i other in before n y (omega (arith, less, apart)) is
 
 planned_all : (bs : List Book) (ps : List AgentPlan) → length bs ≡ length ps → ((n : ℕ) (b : Book) → slice_get bs n ≡ Some b → slice_get ps n ≡ Some b.plan) → plans bs ≡ ps
 planned_all [] [] size each = refl

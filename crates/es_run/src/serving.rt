@@ -1,28 +1,30 @@
 //! The threads of a run: each agent's, and that of the watcher.
 
-ghost use Rattle.std.specs.Prelude.{◌≡◌, ◌<◌, vec_len, IfSome};
-ghost use Rattle.es_record.specs.Graph.{AreMarksOf};
-ghost use Rattle.es_rules.specs.Needs.{asks_marks, need};
+ghost use Rattle.std.specs.Prelude.{◌<◌, vec_len};
 
 use crate::cluster::Cluster;
 use crate::gate::Gate;
 use es_cluster::{Member, Planned, Progress};
 use es_event::LedgerEvent;
 use es_ledger::LedgerCore;
-use es_mark::Marks;
 use es_value::NoMemory;
 use std::alloc::Global;
+use std::sync::Wait;
 use std::sync::atomic::{AtomicBool, Ordering};
-use std::sync::{MutexGuard, Wait};
 use std::thread;
 use std::thread::Threads;
+
+/// How often who waits lets others run and looks again, before it sleeps: most messages come soon, and to
+/// be woken takes longer than a few looks.
+const LOOKS: u32 = 50;
 
 impl<L: Planned> Cluster<L> {
     /// Stops the run: no thread begins another event.
     fn stop<R: Wait>(&self, rt: &R, stopped: &AtomicBool) {
         // under the ledger's lock, so that who is about to wait sees it
-        let _ledger = self.ledger.lock(rt);
+        let ledger = self.ledger.lock(rt);
         stopped.store(true, Ordering::SeqCst);
+        drop(ledger);
         self.arrived.notify_all();
     }
 
@@ -71,48 +73,42 @@ impl<L: Planned> Cluster<L> {
         let marks = member.marks()?;
         let mut ledger = self.ledger.lock(rt);
         let core: &mut LedgerCore<L> = &mut ledger;
-        let progress = self.ask(member, core, marks)?;
+        let before = core.history().len();
+        let progress = member.turn_beside(core, marks)?;
+        let seen = core.history().len();
+        let wakes = wakes(core, before);
+        // no lock is held while others are woken, or they would wait for it at once
+        drop(ledger);
         drop(guard);
+        if wakes {
+            self.arrived.notify_all();
+        }
         if let Progress::Waiting = progress {
-            self.wait(rt, ledger, agent, stopped);
+            self.wait(rt, agent, seen, stopped);
         }
         Ok(progress)
     }
 
-    /// Waits until something happened in the ledger that may let the agent go on, or the run is stopped.
-    fn wait<R: Wait>(
-        &self,
-        rt: &R,
-        mut ledger: MutexGuard<'_, LedgerCore<L>>,
-        agent: usize,
-        stopped: &AtomicBool,
-    ) {
-        let seen = ledger.history().len();
+    /// Waits until something happened in the ledger that may let the agent go on, since the ledger had
+    /// so many events, or the run is stopped.
+    fn wait<R: Wait>(&self, rt: &R, agent: usize, seen: usize, stopped: &AtomicBool) {
+        let mut seen = seen;
+        let mut looks = 0;
+        let mut ledger = self.ledger.lock(rt);
         for _ in rt.forever() {
             if stopped.load(Ordering::SeqCst) || may_go_on(&ledger, agent, seen) {
                 return;
             }
-            ledger = self.arrived.wait(rt, ledger);
+            seen = ledger.history().len();
+            ledger = if looks < LOOKS {
+                looks += 1;
+                drop(ledger);
+                thread::yield_now();
+                self.ledger.lock(rt)
+            } else {
+                self.arrived.wait(rt, ledger)
+            };
         }
-    }
-
-    /// One turn of an agent in the ledger; whoever waits is woken where it can change who goes on.
-    fn ask(
-        &self,
-        member: &mut Member<L>,
-        ledger: &mut LedgerCore<L>,
-        marks: Option<Marks>,
-    ) -> Result<Progress, NoMemory>
-        requires own { IfSome marks (AreMarksOf member.old.book) }
-        requires due { IfSome marks (λ m. need member.old.book ≡ asks_marks) }
-    {
-        let before = ledger.history().len();
-        let progress = member.turn_beside(ledger, marks)?;
-        let events = ledger.history();
-        if events.len() > before && events.last().is_some_and(wakes) {
-            self.arrived.notify_all();
-        }
-        Ok(progress)
     }
 
     /// The watcher's thread: so many audits, unless the run is stopped.
@@ -153,15 +149,19 @@ fn is_lowest<L: Planned>(ledger: &LedgerCore<L>, agent: usize) -> bool {
     true
 }
 
-// Whether an agent that waits may go on after this event of the ledger.
-fn wakes(event: &LedgerEvent) -> bool {
-    matches!(
-        event,
-        LedgerEvent::Posted { .. }
-            | LedgerEvent::Waiting { .. }
-            | LedgerEvent::Passed { .. }
-            | LedgerEvent::Ended { .. }
-    )
+// Whether the last event of the ledger, if one was added since it had so many, can let an agent that waits go on.
+fn wakes<L: Planned>(ledger: &LedgerCore<L>, before: usize) -> bool {
+    let events = ledger.history();
+    let last = events.last().filter(|_| events.len() > before);
+    last.is_some_and(|event| {
+        matches!(
+            event,
+            LedgerEvent::Posted { .. }
+                | LedgerEvent::Waiting { .. }
+                | LedgerEvent::Passed { .. }
+                | LedgerEvent::Ended { .. }
+        )
+    })
 }
 
 /// Runs each agent in a thread of its own, and a watcher that makes so many audits in one more, until

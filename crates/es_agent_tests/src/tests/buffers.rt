@@ -1,32 +1,20 @@
 //! Buffers and messages, driven through an agent's calls.
 
-use crate::tests::plans::{command, job, name, plan};
+use crate::tests::plans::{command, plan};
+use crate::tests::scripts::{jobs_of, plan_of};
 use crate::tests::serving::{Sent, Told, told_by};
 use es_event::{Job, Sequence};
 use std::process::Abort;
 use std::test::Fail;
 
-/// What an agent tells that runs these jobs, of which none waits.
-fn told<R: Abort + AllocGlobal>(rt: &R, jobs: &[&[&[&str]]]) -> Result<Told, Fail> {
-    let alloc = rt.alloc();
-    let mut all = Vec::new(alloc);
-    for commands in jobs {
-        all.push(job(rt, alloc, commands)?)?;
+/// Tries rows of a script without messages, what its agent is to ask for and to give out, and what it is to say.
+fn check_told<R: Abort + AllocGlobal>(rt: &R, rows: &[(&str, &str, &str)]) -> Result<(), Fail> {
+    for (script, asked, said) in rows {
+        let told = told_by(rt.alloc(), plan_of(rt, script)?, &[])?;
+        assert_eq!(rt; told.asked.as_slice(), asked.as_bytes(), "{script}");
+        assert_eq!(rt; told.said.as_slice(), said.as_bytes(), "{script}");
     }
-    told_by(alloc, plan(rt, alloc, all), &[])
-}
-
-/// A job that waits for a sender's message, which `m` is assigned.
-fn waiting<R: Abort + AllocGlobal>(
-    rt: &R,
-    sender: usize,
-    commands: &[&[&str]],
-) -> Result<Job, Fail> {
-    let Job { on: _, run } = job(rt, rt.alloc(), commands)?;
-    Ok(Job {
-        on: Some((sender, name(rt, "m"))),
-        run,
-    })
+    Ok(())
 }
 
 /// A job of one command, so many times.
@@ -50,127 +38,60 @@ fn told_of_many<R: Abort + AllocGlobal>(
     told_by(alloc, plan(rt, alloc, jobs), &[])
 }
 
+const BUFFERS: &[(&str, &str, &str)] = &[
+    // a buffer is the next object over its block
+    (
+        "new a; buffer b 4; say b; length n b; say n;",
+        "block 4;object 2;close;out 1;",
+        "object 2;4;",
+    ),
+    // what has no word there is refused and asks nobody
+    (
+        "buffer b 2; new o; one n; | store b -1 5; | store b 2 5; | load x b -1; | load x b 2; | \
+         load x o 2; | store n -1 5; | store b 1 5;",
+        "block 2;object 1;store 1 1 5;close;out 1;",
+        "IndexOutOfRange;IndexOutOfRange;IndexOutOfRange;IndexOutOfRange;NotASharedArrayBuffer;NotASharedArrayBuffer;",
+    ),
+    // numbers are written modulo two to the 32
+    (
+        "buffer b 2; store b 0 -9007199254740991; store b 1 -1; store b 1 4294967296; \
+         add y b 0 -1; load x b 1; say x; say y;",
+        "block 2;object 1;store 1 0 1;store 1 1 4294967295;store 1 1 0;add 1 0 4294967295;\
+         load 1 1;close;out 1;",
+        "4294967295;4294967295;",
+    ),
+    // objects and symbols are not posted but buffers are
+    (
+        "new o; post 1 o; | symbol s; post 1 s; | post 1 u; one n; post 2 n; text t hi; post 3 t; \
+         buffer b 1; post 4 b;",
+        "post 1 undefined;post 2 1;post 3 \"hi\";block 1;object 3;post 4 block of 3;close;out 1;",
+        "NotPostable;NotPostable;",
+    ),
+    // a buffer that is emptied gives its ticket out
+    (
+        "buffer b 1; weakref w b; buffer c 2; one b; collect; | collect; deref b w; say b; \
+         length n c; say n;",
+        "block 1;object 1;block 2;object 3;collect;collect;out 1;close;out 2;",
+        "emptied 0;emptied 1;undefined;2;",
+    ),
+];
+
 #[test]
-fn a_buffer_is_the_next_object_over_its_block(rt: HostRuntime) -> Result<(), Fail> {
-    let told = told(
-        &rt,
-        &[&[
-            &["new", "a"],
-            &["buffer", "b", "4"],
-            &["say", "b"],
-            &["length", "n", "b"],
-            &["say", "n"],
-        ]],
-    )?;
-    assert_eq!(rt;
-        told.asked.as_slice(),
-        b"block 4;object 2;close;out 1;".as_slice()
-    );
-    assert_eq!(rt; told.said.as_slice(), b"object 2;4;".as_slice());
-    Ok(())
+fn buffers(rt: HostRuntime) -> Result<(), Fail> {
+    check_told(&rt, BUFFERS)
 }
 
 #[test]
 fn a_block_that_was_sent_is_another_object(rt: HostRuntime) -> Result<(), Fail> {
-    let alloc = rt.alloc();
-    let first: &[&[&str]] = &[
-        &["buffer", "b", "4"],
-        &["buffer", "c", "4"],
-        &["sameblock", "x", "b", "c"],
-        &["say", "x"],
-        &["sameblock", "x", "b", "b"],
-        &["say", "x"],
-    ];
-    let second: &[&[&str]] = &[
-        &["say", "m"],
-        &["sameblock", "x", "b", "m"],
-        &["say", "x"],
-        &["sameblock", "x", "m", "c"],
-        &["say", "x"],
-        &["length", "x", "m"],
-        &["say", "x"],
-    ];
-    let first = job(&rt, alloc, first)?;
-    let second = waiting(&rt, 0, second)?;
-    let plan = plan(&rt, alloc, vec![in alloc; first, second]?);
-    let told = told_by(alloc, plan, &[Sent::Block { block: 1, words: 4 }])?;
+    let script =
+        "buffer b 4; buffer c 4; sameblock x b c; say x; sameblock x b b; say x; | on 0 m; say m; \
+         sameblock x b m; say x; sameblock x m c; say x; length x m; say x;";
+    let sent = [Sent::Block { block: 1, words: 4 }];
+    let told = told_by(rt.alloc(), plan_of(&rt, script)?, &sent)?;
     let asked = b"block 4;object 1;block 4;object 2;message 0;object 3;close;out 3;out 2;out 1;";
     assert_eq!(rt; told.asked.as_slice(), asked.as_slice());
     let said = b"false;true;object 3;true;false;4;";
     assert_eq!(rt; told.said.as_slice(), said.as_slice());
-    Ok(())
-}
-
-#[test]
-fn what_has_no_word_there_is_refused_and_asks_nobody(rt: HostRuntime) -> Result<(), Fail> {
-    let told = told(
-        &rt,
-        &[
-            &[&["buffer", "b", "2"], &["new", "o"], &["one", "n"]],
-            &[&["store", "b", "-1", "5"]],
-            &[&["store", "b", "2", "5"]],
-            &[&["load", "x", "b", "-1"]],
-            &[&["load", "x", "b", "2"]],
-            &[&["load", "x", "o", "2"]],
-            &[&["store", "n", "-1", "5"]],
-            &[&["store", "b", "1", "5"]],
-        ],
-    )?;
-    let asked = b"block 2;object 1;store 1 1 5;close;out 1;";
-    assert_eq!(rt; told.asked.as_slice(), asked.as_slice());
-    let said =
-        b"IndexOutOfRange;IndexOutOfRange;IndexOutOfRange;IndexOutOfRange;NotASharedArrayBuffer;NotASharedArrayBuffer;";
-    assert_eq!(rt; told.said.as_slice(), said.as_slice());
-    Ok(())
-}
-
-#[test]
-fn numbers_are_written_modulo_two_to_the_32(rt: HostRuntime) -> Result<(), Fail> {
-    let told = told(
-        &rt,
-        &[&[
-            &["buffer", "b", "2"],
-            &["store", "b", "0", "-9007199254740991"],
-            &["store", "b", "1", "-1"],
-            &["store", "b", "1", "4294967296"],
-            &["add", "y", "b", "0", "-1"],
-            &["load", "x", "b", "1"],
-            &["say", "x"],
-            &["say", "y"],
-        ]],
-    )?;
-    let asked =
-        b"block 2;object 1;store 1 0 1;store 1 1 4294967295;store 1 1 0;add 1 0 4294967295;load 1 1;close;out 1;";
-    assert_eq!(rt; told.asked.as_slice(), asked.as_slice());
-    assert_eq!(rt; told.said.as_slice(), b"4294967295;4294967295;".as_slice());
-    Ok(())
-}
-
-#[test]
-fn objects_and_symbols_are_not_posted_but_buffers_are(rt: HostRuntime) -> Result<(), Fail> {
-    let told = told(
-        &rt,
-        &[
-            &[&["new", "o"], &["post", "1", "o"]],
-            &[&["symbol", "s"], &["post", "1", "s"]],
-            &[
-                &["post", "1", "u"],
-                &["one", "n"],
-                &["post", "2", "n"],
-                &["text", "t", "hi"],
-                &["post", "3", "t"],
-                &["buffer", "b", "1"],
-                &["post", "4", "b"],
-            ],
-        ],
-    )?;
-    let asked =
-        b"post 1 undefined;post 2 1;post 3 \"hi\";block 1;object 3;post 4 block of 3;close;out 1;";
-    assert_eq!(rt; told.asked.as_slice(), asked.as_slice());
-    assert_eq!(rt;
-        told.said.as_slice(),
-        b"NotPostable;NotPostable;".as_slice()
-    );
     Ok(())
 }
 
@@ -192,41 +113,10 @@ fn an_agent_opens_256_blocks_and_posts_10000_messages(rt: HostRuntime) -> Result
 }
 
 #[test]
-fn a_buffer_that_is_emptied_gives_its_ticket_out(rt: HostRuntime) -> Result<(), Fail> {
-    let told = told(
-        &rt,
-        &[
-            &[
-                &["buffer", "b", "1"],
-                &["weakref", "w", "b"],
-                &["buffer", "c", "2"],
-                &["one", "b"],
-                &["collect"],
-            ],
-            &[
-                &["collect"],
-                &["deref", "b", "w"],
-                &["say", "b"],
-                &["length", "n", "c"],
-                &["say", "n"],
-            ],
-        ],
-    )?;
-    let asked = b"block 1;object 1;block 2;object 3;collect;collect;out 1;close;out 2;";
-    assert_eq!(rt; told.asked.as_slice(), asked.as_slice());
-    let said = b"emptied 0;emptied 1;undefined;2;";
-    assert_eq!(rt; told.said.as_slice(), said.as_slice());
-    Ok(())
-}
-
-#[test]
 fn a_job_receives_its_message_or_is_skipped(rt: HostRuntime) -> Result<(), Fail> {
-    let alloc = rt.alloc();
-    let first = waiting(&rt, 1, &[&["say", "m"]])?;
-    let second = waiting(&rt, 2, &[&["one", "m"]])?;
-    let third = job(&rt, alloc, &[&["say", "m"]])?;
-    let plan = plan(&rt, alloc, vec![in alloc; first, second, third]?);
-    let told = told_by(alloc, plan, &[Sent::Number(4), Sent::Number(-5)])?;
+    let script = "on 1 m; say m; | on 2 m; one m; | say m;";
+    let sent = [Sent::Number(4), Sent::Number(-5)];
+    let told = told_by(rt.alloc(), plan_of(&rt, script)?, &sent)?;
     assert_eq!(rt;
         told.asked.as_slice(),
         b"message 1;message 2;close;".as_slice()
@@ -238,10 +128,10 @@ fn a_job_receives_its_message_or_is_skipped(rt: HostRuntime) -> Result<(), Fail>
 #[test]
 fn a_block_is_refused_where_there_is_no_identity_left(rt: HostRuntime) -> Result<(), Fail> {
     let alloc = rt.alloc();
-    let first = repeated(&rt, &["symbol", "s"], 1_000_000)?;
-    let second = waiting(&rt, 0, &[&["say", "m"]])?;
-    let plan = plan(&rt, alloc, vec![in alloc; first, second]?);
-    let told = told_by(alloc, plan, &[Sent::Block { block: 1, words: 4 }])?;
+    let mut jobs = jobs_of(&rt, "on 0 m; say m;")?;
+    jobs.insert(0, repeated(&rt, &["symbol", "s"], 1_000_000)?)?;
+    let sent = [Sent::Block { block: 1, words: 4 }];
+    let told = told_by(alloc, plan(&rt, alloc, jobs), &sent)?;
     assert_eq!(rt;
         told.asked.as_slice(),
         b"message 0;back 1;close;".as_slice()

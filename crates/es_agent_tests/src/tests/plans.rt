@@ -184,18 +184,6 @@ fn number<R: Abort + AllocGlobal>(rt: &R, text: &str) -> i64 {
     text.parse::<i64>().expect(rt, "a number")
 }
 
-pub(super) fn job<R: Abort + AllocGlobal>(
-    rt: &R,
-    alloc: Global,
-    commands: &[&[&str]],
-) -> Result<Job, Fail> {
-    let mut run = Sequence::new(alloc);
-    for words in commands {
-        run.push(command(rt, words))?;
-    }
-    Ok(Job { on: None, run })
-}
-
 pub(super) fn plan<R: Abort + AllocGlobal>(rt: &R, alloc: Global, jobs: Vec<Job>) -> AgentPlan {
     AgentPlan {
         name: name(rt, "a"),

@@ -6,7 +6,7 @@ use Rattle.es_ledger.specs.Audits.{held_below}
 use Rattle.es_ledger.specs.Books.{Books}
 use Rattle.es_member.specs.Seats.{Seat, SameRows, rows_of}
 use Rattle.es_cluster.specs.State.{books}
-use Rattle.es_cluster.proofs.Counting.{rows_so_far, set_again}
+use Rattle.es_cluster.proofs.Counting.{one_more, set_again}
 use Rattle.es_cluster.proofs.Standing.{books_length, found_at, within}
 use Rattle.es_cluster.proofs.auditing.count_all.Goals as goal
 
@@ -43,8 +43,9 @@ loop-agent-preserved g c =
       ledger = after.same.1 ∙ v.ledger;
       count = after.count ∙ ap (λ n. held_below (n + 1) c.loop-agent.ledger.history) number ∙ ap (λ (l : Books). held_below (c.loop-agent.agent + 1) l.history) v.ledger;
       rows =
-          rows_so_far (books c.args.members.now.items) c.args.ledger.now.history c.loop-agent.agent c.index_mut.result.now.book here number
-          (subst (λ (l : Books). SameRows (rows_of c.index_mut.result.now.book) (held c.index_mut.result.now.book.number (table l.history))) v.ledger after.rows) v.rows;
+          one_more (λ n b. SameRows (rows_of b) (held n (table c.args.ledger.now.history))) (books c.args.members.now.items) c.loop-agent.agent c.index_mut.result.now.book here
+          (subst (λ n. SameRows (rows_of c.index_mut.result.now.book) (held n (table c.args.ledger.now.history))) number
+          (subst (λ (l : Books). SameRows (rows_of c.index_mut.result.now.book) (held c.index_mut.result.now.book.number (table l.history))) v.ledger after.rows)) v.rows;
     }
 
 pub returns-clause-rows : goal.returns-clause-rows

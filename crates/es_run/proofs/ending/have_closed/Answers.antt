@@ -5,7 +5,8 @@ use Rattle.es_cluster.proofs.Resting.{nothing_over}
 use Rattle.es_cluster.proofs.Standing.{books_length, found_at, within}
 use Rattle.es_cluster.specs.Moves.{is_over}
 use Rattle.es_cluster.specs.State.{books}
-use Rattle.es_run.proofs.Placed.{one_more, still_going}
+use Rattle.es_cluster.proofs.Counting.{one_more}
+use Rattle.es_run.proofs.Placed.{still_going}
 use Rattle.es_run.proofs.ending.have_closed.Goals as goal
 
 pub loop-place-preserved : goal.loop-place-preserved
