@@ -21,8 +21,9 @@ The second runs three plans RUNS times each, in which little is done and threads
 to and fro, a ring of eight, and eight that wait in vain again and again, until the first skips a job and posts. No run
 may take ten times as long as the plan's median: a thread that is not woken can hang, or show so. Other load on the
 machine shows so too, and so each is followed by a run by turns, whose times are printed, and no more. On a virtual
-machine the host may take the processors away for a while (`steal` in /proc/stat): a run in threads meanwhile must have
-the right report too, but its time does not count, and it is made once more. How many these were is printed.
+machine the host may take processors away (`steal` in /proc/stat). So the runs are made by twenties, and where the host
+took more than a fiftieth of our processors' time during one, the reports of these runs must be right too, but their
+times do not count, and twenty more are made. How many did not count is printed.
 """
 
 import argparse
@@ -30,6 +31,7 @@ import collections
 import functools
 import json
 import multiprocessing
+import os
 import random
 import re
 import statistics
@@ -41,6 +43,8 @@ import random_plans
 
 LIMIT = 60  # the seconds of a run
 MOST = 16384  # the most words of a block
+TOGETHER = 20  # the runs whose times count or do not count together
+MOST_STOLEN = 0.02  # the part of our processors' time that the host may take where times count
 AUDITS = [1, 2, 5, 20, 100, 1000]
 # where in a command the index is
 INDEX_AT = {word: uses.index("i") + 1 for word, uses in random_plans.USES.items() if "i" in uses}
@@ -196,10 +200,12 @@ def timed(program, data, *options):
 
 
 def stolen():
-    """For how long the host took processors away since the machine began, in a hundredth of a second; 0 where none says."""
+    """For how many seconds the host took our processors away since the machine began; 0 where none says."""
+    ours = {f"cpu{number}" for number in os.sched_getaffinity(0)}
     try:
         with open("/proc/stat", encoding="ascii") as file:
-            return int(file.readline().split()[8])
+            rows = [line.split() for line in file]
+        return sum(int(row[8]) for row in rows if row[0] in ours) / os.sysconf("SC_CLK_TCK")
     except (OSError, IndexError, ValueError):
         return 0
 
@@ -209,30 +215,44 @@ def show_times(what, seconds):
     print(f"{what}: median {median:.4f} s, maximum {longest:.4f} s, ratio {longest / median:.1f}", flush=True)
 
 
-def try_waking(program, name, plan, runs):
-    """How many of these runs failed."""
-    data = json.dumps(plan).encode()
-    threads, turns, failed, disturbed = [], [], set(), 0
-    while len(threads) < runs:
-        run, before = len(threads), stolen()
+def try_some(program, name, data, threads, turns):
+    """Makes TOGETHER runs, with their times put last into the lists, and gives how many had another report."""
+    failed = 0
+    for _ in range(TOGETHER):
         got, seconds = timed(program, data)
-        if stolen() == before:
-            threads.append(seconds)
-        else:
-            disturbed += 1
+        threads.append(seconds)
         want, seconds = timed(program, data, "--turns")
         turns.append(seconds)
         if got != want or want[0] != 0:
-            failed.add(run)
-            print(f"run {run} of {name}: by turns {want}\n  in threads {got}", flush=True)
-    for run, seconds in enumerate(threads):
-        if seconds >= 10 * statistics.median(threads):
-            failed.add(run)
-            print(f"run {run} of {name} took {seconds:.4f} s in threads")
-    show_times(f"{name} in threads", threads)
+            failed += 1
+            print(f"{name}: by turns {want}\n  in threads {got}", flush=True)
+    return failed
+
+
+def try_waking(program, name, plan, runs):
+    """How many of these runs failed."""
+    data = json.dumps(plan).encode()
+    threads, turns, failed, disturbed = [], [], 0, 0
+    while len(threads) < runs:
+        before, started = stolen(), time.monotonic()
+        more = [], []
+        failed += try_some(program, name, data, *more)
+        time.sleep(0.02)  # what was taken is counted a little later
+        had = (time.monotonic() - started) * len(os.sched_getaffinity(0))
+        if stolen() - before > MOST_STOLEN * had:
+            disturbed += TOGETHER
+        else:
+            threads += more[0]
+            turns += more[1]
+    limit = 10 * statistics.median(threads)
+    for seconds in threads:
+        if seconds >= limit:
+            failed += 1
+            print(f"a run of {name} took {seconds:.4f} s in threads")
+    show_times(f"{name} in threads, {len(threads)} runs", threads)
     show_times(f"{name} by turns", turns)
-    print(f"{name}: the host took processors away in {disturbed} more runs, whose times do not count")
-    return len(failed)
+    print(f"{name}: the times of {disturbed} more runs do not count, as the host took processors away")
+    return failed
 
 
 def main():
