@@ -1,6 +1,8 @@
 #!/usr/bin/env python3
 """Random plans by random lists of turns, through the crate `turns` and through rules.py: each turn, each audit after it,
-all lines of the agents and whether the histories match must be the same.
+all lines of the agents and whether the histories match must be the same. And before them the rows of turns.txt, with
+audits that were worked out by hand: they are as those of scripts.py, and have lines `turns NUMBERS: AUDIT` for the audit
+after the turns of these agents, and `ended NUMBER: AUDIT` for one turn of an agent that has ended.
 
 Usage: turns.py PROGRAM COUNT SEED. Prints each plan that differs, how many turns were of what kind, and
 `N passed, M failed` last.
@@ -8,12 +10,16 @@ Usage: turns.py PROGRAM COUNT SEED. Prints each plan that differs, how many turn
 
 import collections
 import json
+import os
 import random
 import subprocess
 import sys
 
 import random_plans
 import rules
+import scripts
+
+TOP = os.path.dirname(os.path.abspath(__file__))
 
 
 class Player(rules.Agent):
@@ -199,21 +205,65 @@ def turns_of(rng, agents):
     return turns
 
 
+class Played(scripts.Row):
+    """A row with turns and the audits after them."""
+
+    def __init__(self, title):
+        super().__init__(title)
+        self.stretches = []
+
+    def add(self, line):
+        head, _, rest = line.partition(":")
+        match head.split(" "):
+            case ["turns" | "ended" as kind, numbers]:
+                self.stretches.append((kind, numbers, f"audit {rest.strip()}"))
+            case _:
+                super().add(line)
+
+    def fault(self, program):
+        """What is otherwise than it should be, or nothing."""
+        words = [program, "".join(numbers for _, numbers, _ in self.stretches)]
+        ran = subprocess.run(words, input=self.plan(), capture_output=True, timeout=60, check=False)
+        lines = ran.stdout.decode().splitlines()
+        # Each turn has its line, the newest of the agent where it has one, and an audit.
+        begun = [at for at, line in enumerate(lines) if line.split(" ")[1:] in (["Moved"], ["Waiting"], ["Ended"])]
+        audits = [at for at, line in enumerate(lines) if line.startswith("audit ")]
+        turn = 0
+        for kind, numbers, audit in self.stretches:
+            turn += len(numbers)
+            if lines[audits[turn - 1]] != audit:
+                return f"after turn {turn} {lines[audits[turn - 1]]}, not {audit}"
+            if (lines[begun[turn - 1]] == f"{numbers} Ended") != (kind == "ended"):
+                return f"turn {turn} is {lines[begun[turn - 1]]}"
+        told = [line for number, agent in enumerate(self.told) for line in (f"agent {number}", *agent["says"])]
+        if lines[audits[turn - 1] + 1 : audits[turn]] != told or lines[-1] != "matches true":
+            return f"says {lines[audits[turn - 1] + 1:]}, not {told}"
+        return None
+
+
 def main():
     program, count, seed = sys.argv[1], int(sys.argv[2]), int(sys.argv[3])
     rng = random.Random(seed)
-    failed, kinds = 0, collections.Counter()
+    passed, failed, kinds = 0, 0, collections.Counter()
+    for row in scripts.rows_of(os.path.join(TOP, "turns.txt"), Played):
+        if fault := row.fault(program):
+            failed += 1
+            print(f"FAILED: {row.title}: {fault}")
+        else:
+            passed += 1
     for number in range(count):
         data, plan = a_plan(rng)
         turns = turns_of(rng, len(plan["agents"]))
         words = [program, "".join(map(str, turns))]
         ran = subprocess.run(words, input=data, capture_output=True, timeout=60, check=False)
         want = "".join(f"{line}\n" for line in expected(plan, turns, kinds))
-        if (ran.returncode, ran.stdout.decode()) != (0, want):
+        if (ran.returncode, ran.stdout.decode()) == (0, want):
+            passed += 1
+        else:
             failed += 1
             print(f"plan {number} of seed {seed}: {data!r} by {turns}\n  wanted {want}\n  got {ran.stdout.decode()}")
     print(f"of {count} lists: " + ", ".join(f"{kind} {number}" for kind, number in sorted(kinds.items())))
-    print(f"{count - failed} passed, {failed} failed")
+    print(f"{passed} passed, {failed} failed")
     sys.exit(1 if failed else 0)
 
 

@@ -2,7 +2,5 @@
 #![tactic(auto)]
 
 mod block;
-#[cfg(test)]
-mod tests;
 
 pub use block::Block;

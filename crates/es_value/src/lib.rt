@@ -9,8 +9,6 @@ mod limits;
 mod name;
 mod names;
 mod spelling;
-#[cfg(test)]
-mod tests;
 mod text;
 mod value;
 mod write;
