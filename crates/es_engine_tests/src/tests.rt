@@ -1,4 +1,9 @@
-//! Whole runs over memory, with reports that the rules give.
+//! What reads and runs plans, by its calls: the reader, agents, clusters, threads, and the engine above them.
 
+mod agents;
+mod clusters;
+mod contents;
 mod fakes;
+mod faults;
 mod runs;
+mod threads;

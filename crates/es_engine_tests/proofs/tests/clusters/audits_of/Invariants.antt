@@ -1,4 +1,4 @@
-use Rattle.es_cluster_tests.proofs.tests.audits_of.Given as goal
+use Rattle.es_engine_tests.proofs.tests.clusters.audits_of.Given as goal
 
 -- the word that was just opened, and the plan that was just made
 abbrev pub ghosts-audited-L-Run : goal.ghosts-audited-L-Run

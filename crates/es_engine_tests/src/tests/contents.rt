@@ -1,9 +1,16 @@
 //! What a plan has that is read.
 
-use super::agent;
 use es_event::{AgentPlan, Command, Job, Literal};
 use es_script::read_plan;
+use std::alloc::Global;
 use std::test::Fail;
+
+/// A plan of one agent, with these members of `callbacks` and these jobs.
+fn agent(alloc: Global, callbacks: &str, jobs: &str) -> Result<String, Fail> {
+    Ok(format!(in alloc;
+        "{{\"version\":1,\"agents\":[{{\"name\":\"a\",\"callbacks\":{{{callbacks}}},\"jobs\":[{jobs}]}}]}}"
+    )?)
+}
 
 /// Whether a command is `let x -5`.
 fn is_let(command: &Command) -> bool {

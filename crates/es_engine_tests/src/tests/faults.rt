@@ -1,7 +1,4 @@
-//! What a plan has that is read, and the texts of faults. What is answered to some 700 texts, the program
-//! is asked for (tests/refusals.py).
-
-mod contents;
+//! The texts of faults. What is answered to some 700 texts, the program is asked for (tests/refusals.py).
 
 use es_script::{FaultCode, Place, ScriptFault, write_fault};
 use std::alloc::Global;
@@ -12,13 +9,6 @@ fn text_of(alloc: Global, fault: ScriptFault) -> Result<String, Fail> {
     write_fault(fault, &mut bytes)?;
     let text = str::from_utf8(bytes.as_slice())?;
     Ok(String::from_str(alloc, text)?)
-}
-
-/// A plan of one agent, with these members of `callbacks` and these jobs.
-fn agent(alloc: Global, callbacks: &str, jobs: &str) -> Result<String, Fail> {
-    Ok(format!(in alloc;
-        "{{\"version\":1,\"agents\":[{{\"name\":\"a\",\"callbacks\":{{{callbacks}}},\"jobs\":[{jobs}]}}]}}"
-    )?)
 }
 
 #[test]

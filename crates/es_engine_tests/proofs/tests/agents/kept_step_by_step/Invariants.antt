@@ -1,5 +1,5 @@
 use Rattle.std.proofs.Common.{◌≡◌, []}
-use Rattle.es_agent_tests.proofs.tests.kept_step_by_step.Given as goal
+use Rattle.es_engine_tests.proofs.tests.agents.kept_step_by_step.Given as goal
 
 -- the agent has no buffer object
 abbrev pub invariant-loop : goal.invariant-loop

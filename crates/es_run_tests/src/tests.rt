@@ -1,3 +1,0 @@
-//! Agents in threads.
-
-mod runs;
