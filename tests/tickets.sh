@@ -1,10 +1,9 @@
 #!/bin/sh
-# A ticket can be neither forgotten nor copied: the compiler is handed bodies that try, each in a crate of its own over
-# the crates that the gate has proved, and has to refuse each for the reason that stands beside it. An edit that must
-# fail can't show that, since it has to compile.
+# A ticket can be neither forgotten nor copied: the compiler is handed bodies that try, over the sources of es_ticket, and
+# has to refuse each for the reason that stands beside it. An edit that must fail can't show that, since it has to
+# compile.
 #
-# Usage: tickets.sh. It stands on crates/es_ticket as the gate or an `rt check` above it has built it. The last line is
-# 'N passed, M failed'.
+# Usage: tickets.sh. Nothing is proved here, so it asks for nothing that was built. The last line is 'N passed, M failed'.
 set -u
 
 top=$(dirname "$(dirname "$(readlink -f "$0")")")
@@ -13,67 +12,80 @@ trap 'rm -rf "$room"' EXIT
 passed=0
 failed=0
 
-below="es_value es_event es_ticket"
-for crate in $below; do
-    inside=$room/crates/$crate
-    mkdir -p "$inside/out"
-    for part in src specs proofs; do cp -R "$top/crates/$crate/$part" "$inside/"; done
-    cp -Rl "$top/crates/$crate/out/rlib" "$inside/out/" 2>/dev/null || cp -R "$top/crates/$crate/out/rlib" "$inside/out/" 2>/dev/null
+for crate in es_value es_event es_ticket; do
+    mkdir -p "$room/crates/$crate"
+    for part in src specs proofs; do cp -R "$top/crates/$crate/$part" "$room/crates/$crate/"; done
     sed -n "/^$crate:/p" "$top/crates.txt" >>"$room/crates.txt"
 done
-echo "body: es_event es_ticket" >>"$room/crates.txt"
+echo "bodies: es_event es_ticket" >>"$room/crates.txt"
 cp "$top/HANDLES" "$room/"
-mkdir -p "$room/crates/body/src"
+mkdir -p "$room/crates/bodies/src"
 
-# judged BODY: the function of this body is checked; what is said stands in the file said
-judged() {
+# Reads lines of a name, a reason and a body, parted by @, and hands the compiler all bodies at once: the nth body stands
+# in the nth line from $first on. What it says stands in the file said, its status in $status.
+first=4
+judge() {
+    cat >"$room/bodies"
     {
-        echo "//! A body that the compiler judges."
+        echo "//! Bodies that the compiler judges."
         echo "use es_ticket::{Run, Ticket};"
-        echo "/// Judged."
-        printf '%s\n' "$1"
-    } >"$room/crates/body/src/lib.rt"
-    (cd "$room/crates/body" && rt check) >"$room/said" 2>&1 </dev/null
+        echo "fn main() {}"
+        number=0
+        while IFS=@ read -r _ _ body; do
+            number=$((number + 1))
+            echo "pub fn body_$number<L: Run>$body"
+        done <"$room/bodies"
+    } >"$room/crates/bodies/src/main.rt"
+    (cd "$room/crates/bodies" && rt try) >"$room/said" 2>&1 </dev/null
+    status=$?
 }
 
-# refused NAME REASON BODY: it is refused, with these words in a line of the error
+# Each body is refused in its own line and for its reason. The compiler tells of one kind of error at a time, so the
+# bodies of one call are of one kind.
 refused() {
-    if judged "$3"; then
-        echo "FAILED: $1: not refused"
-    elif ! grep -q "^src/lib.rt:.*error.*$2" "$room/said"; then
-        echo "FAILED: $1: refused for another reason"
-        grep "error" "$room/said" | head -n 3
-    else
-        passed=$((passed + 1))
-        return
-    fi
-    failed=$((failed + 1))
+    judge
+    line=$first
+    while IFS=@ read -r name reason _; do
+        if grep -q "^src/main.rt:$line:.*error.*$reason" "$room/said"; then
+            passed=$((passed + 1))
+        else
+            echo "FAILED: $name: not refused, or for another reason"
+            grep "^src/main.rt:$line:" "$room/said"
+            failed=$((failed + 1))
+        fi
+        line=$((line + 1))
+    done <"$room/bodies"
 }
 
-if judged "pub fn body<L: Run>(ticket: Ticket<L>) -> Ticket<L> { ticket }"; then
+judge <<'BODIES'
+a ticket that is handed on@@(ticket: Ticket<L>) -> Ticket<L> { ticket }
+BODIES
+if [ "$status" -eq 0 ] && ! grep -q "error" "$room/said"; then
     passed=$((passed + 1))
 else
     echo "FAILED: a body that hands the ticket on is refused"
     tail -n 5 "$room/said"
     failed=$((failed + 1))
 fi
-refused "a ticket that is left" "linear-value-let-go" "pub fn body<L: Run>(ticket: Ticket<L>) {}"
-refused "a ticket that is left on one way out" "linear-value-let-go" \
-    "pub fn body<L: Run>(ticket: Ticket<L>, keep: bool) -> Option<Ticket<L>> { if keep { Some(ticket) } else { None } }"
-refused "a ticket that is overwritten" "linear-value" \
-    "pub fn body<L: Run>(mut first: Ticket<L>, second: Ticket<L>) -> Ticket<L> { first = second; first }"
-refused "a ticket that is handed to drop" "Drop" "pub fn body<L: Run>(ticket: Ticket<L>) { drop(ticket); }"
-refused "a ticket that is handed to forget" "Drop" "pub fn body<L: Run>(ticket: Ticket<L>) { std::mem::forget(ticket); }"
-refused "a ticket in a box that is dropped" "linear-value\|Drop" \
-    "pub fn body<L: Run>(alloc: std::alloc::Global, ticket: Ticket<L>) -> bool { Box::new(alloc, ticket).is_ok() }"
-refused "a ticket that is used twice" "moved\|use" \
-    "pub fn body<L: Run>(ticket: Ticket<L>) -> (Ticket<L>, Ticket<L>) { (ticket, ticket) }"
-refused "a ticket that is cloned" "clone" \
-    "pub fn body<L: Run>(ticket: &Ticket<L>) -> Ticket<L> { ticket.clone() }"
-refused "a ticket that is read out of a borrow" "move\|borrow" \
-    "pub fn body<L: Run>(ticket: &Ticket<L>) -> Ticket<L> { *ticket }"
-refused "a ticket that is made by hand" "private" \
-    "pub fn body<L: Run>(row: es_event::Row) -> Ticket<L> { Ticket { row, of: std::marker::PhantomData } }"
+
+refused <<'BODIES'
+a ticket that is handed to drop@Drop@(ticket: Ticket<L>) { drop(ticket); }
+a ticket that is handed to forget@Drop@(ticket: Ticket<L>) { std::mem::forget(ticket); }
+a ticket that is cloned@Clone@(ticket: &Ticket<L>) -> Ticket<L> { ticket.clone() }
+a ticket that is read out of a borrow@move-out-of-place@(ticket: &Ticket<L>) -> Ticket<L> { *ticket }
+a ticket that is made by hand@private-field@(row: es_event::Row) -> Ticket<L> { Ticket { row, of: std::marker::PhantomData } }
+BODIES
+
+refused <<'BODIES'
+a ticket that is left@linear-value-let-go@(ticket: Ticket<L>) {}
+a ticket that is left on one way out@linear-value-let-go@(ticket: Ticket<L>, keep: bool) -> Option<Ticket<L>> { if keep { Some(ticket) } else { None } }
+a ticket that is overwritten@linear-value-let-go@(mut first: Ticket<L>, second: Ticket<L>) -> Ticket<L> { first = second; first }
+a ticket in a box that is dropped@linear-value-let-go@(alloc: std::alloc::Global, ticket: Ticket<L>) -> bool { Box::new(alloc, ticket).is_ok() }
+BODIES
+
+refused <<'BODIES'
+a ticket that is used twice@moved@(ticket: Ticket<L>) -> (Ticket<L>, Ticket<L>) { (ticket, ticket) }
+BODIES
 
 echo "$passed passed, $failed failed"
 [ "$failed" -eq 0 ]
