@@ -10,13 +10,14 @@ ghost use Rattle.es_script.specs.Grammar.{is_used};
 use crate::command::callback_run;
 use crate::fault::{FaultCode, Spot, fault_in};
 use crate::job::jobs_of;
+use crate::known_names::KnownNames;
 use crate::number_table::{NumberTable, agent_numbers, callback_numbers};
 use crate::parts::{has_at_most, has_at_most_members, items, taken_items, text};
 use crate::scope::Scope;
 use crate::spelled::name_of;
 use crate::{Place, ReadFault};
 use es_event::{AgentPlan, Callback, Sequence};
-use es_value::{MOST_CALLBACKS, MOST_JOBS, Name, Names};
+use es_value::{MOST_CALLBACKS, MOST_JOBS, Name};
 use serde_json::{Map, Value};
 use std::alloc::Global;
 
@@ -24,10 +25,21 @@ use std::alloc::Global;
 pub(crate) fn check_names(alloc: Global, agents: &[Value]) -> Result<(), ReadFault>
     ensures { Gives (λ _. tt) result (names_read 0 [] (items_view agents.now)) }
 {
-    let mut names = Names::new(alloc);
+    let mut names = KnownNames::new(alloc);
     let mut used = Vec::new(alloc);
+    check_each(&mut names, &mut used, agents)
+}
+
+/// The same, beside the names that are used already.
+fn check_each(
+    names: &mut KnownNames,
+    used: &mut Vec<Name>,
+    agents: &[Value],
+) -> Result<(), ReadFault>
+    ensures { Gives (λ _. tt) result (names_read 0 used.old.items (items_view agents.now)) }
+{
     for (index, agent) in agents.iter().enumerate() {
-        let name = agent_name(&mut names, index, agent)?;
+        let name = agent_name(names, index, agent)?;
         if is_used(used.as_slice(), &name) {
             return Err(fault_in(Place::Agent(index), FaultCode::Name));
         }
@@ -36,7 +48,7 @@ pub(crate) fn check_names(alloc: Global, agents: &[Value]) -> Result<(), ReadFau
     Ok(())
 }
 
-fn agent_name(names: &mut Names, agent: usize, value: &Value) -> Result<Name, ReadFault>
+fn agent_name(names: &mut KnownNames, agent: usize, value: &Value) -> Result<Name, ReadFault>
     ensures { Gives (λ n. n) result (agent_name_read agent (view value.now)) }
 {
     let spot = Spot {
@@ -88,11 +100,11 @@ fn agent_of(
 ) -> Result<AgentPlan, ReadFault>
     ensures { Gives (λ a. a) result (agent_read (numbered numbers.now) agent (view value)) }
 {
-    agent_with(&mut Names::new(alloc), numbers, agent, value)
+    agent_with(&mut KnownNames::new(alloc), numbers, agent, value)
 }
 
 fn agent_with(
-    names: &mut Names,
+    names: &mut KnownNames,
     numbers: &NumberTable,
     agent: usize,
     mut value: Value,
@@ -119,7 +131,7 @@ fn agent_with(
 }
 
 fn callbacks_of(
-    names: &mut Names,
+    names: &mut KnownNames,
     scope: &Scope,
     agent: usize,
     value: Option<&Value>,
@@ -136,7 +148,7 @@ fn callbacks_of(
 /// The callbacks. The members of an object stand in the byte order of their keys, so the callbacks
 /// come by rising names.
 fn callbacks_in(
-    names: &mut Names,
+    names: &mut KnownNames,
     scope: &Scope,
     agent: usize,
     members: &Map<String, Value>,
@@ -153,7 +165,7 @@ fn callbacks_in(
 }
 
 fn callback_of(
-    names: &mut Names,
+    names: &mut KnownNames,
     scope: &Scope,
     name: &str,
     value: &Value,

@@ -5,18 +5,19 @@ ghost use Rattle.serde_json.specs.View.{view, items_view};
 ghost use Rattle.es_script.specs.Reading.{Gives, said, command_read, commands_read, body_read};
 
 use crate::fault::{FaultCode, Spot, fault_in};
+use crate::known_names::KnownNames;
 use crate::named::command_named;
 use crate::parts::has_at_most;
 use crate::scope::Scope;
 use crate::{Place, ReadFault};
 use es_event::{Command, Sequence};
-use es_value::{MOST_COMMANDS, Names};
+use es_value::MOST_COMMANDS;
 use serde_json::Value;
 
 /// The commands of a callback, read where they stand: `Value::get_mut` says nothing of the value's other
 /// parts, so of an agent only the jobs are taken.
 pub(crate) fn callback_run(
-    names: &mut Names,
+    names: &mut KnownNames,
     scope: &Scope,
     list: &[Value],
     place: Place,
@@ -30,7 +31,7 @@ pub(crate) fn callback_run(
 }
 
 fn commands_of(
-    names: &mut Names,
+    names: &mut KnownNames,
     scope: &Scope,
     list: &[Value],
     place: Place,
@@ -51,7 +52,7 @@ fn commands_of(
 
 /// The commands of a job, whose JSON is given up piece by piece as they are made.
 pub(crate) fn job_run(
-    names: &mut Names,
+    names: &mut KnownNames,
     scope: &Scope,
     mut list: Vec<Value>,
     place: Place,
@@ -65,7 +66,7 @@ pub(crate) fn job_run(
 }
 
 fn commands_taken(
-    names: &mut Names,
+    names: &mut KnownNames,
     scope: &Scope,
     list: &mut [Value],
     place: Place,
@@ -85,7 +86,7 @@ fn commands_taken(
 }
 
 fn command_of(
-    names: &mut Names,
+    names: &mut KnownNames,
     scope: &Scope,
     value: &Value,
     spot: Spot,

@@ -6,18 +6,19 @@ ghost use Rattle.es_script.specs.Reading.{Gives, said, on_read, job_read, jobs_r
 
 use crate::command::job_run;
 use crate::fault::Spot;
+use crate::known_names::KnownNames;
 use crate::operand::AgentNumber;
 use crate::operands::two;
 use crate::parts::{items, taken_items};
 use crate::scope::Scope;
 use crate::{Place, ReadFault};
 use es_event::{Job, Sequence};
-use es_value::{Name, Names};
+use es_value::Name;
 use serde_json::Value;
 
 /// The jobs, in order.
 pub(crate) fn jobs_of(
-    names: &mut Names,
+    names: &mut KnownNames,
     scope: &Scope,
     agent: usize,
     jobs: &mut [Value],
@@ -33,7 +34,7 @@ pub(crate) fn jobs_of(
 }
 
 fn job_of(
-    names: &mut Names,
+    names: &mut KnownNames,
     scope: &Scope,
     mut value: Value,
     place: Place,
@@ -49,7 +50,7 @@ fn job_of(
 /// The agent whose message a job waits for, and the variable for its value, where the job has `on`.
 /// They are read as a command's operands are; the shape says that they are two texts.
 fn on_of(
-    names: &mut Names,
+    names: &mut KnownNames,
     scope: &Scope,
     value: Option<&Value>,
     spot: Spot,

@@ -11,17 +11,17 @@ mod registry;
 mod shared;
 
 use crate::fault::{FaultCode, Spot};
+use crate::known_names::KnownNames;
 use crate::operands::{none, one, three, two};
 use crate::scope::Scope;
 use crate::{Place, ReadFault};
 use es_event::Command;
-use es_value::Names;
 use serde_json::Value;
 use shared::shared_command;
 
 /// A command on values, variables or objects, or a collection, and then the others.
 pub(crate) fn command_named(
-    names: &mut Names,
+    names: &mut KnownNames,
     scope: &Scope,
     word: &str,
     operands: &[Value],
@@ -85,7 +85,7 @@ pub(crate) fn command_named(
 
 /// A command on WeakRefs, WeakMaps or WeakSets, and then the others.
 fn weak_command(
-    names: &mut Names,
+    names: &mut KnownNames,
     scope: &Scope,
     word: &str,
     operands: &[Value],

@@ -8,10 +8,11 @@ ghost use Rattle.es_script.specs.Reading.{Gives, said, operand_read};
 
 use crate::ReadFault;
 use crate::fault::{FaultCode, Spot};
+use crate::known_names::KnownNames;
 use crate::scope::Scope;
 use crate::spelled::{agent_named, callback_named, name_of, text_of, whole_of, words_of};
 use es_event::Literal;
-use es_value::{Name, Names, Text};
+use es_value::{Name, Text};
 use serde_json::Value;
 
 /// What can be an operand of a command.
@@ -25,7 +26,12 @@ pub(crate) trait Operand: Sized + Drop {
         ensures { result ≡ fits kind (view value.now) };
 
     /// The operand that a value of its JSON kind stands for.
-    fn read(names: &mut Names, scope: &Scope, value: &Value, spot: Spot) -> Result<Self, ReadFault>
+    fn read(
+        names: &mut KnownNames,
+        scope: &Scope,
+        value: &Value,
+        spot: Spot,
+    ) -> Result<Self, ReadFault>
         ensures { Gives meaning result (operand_read (said scope.now) spot kind (view value.now)) };
 }
 
@@ -40,7 +46,7 @@ impl Operand for Name {
     }
 
     fn read(
-        names: &mut Names,
+        names: &mut KnownNames,
         _scope: &Scope,
         value: &Value,
         spot: Spot,
@@ -62,7 +68,7 @@ impl Operand for Literal {
     }
 
     fn read(
-        names: &mut Names,
+        names: &mut KnownNames,
         _scope: &Scope,
         value: &Value,
         spot: Spot,
@@ -91,7 +97,7 @@ impl Operand for Text {
     }
 
     fn read(
-        names: &mut Names,
+        names: &mut KnownNames,
         _scope: &Scope,
         value: &Value,
         spot: Spot,
@@ -114,7 +120,7 @@ impl Operand for usize {
     }
 
     fn read(
-        names: &mut Names,
+        names: &mut KnownNames,
         scope: &Scope,
         value: &Value,
         spot: Spot,
@@ -140,7 +146,7 @@ impl Operand for AgentNumber {
     }
 
     fn read(
-        names: &mut Names,
+        names: &mut KnownNames,
         scope: &Scope,
         value: &Value,
         spot: Spot,
@@ -166,7 +172,7 @@ impl Operand for i64 {
     }
 
     fn read(
-        _names: &mut Names,
+        _names: &mut KnownNames,
         _scope: &Scope,
         value: &Value,
         spot: Spot,
@@ -189,7 +195,7 @@ impl Operand for u32 {
     }
 
     fn read(
-        _names: &mut Names,
+        _names: &mut KnownNames,
         _scope: &Scope,
         value: &Value,
         spot: Spot,

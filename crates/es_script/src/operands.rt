@@ -6,9 +6,9 @@ ghost use Rattle.es_script.specs.Reading.{Gives, said, nameless, operands_read};
 
 use crate::ReadFault;
 use crate::fault::{FaultCode, Spot};
+use crate::known_names::KnownNames;
 use crate::operand::Operand;
 use crate::scope::Scope;
-use es_value::Names;
 use serde_json::Value;
 
 /// Nothing, where there is no operand.
@@ -23,7 +23,7 @@ pub(crate) fn none(operands: &[Value], spot: Spot) -> Result<(), ReadFault>
 
 /// The one operand that there is.
 pub(crate) fn one<A: Operand>(
-    names: &mut Names,
+    names: &mut KnownNames,
     scope: &Scope,
     operands: &[Value],
     spot: Spot,
@@ -47,7 +47,7 @@ pub(crate) fn one<A: Operand>(
 
 /// The two operands that there are.
 pub(crate) fn two<A: Operand, B: Operand>(
-    names: &mut Names,
+    names: &mut KnownNames,
     scope: &Scope,
     operands: &[Value],
     spot: Spot,
@@ -73,7 +73,7 @@ pub(crate) fn two<A: Operand, B: Operand>(
 
 /// The three operands that there are.
 pub(crate) fn three<A: Operand, B: Operand, C: Operand>(
-    names: &mut Names,
+    names: &mut KnownNames,
     scope: &Scope,
     operands: &[Value],
     spot: Spot,
@@ -100,7 +100,7 @@ pub(crate) fn three<A: Operand, B: Operand, C: Operand>(
 
 /// The four operands that there are.
 pub(crate) fn four<A: Operand, B: Operand, C: Operand, D: Operand>(
-    names: &mut Names,
+    names: &mut KnownNames,
     scope: &Scope,
     operands: &[Value],
     spot: Spot,

@@ -8,13 +8,14 @@ ghost use Rattle.es_script.specs.Reading.{Gives, said, name_read, text_read, who
 
 use crate::ReadFault;
 use crate::fault::{FaultCode, Spot};
+use crate::known_names::KnownNames;
 use crate::scope::Scope;
-use es_value::{MOST_WORDS, Name, NameFault, Names, Text, TextFault};
+use es_value::{MOST_WORDS, Name, NameFault, Text, TextFault};
 use serde_json::Number;
 use std::alloc::Global;
 
 /// The name that is spelled so.
-pub(crate) fn name_of(names: &mut Names, chars: &str, spot: Spot) -> Result<Name, ReadFault>
+pub(crate) fn name_of(names: &mut KnownNames, chars: &str, spot: Spot) -> Result<Name, ReadFault>
     ensures { Gives (λ n. n) result (name_read spot chars.now) }
 {
     match names.read(chars) {
@@ -26,7 +27,7 @@ pub(crate) fn name_of(names: &mut Names, chars: &str, spot: Spot) -> Result<Name
 
 /// The number of the callback that has this name.
 pub(crate) fn callback_named(
-    names: &mut Names,
+    names: &mut KnownNames,
     scope: &Scope,
     chars: &str,
     spot: Spot,
@@ -39,7 +40,7 @@ pub(crate) fn callback_named(
 
 /// The number of the other agent that has this name.
 pub(crate) fn agent_named(
-    names: &mut Names,
+    names: &mut KnownNames,
     scope: &Scope,
     chars: &str,
     spot: Spot,

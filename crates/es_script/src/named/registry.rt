@@ -8,16 +8,16 @@ ghost use Rattle.es_script.specs.Reading.{Gives, said, form_read};
 
 use crate::ReadFault;
 use crate::fault::{FaultCode, Spot};
+use crate::known_names::KnownNames;
 use crate::operands::{four, three, two};
 use crate::parts::has_exactly;
 use crate::scope::Scope;
 use es_event::Command;
-use es_value::Names;
 use serde_json::Value;
 
 /// A command on FinalizationRegistries.
 pub(crate) fn registry_command(
-    names: &mut Names,
+    names: &mut KnownNames,
     scope: &Scope,
     word: &str,
     operands: &[Value],
@@ -45,7 +45,7 @@ pub(crate) fn registry_command(
 
 /// A `register`, with a token where there are four operands.
 fn register_of(
-    names: &mut Names,
+    names: &mut KnownNames,
     scope: &Scope,
     operands: &[Value],
     spot: Spot,

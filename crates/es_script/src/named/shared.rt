@@ -9,16 +9,16 @@ ghost use Rattle.es_script.specs.Reading.{Gives, said, form_read};
 use super::registry::registry_command;
 use crate::ReadFault;
 use crate::fault::Spot;
+use crate::known_names::KnownNames;
 use crate::operand::AgentNumber;
 use crate::operands::{four, three, two};
 use crate::scope::Scope;
 use es_event::Command;
-use es_value::Names;
 use serde_json::Value;
 
 /// A command on buffers or messages, and then the others.
 pub(crate) fn shared_command(
-    names: &mut Names,
+    names: &mut KnownNames,
     scope: &Scope,
     word: &str,
     operands: &[Value],

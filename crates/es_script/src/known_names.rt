@@ -1,0 +1,86 @@
+//! Names that were read before.
+
+ghost use Rattle.std.specs.Prelude.{◌≡◌, IfOk, IfSome, IsTrue, ◌↔◌, ◌≢◌, true};
+ghost use Rattle.es_value.specs.Spelling.{is_name};
+
+use es_value::{Name, NameFault, Names};
+use std::alloc::Global;
+
+/// The names of an agent that were read so far. One of those that were read last is found by its length
+/// and its last byte, without a look into the table of all.
+#[derive(Drop)]
+pub(crate) struct KnownNames {
+    all: Names,
+    last: [Option<Name>; 8],
+}
+
+impl KnownNames {
+    /// No name yet; it takes no memory.
+    pub(crate) fn new(alloc: Global) -> KnownNames {
+        KnownNames {
+            all: Names::new(alloc),
+            last: [None, None, None, None, None, None, None, None],
+        }
+    }
+
+    /// The allocator that it was made with.
+    pub(crate) fn allocator(&self) -> Global {
+        self.all.allocator()
+    }
+
+    /// The name that is spelled like this, or `BadName` exactly where it is no name.
+    pub(crate) fn read(&mut self, text: &str) -> Result<Name, NameFault>
+        ensures ok { IfOk result (λ n. n ≡ text.now) }
+        ensures only { IfOk result (λ n. IsTrue (is_name text.now)) }
+        ensures bad { (result ≡ Err NameFault.BadName) ↔ (is_name text.now ≢ true) }
+    {
+        let place = place_of(text.as_bytes());
+        match self.find(place, text) {
+            Some(name) => copied(name),
+            None => self.read_anew(place, text),
+        }
+    }
+
+    /// The name of this text, if it stands in its place.
+    fn find(&self, place: usize, text: &str) -> Option<&Name>
+        ensures same { IfSome result (λ n. n.now ≡ text.now) }
+        ensures spelled { IfSome result (λ n. IsTrue (is_name text.now)) }
+    {
+        match self.last.get(place) {
+            Some(Some(name)) if name.as_str() == text => Some(name),
+            _ => None,
+        }
+    }
+
+    /// The name of this text, which takes its place.
+    fn read_anew(&mut self, place: usize, text: &str) -> Result<Name, NameFault>
+        ensures ok { IfOk result (λ n. n ≡ text.now) }
+        ensures only { IfOk result (λ n. IsTrue (is_name text.now)) }
+        ensures bad { (result ≡ Err NameFault.BadName) ↔ (is_name text.now ≢ true) }
+    {
+        let name = self.all.read(text)?;
+        if let Some(last) = self.last.get_mut(place) {
+            *last = Some(copied(&name)?);
+        }
+        Ok(name)
+    }
+}
+
+/// The place of a text.
+fn place_of(text: &[u8]) -> usize {
+    match text.last() {
+        Some(byte) => (text.len() + *byte as usize) % 8,
+        None => 0,
+    }
+}
+
+/// The same name again.
+fn copied(name: &Name) -> Result<Name, NameFault>
+    ensures ok { IfOk result (λ n. n ≡ name.now) }
+    ensures bad { result ≢ Err NameFault.BadName }
+{
+    match name.copy() {
+        Ok(name) => Ok(name),
+        Err(_) => Err(NameFault::NoMemory),
+    }
+}
