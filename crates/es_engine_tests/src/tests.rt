@@ -2,8 +2,6 @@
 
 mod agents;
 mod clusters;
-mod contents;
 mod fakes;
-mod faults;
 mod runs;
 mod threads;

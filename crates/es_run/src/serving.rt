@@ -164,8 +164,8 @@ fn wakes<L: Planned>(ledger: &LedgerCore<L>, before: usize) -> bool {
     })
 }
 
-/// Runs each agent in a thread of its own, and a watcher that makes so many audits in one more, until
-/// all have ended. Whether none ran out of memory.
+/// Runs each agent in a thread, the first in that of the caller and each other in one of its own, and a watcher that
+/// makes so many audits in one more, until all have ended. Whether none ran out of memory.
 pub(crate) fn run_all<L: Planned + Send + Sync, G: Gate + Sync, R: Threads + Wait + Sync>(
     rt: &R,
     alloc: Global,
@@ -176,7 +176,7 @@ pub(crate) fn run_all<L: Planned + Send + Sync, G: Gate + Sync, R: Threads + Wai
     let flag = AtomicBool::new(false);
     let stopped = &flag;
     thread::scope(thread::scope_env(), rt, |scope| {
-        for agent in 0..cluster.agents.len() {
+        for agent in 1..cluster.agents.len() {
             if scope
                 .spawn(move || cluster.serve(rt, agent, stopped, gate))
                 .is_err()
@@ -189,6 +189,10 @@ pub(crate) fn run_all<L: Planned + Send + Sync, G: Gate + Sync, R: Threads + Wai
             if scope.spawn(watcher).is_err() {
                 cluster.stop(rt, stopped);
             }
+        }
+        // the caller would only wait: a single agent needs no thread more
+        if !cluster.agents.is_empty() {
+            cluster.serve(rt, 0, stopped, gate);
         }
     });
     !flag.load(Ordering::SeqCst)
