@@ -3,7 +3,7 @@
 
 Usage: picture.py. The picture is the code block that begins with the line FIRST. Each further line has a crate, what it
 is, and after the word `on` all that it stands on, parted by two spaces or more. A crate stands above all that it stands
-on. The crates NAME_tests, each with the tests of a crate NAME on which it stands, are not drawn. Prints each
+on. The crates NAME_tests, on which none stands, have tests of those below them and are not drawn. Prints each
 difference, and `N passed, M failed` last.
 """
 
@@ -29,12 +29,8 @@ def listed():
         names, colon, below = line.partition("#")[0].partition(":")
         if colon:
             edges[names.split()[0]] = set(below.split())
-    return {name: below for name, below in edges.items() if not is_of_tests(name, below)}
-
-
-def is_of_tests(name, below):
-    """Whether a crate has the tests of one on which it stands."""
-    return name.endswith(TESTS) and name.removesuffix(TESTS) in below
+    below_others = set().union(*edges.values())
+    return {name: below for name, below in edges.items() if not name.endswith(TESTS) or name in below_others}
 
 
 def drawn():

@@ -1,3 +1,5 @@
 pub mod Faults
+pub mod Statuses
+pub mod Texts
 pub mod Engine
 pub mod Laws

@@ -1,12 +1,17 @@
-//! The engine: a plan's bytes from a reader, the run of its agents, and the report to a writer.
+//! The engine: a plan's bytes from a reader, the run of its agents, and the report to a writer; how a
+//! program over it ends, and what it says of that.
 #![tactic(auto)]
 
 mod cluster;
+mod ending;
 mod engine;
+mod explain;
 mod input;
 mod laws;
 mod run_fault;
 
+pub use ending::{Ending, status_for};
 pub use engine::run;
+pub use explain::{explain, note_audits};
 pub use laws::a_plan_has_one_answer;
 pub use run_fault::RunFault;

@@ -1,5 +1,7 @@
 //! What a run is asked for.
 
+ghost use Rattle.std.specs.Prelude.{◌≡◌, max, min};
+
 /// What a run is asked for, but for the reader and the writer.
 #[derive(Clone, Copy, Debug, PartialEq, Eq)]
 pub struct Options {
@@ -29,4 +31,18 @@ impl Options {
         helpers: 1,
         watch: 0,
     };
+
+    /// How many helpers mark where this many are asked for: at least 1, and at most 8.
+    pub fn helpers_within(asked: u8) -> u8
+        ensures { result ≡ min 8 (max 1 asked) }
+    {
+        asked.clamp(1, 8)
+    }
+
+    /// How many audits are made where this many are asked for: at most 1000.
+    pub fn watch_within(asked: u16) -> u16
+        ensures { result ≡ min 1000 asked }
+    {
+        asked.min(1000)
+    }
 }

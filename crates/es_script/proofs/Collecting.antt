@@ -9,7 +9,7 @@ use Rattle.es_event.specs.declared.command.Command.{Command}
 use Rattle.es_event.specs.declared.plan.AgentPlan.{AgentPlan}
 use Rattle.es_event.specs.Commands.{collects}
 use Rattle.es_event.specs.Jobs.{callbacks_collect_nothing}
-use Rattle.es_script.specs.Scope.{Scope, scope_of}
+use Rattle.es_reading.specs.Scope.{Scope, scope_of}
 use Rattle.es_script.specs.Grammar.{IsBody, AreAgents, HasAgents}
 use Rattle.es_script.proofs.Sound.{both_true}
 use Rattle.es_script.proofs.Passing.{command_harmless, body_passes, callbacks_pass_at}

@@ -11,8 +11,8 @@ use Rattle.serde_json.specs.Events.{items_len}
 use Rattle.es_event.specs.declared.plan.AgentPlan.{AgentPlan}
 use Rattle.es_event.specs.declared.plan.Job.{Job}
 use Rattle.es_event.specs.Others.{is_other, posts_where, speaks_where, each_names_others}
-use Rattle.es_script.specs.Parts.{text_in}
-use Rattle.es_script.specs.Scope.{Scope, agent_from, other_than, scope_of}
+use Rattle.es_reading.specs.Parts.{text_in}
+use Rattle.es_reading.specs.Scope.{Scope, agent_from, other_than, scope_of}
 use Rattle.es_script.specs.Grammar.{WaitsFor, AreJobs, HasJobs, AreAgents, HasAgents}
 use Rattle.es_script.proofs.Sound.{both_true, AreAgents-length}
 use Rattle.es_script.proofs.Passing.{AllPass, reference_passes, command_posts, body_passes, callbacks_pass_at}

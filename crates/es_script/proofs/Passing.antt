@@ -9,10 +9,10 @@ use Rattle.es_event.specs.declared.command.Command.{Command}
 use Rattle.es_event.specs.declared.plan.Callback.{Callback}
 use Rattle.es_event.specs.Commands.{collects}
 use Rattle.es_event.specs.Others.{posts_where}
-use Rattle.es_script.specs.Scope.{Numbers, Scope}
-use Rattle.es_script.specs.Forms.{OperandType, name, literal, text, callback, agent, whole, words, Meaning, Makes, Form, form, weak_form, shared_form, registry_form, is_allowed}
+use Rattle.es_reading.specs.Scope.{Numbers, Scope}
+use Rattle.es_reading.specs.Forms.{OperandType, name, literal, text, callback, agent, whole, words, Meaning, Makes, Form, form, weak_form, shared_form, registry_form, is_allowed}
 use Rattle.es_script.specs.Grammar.{IsReference, Means, AreOperands, IsCommand, AreCommands, IsBody, AreCallbacks, HasCallbacks}
-use Rattle.es_script.specs.Reading.{Meanings, made}
+use Rattle.es_reading.specs.Reading.{Meanings, made}
 use Rattle.es_script.proofs.Sound.{both_true}
 
 -- Agents that are named

@@ -1,9 +1,9 @@
 -- To believe: the text of a fault.
 use Rattle.std.specs.Prelude.{ℕ, zero, suc, List, [], ◌++◌, codes, decimal}
-use Rattle.es_script.specs.declared.fault.Place.{Place}
-use Rattle.es_script.specs.declared.fault.Place.TheVariants.{Whole, Agent, Callback, Job}
-use Rattle.es_script.specs.declared.fault.ScriptFault.{ScriptFault}
-use Rattle.es_script.specs.Numbers.{number_of}
+use Rattle.es_reading.specs.declared.fault.Place.{Place}
+use Rattle.es_reading.specs.declared.fault.Place.TheVariants.{Whole, Agent, Callback, Job}
+use Rattle.es_reading.specs.declared.fault.ScriptFault.{ScriptFault}
+use Rattle.es_reading.specs.Numbers.{number_of}
 
 abbrev pub place_text : Place → List ℕ
 place_text Whole = []

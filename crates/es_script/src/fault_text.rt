@@ -4,7 +4,7 @@ ghost use Rattle.std.specs.Prelude.{OnOk};
 ghost use Rattle.std.specs.Io.KnownBytes.{Appends};
 ghost use Rattle.es_script.specs.FaultText.{place_text, command_text, fault_text};
 
-use crate::{Place, ScriptFault};
+use es_reading::{Place, ScriptFault};
 use std::io;
 use std::io::Write;
 

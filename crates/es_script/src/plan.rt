@@ -7,14 +7,12 @@ ghost use Rattle.es_value.specs.Limits.{most_agents};
 ghost use Rattle.es_event.specs.Others.{all_name_others};
 ghost use Rattle.es_script.specs.Grammar.{no_callback_collects};
 ghost use Rattle.es_script.specs.Fault.{Reads};
-ghost use Rattle.es_script.specs.Reading.{Gives, plan_read, agents_checked};
+ghost use Rattle.es_reading.specs.Reading.{Gives};
+ghost use Rattle.es_script.specs.PlanRead.{plan_read, agents_checked};
 
-use crate::agent::{agents_of, check_names};
-use crate::fault::{FaultCode, fault_in};
-use crate::parts::taken_items;
 use crate::shape::has_plan_shape;
-use crate::{Place, ReadFault};
 use es_event::{AgentPlan, Plan, Sequence};
+use es_reading::{FaultCode, Place, ReadFault, agents_of, check_names, fault_in, taken_items};
 use es_value::MOST_AGENTS;
 use serde_json::Value;
 use std::alloc::Global;

@@ -1,0 +1,135 @@
+-- To believe: the table of commands: the word of each, what its operands are, and what they make.
+use Rattle.std.specs.Prelude.{ℕ, ℤ, pos, negsuc, ◌==◌, ◌&&◌, not, nat_le, Bool, true, false, List, [], ◌∷◌, Option, Some, None, codes, if◌then◌else◌}
+use Rattle.std.specs.Str.{bytes_eq}
+use Rattle.serde_json.specs.Data.{Data, number, string, array, object, Items, no_items, item}
+use Rattle.es_event.specs.declared.literal.Literal.{Literal}
+use Rattle.es_event.specs.declared.command.Command.{Command}
+use Rattle.es_event.specs.declared.command.Command.TheVariants.{Let, New, Symbol, SymbolFor, Copy, Same, Say, Set, Get, Delete, Keys, WeakRef, Deref, WeakMap, WeakMapSet, WeakMapGet, WeakMapHas, WeakMapDelete, WeakSet, WeakSetAdd, WeakSetHas, WeakSetDelete, FinalizationRegistry, Register, Unregister, SharedArrayBuffer, Length, SameBlock, Load, Store, Add, Post, Collect}
+
+-- what an operand is: a variable or a property's key, a literal, a text of the profile, the name of a callback or of another
+-- agent, a number of the profile, or a number of words
+pub data OperandType : Type 0 where
+  name : OperandType
+  literal : OperandType
+  text : OperandType
+  callback : OperandType
+  agent : OperandType
+  whole : OperandType
+  words : OperandType
+
+-- what an operand stands for; the name of a callback or of an agent stands for its number
+abbrev pub Meaning : OperandType → Type 0
+Meaning name = List ℕ
+Meaning literal = Literal
+Meaning text = List ℕ
+Meaning callback = ℕ
+Meaning agent = ℕ
+Meaning whole = ℤ
+Meaning words = ℕ
+
+-- what makes a command of operands
+abbrev pub Makes : List OperandType → Type 0
+Makes [] = Command
+Makes (k ∷ ks) = Meaning k → Makes ks
+
+-- a command's operands, what they make, and whether no callback may have the command
+pub record Form : Type 0 where
+  pub types : List OperandType
+  pub makes : Makes types
+  pub only_in_jobs : Bool
+
+abbrev pub takes : (ks : List OperandType) → Makes ks → Option Form
+takes ks make = Some (record { types = ks; makes = make; only_in_jobs = false })
+
+-- the same, of a command that no callback may have
+abbrev pub takes_in_jobs : (ks : List OperandType) → Makes ks → Option Form
+takes_in_jobs ks make = Some (record { types = ks; makes = make; only_in_jobs = true })
+
+-- whether a command of the form may stand where it is: in a callback, or else in a job
+abbrev pub is_allowed : Bool → Form → Bool
+is_allowed in_callback f = not (f.only_in_jobs && in_callback)
+
+-- of register: its fourth operand, where there is one, is the token
+abbrev pub register_form : ℕ → Option Form
+register_form n =
+    if n == 4 then takes (name ∷ name ∷ name ∷ name ∷ []) (λ registry target held token. Register registry target held (Some token))
+    else takes (name ∷ name ∷ name ∷ []) (λ registry target held. Register registry target held None)
+
+-- of FinalizationRegistries; only the form of register depends on how many operands there are
+abbrev pub registry_form : List ℕ → ℕ → Option Form
+registry_form w n =
+    if bytes_eq w (codes "registry") then takes (name ∷ callback ∷ []) FinalizationRegistry else
+    (if bytes_eq w (codes "register") then register_form n else
+    (if bytes_eq w (codes "unregister") then takes (name ∷ name ∷ name ∷ []) Unregister else
+    None))
+
+-- of buffers and messages, and then those of FinalizationRegistries
+abbrev pub shared_form : List ℕ → ℕ → Option Form
+shared_form w n =
+    if bytes_eq w (codes "buffer") then takes (name ∷ words ∷ []) SharedArrayBuffer else
+    (if bytes_eq w (codes "length") then takes (name ∷ name ∷ []) Length else
+    (if bytes_eq w (codes "sameblock") then takes (name ∷ name ∷ name ∷ []) SameBlock else
+    (if bytes_eq w (codes "load") then takes (name ∷ name ∷ whole ∷ []) Load else
+    (if bytes_eq w (codes "store") then takes (name ∷ whole ∷ whole ∷ []) Store else
+    (if bytes_eq w (codes "add") then takes (name ∷ name ∷ whole ∷ whole ∷ []) Add else
+    (if bytes_eq w (codes "post") then takes (agent ∷ name ∷ []) Post else
+    registry_form w n))))))
+
+-- of WeakRefs, WeakMaps and WeakSets, and then those of buffers, messages and FinalizationRegistries
+abbrev pub weak_form : List ℕ → ℕ → Option Form
+weak_form w n =
+    if bytes_eq w (codes "weakref") then takes (name ∷ name ∷ []) WeakRef else
+    (if bytes_eq w (codes "deref") then takes (name ∷ name ∷ []) Deref else
+    (if bytes_eq w (codes "weakmap") then takes (name ∷ []) WeakMap else
+    (if bytes_eq w (codes "wmset") then takes (name ∷ name ∷ name ∷ []) WeakMapSet else
+    (if bytes_eq w (codes "wmget") then takes (name ∷ name ∷ name ∷ []) WeakMapGet else
+    (if bytes_eq w (codes "wmhas") then takes (name ∷ name ∷ name ∷ []) WeakMapHas else
+    (if bytes_eq w (codes "wmdelete") then takes (name ∷ name ∷ name ∷ []) WeakMapDelete else
+    (if bytes_eq w (codes "weakset") then takes (name ∷ []) WeakSet else
+    (if bytes_eq w (codes "wsadd") then takes (name ∷ name ∷ []) WeakSetAdd else
+    (if bytes_eq w (codes "wshas") then takes (name ∷ name ∷ name ∷ []) WeakSetHas else
+    (if bytes_eq w (codes "wsdelete") then takes (name ∷ name ∷ name ∷ []) WeakSetDelete else
+    shared_form w n))))))))))
+
+-- the form of the command with this word and so many operands: of values, variables, objects and collections, and then the others
+abbrev pub form : List ℕ → ℕ → Option Form
+form w n =
+    if bytes_eq w (codes "let") then takes (name ∷ literal ∷ []) Let else
+    (if bytes_eq w (codes "new") then takes (name ∷ []) New else
+    (if bytes_eq w (codes "symbol") then takes (name ∷ []) Symbol else
+    (if bytes_eq w (codes "symbolfor") then takes (name ∷ text ∷ []) SymbolFor else
+    (if bytes_eq w (codes "copy") then takes (name ∷ name ∷ []) Copy else
+    (if bytes_eq w (codes "same") then takes (name ∷ name ∷ name ∷ []) Same else
+    (if bytes_eq w (codes "say") then takes (name ∷ []) Say else
+    (if bytes_eq w (codes "set") then takes (name ∷ name ∷ name ∷ []) Set else
+    (if bytes_eq w (codes "get") then takes (name ∷ name ∷ name ∷ []) Get else
+    (if bytes_eq w (codes "delete") then takes (name ∷ name ∷ name ∷ []) Delete else
+    (if bytes_eq w (codes "keys") then takes (name ∷ []) Keys else
+    (if bytes_eq w (codes "collect") then takes_in_jobs [] Collect else
+    weak_form w n)))))))))))
+
+-- Operands in a text
+
+-- a number of the profile: within ±9007199254740991
+abbrev pub is_whole : ℤ → Bool
+is_whole (pos n) = nat_le n 9007199254740991
+is_whole (negsuc n) = nat_le n 9007199254740990
+
+-- an operand of the JSON kind that is asked for: a literal is anything but an array or an object, a number of the profile and a
+-- number of words is a number, and all else is a text
+abbrev pub fits : OperandType → Data → Bool
+fits literal (array ds) = false
+fits literal (object ms) = false
+fits literal d = true
+fits whole (number x) = true
+fits whole d = false
+fits words (number x) = true
+fits words d = false
+fits k (string s) = true
+fits k d = false
+
+-- as many operands as kinds, each of its JSON kind
+abbrev pub fit : List OperandType → Items → Bool
+fit [] no_items = true
+fit (k ∷ ks) (item d ds) = fits k d && fit ks ds
+fit _ _ = false

@@ -1,0 +1,6 @@
+pub mod Numbers
+pub mod Places
+pub mod Parts
+pub mod Scope
+pub mod Forms
+pub mod Reading

@@ -1,0 +1,67 @@
+//! Jobs of an agent.
+
+ghost use Rattle.std.specs.Prelude.{◌≡◌, option_map};
+ghost use Rattle.serde_json.specs.View.{view, items_view};
+ghost use Rattle.es_reading.specs.Reading.{Gives, said, on_read, job_read, jobs_read};
+
+use crate::command::job_run;
+use crate::fault::Spot;
+use crate::known_names::KnownNames;
+use crate::operand::AgentNumber;
+use crate::operands::two;
+use crate::parts::{items, taken_items};
+use crate::scope::Scope;
+use crate::{Place, ReadFault};
+use es_event::{Job, Sequence};
+use es_value::Name;
+use serde_json::Value;
+
+/// The jobs, in order.
+pub(crate) fn jobs_of(
+    names: &mut KnownNames,
+    scope: &Scope,
+    agent: usize,
+    jobs: &mut [Value],
+) -> Result<Sequence<Job>, ReadFault>
+    ensures { Gives (λ s. s) result (jobs_read (said scope.now) agent 1 (items_view jobs.old)) }
+{
+    let mut all = Sequence::new(names.allocator());
+    for (index, value) in jobs.iter_mut().enumerate() {
+        let job = job_of(names, scope, value.take(), Place::Job(agent, index + 1))?;
+        all.push(job)?;
+    }
+    Ok(all)
+}
+
+fn job_of(
+    names: &mut KnownNames,
+    scope: &Scope,
+    mut value: Value,
+    place: Place,
+) -> Result<Job, ReadFault>
+    ensures { Gives (λ j. j) result (job_read (said scope.now) place (view value)) }
+{
+    let on = on_of(names, scope, value.get("on"), Spot { place, command: 0 })?;
+    let list = taken_items(names.allocator(), value.get_mut("run"));
+    let run = job_run(names, scope, list, place)?;
+    Ok(Job { on, run })
+}
+
+/// The agent whose message a job waits for, and the variable for its value, where the job has `on`.
+/// They are read as a command's operands are; the shape says that they are two texts.
+fn on_of(
+    names: &mut KnownNames,
+    scope: &Scope,
+    value: Option<&Value>,
+    spot: Spot,
+) -> Result<Option<(usize, Name)>, ReadFault>
+    ensures { Gives (λ on. on) result (on_read (said scope.now) spot (option_map (λ v. view v.now) value.entry)) }
+{
+    match value {
+        Some(pair) => {
+            let (AgentNumber(sender), variable) = two(names, scope, items(Some(pair)), spot)?;
+            Ok(Some((sender, variable)))
+        }
+        None => Ok(None),
+    }
+}

@@ -1,0 +1,20 @@
+//! The parts of a plan, read from JSON values whose shape was tested: names, operands, commands, jobs
+//! and agents, each or the first fault in it.
+#![tactic(auto)]
+
+mod agent;
+mod command;
+mod fault;
+mod job;
+mod known_names;
+mod named;
+mod number_table;
+mod operand;
+mod operands;
+mod parts;
+mod scope;
+mod spelled;
+
+pub use agent::{agents_of, check_names};
+pub use fault::{FaultCode, Place, ReadFault, ScriptFault, Spot, fault_in};
+pub use parts::{member_count, taken_items};

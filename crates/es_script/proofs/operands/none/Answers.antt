@@ -1,7 +1,0 @@
-use Rattle.std.proofs.Common.{refl, sym, ◌∙◌}
-use Rattle.es_script.proofs.Items.{fit_none}
-use Rattle.es_script.proofs.operands.none.Goals as goal
-
-pub returns-then-not-is_empty : goal.returns-then-not-is_empty
-returns-then-not-is_empty c =
-    rw (c.fault.ensures, fit_none c.args.operands.now (sym c.is_empty.ensures ∙ c.if-not-is_empty.true)) refl

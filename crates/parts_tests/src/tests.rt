@@ -1,0 +1,8 @@
+//! Tests of single crates: command_line, es_ephemeron, es_ledger, es_mark, es_match and es_ticket.
+
+mod ledger;
+mod marks;
+mod matching;
+mod tickets;
+mod weak_tables;
+mod words;
