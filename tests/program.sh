@@ -182,25 +182,64 @@ run run --watch 1000 --helpers 8
 expect "a watched run" 0 "$room/report" "audits 1000"
 run run --watch 0
 expect "a run with no audits" 0 "$room/report" ""
+run run --turns --watch 3
+expect "no audits by turns" 0 "$room/report" ""
+run run --watch=3
+expect "a number behind an equals sign" 0 "$room/report" "audits 3"
+run run "$room/plan.json" --turns --helpers 2 --watch 3
+expect "options behind the file" 0 "$room/report" ""
+run run --watch=3 --helpers=2 "$room/plan.json"
+expect "options before the file" 0 "$room/report" "audits 3"
+run run --helpers 1
+expect "one helper" 0 "$room/report" ""
+run run --helpers=8
+expect "eight helpers" 0 "$room/report" ""
+run run -- --turns
+expect "a file that is spelled as an option" 4 "$room/nothing" "cannot read"
+run run run
+expect "a file that is spelled as a command" 4 "$room/nothing" "cannot read"
+run check -- -p
+expect "a file that begins with a dash, checked" 4 "$room/nothing" "cannot read"
 run check
 expect "check" 0 "$room/ok" ""
 run check "$room/plan.json"
 expect "check of a file" 0 "$room/ok" ""
 usage "another word" fly
 usage "help as a word" help
-usage "an option without run" --turns
 usage "two dashes alone" --
+usage "one dash and a letter" -x
+usage "a file without run" p.json
+usage "an option without run" --turns
+usage "a number without run" --helpers 1
+usage "a command in capitals" RUN
+usage "another option" run --fly
 usage "two files" run a b
+usage "an option twice" run --turns --turns
+usage "a value of an option that has none" run --turns=1
+usage "no number of helpers" run --helpers
 usage "no helpers" run --helpers 0
 usage "nine helpers" run --helpers 9
+usage "helpers below 0" run --helpers -1
+usage "helpers in letters" run --helpers two
+usage "helpers twice" run --helpers 1 --helpers 1
+usage "no number of audits" run --watch
 usage "a watch of 1001" run --watch 1001
 usage "a watch below 0" run --watch -1
 usage "a watch that is no number" run --watch often
+usage "a watch that is not whole" run --watch 1.5
+usage "a watch of 65536" run --watch 65536
+usage "an empty watch" run --watch=
+usage "two files, checked" check a b
 usage "an option of run beside check" check --turns
+usage "helpers beside check" check --helpers 1
+usage "a watch beside check" check --watch 1
+usage "both commands" check run p
 usage "a word that is no text" run "$(printf '\377')"
 help check --help
+help check -h
 help --helpers run --help
 help FILE check --help
+help FILE check p -h
 help "clusterrun run \[FILE\]" --help
 help "clusterrun 0.1.0" --version
 

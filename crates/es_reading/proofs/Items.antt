@@ -1,6 +1,5 @@
 -- The items of a list of values, seen as data.
-use Rattle.std.proofs.Common.{◌≡◌, ◌==◌, Bool, true, false, List, [], ◌∷◌, ◌&&◌, length, suc, Some, refl, ap, ◌∙◌}
-use Rattle.serde_json.specs.Data.{Data, string, array, Items, no_items, item}
+use Rattle.std.proofs.Common.{◌≡◌, ◌==◌, Bool, true, false, List, [], ◌∷◌, ◌&&◌, length, suc, refl, ap, ◌∙◌}
 use Rattle.serde_json.specs.View.{view, items_view}
 use Rattle.serde_json.specs.declared.value.Value.{Value}
 use Rattle.es_reading.specs.Forms.{OperandType, fits, fit}

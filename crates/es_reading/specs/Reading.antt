@@ -1,9 +1,9 @@
 -- Internal: reading a plan part by part, as the code does: each function gives the part, or the first fault in it.
-use Rattle.std.specs.Prelude.{ℕ, ◌≡◌, ◌+◌, ◌&&◌, not, ⊤, Bool, true, false, ℤ, pos, negsuc, List, [], ◌∷◌, ◌++◌, Option, Some, None, Result, Ok, Err, option_and_then, codes, nat_le}
+use Rattle.std.specs.Prelude.{ℕ, ◌≡◌, ◌+◌, not, ⊤, Bool, true, false, ℤ, pos, negsuc, List, [], ◌∷◌, ◌++◌, Option, Some, None, Result, Ok, Err, option_and_then, codes, nat_le}
 use Rattle.std.specs.HashMap.{get_by_text}
 use Rattle.serde_json.specs.Data.{Data, null, boolean, number, string, array, Items, no_items, item, Members, no_members, member}
-use Rattle.serde_json.specs.Find.{get, as_number, as_i64}
-use Rattle.es_value.specs.Limits.{most_agents, most_callbacks, most_jobs, most_commands, most_words}
+use Rattle.serde_json.specs.Find.{get, as_i64}
+use Rattle.es_value.specs.Limits.{most_callbacks, most_jobs, most_commands, most_words}
 use Rattle.es_value.specs.Spelling.{is_name, is_text}
 use Rattle.es_event.specs.declared.literal.Literal.{Literal}
 use Rattle.es_event.specs.declared.literal.Literal.TheVariants.{Undefined, Boolean, Number, Text}
@@ -11,11 +11,10 @@ use Rattle.es_event.specs.declared.command.Command.{Command}
 use Rattle.es_event.specs.declared.plan.Callback.{Callback}
 use Rattle.es_event.specs.declared.plan.Job.{Job}
 use Rattle.es_event.specs.declared.plan.AgentPlan.{AgentPlan}
-use Rattle.es_event.specs.declared.plan.Plan.{Plan}
 use Rattle.es_reading.specs.declared.fault.FaultCode.{FaultCode}
-use Rattle.es_reading.specs.declared.fault.FaultCode.TheVariants.{Shape, Version, AgentCount, Name, Unknown, Operands, Profile, Collection, Limit}
+use Rattle.es_reading.specs.declared.fault.FaultCode.TheVariants.{Name, Unknown, Operands, Profile, Collection, Limit}
 use Rattle.es_reading.specs.declared.fault.Place.{Place}
-use Rattle.es_reading.specs.declared.fault.Place.TheVariants.{Whole, Agent, Callback as CallbackPlace, Job as JobPlace}
+use Rattle.es_reading.specs.declared.fault.Place.TheVariants.{Agent, Callback as CallbackPlace, Job as JobPlace}
 use Rattle.es_reading.specs.declared.fault.ScriptFault.{ScriptFault}
 use Rattle.es_reading.specs.declared.fault.ReadFault.{ReadFault}
 use Rattle.es_reading.specs.declared.fault.ReadFault.TheVariants.{Script, NoMemory}
@@ -24,7 +23,7 @@ use Rattle.es_reading.specs.declared.number_table.NumberTable.{NumberTable}
 use Rattle.es_reading.specs.declared.scope.Scope.{Scope as NumberTables}
 use Rattle.serde_json.specs.Events.{items_len, members_len}
 use Rattle.es_reading.specs.Parts.{items_in, members_in, text_in}
-use Rattle.es_reading.specs.Scope.{Numbers, Scope, number_from, agent_from, other_than, is_used}
+use Rattle.es_reading.specs.Scope.{Numbers, Scope, number_from, other_than, is_used}
 use Rattle.es_reading.specs.Forms.{OperandType, name, literal, text, callback, agent, whole, words, Meaning, Makes, Form, form, is_allowed, is_whole, fit}
 use Rattle.es_reading.specs.Places.{at, is_in_callback}
 

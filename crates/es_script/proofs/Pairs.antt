@@ -1,9 +1,8 @@
 -- Pairs of texts.
-use Rattle.std.proofs.Common.{◌≡◌, ◌==◌, Bool, true, false, List, [], ◌∷◌, ◌&&◌, length, suc, Some, refl, ap, ◌∙◌}
+use Rattle.std.proofs.Common.{◌≡◌, false, List, [], ◌∷◌, length, Some, refl}
 use Rattle.serde_json.specs.Data.{Data, string, array, Items, no_items, item}
 use Rattle.serde_json.specs.View.{view, items_view}
 use Rattle.serde_json.specs.declared.value.Value.{Value}
-use Rattle.es_reading.specs.Forms.{OperandType, fits, fit}
 use Rattle.es_script.specs.Shape.{is_text_pair}
 
 single : (d : Data) → is_text_pair (Some (array (item d no_items))) ≡ false
