@@ -3,15 +3,15 @@
 #![tactic(auto)]
 
 mod cluster;
+mod complaint;
 mod ending;
 mod engine;
-mod explain;
 mod input;
 mod laws;
 mod run_fault;
 
+pub use complaint::{explain, note_audits};
 pub use ending::{Ending, status_for};
 pub use engine::run;
-pub use explain::{explain, note_audits};
 pub use laws::a_plan_has_one_answer;
 pub use run_fault::RunFault;

@@ -1,4 +1,4 @@
-//! What reads and runs plans, by its calls: the reader, agents, clusters, threads, and the engine above them.
+//! What runs plans, by its calls: agents, clusters, threads, and the engine above them.
 
 mod agents;
 mod clusters;

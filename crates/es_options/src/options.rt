@@ -7,7 +7,7 @@ ghost use Rattle.std.specs.Prelude.{◌≡◌, max, min};
 pub struct Options {
     /// Only read the plan, and say that it is one.
     pub check: bool,
-    /// Move the agents by turns, in one thread; else each has a thread of its own.
+    /// Move the agents by turns, in one thread; else each has a thread, the first the caller's.
     pub turns: bool,
     /// How many helpers mark, 1 to 8; no effect yet.
     pub helpers: u8,

@@ -67,10 +67,7 @@ fn is_used(names: &[Name], name: &Name) -> bool
 /// The plans of the agents, in order, or the first fault in them: agent by agent the limits, the callbacks
 /// by rising names and the jobs in order, of each job first whose message it waits for, and then its
 /// commands. The values lose their jobs.
-pub fn agents_of(
-    alloc: Global,
-    agents: &mut [Value],
-) -> Result<Sequence<AgentPlan>, ReadFault>
+pub fn agents_of(alloc: Global, agents: &mut [Value]) -> Result<Sequence<AgentPlan>, ReadFault>
     ensures { Gives (λ s. s) result (agents_read (agent_from 0 (items_view agents.old)) 0 (items_view agents.old)) }
 {
     let numbers = agent_numbers(alloc, agents)?;

@@ -1,4 +1,4 @@
-//! Runs of a plan, each agent in a thread of its own.
+//! Runs of a plan in threads: the first agent's is the caller's, and each other agent has one of its own.
 
 ghost use Rattle.std.specs.Prelude.{◌≡◌, ◌<◌, ◌≤◌, [], true, length, vec_len, vec_capacity, IfOk, OnErr};
 ghost use Rattle.es_event.specs.Others.{all_name_others};
@@ -28,8 +28,9 @@ pub struct Counted {
     pub tallies: Vec<Tally>,
 }
 
-/// Runs a plan, each agent in a thread of its own, until all have ended. Each agent posts to other agents
-/// alone, and waits for messages of other agents alone. So many helpers may mark; none does yet.
+/// Runs a plan, the first agent in the caller's thread and each other in one of its own, until all have
+/// ended. Each agent posts to other agents alone, and waits for messages of other agents alone. So many
+/// helpers may mark; none does yet.
 pub fn run_threads<G: Gate + Sync, R: Threads + Wait + Sync>(
     rt: &R,
     alloc: Global,
