@@ -13,10 +13,10 @@ use Rattle.es_event.proofs.OneOutcome.{one_outcome}
 use Rattle.es_match.specs.Cluster.{Ties, history_of}
 use Rattle.es_match.specs.Deeds.{Deed, part}
 use Rattle.es_match.specs.Meets.{Tickets}
-use Rattle.es_run.specs.Outcomes.{IsClusterOutcome}
+use Rattle.es_outcome.specs.Outcomes.{IsClusterOutcome}
 use Rattle.es_engine.specs.Laws.{stay_alone}
 use Rattle.es_engine.proofs.Quiet.{alone_deeds, quiet_ledger}
-use Rattle.es_run.proofs.Closing.{is_end}
+use Rattle.es_outcome.proofs.Closing.{is_end}
 
 -- each does nothing in the ledger but end
 only_ends : (ps : List AgentPlan) (hs : List (List Event)) → list_all stays_alone ps ≡ true → AreWholeRuns ps hs → (a : ℕ) (ds : List Deed) (t : Tickets) → Ties (history_of (map (λ h. reverse h) hs) a) ds t → list_all is_end ds ≡ true

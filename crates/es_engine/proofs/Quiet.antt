@@ -35,7 +35,7 @@ use Rattle.es_match.specs.Asks.{Asking, nothing, to_empty, to_close, between_job
 use Rattle.es_match.specs.Meets.{Tickets, after}
 use Rattle.es_match.specs.Cluster.{Ties}
 use Rattle.es_match.proofs.Bridge.{both}
-use Rattle.es_run.proofs.Closing.{is_end}
+use Rattle.es_outcome.proofs.Closing.{is_end}
 
 -- An agent that stays alone
 

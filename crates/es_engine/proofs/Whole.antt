@@ -16,8 +16,8 @@ use Rattle.es_cluster.specs.State.{Cluster, first_state, names_of, plans}
 use Rattle.es_record.specs.Book.{Book}
 use Rattle.es_registry.specs.declared.slot.Tally.{Tally}
 use Rattle.es_report.specs.Tallies.{end_tally, AreTallies}
-use Rattle.es_run.proofs.Tallied.{of_books, of_events}
-use Rattle.es_run.specs.Outcomes.{IsClusterOutcome}
+use Rattle.es_outcome.proofs.Tallied.{of_books, of_events}
+use Rattle.es_outcome.specs.Outcomes.{IsClusterOutcome}
 
 -- Plans
 

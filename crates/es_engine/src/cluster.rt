@@ -8,7 +8,7 @@ ghost use Rattle.es_event.specs.Ledger.{count};
 ghost use Rattle.es_event.specs.Others.{all_name_others};
 ghost use Rattle.es_event.specs.Totals.{released as released_said};
 ghost use Rattle.es_report.specs.Tallies.{AreTallies, end_tally};
-ghost use Rattle.es_run.specs.Outcomes.{IsClusterOutcome};
+ghost use Rattle.es_outcome.specs.Outcomes.{IsClusterOutcome};
 ghost use Rattle.es_script.specs.Grammar.{no_callback_collects};
 
 use crate::run_fault::RunFault;

@@ -7,17 +7,12 @@
 
 mod auditing;
 mod cluster;
-mod counting;
-mod ending;
 mod gate;
 mod run;
 mod serving;
-mod stop;
 
-pub use auditing::audit_of;
 pub use cluster::Cluster;
-pub use counting::tallies_of;
 pub use es_cluster::{Audit, Member, Planned};
+pub use es_outcome::{Counted, RunStop, audit_of, tallies_of};
 pub use gate::{Gate, NoGate};
-pub use run::{Counted, run_counted, run_threads, run_watched};
-pub use stop::RunStop;
+pub use run::{run_counted, run_threads, run_watched};

@@ -3,30 +3,20 @@
 ghost use Rattle.std.specs.Prelude.{◌≡◌, ◌<◌, ◌≤◌, [], true, length, vec_len, vec_capacity, IfOk, OnErr};
 ghost use Rattle.es_event.specs.Others.{all_name_others};
 ghost use Rattle.es_report.specs.Tallies.{AreTallies};
-ghost use Rattle.es_run.specs.Outcomes.{IsClusterOutcome};
+ghost use Rattle.es_outcome.specs.Outcomes.{IsClusterOutcome};
 
 use crate::cluster::Cluster;
-use crate::ending::{abandon, outcome_of};
 use crate::gate::Gate;
 use crate::serving::run_all;
-use crate::stop::RunStop;
 use es_cluster::{ClusterCore, Member, Parts, Planned};
 use es_event::{Outcome, Plan};
-use es_registry::Tally;
+use es_outcome::{Counted, RunStop, abandon, outcome_of};
 use es_ticket::Opened;
 use es_value::NoMemory;
 use std::alloc::Global;
 use std::marker::Brand;
 use std::sync::{Condvar, Mutex, Wait};
 use std::thread::Threads;
-
-/// What a plan's run came to, and how many registrations of each agent have each fate.
-#[derive(Drop)]
-pub struct Counted {
-    pub outcome: Outcome,
-    /// The totals of each agent, in the plan's order.
-    pub tallies: Vec<Tally>,
-}
 
 /// Runs a plan, the first agent in the caller's thread and each other in one of its own, until all have
 /// ended. Each agent posts to other agents alone, and waits for messages of other agents alone. So many

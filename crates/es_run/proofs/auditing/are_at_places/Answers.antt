@@ -5,7 +5,7 @@ use Rattle.std.proofs.Math.Seq.{map-set_same}
 use Rattle.es_cluster.proofs.Standing.{books_length, within}
 use Rattle.es_cluster.specs.State.{books}
 use Rattle.es_cluster.proofs.Counting.{one_more}
-use Rattle.es_run.proofs.Placed.{lent_at}
+use Rattle.es_outcome.proofs.Placed.{lent_at}
 use Rattle.es_run.proofs.auditing.are_at_places.Goals as goal
 
 pub loop-member-preserved : goal.loop-member-preserved

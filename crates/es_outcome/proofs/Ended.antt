@@ -14,11 +14,11 @@ use Rattle.es_registry.specs.declared.slot.Tally.{Tally}
 use Rattle.es_report.specs.Tallies.{AreTallies, end_tally}
 use Rattle.es_cluster.proofs.Ended.{there}
 use Rattle.es_cluster.specs.Ends.{AreHistories, HaveNoTicket}
-use Rattle.es_run.specs.Outcomes.{IsClusterOutcome, at_last}
-use Rattle.es_run.specs.Places.{AreAtPlaces, ArePlanned, SomeGoesOn}
-use Rattle.es_run.proofs.Closing.{over_in_cluster, over_last}
-use Rattle.es_run.proofs.Placed.{planned}
-use Rattle.es_run.proofs.Tallied.{of_books, of_events}
+use Rattle.es_outcome.specs.Outcomes.{IsClusterOutcome, at_last}
+use Rattle.es_outcome.specs.Places.{AreAtPlaces, ArePlanned, SomeGoesOn}
+use Rattle.es_outcome.proofs.Closing.{over_in_cluster, over_last}
+use Rattle.es_outcome.proofs.Placed.{planned}
+use Rattle.es_outcome.proofs.Tallied.{of_books, of_events}
 
 none_held : (bs : List Book) (l : Ledger) (n : ℕ) → length bs ≡ n → AreAtPlaces bs → HaveNoTicket bs l → (a : ℕ) → a < n → held a (table l) ≡ []
 none_held bs l n size placed none a less =

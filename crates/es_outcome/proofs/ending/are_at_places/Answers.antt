@@ -3,7 +3,7 @@ use Rattle.es_member.specs.Seats.{IsPlanned, Seat}
 use Rattle.es_cluster.proofs.Standing.{books_length, found_at, within}
 use Rattle.es_cluster.specs.State.{books}
 use Rattle.es_cluster.proofs.Counting.{one_more}
-use Rattle.es_run.proofs.ending.are_at_places.Goals as goal
+use Rattle.es_outcome.proofs.ending.are_at_places.Goals as goal
 
 pub loop-place-preserved : goal.loop-place-preserved
 loop-place-preserved g c =

@@ -2,7 +2,7 @@ use Rattle.std.proofs.Common.{ap, subst, sym, ◌∙◌}
 use Rattle.es_ledger.specs.Books.{Books}
 use Rattle.es_cluster.specs.Ends.{HaveNoTicket}
 use Rattle.es_cluster.specs.State.{books}
-use Rattle.es_run.proofs.ending.finish.Goals as goal
+use Rattle.es_outcome.proofs.ending.finish.Goals as goal
 
 pub returns-clause-tickets : goal.returns-clause-tickets
 returns-clause-tickets g c =

@@ -3,10 +3,10 @@ use Rattle.es_match.specs.Cluster.{IsCluster}
 use Rattle.es_report.specs.Tallies.{end_tally}
 use Rattle.es_cluster.proofs.Standing.{books_length}
 use Rattle.es_cluster.specs.State.{books}
-use Rattle.es_run.specs.Places.{AreAtPlaces, ArePlanned, SomeGoesOn}
-use Rattle.es_run.proofs.Ended.{comes_to, goes_on_alone, tallies_are}
-use Rattle.es_run.proofs.ending.outcome_of.Goals.{then-len-agents-via-then-len-agents, then-len-agents-via-else-len-agents+then-not-are_at_places, then-len-agents-via-else-len-agents+else-not-are_at_places+then-not-have_closed}
-use Rattle.es_run.proofs.ending.outcome_of.Goals as goal
+use Rattle.es_outcome.specs.Places.{AreAtPlaces, ArePlanned, SomeGoesOn}
+use Rattle.es_outcome.proofs.Ended.{comes_to, goes_on_alone, tallies_are}
+use Rattle.es_outcome.proofs.ending.outcome_of.Goals.{then-len-agents-via-then-len-agents, then-len-agents-via-else-len-agents+then-not-are_at_places, then-len-agents-via-else-len-agents+else-not-are_at_places+then-not-have_closed}
+use Rattle.es_outcome.proofs.ending.outcome_of.Goals as goal
 
 pub returns-then-len-agents-clause-mismatch : goal.returns-then-len-agents-clause-mismatch
 returns-then-len-agents-clause-mismatch g c = λ is placed size cluster.

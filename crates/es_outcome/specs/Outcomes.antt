@@ -10,7 +10,7 @@ use Rattle.es_ledger.specs.Draining.{drained}
 use Rattle.es_match.specs.Cluster.{IsCluster}
 use Rattle.es_record.specs.Book.{Book}
 use Rattle.es_cluster.specs.Ends.{with_ends}
-use Rattle.es_run.specs.Places.{AreAtPlaces}
+use Rattle.es_outcome.specs.Places.{AreAtPlaces}
 
 -- the names of the plan, and whole runs of its agents; the ledger's history is legal and theirs are those of one cluster with it; no
 -- ticket of any block and no message is left (Agents and Agent Clusters)

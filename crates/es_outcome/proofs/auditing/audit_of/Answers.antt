@@ -8,7 +8,7 @@ use Rattle.es_member.proofs.Audited.{audits}
 use Rattle.es_member.specs.Audits.{Audits}
 use Rattle.es_cluster.proofs.Standing.{books_length}
 use Rattle.es_cluster.specs.State.{books}
-use Rattle.es_run.proofs.auditing.audit_of.Goals as goal
+use Rattle.es_outcome.proofs.auditing.audit_of.Goals as goal
 
 pub returns-clause-audit : goal.returns-clause-audit
 returns-clause-audit g c =

@@ -6,7 +6,7 @@ use Rattle.es_ledger.specs.Audits.{held_below}
 use Rattle.es_member.specs.Seats.{rows_of, SameRows}
 use Rattle.es_record.specs.Book.{Book}
 use Rattle.es_cluster.specs.State.{books}
-use Rattle.es_run.proofs.auditing.count_all.Given as goal
+use Rattle.es_outcome.proofs.auditing.count_all.Given as goal
 
 abbrev pub invariant-loop-member : goal.invariant-loop-member
 invariant-loop-member g l = record {

@@ -11,7 +11,7 @@ use Rattle.es_cluster.specs.Moves.{is_over}
 use Rattle.es_cluster.specs.State.{books, plans}
 use Rattle.es_member.specs.Seats.{Seat}
 use Rattle.es_rules.specs.Needs.{asks_nothing, need}
-use Rattle.es_run.specs.Places.{AreAtPlaces, ArePlanned}
+use Rattle.es_outcome.specs.Places.{AreAtPlaces, ArePlanned}
 
 -- the agent of a member at a place
 pub book_at : (ms : List Seat) (i : ℕ) (m : Seat) → slice_get ms i ≡ Some m → slice_get (books ms) i ≡ Some m.book

@@ -6,19 +6,27 @@ ghost use Rattle.es_event.specs.LegalLedger.{LegalLedger};
 ghost use Rattle.es_cluster.specs.Ends.{AreEnded, AreHistories, HaveNoTicket};
 ghost use Rattle.es_cluster.specs.State.{books};
 ghost use Rattle.es_report.specs.Tallies.{AreTallies};
-ghost use Rattle.es_run.specs.Outcomes.{DoNotMatch, IsClusterOutcome, at_last};
-ghost use Rattle.es_run.specs.Places.{AreAtPlaces, ArePlanned, SomeGoesOn};
+ghost use Rattle.es_outcome.specs.Outcomes.{DoNotMatch, IsClusterOutcome, at_last};
+ghost use Rattle.es_outcome.specs.Places.{AreAtPlaces, ArePlanned, SomeGoesOn};
 
 use crate::counting::tallies_of;
-use crate::run::Counted;
 use crate::stop::RunStop;
 use es_cluster::{Member, Parts, Planned, end_all, give_up, into_histories, matches};
 use es_event::{Outcome, Sequence};
+use es_registry::Tally;
 use std::alloc::Global;
+
+/// What a plan's run came to, and how many registrations of each agent have each fate.
+#[derive(Drop)]
+pub struct Counted {
+    pub outcome: Outcome,
+    /// The totals of each agent, in the plan's order.
+    pub tallies: Vec<Tally>,
+}
 
 /// What agents that ran beside each other came to, if it is an outcome of their plan: each counts as
 /// ended, and the messages that nobody took are taken out. Whatever comes of it, all tickets are spent.
-pub(crate) fn outcome_of<L: Planned>(alloc: Global, parts: Parts<L>) -> Result<Counted, RunStop>
+pub fn outcome_of<L: Planned>(alloc: Global, parts: Parts<L>) -> Result<Counted, RunStop>
     requires size { length parts.members.items ≡ length L.plan.agents }
     requires names { parts.names ≡ map (λ p. p.name) L.plan.agents }
     requires place { (parts.histories.items ≡ []) × (length parts.members.items ≤ vec_capacity parts.histories) }
@@ -51,7 +59,7 @@ pub(crate) fn outcome_of<L: Planned>(alloc: Global, parts: Parts<L>) -> Result<C
 }
 
 /// Gives all agents up: every ticket is spent. It takes no memory.
-pub(crate) fn abandon<L: Planned>(parts: Parts<L>) {
+pub fn abandon<L: Planned>(parts: Parts<L>) {
     let Parts {
         members,
         ledger,

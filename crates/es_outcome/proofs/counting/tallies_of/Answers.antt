@@ -2,8 +2,8 @@ use Rattle.std.proofs.Common.{◌≡◌, ◌<◌, Some, arith, ap, sym, ◌∙�
 use Rattle.es_member.specs.Seats.{Seat}
 use Rattle.es_cluster.proofs.Standing.{books_length, found_at}
 use Rattle.es_cluster.specs.State.{books}
-use Rattle.es_run.proofs.Tallied.{tallies_all, tallies_more}
-use Rattle.es_run.proofs.counting.tallies_of.Goals as goal
+use Rattle.es_outcome.proofs.Tallied.{tallies_all, tallies_more}
+use Rattle.es_outcome.proofs.counting.tallies_of.Goals as goal
 
 pub loop-place-preserved : goal.loop-place-preserved
 loop-place-preserved g c =

@@ -14,7 +14,7 @@ pub enum RunStop {
 
 impl From<NoMemory> for RunStop {
     ghost use Rattle.std.specs.Prelude.{◌≡◌};
-    ghost use Rattle.es_run.specs.declared.stop.RunStop.TheVariants.{NoMemory};
+    ghost use Rattle.es_outcome.specs.declared.stop.RunStop.TheVariants.{NoMemory};
 
     ghost from_gives = { λ _ e. e ≡ NoMemory };
 

@@ -10,8 +10,8 @@ use Rattle.es_member.specs.Seats.{SameRows, rows_of}
 use Rattle.es_cluster.proofs.Standing.{books_length, within}
 use Rattle.es_cluster.specs.State.{books}
 use Rattle.es_cluster.proofs.Counting.{one_more}
-use Rattle.es_run.proofs.Placed.{lent_at}
-use Rattle.es_run.proofs.auditing.count_all.Goals as goal
+use Rattle.es_outcome.proofs.Placed.{lent_at}
+use Rattle.es_outcome.proofs.auditing.count_all.Goals as goal
 
 pub count_with-count-requires-clause-known : goal.count_with-count-requires-clause-known
 count_with-count-requires-clause-known g c =

@@ -6,8 +6,8 @@ use Rattle.es_cluster.proofs.Standing.{books_length, found_at, within}
 use Rattle.es_cluster.specs.Moves.{is_over}
 use Rattle.es_cluster.specs.State.{books}
 use Rattle.es_cluster.proofs.Counting.{one_more}
-use Rattle.es_run.proofs.Placed.{still_going}
-use Rattle.es_run.proofs.ending.have_closed.Goals as goal
+use Rattle.es_outcome.proofs.Placed.{still_going}
+use Rattle.es_outcome.proofs.ending.have_closed.Goals as goal
 
 pub loop-place-preserved : goal.loop-place-preserved
 loop-place-preserved g c =

@@ -1,0 +1,13 @@
+//! What agents that worked beside each other come to: their audits, their outcome, and why there is none.
+//! Nothing here knows of threads or locks.
+#![tactic(auto)]
+
+mod auditing;
+mod counting;
+mod ending;
+mod stop;
+
+pub use auditing::audit_of;
+pub use counting::tallies_of;
+pub use ending::{Counted, abandon, outcome_of};
+pub use stop::RunStop;
