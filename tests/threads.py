@@ -3,8 +3,8 @@
 
 Usage: threads.py PROGRAM COUNT SEED [--jobs N]
        threads.py PROGRAM --waking RUNS
-The gate runs 300 of the first; more of them, and the second, are run by hand. Each prints every run that differs, and `N passed, M failed` last. A run that has not ended
-after a minute has failed.
+The gate runs 300 of the first; more of them, and the second, are run by hand. Each prints every run that differs, and
+`N passed, M failed` last. A run that has not ended after a minute has failed.
 
 The first tries COUNT random plans, N of them at a time (1), and prints how many had what. Each is run by turns, in
 threads, and in threads beside a watcher, who makes a number of audits that is drawn too. Status, report and what stands
