@@ -1,7 +1,6 @@
-//! Tests of single crates: es_ephemeron, es_ledger, es_mark, es_match and es_ticket.
+//! Tests of single crates: es_ephemeron, es_ledger, es_mark and es_ticket.
 
 mod ledger;
 mod marks;
-mod matching;
 mod tickets;
 mod weak_tables;
