@@ -1,0 +1,12 @@
+//! Tickets, the ledger, weak tables and marks, each alone, and what reads and runs plans: agents, clusters,
+//! threads, and the engine above them.
+
+mod agents;
+mod clusters;
+mod fakes;
+mod ledger;
+mod marks;
+mod runs;
+mod threads;
+mod tickets;
+mod weak_tables;

@@ -1,5 +1,0 @@
-//! Tests of crates that stand below the program, each by its public calls: what no program shows of them.
-#![tactic(auto)]
-
-#[cfg(test)]
-mod tests;
