@@ -7,9 +7,9 @@ use Rattle.es_event.specs.declared.event.Event.{Event}
 use Rattle.es_event.specs.History.{History}
 use Rattle.es_match.specs.Deeds.{Deed, Spends, Ends}
 use Rattle.es_match.specs.Asks.{Asking, nothing, to_open, to_measure, to_compare, to_load, to_store, to_add, to_post, to_receive, to_refuse, to_pass, to_empty, to_close, between_jobs, ends_job, asks}
-use Rattle.es_match.specs.Meets.{Tickets, after, spends, ends, strike, serials_of, within, some_if, no_more, sole, pair, is_one}
+use Rattle.es_match.specs.Meets.{Tickets, Came, after, came_after, nothing_came, spends, ends, strike, serials_of, within, some_if, no_more, sole, pair, is_one}
 use Rattle.es_match.specs.Cluster.{Ties}
-use Rattle.es_match.specs.Goes.{asked, goes, goes_on}
+use Rattle.es_match.specs.Goes.{asked, goes}
 
 -- How many deeds are asked
 
@@ -97,6 +97,14 @@ after-length t to_close ds u e =
     let s = spends-length true (serials_of t) ds (some_if-true _ _ _ e) in
     let l = serials-length t in omega (arith, s, l)
 
+-- what was found of an option was there
+pub mapped : {A B : Type 0} (f : A → B) (o : Option A) (b : B) → option_map f o ≡ Some b → (a : A) × (o ≡ Some a) × (f a ≡ b)
+mapped f None b e = cc
+mapped f (Some a) b e = (a, refl, let same : Some (f a) ≡ Some b = e in cc)
+
+came-length : (c : Came) (w : Asking) (ds : List Deed) (d : Came) → came_after c w ds ≡ Some d → length ds ≡ asked c.tickets w
+came-length c w ds d e = let m = mapped _ (after c.tickets w ds) d e in after-length c.tickets w ds m.0 m.1
+
 -- Lists
 
 take-front : {A : Type 0} (xs ys : List A) (n : ℕ) → length xs ≡ n → take n (xs ++ ys) ≡ xs
@@ -122,55 +130,55 @@ none_more (d ∷ ds) e = absurd (cc)
 
 -- One way
 
-one_step : (h : History) (t u : Tickets) (e : Event) (es : List Event) (ds rest : List Deed)
-    → after t (asks (between_jobs h) e) ds ≡ Some u
-    → goes (between_jobs h) t (e ∷ es) (ds ++ rest) ≡ goes (ends_job e) u es rest
-one_step h t u e es ds rest a =
-    let n = after-length t (asks (between_jobs h) e) ds u a in
-    let k : take (asked t (asks (between_jobs h) e)) (ds ++ rest) ≡ ds = take-front ds rest _ n in
-    let d : drop (asked t (asks (between_jobs h) e)) (ds ++ rest) ≡ rest = drop-front ds rest _ n in
-    rw k (rw d (rw a refl))
+one_step : (h : History) (c d : Came) (e : Event) (es : List Event) (ds rest : List Deed)
+    → came_after c (asks (between_jobs h) e) ds ≡ Some d
+    → goes (between_jobs h) c (e ∷ es) (ds ++ rest) ≡ goes (ends_job e) d es rest
+one_step h c d e es ds rest a =
+    let n = came-length c (asks (between_jobs h) e) ds d a in
+    let k : take (asked c.tickets (asks (between_jobs h) e)) (ds ++ rest) ≡ ds = take-front ds rest _ n in
+    let r : drop (asked c.tickets (asks (between_jobs h) e)) (ds ++ rest) ≡ rest = drop-front ds rest _ n in
+    rw k (rw r (rw a refl))
 
-ties-go : (h : History) (p : List Deed) (t : Tickets) → Ties h p t → (es : List Event) (rest : List Deed)
-    → goes true [] (reverse h ++ es) (p ++ rest) ≡ goes (between_jobs h) t es rest
-ties-go [] p t ties es rest = rw (ties.0) (rw (ties.1) refl)
-ties-go (e ∷ h) p t (q, ds, b, split, ties, a) es rest =
-    ap (λ l. goes true [] l (p ++ rest)) (reverse_cons e h es)
-    ∙ ap (goes true [] (reverse h ++ e ∷ es)) (ap (λ l. l ++ rest) split ∙ append_assoc q ds rest)
+ties-go : (h : History) (p : List Deed) (c : Came) → Ties h p c → (es : List Event) (rest : List Deed)
+    → goes true nothing_came (reverse h ++ es) (p ++ rest) ≡ goes (between_jobs h) c es rest
+ties-go [] p c ties es rest = rw (ties.0) (rw (ties.1) refl)
+ties-go (e ∷ h) p c (q, ds, b, split, ties, a) es rest =
+    ap (λ l. goes true nothing_came l (p ++ rest)) (reverse_cons e h es)
+    ∙ ap (goes true nothing_came (reverse h ++ e ∷ es)) (ap (λ l. l ++ rest) split ∙ append_assoc q ds rest)
     ∙ ties-go h q b ties (e ∷ es) (ds ++ rest)
-    ∙ one_step h b t e es ds rest a
+    ∙ one_step h b c e es ds rest a
 
 -- The other way
 
-goes_on-some : (v : Option Tickets) (next : Tickets → Bool) → goes_on v next ≡ true → (u : Tickets) × (v ≡ Some u) × (next u ≡ true)
-goes_on-some None next e = absurd (true≢false (sym e))
-goes_on-some (Some u) next e = (u, refl, e)
+chained : {A B : Type 0} (f : A → Option B) (o : Option A) (b : B) → option_and_then f o ≡ Some b → (a : A) × (o ≡ Some a) × (f a ≡ Some b)
+chained f None b e = cc
+chained f (Some a) b e = (a, refl, e)
 
-goes-tie : (h : History) (p : List Deed) (t : Tickets) → Ties h p t → (es : List Event) (rest : List Deed)
-    → goes (between_jobs h) t es rest ≡ true → (u : Tickets) × Ties (reverse es ++ h) (p ++ rest) u
-goes-tie h p t ties [] rest go = (
-  t,
-  subst (λ (l : List Deed). Ties h l t) (sym (ap (λ l. p ++ l) (none_more rest go)
-      ∙ append_nil p)) ties,
-)
-goes-tie h p t ties (e ∷ es) rest go =
-    let k : ℕ = asked t (asks (between_jobs h) e) in
-    let s = goes_on-some (after t (asks (between_jobs h) e) (take k rest)) _ go in
-    let further = goes-tie (e ∷ h) (p ++ take k rest) s.0 (p, take k rest, t, refl, ties, s.1) es (drop k rest) s.2 in (
-      further.0,
-      subst (λ (l : List Event). Ties l (p ++ rest) further.0) (sym (reverse_cons e es h))
-          (subst (λ (l : List Deed). Ties (reverse es ++ e ∷ h) l further.0) (append_assoc p (take k rest) (drop k rest)
-          ∙ ap (λ l. p ++ l) (take-append-drop k rest)) further.1),
-    )
+at_end : (b : Bool) (c d : Came) → some_if b c ≡ Some d → (b ≡ true) × (c ≡ d)
+at_end true c d e = (refl, cc)
+at_end false c d e = cc
+
+goes-tie : (h : History) (p : List Deed) (c : Came) → Ties h p c → (es : List Event) (rest : List Deed) (d : Came)
+    → goes (between_jobs h) c es rest ≡ Some d → Ties (reverse es ++ h) (p ++ rest) d
+goes-tie h p c ties [] rest d go =
+    let end = at_end (no_more rest) c d go in
+    subst (λ (l : List Deed). Ties h l d) (sym (ap (λ l. p ++ l) (none_more rest end.0) ∙ append_nil p)) (subst (Ties h p) end.1 ties)
+goes-tie h p c ties (e ∷ es) rest d go =
+    let k : ℕ = asked c.tickets (asks (between_jobs h) e) in
+    let s = chained _ (came_after c (asks (between_jobs h) e) (take k rest)) d go in
+    let further = goes-tie (e ∷ h) (p ++ take k rest) s.0 (p, take k rest, c, refl, ties, s.1) es (drop k rest) d s.2 in
+    subst (λ (l : List Event). Ties l (p ++ rest) d) (sym (reverse_cons e es h))
+        (subst (λ (l : List Deed). Ties (reverse es ++ e ∷ h) l d) (append_assoc p (take k rest) (drop k rest)
+        ∙ ap (λ l. p ++ l) (take-append-drop k rest)) further)
 
 -- Both
 
-pub goes_means_ties : (h : History) (p : List Deed) → goes true [] (reverse h) p ≡ true → (t : Tickets) × Ties h p t
-goes_means_ties h p go =
-    let found = goes-tie [] [] [] (refl, refl) (reverse h) p go in
-    (found.0, subst (λ (l : List Event). Ties l p found.0) (append_nil (reverse (reverse h)) ∙ reverse-reverse h) found.1)
+pub goes_means_ties : (h : History) (p : List Deed) (c : Came) → goes true nothing_came (reverse h) p ≡ Some c → Ties h p c
+goes_means_ties h p c go =
+    let found = goes-tie [] [] nothing_came (refl, refl) (reverse h) p c go in
+    subst (λ (l : List Event). Ties l p c) (append_nil (reverse (reverse h)) ∙ reverse-reverse h) found
 
-pub ties_mean_goes : (h : History) (p : List Deed) (t : Tickets) → Ties h p t → goes true [] (reverse h) p ≡ true
-ties_mean_goes h p t ties =
-    ap (λ l. goes true [] l p) (sym (append_nil (reverse h))) ∙ ap (goes true [] (reverse h ++ [])) (sym (append_nil p))
-    ∙ ties-go h p t ties [] []
+pub ties_mean_goes : (h : History) (p : List Deed) (c : Came) → Ties h p c → goes true nothing_came (reverse h) p ≡ Some c
+ties_mean_goes h p c ties =
+    ap (λ l. goes true nothing_came l p) (sym (append_nil (reverse h))) ∙ ap (goes true nothing_came (reverse h ++ [])) (sym (append_nil p))
+    ∙ ties-go h p c ties [] []

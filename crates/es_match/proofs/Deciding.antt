@@ -1,7 +1,7 @@
 -- What the parts of a ledger's history decide.
-use Rattle.std.proofs.Common.{◌≡◌, ◌↔◌, ℕ, ◌<◌, ◌≤◌, Bool, true, false, true≢false, ◌||◌, ◌==◌, not, List, [], ◌∷◌, ◌++◌, length, slice_index_or, Some, None, refl, sym, ◌∙◌, ap, subst, arith, eq-eqb, eqb-true, nat_lt, Result, Ok, Err, IfOk}
+use Rattle.std.proofs.Common.{◌≡◌, ◌↔◌, ℕ, ◌<◌, ◌≤◌, Bool, true, false, true≢false, ◌||◌, ◌==◌, not, List, [], ◌∷◌, ◌++◌, length, slice_index_or, Option, Some, None, refl, sym, ◌∙◌, ap, subst, arith, eq-eqb, eqb-true, nat_lt, Result, Ok, Err, IfOk, IfSome, IfNone, is_some}
 use Rattle.std.specs.Prelude.{reverse, map}
-use Rattle.std.proofs.lemmas.List.{reverse-reverse}
+use Rattle.std.proofs.lemmas.List.{length-map, reverse-reverse}
 use Rattle.std.proofs.Math.ListN.{get_or-map}
 use Rattle.std.proofs.lemmas.Bool.Decides.{nat_tests}
 use Rattle.es_event.specs.declared.event.Event.{Event}
@@ -9,11 +9,11 @@ use Rattle.es_event.specs.History.{History}
 use Rattle.es_event.specs.Ledger.{Ledger}
 use Rattle.es_match.specs.declared.deed.Deed.{Deed}
 use Rattle.es_match.specs.Deeds.{Deed as DeedSaid, Owned, deed, part, part_of, is_wait}
-use Rattle.es_match.specs.Meets.{Tickets}
-use Rattle.es_match.specs.Cluster.{Ties, IsCluster, history_of, patient, drained_last, drained, is_patient, is_nobodys}
+use Rattle.es_match.specs.Meets.{Came, nothing_came}
+use Rattle.es_match.specs.Cluster.{Ties, HaveCome, IsCluster, history_of, patient, drained_last, drained, is_patient, is_nobodys}
 use Rattle.es_match.specs.Goes.{goes}
 use Rattle.es_match.specs.Orderly.{is_known, may_come, orderly}
-use Rattle.es_match.specs.Split.{AllGo, IsSplit, part_at}
+use Rattle.es_match.specs.Split.{AllGo, IsSplit, SomeStops, part_at}
 use Rattle.es_match.proofs.Bridge.{both, goes_means_ties, ties_mean_goes}
 use Rattle.es_match.proofs.Splitting.{past}
 
@@ -87,46 +87,60 @@ orders n (x ∷ l) p d none =
 history_said : (hs : List (List Event)) (a : ℕ) → history_of (map reverse hs) a ≡ reverse (slice_index_or hs a [])
 history_said hs a = get_or-map reverse hs a []
 
-all : (hs : List (List Event)) (l : Ledger) (ps : List (List Deed)) → IsSplit (length hs) l ps → AllGo hs ps
-    → (a : ℕ) → goes true [] (slice_index_or hs a []) (part_at ps a) ≡ true
-all hs l ps s go a = case-of (nat_lt a (length hs)) refl
+-- what has come to an agent that is not there
+none_came : (hs : List (List Event)) (cs : List Came) (a : ℕ) → length cs ≡ length hs → length hs ≤ a → slice_index_or cs a nothing_came ≡ nothing_came
+none_came hs cs a size far = past cs a nothing_came (omega (arith, size, far))
+
+all : (hs : List (List Event)) (l : Ledger) (ps : List (List Deed)) (cs : List Came) → IsSplit (length hs) l ps → length cs ≡ length hs → AllGo hs ps cs
+    → (a : ℕ) → goes true nothing_came (slice_index_or hs a []) (part_at ps a) ≡ Some (slice_index_or cs a nothing_came)
+all hs l ps cs s size go a = case-of (nat_lt a (length hs)) refl
   where
-    case-of : (b : Bool) → nat_lt a (length hs) ≡ b → goes true [] (slice_index_or hs a []) (part_at ps a) ≡ true
+    case-of : (b : Bool) → nat_lt a (length hs) ≡ b → goes true nothing_came (slice_index_or hs a []) (part_at ps a) ≡ Some (slice_index_or cs a nothing_came)
     case-of true is = go a (grind (arith, nat_tests))
     case-of false is =
         let far : length hs ≤ a = grind (arith, nat_tests) in
         let n = s.size in
-        let off : length ps ≤ a = omega arith in
-        rw (past hs a [] far) (rw (past ps a [] off) refl)
+        let off : length ps ≤ a = omega (arith, n, far) in
+        rw (past hs a [] far) (rw (past ps a [] off) (rw (none_came hs cs a size far) refl))
 
-pub makes_cluster : (hs : List (List Event)) (l : Ledger) (ps : List (List Deed)) → IsSplit (length hs) l ps → AllGo hs ps
-    → IsCluster (map reverse hs) l
-makes_cluster hs l ps s go = record {
-  parts = λ a.
-      let here = subst (λ (h : List Event). goes true [] h (part_at ps a) ≡ true)
-      (sym (reverse-reverse (slice_index_or hs a []))) (all hs l ps s go a) in
-      let tied = goes_means_ties (reverse (slice_index_or hs a [])) (part_at ps a) here in (
-        tied.0,
-        subst (λ (h : History). Ties h (part l a) tied.0) (sym (history_said hs a))
-            (subst (λ (p : List DeedSaid). Ties (reverse (slice_index_or hs a [])) p tied.0) (s.parts a) tied.1),
-      );
-  waits = order_patient (length hs) l s.order;
-  drains = order_drains (length hs) l s.order;
+ties_at : (hs : List (List Event)) (l : Ledger) (ps : List (List Deed)) (cs : List Came) → IsSplit (length hs) l ps → length cs ≡ length hs → AllGo hs ps cs
+    → (a : ℕ) → Ties (history_of (map reverse hs) a) (part l a) (slice_index_or cs a nothing_came)
+ties_at hs l ps cs s size go a =
+    let here = subst (λ (h : List Event). goes true nothing_came h (part_at ps a) ≡ Some (slice_index_or cs a nothing_came))
+    (sym (reverse-reverse (slice_index_or hs a []))) (all hs l ps cs s size go a) in
+    let tied = goes_means_ties (reverse (slice_index_or hs a [])) (part_at ps a) (slice_index_or cs a nothing_came) here in
+    subst (λ (h : History). Ties h (part l a) (slice_index_or cs a nothing_came)) (sym (history_said hs a))
+        (subst (λ (p : List DeedSaid). Ties (reverse (slice_index_or hs a [])) p (slice_index_or cs a nothing_came)) (s.parts a) tied)
+
+pub makes_cluster : (hs : List (List Event)) (l : Ledger) (ps : List (List Deed)) (cs : List Came) → IsSplit (length hs) l ps → length cs ≡ length hs → AllGo hs ps cs
+    → HaveCome (map reverse hs) l cs
+makes_cluster hs l ps cs s size go = record {
+  cluster = record {
+    parts = λ a. (slice_index_or cs a nothing_came, ties_at hs l ps cs s size go a);
+    waits = order_patient (length hs) l s.order;
+    drains = order_drains (length hs) l s.order;
+  };
+  size = size ∙ sym (length-map hs reverse);
+  each = λ a near. ties_at hs l ps cs s size go a;
 }
 
-went : (hs : List (List Event)) (l : Ledger) → IsCluster (map reverse hs) l → (a : ℕ)
-    → goes true [] (slice_index_or hs a []) (part l a) ≡ true
+went : (hs : List (List Event)) (l : Ledger) (c : IsCluster (map reverse hs) l) (a : ℕ)
+    → goes true nothing_came (slice_index_or hs a []) (part l a) ≡ Some (c.parts a).0
 went hs l c a =
-    ap (λ h. goes true [] h (part l a)) (sym (reverse-reverse (slice_index_or hs a [])) ∙ ap reverse (sym (history_said hs a)))
+    ap (λ h. goes true nothing_came h (part l a)) (sym (reverse-reverse (slice_index_or hs a [])) ∙ ap reverse (sym (history_said hs a)))
     ∙ ties_mean_goes (history_of (map reverse hs) a) (part l a) (c.parts a).0 (c.parts a).1
 
-pub cluster_goes : (hs : List (List Event)) (l : Ledger) (ps : List (List Deed)) → IsSplit (length hs) l ps
-    → IsCluster (map reverse hs) l → AllGo hs ps
-cluster_goes hs l ps s c a near = ap (goes true [] (slice_index_or hs a [])) (s.parts a) ∙ went hs l c a
+-- one that stops is that of no cluster
+pub stops : (hs : List (List Event)) (l : Ledger) (ps : List (List Deed)) → IsSplit (length hs) l ps → SomeStops hs ps → IsCluster (map reverse hs) l → ⊥
+stops hs l ps s some c =
+    let on = went hs l c some.0 in
+    let off = ap (goes true nothing_came (slice_index_or hs some.0 [])) (sym (s.parts some.0)) ∙ some.1 in
+    let clash : Some (c.parts some.0).0 ≡ None = sym on ∙ off in
+    cc
 
-no_deeds : (h : History) (ds : List DeedSaid) (t : Tickets) → h ≡ [] → Ties h ds t → ds ≡ []
-no_deeds [] ds t e ties = ties.0
-no_deeds (x ∷ h) ds t e ties = absurd (cc)
+no_deeds : (h : History) (ds : List DeedSaid) (c : Came) → h ≡ [] → Ties h ds c → ds ≡ []
+no_deeds [] ds c e ties = ties.0
+no_deeds (x ∷ h) ds c e ties = absurd (cc)
 
 pub cluster_orders : (hs : List (List Event)) (l : Ledger) → IsCluster (map reverse hs) l → orderly (length hs) l ≡ true
 cluster_orders hs l c = orders (length hs) l c.waits c.drains
@@ -134,14 +148,24 @@ cluster_orders hs l c = orders (length hs) l c.waits c.drains
     ∙ ap reverse (past hs a [] far)) (c.parts a).1)
 
 -- what each history's way decides
-pub decided : {E : Type 0} (r : Result Bool E) (hs : List (List Event)) (l : Ledger) (ps qs : List (List Deed))
-    → IsSplit (length hs) l ps → qs ≡ ps
-    → IfOk r (λ b. (b ≡ true) ↔ AllGo hs qs) → IfOk r (λ b. (b ≡ true) ↔ IsCluster (map reverse hs) l)
-decided (Err e) hs l ps qs s same told = tt
-decided (Ok b) hs l ps qs s same told = (
-  (λ yes. makes_cluster hs l ps s (subst (λ (p : List (List Deed)). AllGo hs p) same (told.0 yes))),
-  (λ c. told.1 (subst (λ (p : List (List Deed)). AllGo hs p) (sym same) (cluster_goes hs l ps s c))),
-)
+pub all_came : {E X : Type 0} (items : X → List Came) (r : Result (Option X) E) (hs : List (List Event)) (l : Ledger) (ps qs : List (List Deed))
+    → IsSplit (length hs) l ps → qs ≡ ps → IfOk r (λ o. IfSome o (λ cs. length (items cs) ≡ length hs)) → IfOk r (λ o. IfSome o (λ cs. AllGo hs qs (items cs)))
+    → IfOk r (λ o. IfSome o (λ cs. HaveCome (map reverse hs) l (items cs)))
+all_came items (Err e) hs l ps qs s same size go = tt
+all_came items (Ok None) hs l ps qs s same size go = tt
+all_came items (Ok (Some cs)) hs l ps qs s same size go = makes_cluster hs l ps (items cs) s size (subst (λ (p : List (List Deed)). AllGo hs p (items cs)) same go)
 
-pub refuted : (hs : List (List Event)) (l : Ledger) → orderly (length hs) l ≡ false → (false ≡ true) ↔ IsCluster (map reverse hs) l
-refuted hs l e = ((λ no. absurd (true≢false (sym no))), (λ c. absurd (true≢false (sym (cluster_orders hs l c) ∙ e))))
+pub some_stops : {E X : Type 0} (r : Result (Option X) E) (hs : List (List Event)) (l : Ledger) (ps qs : List (List Deed))
+    → IsSplit (length hs) l ps → qs ≡ ps → IfOk r (λ o. IfNone o (SomeStops hs qs)) → IfOk r (λ o. IfNone o (IsCluster (map reverse hs) l → ⊥))
+some_stops (Err e) hs l ps qs s same none = tt
+some_stops (Ok None) hs l ps qs s same none = stops hs l ps s (subst (SomeStops hs) same none)
+some_stops (Ok (Some cs)) hs l ps qs s same none = tt
+
+pub refuted : (hs : List (List Event)) (l : Ledger) → orderly (length hs) l ≡ false → IsCluster (map reverse hs) l → ⊥
+refuted hs l e c = true≢false (sym (cluster_orders hs l c) ∙ e)
+
+-- whether anything was found
+pub decided : {X : Type 0} (items : X → List Came) (o : Option X) (hs : List (List Event)) (l : Ledger) (b : Bool) → is_some o ≡ b
+    → IfSome o (λ cs. HaveCome (map reverse hs) l (items cs)) → IfNone o (IsCluster (map reverse hs) l → ⊥) → (b ≡ true) ↔ IsCluster (map reverse hs) l
+decided items None hs l b is some none = ((λ yes. absurd (true≢false (sym yes ∙ sym is))), (λ c. absurd (none c)))
+decided items (Some cs) hs l b is some none = ((λ yes. some.cluster), (λ c. sym is))

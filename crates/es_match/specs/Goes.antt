@@ -1,9 +1,10 @@
 -- Internal: a history and an agent's deeds, gone through from the oldest event.
-use Rattle.std.specs.Prelude.{ℕ, Bool, false, ◌+◌, List, [], ◌∷◌, take, drop, length, Option, Some, None}
+use Rattle.std.specs.Prelude.{ℕ, Bool, ◌+◌, List, [], ◌∷◌, take, drop, length, Option}
+use Rattle.std.specs.Option.{option_and_then}
 use Rattle.es_event.specs.declared.event.Event.{Event}
 use Rattle.es_match.specs.Deeds.{Deed}
 use Rattle.es_match.specs.Asks.{Asking, nothing, to_open, to_measure, to_compare, to_load, to_store, to_add, to_post, to_receive, to_refuse, to_pass, to_empty, to_close, ends_job, asks}
-use Rattle.es_match.specs.Meets.{Tickets, within, after, no_more}
+use Rattle.es_match.specs.Meets.{Tickets, Came, within, came_after, no_more, some_if}
 
 -- how many deeds are asked
 abbrev pub asked : Tickets → Asking → ℕ
@@ -21,13 +22,9 @@ asked t (to_pass s) = 1
 asked t (to_empty ids) = length (within ids t)
 asked t to_close = length t + 1
 
-abbrev pub goes_on : Option Tickets → (Tickets → Bool) → Bool
-goes_on None next = false
-goes_on (Some t) next = next t
-
--- with these tickets, the events go on as these deeds
-abbrev pub goes : Bool → Tickets → List Event → List Deed → Bool
-goes between t [] ds = no_more ds
-goes between t (e ∷ es) ds =
-    goes_on (after t (asks between e) (take (asked t (asks between e)) ds))
-    (λ u. goes (ends_job e) u es (drop (asked t (asks between e)) ds))
+-- with what has come so far, the events go on as these deeds; what has come after them
+abbrev pub goes : Bool → Came → List Event → List Deed → Option Came
+goes between c [] ds = some_if (no_more ds) c
+goes between c (e ∷ es) ds =
+    option_and_then (λ d. goes (ends_job e) d es (drop (asked c.tickets (asks between e)) ds))
+    (came_after c (asks between e) (take (asked c.tickets (asks between e)) ds))

@@ -157,3 +157,49 @@ after t to_refuse ds = some_if (option_map_or (λ p. is_refusal p.0 p.1) (pair d
 after t (to_pass s) ds = some_if (is_one (is_pass s) ds) t
 after t (to_empty ids) ds = some_if (spends false (serials_of (within ids t)) ds) (beyond ids t)
 after t to_close ds = some_if (spends true (serials_of t) ds) []
+
+-- What has come to an agent
+
+-- what has come to an agent from the ledger, each list the oldest first
+pub record Came : Type 0 where
+  -- the tickets that it has
+  pub tickets : Tickets
+  -- every ticket that ever came, the spent ones too
+  pub ever : Tickets
+  -- the sender of each message that found no room
+  pub refused : List ℕ
+
+abbrev pub nothing_came : Came
+nothing_came = record { tickets = []; ever = []; refused = [] }
+
+-- a ticket under the object that the value is
+abbrev pub ticket_under : Value → Row → Tickets
+ticket_under v r = option_map_or (λ o. (o, r) ∷ []) (object_of v) []
+
+abbrev pub opened_ticket : Value → Deed → Tickets
+opened_ticket v (Opens b w s) = ticket_under v (row s b w)
+opened_ticket v _ = []
+
+abbrev pub taken_ticket : Value → Deed → Tickets
+taken_ticket v (Takes u (Some (Block b s)) w) = ticket_under v (row s b w)
+taken_ticket v _ = []
+
+-- the ticket that comes with deeds that meet what is asked: that of a new block, or that in a message
+abbrev pub ticket_in : Asking → List Deed → Tickets
+ticket_in (to_open n v) ds = option_map_or (opened_ticket v) (sole ds) []
+ticket_in (to_receive s v) ds = option_map_or (taken_ticket v) (sole ds) []
+ticket_in _ ds = []
+
+abbrev pub sender_of : Deed → List ℕ
+sender_of (Takes u m w) = u ∷ []
+sender_of _ = []
+
+-- of whom the message is that found no room
+abbrev pub refused_in : Asking → List Deed → List ℕ
+refused_in to_refuse ds = option_map_or (λ p. sender_of p.0) (pair ds) []
+refused_in _ ds = []
+
+-- what has come after these deeds; none where they are not what the agent asked
+abbrev pub came_after : Came → Asking → List Deed → Option Came
+came_after c w ds =
+    option_map (λ t. record { tickets = t; ever = c.ever ++ ticket_in w ds; refused = c.refused ++ refused_in w ds }) (after c.tickets w ds)

@@ -1,5 +1,5 @@
 -- Internal: deeds and what is asked, as the code has them.
-use Rattle.std.specs.Prelude.{ℕ, List, map, Option, Some, None}
+use Rattle.std.specs.Prelude.{ℕ, List, [], ◌∷◌, map, Option, Some, None}
 use Rattle.std.specs.Option.{option_map}
 use denote.Ref.{Bor}
 use Rattle.es_value.specs.declared.value.Value.{Value}
@@ -48,3 +48,8 @@ asking Closing = to_close
 
 abbrev pub owned : Option (ℕ × Deed) → Owned
 owned o = option_map (λ p. (p.0, shown p.1)) o
+
+-- the one that is there, or none, as a list
+abbrev pub listed : {X : Type 0} → Option X → List X
+listed None = []
+listed (Some x) = x ∷ []

@@ -3,10 +3,11 @@
 ghost use Rattle.std.specs.Prelude.{◌≡◌, [], true, take, drop, length, IfOk};
 ghost use Rattle.std.specs.Option.{option_map};
 ghost use Rattle.es_match.specs.Asks.{to_open, to_receive, to_empty, to_close};
-ghost use Rattle.es_match.specs.Meets.{after, gives, pair, some_if, sole, within, add_ticket};
+ghost use Rattle.es_match.specs.Meets.{after, gives, nothing_came, pair, some_if, sole, within, add_ticket};
 ghost use Rattle.es_match.specs.Goes.{asked, goes};
 ghost use Rattle.es_match.specs.Shown.{all_shown, asking, said, shown};
 
+use crate::came::Came;
 use crate::deed::Deed;
 use crate::meets::{
     compares, is_add, is_length, is_load, is_pass, is_plain, is_post, is_refusal, is_store,
@@ -128,7 +129,7 @@ fn close(alloc: Global, tickets: &mut Rack, deeds: &[Deed<'_>]) -> Result<bool, 
 }
 
 /// Makes of the tickets those after the deeds. Whether the deeds are what is wanted.
-fn after(
+pub(crate) fn after(
     alloc: Global,
     tickets: &mut Rack,
     want: Want<'_>,
@@ -184,7 +185,7 @@ fn after(
     }
 }
 
-fn one<'a>(deeds: &[Deed<'a>]) -> Option<Deed<'a>>
+pub(crate) fn one<'a>(deeds: &[Deed<'a>]) -> Option<Deed<'a>>
     ensures { option_map shown result ≡ sole (all_shown deeds.now) }
 {
     if deeds.len() == 1 {
@@ -194,7 +195,7 @@ fn one<'a>(deeds: &[Deed<'a>]) -> Option<Deed<'a>>
     }
 }
 
-fn two<'a>(deeds: &[Deed<'a>]) -> Option<(Deed<'a>, Deed<'a>)>
+pub(crate) fn two<'a>(deeds: &[Deed<'a>]) -> Option<(Deed<'a>, Deed<'a>)>
     ensures { option_map (λ p. (shown p.0, shown p.1)) result ≡ pair (all_shown deeds.now) }
 {
     if deeds.len() == 2 {
@@ -266,22 +267,30 @@ fn rest_of<'a, 'b>(deeds: &'b [Deed<'a>], n: usize) -> &'b [Deed<'a>]
     }
 }
 
-/// Whether the deeds are what the history asks.
-pub(crate) fn goes(alloc: Global, history: &[Event], deeds: &[Deed<'_>]) -> Result<bool, NoMemory>
-    ensures { IfOk result (λ b. b ≡ goes true [] history.now (all_shown deeds.now)) }
+/// What has come to the agent, if the deeds are what the history asks.
+pub(crate) fn goes(
+    alloc: Global,
+    history: &[Event],
+    deeds: &[Deed<'_>],
+) -> Result<Option<Came>, NoMemory>
+    ensures { IfOk result (λ o. o ≡ goes true nothing_came history.now (all_shown deeds.now)) }
 {
-    let mut tickets = Rack::new(alloc);
+    let mut came = Came::nothing(alloc);
     let mut between = true;
     let mut rest = deeds;
     for event in history {
         let want = want_at(between, event);
-        let n = asked(&tickets, want);
-        let is_met = after(alloc, &mut tickets, want, front(rest, n))?;
+        let n = asked(&came.tickets, want);
+        let is_met = came.take_in(alloc, want, front(rest, n))?;
         if !is_met {
-            return Ok(false);
+            return Ok(None);
         }
         rest = back(rest, n);
         between = ends_job(event);
     }
-    Ok(rest.is_empty())
+    if rest.is_empty() {
+        Ok(Some(came))
+    } else {
+        Ok(None)
+    }
 }

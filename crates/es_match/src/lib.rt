@@ -1,6 +1,7 @@
 //! Whether histories of agents and of a ledger are those of one cluster.
 #![tactic(auto)]
 
+mod came;
 mod deed;
 mod doing;
 mod going;
@@ -14,4 +15,5 @@ mod tables;
 mod tickets;
 mod want;
 
-pub use matching::matches;
+pub use came::Came;
+pub use matching::{came_of, matches};

@@ -1,9 +1,10 @@
 //! Whether histories of agents and of a ledger are those of one cluster.
 
-ghost use Rattle.std.specs.Prelude.{◌≡◌, ◌↔◌, map, reverse, true, length, IfOk};
-ghost use Rattle.es_match.specs.Cluster.{IsCluster};
-ghost use Rattle.es_match.specs.Split.{AllGo};
+ghost use Rattle.std.specs.Prelude.{◌≡◌, ◌↔◌, map, reverse, true, length, IfOk, IfSome, IfNone};
+ghost use Rattle.es_match.specs.Cluster.{HaveCome, IsCluster};
+ghost use Rattle.es_match.specs.Split.{AllGo, SomeStops};
 
+use crate::came::Came;
 use crate::deed::Deed;
 use crate::going::goes;
 use crate::parts::parts_of;
@@ -20,27 +21,46 @@ pub fn matches(
 ) -> Result<bool, NoMemory>
     ensures { IfOk result (λ b. (b ≡ true) ↔ IsCluster (map reverse histories.now) (reverse ledger.now)) }
 {
+    let came = came_of(alloc, histories, ledger)?;
+    Ok(came.is_some())
+}
+
+/// What has come to each agent from the ledger, if these are the histories of the agents of one cluster,
+/// by rising number, and of its ledger, each the oldest event first; `None` else. An error only for want
+/// of memory.
+pub fn came_of(
+    alloc: Global,
+    histories: &[Sequence<Event>],
+    ledger: &[LedgerEvent],
+) -> Result<Option<Vec<Came>>, NoMemory>
+    ensures some { IfOk result (λ o. IfSome o (λ cs. HaveCome (map reverse histories.now) (reverse ledger.now) cs.items)) }
+    ensures none { IfOk result (λ o. IfNone o (IsCluster (map reverse histories.now) (reverse ledger.now) → ⊥)) }
+{
     let parts = parts_of(alloc, histories.len(), ledger)?;
     match parts {
         Some(parts) => all_go(alloc, histories, &parts),
-        None => Ok(false),
+        None => Ok(None),
     }
 }
 
-/// Whether each history asks for what its agent's part has.
+/// What has come to each agent, if each history asks for what its agent's part has.
 fn all_go(
     alloc: Global,
     histories: &[Sequence<Event>],
     parts: &[Sequence<Deed<'_>>],
-) -> Result<bool, NoMemory>
+) -> Result<Option<Vec<Came>>, NoMemory>
     requires { length parts.now ≡ length histories.now }
-    ensures { IfOk result (λ b. (b ≡ true) ↔ AllGo histories.now parts.now) }
+    ensures size { IfOk result (λ o. IfSome o (λ cs. length cs.items ≡ length histories.now)) }
+    ensures some { IfOk result (λ o. IfSome o (λ cs. AllGo histories.now parts.now cs.items)) }
+    ensures none { IfOk result (λ o. IfNone o (SomeStops histories.now parts.now)) }
 {
+    let mut all = Vec::new(alloc);
     for i in 0..histories.len() {
-        let on = goes(alloc, histories[i].as_slice(), parts[i].as_slice())?;
-        if !on {
-            return Ok(false);
-        }
+        let came = goes(alloc, histories[i].as_slice(), parts[i].as_slice())?;
+        let Some(came) = came else {
+            return Ok(None);
+        };
+        all.push(came)?;
     }
-    Ok(true)
+    Ok(Some(all))
 }
