@@ -5,7 +5,7 @@ ghost use Rattle.es_value.specs.Values.{identity};
 ghost use Rattle.es_event.specs.Identities.{gone, is_in, made};
 ghost use Rattle.es_event.specs.Jobs.{receivers};
 ghost use Rattle.es_event.specs.WeakRefs.{kept};
-ghost use Rattle.es_event.specs.declared.row.Row.{Row};
+ghost use Rattle.es_event.specs.declared.row.Row.{Row as RowSaid};
 ghost use Rattle.es_event.specs.Sharing.{row_at};
 ghost use Rattle.es_event.specs.Registrations.{live, awaiting, unregistered, taken, tally as tally_said};
 ghost use Rattle.es_event.specs.Live.{Honest};
@@ -23,7 +23,7 @@ mod reach;
 
 use crate::admission::{AdmitFault, enter};
 use es_cursor::Due;
-use es_event::{AgentPlan, Answer, Event, Sequence};
+use es_event::{AgentPlan, Answer, Event, Row, Sequence};
 use es_mark::Marks;
 use es_record::AgentRecord;
 use es_registry::Tally;
@@ -94,9 +94,24 @@ impl<L: Run> AgentCore<L> {
         ensures events { reverse result.now ≡ self.now.history }
         ensures run { IsRunOver self.now.over self.now.plan self.now.history }
         ensures honest { Honest (receivers self.now.plan.jobs) self.now.history }
-        ensures named { (o : ℕ) (r : Row) → Some r ≡ at o (tickets self.now) → Some r ≡ row_at self.now.over o }
+        ensures named { (o : ℕ) (r : RowSaid) → Some r ≡ at o (tickets self.now) → Some r ≡ row_at self.now.over o }
     {
         self.record.history()
+    }
+
+    /// Each buffer object that came, emptied ones too, with what its ticket named (ECMA-262, SharedArrayBuffer
+    /// Objects), the oldest first.
+    pub fn buffers(&self) -> &[(Id, Row)]
+        ensures { result.now ≡ reverse self.now.over }
+    {
+        self.record.buffers()
+    }
+
+    /// Its plan.
+    pub fn plan(&self) -> &AgentPlan
+        ensures { result.now ≡ self.now.plan }
+    {
+        self.record.plan()
     }
 
     /// KeptAlive, in order of keeping (ECMA-262, AddToKeptObjects). Nothing in it is emptied.

@@ -1,6 +1,6 @@
 -- What an event asks of the ledger is what the agent asked for, and the deeds that were done meet it.
 use Rattle.std.proofs.Common.{◌≡◌, ℕ, ◌==◌, ◌&&◌, Bool, true, false, cond, not, sym, ◌∙◌, ap, refl, subst, List, [], ◌∷◌, ◌++◌, Option, Some, None, eq-eqb}
-use Rattle.std.specs.Prelude.{ℤ, pos, negsuc, unsigned_abs, is_some, unwrap_or}
+use Rattle.std.specs.Prelude.{ℤ, pos, negsuc, ◌-◌, unsigned_abs, is_some, unwrap_or, slice_get}
 use Rattle.std.specs.Option.{option_map, option_map_or, option_and_then}
 use Rattle.std.specs.Ordering.{int_eq}
 use Rattle.std.proofs.lemmas.Bool.Decides.{Decides-int_eq}
@@ -15,6 +15,7 @@ use Rattle.es_event.specs.declared.event.Answer.TheVariants.{Gives}
 use Rattle.es_event.specs.declared.event.Event.{Event}
 use Rattle.es_event.specs.declared.event.Event.TheVariants.{JobBegun, CleanupBegun, Received, Refused, JobEnded, Skipped, Closed}
 use Rattle.es_event.specs.declared.plan.AgentPlan.{AgentPlan}
+use Rattle.es_event.specs.declared.plan.Job.{Job}
 use Rattle.es_event.specs.declared.event.Refusal.TheVariants.{NotASharedArrayBuffer}
 use Rattle.es_event.specs.declared.ledger_event.Body.TheVariants.{Plain, Block}
 use Rattle.es_event.specs.declared.row.Row.{Row}
@@ -31,6 +32,7 @@ use Rattle.es_event.specs.Legal.{values_of}
 use Rattle.es_event.specs.Order.{Phase, between, handed, inside, stopped, ended, phase, phase_after, receive, run, clean, left, queue, due_after, due_inside, due_job, due_between, due_at, due}
 use Rattle.es_event.proofs.Accepted.{first_holds}
 use Rattle.es_match.specs.Asks.{to_open, to_load, to_store, to_add, to_post, to_receive, to_pass, asks_did, between_jobs}
+use Rattle.es_match.specs.Cluster.{awaited}
 use Rattle.es_match.specs.Deeds.{Opens, Posts, Takes, Loads, Stores, Adds, Passes}
 use Rattle.es_match.specs.Meets.{Tickets, after, has_ticket, is_ticket, some_if}
 use Rattle.es_ticket.specs.Shares.{at}
@@ -339,3 +341,34 @@ at_message over plan h n s follows is = by_phase (phase h) refl is
     by_phase inside p is = absurd (at_left (left plan h) is)
     by_phase stopped p is = cc
     by_phase ended p is = cc
+
+-- where a message is due, the plan's job waits for its sender
+pub awaited_at : (plan : AgentPlan) (h : History) (n s : ℕ) → due plan h ≡ receive n s → awaited plan (job h) ≡ s ∷ []
+awaited_at plan h n s is = by_phase (phase h) is
+  where
+    at_on : (k : ℕ) (on : Option (ℕ × List ℕ)) → due_job k (Some on) ≡ receive n s → option_map_or (λ on. on.0 ∷ []) on [] ≡ s ∷ []
+    at_on k None is = cc
+    at_on k (Some on) is = let same : on.0 ≡ s = cc in ap (λ s. s ∷ []) same
+
+    at_job : (k : ℕ) (o : Option Job) → due_job k (option_map (λ j. j.on) o) ≡ receive n s → option_map_or (λ on. on.0 ∷ []) (option_and_then (λ j. j.on) o) [] ≡ s ∷ []
+    at_job k None is = cc
+    at_job k (Some j) is = at_on k j.on is
+
+    at_cell : (o : Option ℕ) → due_after o ≡ receive n s → ⊥
+    at_cell None is = cc
+    at_cell (Some n) is = cc
+
+    at_left : (cs : List Command) → due_inside h cs ≡ receive n s → ⊥
+    at_left [] is = at_cell (option_and_then (first_awaiting h) (cleaning h)) is
+    at_left (c ∷ cs) is = cc
+
+    at_queue : (rs : List ℕ) → due_between plan h rs ≡ receive n s → awaited plan (job h) ≡ s ∷ []
+    at_queue [] is = at_job (job h) (slice_get plan.jobs (job h - 1)) is
+    at_queue (r ∷ rs) is = cc
+
+    by_phase : (p : Phase) → due_at plan h p ≡ receive n s → awaited plan (job h) ≡ s ∷ []
+    by_phase between is = at_queue (queue h) is
+    by_phase handed is = cc
+    by_phase inside is = absurd (at_left (left plan h) is)
+    by_phase stopped is = cc
+    by_phase ended is = cc

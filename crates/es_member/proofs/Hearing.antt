@@ -16,7 +16,7 @@ use Rattle.es_rules.specs.Needs.{asks_message, need}
 use Rattle.es_agent.specs.Tickets.{Skips}
 use Rattle.es_member.specs.Midway.{IsHeld, IsReady}
 use Rattle.es_member.specs.Seats.{Holds}
-use Rattle.es_member.specs.Tied.{GrowsBy, IsTied}
+use Rattle.es_member.specs.Tied.{GrowsBy, IsSettled, IsTied}
 use Rattle.es_member.specs.Turned.{Heard, Keeps}
 use Rattle.es_member.specs.declared.member.Progress.TheVariants.{Moved}
 use Rattle.es_member.proofs.Growing.{grows_none, grows_one, grows_on}
@@ -103,7 +103,7 @@ stay_keeps b s l m n t ready same agents more =
 skip_grows : (l k : Ledger) (n t : ℕ) → k ≡ Passed n t ∷ asked l n t → GrowsBy n l k
 skip_grows l k n t more = grows_on n l (asked l n t) k (asked_grows l n t) (grows_one n (asked l n t) k (Passed n t) (Passes t) more refl)
 
-pub skipped_ties : (old new : Book) (s : Share) (l : Books) (k : Ledger) (n t : ℕ) → IsReady old s l → need old ≡ asks_message t → n ≡ old.number → k ≡ Passed n t ∷ asked l.history n t → Skips old new → IsTied new k
+pub skipped_ties : (old new : Book) (s : Share) (l : Books) (k : Ledger) (n t : ℕ) → IsReady old s l → need old ≡ asks_message t → n ≡ old.number → k ≡ Passed n t ∷ asked l.history n t → Skips old new → IsSettled new k
 skipped_ties old new s l k n t ready is same more skips =
     let before = asked_tied old l.history t ready.tied (still_undrained old s l t ready is) is in
     skip_ties old new (asked l.history old.number t) k t before.0 before.1 is (more ∙ ap (λ n. Passed n t ∷ asked l.history n t) same) skips

@@ -1,5 +1,6 @@
 -- What an agent did in the ledger, told by its event: history, tickets and part go together again.
-use Rattle.std.proofs.Common.{◌≡◌, ℕ, ◌+◌, Bool, true, false, cond, eq-eqb, sym, ◌∙◌, ap, refl, subst, List, [], ◌∷◌, ◌++◌, map, Option, Some, None}
+use Rattle.std.proofs.Common.{◌≡◌, ℕ, ◌+◌, Bool, true, false, cond, eq-eqb, sym, ◌∙◌, ap, refl, subst, List, [], ◌∷◌, ◌++◌, append-nil, map, reverse, Option, Some, None}
+use Rattle.std.proofs.lemmas.List.{reverse-append}
 use Rattle.std.specs.Prelude.{pos}
 use Rattle.std.specs.List.{Contains}
 use Rattle.es_value.specs.Values.{identity}
@@ -20,14 +21,15 @@ use Rattle.es_event.specs.Jobs.{receivers}
 use Rattle.es_event.specs.Identities.{made}
 use Rattle.es_event.specs.Ledger.{Ledger, size, front as front_of, holder_of, waits}
 use Rattle.es_event.specs.Rows.{row}
+use Rattle.es_event.specs.Sharing.{Buffers}
 use Rattle.es_event.specs.Legal.{values_of}
 use Rattle.es_event.specs.Order.{Due, receive, run, due}
 use Rattle.es_event.specs.Runs.{IsRunOver}
 use Rattle.es_ledger.specs.Books.{Books}
-use Rattle.es_match.specs.Asks.{to_open, to_receive, to_refuse, to_pass, to_empty, to_close, between_jobs, asks, asks_did}
-use Rattle.es_match.specs.Cluster.{may_do, drained}
+use Rattle.es_match.specs.Asks.{Asking, to_open, to_receive, to_refuse, to_pass, to_empty, to_close, between_jobs, asks, asks_did}
+use Rattle.es_match.specs.Cluster.{may_do, drained, is_refusal_asked}
 use Rattle.es_match.specs.Deeds.{Deed, Opens, Posts, Takes, Spends, Loads, Stores, Adds, Passes, Ends, by_holder, taking, deed, is_wait}
-use Rattle.es_match.specs.Meets.{after, some_if}
+use Rattle.es_match.specs.Meets.{Tickets, after, refused_in, some_if, ticket_in}
 use Rattle.es_ticket.specs.Shares.{Share, at}
 use Rattle.es_record.specs.Book.{Book, Records}
 use Rattle.es_rules.specs.Needs.{Request, for_block, for_post, for_buffer_post, for_load, for_store, for_add, request, ledger_or_nobody, Need, asks_nobody, asks_marks, asks_ledger, asks_message, asks_closing, need, need_of, Brings}
@@ -35,85 +37,92 @@ use Rattle.es_rules.proofs.Needs.{message_due}
 use Rattle.es_agent.specs.Tickets.{tickets, RecordsNext, Collects, Admits, RefusesMessage, Receives, DoesWith, Skips}
 use Rattle.es_agent.proofs.Racks.{emptied_tickets}
 use Rattle.es_member.specs.Midway.{IsReady, Midway, HasFetched, Fetches}
-use Rattle.es_member.specs.Tied.{AreDeedsOf, GrowsBy, IsTied}
+use Rattle.es_member.specs.Tied.{AreDeedsOf, GrowsBy, IsSettled, IsTied}
 use Rattle.es_member.specs.Turned.{spent}
 use Rattle.es_member.proofs.Aims.{open_for}
-use Rattle.es_member.proofs.Asking.{due_command, load_asks, load_met, store_asks, store_met, add_asks, add_met, open_asks, open_met, post_asks, post_met, buffer_asks, buffer_met, receive_met, admit_met, skip_met, at_message}
+use Rattle.es_member.proofs.Asking.{due_command, load_asks, load_met, store_asks, store_met, add_asks, add_met, open_asks, open_met, post_asks, post_met, buffer_asks, buffer_met, receive_met, admit_met, skip_met, at_message, awaited_at}
 use Rattle.es_member.proofs.Growing.{by_ticket, grows_one}
 use Rattle.es_member.proofs.Local.{AreNamed, local_met}
-use Rattle.es_member.proofs.Midway.{begun, does, tells, free, undrained}
+use Rattle.es_member.proofs.Midway.{brings_ticket, begun, did_not_refuse, does, no_ticket, no_ticket_alone, refused_alone, tells, unnamed, free, undrained}
 use Rattle.es_member.proofs.Moving.{local_leaves, done_stays, received_stays, skipped_stays, refused_stays, admitted_tickets}
 use Rattle.es_member.proofs.SpentAll.{all_spent, spends_all, empty_met, close_met}
 
-grown_history : (old new : Book) (e : Event) → Records old e new → new.history ≡ e ∷ old.history
-grown_history old new e records = ap (λ b. b.history) records
+-- no ticket came
+unbrought : (over : Buffers) (t : Tickets) → t ≡ [] → reverse over ≡ reverse over ++ t
+unbrought over t none = sym (append-nil (reverse over)) ∙ ap (λ t. reverse over ++ t) (sym none)
 
 -- Alone
 
-pub local_ties : (old new : Book) (s : Share) (l : Books) → IsReady old s l → need old ≡ asks_nobody → IsRunOver old.over old.plan old.history → AreNamed old → RecordsNext old new → IsTied new l.history
+pub local_ties : (old new : Book) (s : Share) (l : Books) → IsReady old s l → need old ≡ asks_nobody → IsRunOver old.over old.plan old.history → AreNamed old → RecordsNext old new → IsSettled new l.history
 local_ties old new s l ready is history named r =
     let stays = local_leaves old new is r in
-    tells old new l.history [] r.0 (begun old l.history ready.tied) (grown_history old new r.0 r.2) stays.step.number
-    (local_met old r.0 is r.1 history named ∙ ap Some (sym stays.same))
+    let met = local_met old r.0 is r.1 history named in
+    let q = asks (between_jobs old.history) r.0 in
+    tells old new None l.history [] r.0 (begun old l.history ready.tied) r.2
+    (met ∙ ap Some (sym stays.same))
+    (unbrought old.over (ticket_in q []) (no_ticket_alone q))
+    (unnamed old q [] (refused_alone (tickets old) (tickets old) q met))
     (free old l.history ready.tied (λ s other. let clash : asks_nobody ≡ asks_message s = sym is ∙ other in cc))
 
 -- One deed
 
 one_deed : (old new : Book) (s : Share) (l : Books) (m : Ledger) (e : LedgerEvent) (d : Deed) (told : Event) (r : Request) → IsReady old s l → need old ≡ asks_ledger r
     → m ≡ e ∷ l.history → deed l.history e ≡ Some (old.number, d) → is_wait d ≡ false → waits (e ∷ l.history) old.number ≡ waits l.history old.number
-    → new.history ≡ told ∷ old.history → new.number ≡ old.number → after (tickets old) (asks (between_jobs old.history) told) (d ∷ []) ≡ Some (tickets new) → IsTied new m
-one_deed old new s l m e d told r ready is more did wait same grown number met =
+    → Records old told new → brings_ticket d ≡ false → is_refusal_asked (asks (between_jobs old.history) told) ≡ false → after (tickets old) (asks (between_jobs old.history) told) (d ∷ []) ≡ Some (tickets new) → IsSettled new m
+one_deed old new s l m e d told r ready is more did wait same records none_comes calm met =
     let none = free old l.history ready.tied (λ s other. let clash : asks_ledger r ≡ asks_message s = sym is ∙ other in cc) in
     let going = open_for old (asks_ledger r) (λ f. cc) is in
-    tells old new m (d ∷ []) told
+    let q = asks (between_jobs old.history) told in
+    tells old new None m (d ∷ []) told
     (does old l.history m [] e d (begun old l.history ready.tied) more did wait (ap (λ w. may_do w d) none) (undrained old l ready.legal ready.seated going))
-    grown number met (ap (λ m. waits m old.number) more ∙ same ∙ none)
+    records met (unbrought old.over (ticket_in q (d ∷ [])) (no_ticket q d none_comes)) (unnamed old q (d ∷ []) calm) (ap (λ m. waits m old.number) more ∙ same ∙ none)
 
 -- one that answers the due command
 done_ties : (old new : Book) (s : Share) (l : Books) (m : Ledger) (e : LedgerEvent) (d : Deed) (r : Request) (a : Answer) → IsReady old s l → need old ≡ asks_ledger r
     → m ≡ e ∷ l.history → deed l.history e ≡ Some (old.number, d) → is_wait d ≡ false → waits (e ∷ l.history) old.number ≡ waits l.history old.number
-    → (done : DoesWith old a new) → after (tickets old) (asks_did done.1.0 (values_of (receivers old.plan.jobs) old.history (reads done.1.0)) a) (d ∷ []) ≡ Some (tickets old) → IsTied new m
-done_ties old new s l m e d r a ready is more did wait same done met =
+    → (done : DoesWith old a new) → brings_ticket d ≡ false → after (tickets old) (asks_did done.1.0 (values_of (receivers old.plan.jobs) old.history (reads done.1.0)) a) (d ∷ []) ≡ Some (tickets old) → IsSettled new m
+done_ties old new s l m e d r a ready is more did wait same done none_comes met =
     let stays = done_stays old new a done in
-    one_deed old new s l m e d done.0 r ready is more did wait same (grown_history old new done.0 done.3) stays.step.number
+    one_deed old new s l m e d done.0 r ready is more did wait same done.3 none_comes
+    (ap (λ e. is_refusal_asked (asks (between_jobs old.history) e)) done.1.2 ∙ did_not_refuse done.1.0 _ a)
     (ap (λ e. after (tickets old) (asks (between_jobs old.history) e) (d ∷ [])) done.1.2 ∙ met ∙ ap Some (sym stays.same))
 
 pub owned : (old : Book) (s : Share) (l : Books) (r : Row) (d : Deed) → s.agent ≡ old.number → ((r : Row) → Contains s.rows r → holder_of l.history r.serial ≡ Some (s.agent, r)) → Contains s.rows r → by_holder l.history r.serial d ≡ Some (old.number, d)
 owned old s l r d same holder here = by_ticket l.history r.serial s.agent r d (holder r here) ∙ ap (λ n. Some (n, d)) same
 
 pub load_ties : (old new : Book) (s : Share) (l : Books) (m : Ledger) (o i w : ℕ) (r : Row) → IsReady old s l → need old ≡ asks_ledger (for_load o i) → Contains s.rows r → Some r ≡ at o (tickets old)
-    → m ≡ Loaded r.serial i w ∷ l.history → DoesWith old (Gives (Number (pos w))) new → IsTied new m
+    → m ≡ Loaded r.serial i w ∷ l.history → DoesWith old (Gives (Number (pos w))) new → IsSettled new m
 load_ties old new s l m o i w r ready is mine here more done =
-    done_ties old new s l m (Loaded r.serial i w) (Loads r.serial i w) (for_load o i) (Gives (Number (pos w))) ready is more (owned old s l r (Loads r.serial i w) ready.held.0 ready.holder mine) refl refl done
+    done_ties old new s l m (Loaded r.serial i w) (Loads r.serial i w) (for_load o i) (Gives (Number (pos w))) ready is more (owned old s l r (Loads r.serial i w) ready.held.0 ready.holder mine) refl refl done refl
     (ap (λ a. after (tickets old) a (Loads r.serial i w ∷ [])) (load_asks old done.1.0 o i (Number (pos w)) (due_command old done.1.0 (for_load o i) done.1.1 is)) ∙ load_met (tickets old) o i w r here)
 
 pub store_ties : (old new : Book) (s : Share) (l : Books) (m : Ledger) (o i w : ℕ) (r : Row) → IsReady old s l → need old ≡ asks_ledger (for_store o i w) → Contains s.rows r → Some r ≡ at o (tickets old)
-    → m ≡ Stored r.serial i w ∷ l.history → DoesWith old Nothing new → IsTied new m
+    → m ≡ Stored r.serial i w ∷ l.history → DoesWith old Nothing new → IsSettled new m
 store_ties old new s l m o i w r ready is mine here more done =
     let asked = store_asks old done.1.0 o i w Nothing (due_command old done.1.0 (for_store o i w) done.1.1 is) in
-    done_ties old new s l m (Stored r.serial i w) (Stores r.serial i w) (for_store o i w) Nothing ready is more (owned old s l r (Stores r.serial i w) ready.held.0 ready.holder mine) refl refl done
+    done_ties old new s l m (Stored r.serial i w) (Stores r.serial i w) (for_store o i w) Nothing ready is more (owned old s l r (Stores r.serial i w) ready.held.0 ready.holder mine) refl refl done refl
     (ap (λ a. after (tickets old) a (Stores r.serial i w ∷ [])) asked.1 ∙ store_met (tickets old) o i w asked.0 r here asked.2)
 
 pub add_ties : (old new : Book) (s : Share) (l : Books) (m : Ledger) (o i w n : ℕ) (r : Row) → IsReady old s l → need old ≡ asks_ledger (for_add o i n) → Contains s.rows r → Some r ≡ at o (tickets old)
-    → m ≡ Added r.serial i w n ∷ l.history → DoesWith old (Gives (Number (pos w))) new → IsTied new m
+    → m ≡ Added r.serial i w n ∷ l.history → DoesWith old (Gives (Number (pos w))) new → IsSettled new m
 add_ties old new s l m o i w n r ready is mine here more done =
     let asked = add_asks old done.1.0 o i n (Number (pos w)) (due_command old done.1.0 (for_add o i n) done.1.1 is) in
-    done_ties old new s l m (Added r.serial i w n) (Adds r.serial i w n) (for_add o i n) (Gives (Number (pos w))) ready is more (owned old s l r (Adds r.serial i w n) ready.held.0 ready.holder mine) refl refl done
+    done_ties old new s l m (Added r.serial i w n) (Adds r.serial i w n) (for_add o i n) (Gives (Number (pos w))) ready is more (owned old s l r (Adds r.serial i w n) ready.held.0 ready.holder mine) refl refl done refl
     (ap (λ a. after (tickets old) a (Adds r.serial i w n ∷ [])) asked.1 ∙ add_met (tickets old) o i w n asked.0 r here asked.2)
 
 pub post_grows : (old : Book) (l m : Ledger) (n a : ℕ) (b : Body) → n ≡ old.number → m ≡ Posted n a b ∷ l → GrowsBy old.number l m
 post_grows old l m n a b same more = grows_one old.number l m (Posted n a b) (Posts a b) more (ap (λ n. Some (n, Posts a b)) same)
 
 pub post_ties : (old new : Book) (s : Share) (l : Books) (m : Ledger) (n a : ℕ) (v : Value) → IsReady old s l → need old ≡ asks_ledger (for_post a v) → identity v ≡ None → n ≡ old.number
-    → m ≡ Posted n a (Plain v) ∷ l.history → DoesWith old Nothing new → IsTied new m
+    → m ≡ Posted n a (Plain v) ∷ l.history → DoesWith old Nothing new → IsSettled new m
 post_ties old new s l m n a v ready is plain same more done =
-    done_ties old new s l m (Posted n a (Plain v)) (Posts a (Plain v)) (for_post a v) Nothing ready is more (ap (λ n. Some (n, Posts a (Plain v))) same) refl refl done
+    done_ties old new s l m (Posted n a (Plain v)) (Posts a (Plain v)) (for_post a v) Nothing ready is more (ap (λ n. Some (n, Posts a (Plain v))) same) refl refl done refl
     (ap (λ q. after (tickets old) q (Posts a (Plain v) ∷ [])) (post_asks old done.1.0 a v Nothing (due_command old done.1.0 (for_post a v) done.1.1 is)) ∙ post_met (tickets old) a v plain)
 
 pub buffer_ties : (old new : Book) (s : Share) (l : Books) (m : Ledger) (a o k : ℕ) (r : Row) → IsReady old s l → need old ≡ asks_ledger (for_buffer_post a o) → Some r ≡ at o (tickets old)
-    → m ≡ Posted s.agent a (Block r.block k) ∷ l.history → DoesWith old Nothing new → IsTied new m
+    → m ≡ Posted s.agent a (Block r.block k) ∷ l.history → DoesWith old Nothing new → IsSettled new m
 buffer_ties old new s l m a o k r ready is here more done =
-    done_ties old new s l m (Posted s.agent a (Block r.block k)) (Posts a (Block r.block k)) (for_buffer_post a o) Nothing ready is more (ap (λ n. Some (n, Posts a (Block r.block k))) ready.held.0) refl refl done
+    done_ties old new s l m (Posted s.agent a (Block r.block k)) (Posts a (Block r.block k)) (for_buffer_post a o) Nothing ready is more (ap (λ n. Some (n, Posts a (Block r.block k))) ready.held.0) refl refl done refl
     (ap (λ q. after (tickets old) q (Posts a (Block r.block k) ∷ [])) (buffer_asks old done.1.0 a o Nothing (due_command old done.1.0 (for_buffer_post a o) done.1.1 is)) ∙ buffer_met (tickets old) a o k r here)
 
 -- A message, a skip
@@ -131,15 +140,17 @@ heard old l m e d t tied still is more did wait ends =
 pub still_undrained : (old : Book) (s : Share) (l : Books) (t : ℕ) → IsReady old s l → need old ≡ asks_message t → drained l.history ≡ false
 still_undrained old s l t ready is = undrained old l ready.legal ready.seated (open_for old (asks_message t) (λ f. cc) is)
 
-pub skip_ties : (old new : Book) (l m : Ledger) (t : ℕ) → IsTied old l → drained l ≡ false → need old ≡ asks_message t → m ≡ Passed old.number t ∷ l → Skips old new → IsTied new m
+pub skip_ties : (old new : Book) (l m : Ledger) (t : ℕ) → IsTied old l → drained l ≡ false → need old ≡ asks_message t → m ≡ Passed old.number t ∷ l → Skips old new → IsSettled new m
 skip_ties old new l m t tied still is more skips =
     let stays = skipped_stays old new skips in
     let due' = message_due old (due old.plan old.history) t is in
     let sender : skips.1 ≡ t = (let both : receive skips.0 skips.1 ≡ receive due'.0 t = sym skips.2 ∙ due'.1 in cc) in
-    tells old new m (Passes t ∷ []) (Skipped skips.0 skips.1)
+    tells old new None m (Passes t ∷ []) (Skipped skips.0 skips.1)
     (heard old l m (Passed old.number t) (Passes t) t tied still is more refl refl (λ w same. eq-eqb t w same))
-    (grown_history old new (Skipped skips.0 skips.1) skips.4) stays.step.number
+    skips.4
     (ap (λ q. after (tickets old) (to_pass q) (Passes t ∷ [])) sender ∙ skip_met (tickets old) t ∙ ap Some (sym stays.same))
+    (unbrought old.over [] refl)
+    (unnamed old (to_pass skips.1) (Passes t ∷ []) refl)
     (ap (λ m. waits m old.number) more ∙ ap (λ b. cond b None (waits l old.number)) (eq-eqb old.number old.number refl))
 
 -- a message was taken
@@ -151,14 +162,16 @@ taken old s l m t b words ready is more did = (
 )
 
 pub receive_ties : (old new : Book) (s : Share) (l : Books) (m : Ledger) (t : ℕ) (v : Value) → IsReady old s l → need old ≡ asks_message t → m ≡ Taken s.agent t ∷ l.history → front_of l.history t s.agent ≡ Some (Plain v)
-    → identity v ≡ None → Receives old v new → IsTied new m
+    → identity v ≡ None → Receives old v new → IsSettled new m
 receive_ties old new s l m t v ready is more front plain r =
     let stays = received_stays old new v r in
     let did : deed l.history (Taken s.agent t) ≡ Some (s.agent, Takes t (Some (Plain v)) 0) = ap (λ b. Some (s.agent, taking l.history t b)) front in
     let mid = taken old s l m t (Some (Plain v)) 0 ready is more did in
     let sender : r.0 ≡ t = (let both : asks_message r.0 ≡ asks_message t = sym r.1 ∙ is in cc) in
-    tells old new m (Takes t (Some (Plain v)) 0 ∷ []) (Received r.0 v) mid.0 (grown_history old new (Received r.0 v) r.3) stays.step.number
+    tells old new None m (Takes t (Some (Plain v)) 0 ∷ []) (Received r.0 v) mid.0 r.3
     (ap (λ q. after (tickets old) (to_receive q v) (Takes t (Some (Plain v)) 0 ∷ [])) sender ∙ receive_met (tickets old) t v 0 plain ∙ ap Some (sym stays.same))
+    (unbrought old.over [] refl)
+    (unnamed old (to_receive r.0 v) (Takes t (Some (Plain v)) 0 ∷ []) refl)
     mid.1
 
 -- A ticket that comes
@@ -200,21 +213,31 @@ pub spending_grows : (old : Book) (l m : Ledger) (n : ℕ) (r : Row) → n ≡ o
 spending_grows old l m n r same mine more = grows_one old.number l m (Spent r.serial) (Spends r.serial) more (by_ticket l r.serial n r (Spends r.serial) mine ∙ ap (λ n. Some (n, Spends r.serial)) same)
 
 -- it is taken in
-admitted_met : (old : Book) (r : Row) (d : Deed) (e : Event) (due' : Due) → Fetches (need_of old due') r d → due old.plan old.history ≡ due' → Brings due' (made old.history + 1) e
-    → after (tickets old) (asks (between_jobs old.history) e) (d ∷ []) ≡ Some (tickets old ++ (made old.history + 1, r) ∷ [])
-admitted_met old r d e (receive n s) fetches is brings =
-    ap (λ e. after (tickets old) (asks (between_jobs old.history) e) (d ∷ [])) brings
-    ∙ ap (λ d. after (tickets old) (to_receive s (Object (made old.history + 1))) (d ∷ [])) fetches
-    ∙ admit_met (tickets old) s (made old.history + 1) r.block r.serial r.words
-admitted_met old r d e (run c) fetches is brings = command (need_of old (run c)) refl fetches
+
+record Comes (old : Book) (r : Row) (q : Asking) (d : Deed) : Type 0 where
+  met : after (tickets old) q (d ∷ []) ≡ Some (tickets old ++ (made old.history + 1, r) ∷ [])
+  ticket : ticket_in q (d ∷ []) ≡ (made old.history + 1, r) ∷ []
+  calm : is_refusal_asked q ≡ false
+
+comes_in_message : (old : Book) (r : Row) (s : ℕ) → Comes old r (to_receive s (Object (made old.history + 1))) (Takes s (Some (Block r.block r.serial)) r.words)
+comes_in_message old r s = record { met = admit_met (tickets old) s (made old.history + 1) r.block r.serial r.words; ticket = refl; calm = refl }
+
+comes_anew : (old : Book) (r : Row) (n : ℕ) → r.words ≡ n → Comes old r (to_open n (Object (made old.history + 1))) (Opens r.block r.words r.serial)
+comes_anew old r n words = subst (λ n. Comes old r (to_open n (Object (made old.history + 1))) (Opens r.block r.words r.serial)) words
+    (record { met = open_met (tickets old) r.words (made old.history + 1) r.block r.serial; ticket = refl; calm = refl })
+
+admitted_comes : (old : Book) (r : Row) (d : Deed) (e : Event) (due' : Due) → Fetches (need_of old due') r d → due old.plan old.history ≡ due' → Brings due' (made old.history + 1) e
+    → Comes old r (asks (between_jobs old.history) e) d
+admitted_comes old r d e (receive n s) fetches is brings =
+    subst (λ e. Comes old r (asks (between_jobs old.history) e) d) (sym brings)
+        (subst (Comes old r (to_receive s (Object (made old.history + 1)))) (sym fetches) (comes_in_message old r s))
+admitted_comes old r d e (run c) fetches is brings = command (need_of old (run c)) refl fetches
   where
-    command : (n : Need) → need_of old (run c) ≡ n → Fetches n r d → after (tickets old) (asks (between_jobs old.history) e) (d ∷ []) ≡ Some (tickets old ++ (made old.history + 1, r) ∷ [])
+    command : (q : Need) → need_of old (run c) ≡ q → Fetches q r d → Comes old r (asks (between_jobs old.history) e) d
     command (asks_ledger (for_block n)) asked fetches =
-        ap (λ e. after (tickets old) (asks (between_jobs old.history) e) (d ∷ [])) brings
-        ∙ ap (λ a. after (tickets old) a (d ∷ [])) (open_asks old c n (Object (made old.history + 1)) (due_command old c (for_block n) is (ap (need_of old) is ∙ asked)) [])
-        ∙ ap (λ d. after (tickets old) (to_open n (Object (made old.history + 1))) (d ∷ [])) fetches.1
-        ∙ ap (λ n. after (tickets old) (to_open n (Object (made old.history + 1))) (Opens r.block r.words r.serial ∷ [])) (sym fetches.0)
-        ∙ open_met (tickets old) r.words (made old.history + 1) r.block r.serial
+        subst (λ e. Comes old r (asks (between_jobs old.history) e) d) (sym brings)
+            (subst (λ q. Comes old r q d) (sym (open_asks old c n (Object (made old.history + 1)) (due_command old c (for_block n) is (ap (need_of old) is ∙ asked)) []))
+                (subst (Comes old r (to_open n (Object (made old.history + 1)))) (sym fetches.1) (comes_anew old r n fetches.0)))
     command (asks_message s) asked fetches = absurd (no_message (collects c) (request old c) asked)
       where
         no_message : (b : Bool) (q : Option Request) → cond b asks_marks (ledger_or_nobody q) ≡ asks_message s → ⊥
@@ -222,53 +245,67 @@ admitted_met old r d e (run c) fetches is brings = command (need_of old (run c))
         no_message false None e = cc
         no_message false (Some q) e = cc
     command n asked fetches = absurd fetches
-admitted_met old r d e _ fetches is brings = absurd brings
+admitted_comes old r d e _ fetches is brings = absurd brings
 
-pub admitted_ties : (old new : Book) (m : Ledger) (r : Row) → IsRunOver old.over old.plan old.history → HasFetched old r m → Admits old r new → IsTied new m
+pub admitted_ties : (old new : Book) (m : Ledger) (r : Row) → IsRunOver old.over old.plan old.history → HasFetched old r m → Admits old r new → IsSettled new m
 admitted_ties old new m r history f a =
-    tells old new m (f.deed ∷ []) a.0 f.midway (ap (λ b. b.history) a.3) (ap (λ b. b.number) a.3)
-    (admitted_met old r f.deed a.0 (due old.plan old.history) f.fetches refl a.1 ∙ ap Some (sym (admitted_tickets old new r history a)))
+    let comes = admitted_comes old r f.deed a.0 (due old.plan old.history) f.fetches refl a.1 in
+    let q = asks (between_jobs old.history) a.0 in
+    tells old new (Some r) m (f.deed ∷ []) a.0 f.midway a.3
+    (comes.met ∙ ap Some (sym (admitted_tickets old new r history a)))
+    (reverse-append ((made old.history + 1, r) ∷ []) old.over ∙ ap (λ t. reverse old.over ++ t) (sym comes.ticket))
+    (unnamed old q (f.deed ∷ []) comes.calm)
     f.free
 
 -- it is refused, and spent
 pub refused_ties : (old new : Book) (m k : Ledger) (r : Row) → IsRunOver old.over old.plan old.history → HasFetched old r m → (n : ℕ) → n ≡ old.number → holder_of m r.serial ≡ Some (n, r) → k ≡ Spent r.serial ∷ m
-    → RefusesMessage old new → IsTied new k
+    → RefusesMessage old new → IsSettled new k
 refused_ties old new m k r history f n same held more refused =
     let mine = by_ticket m r.serial n r (Spends r.serial) held ∙ ap (λ n. Some (n, Spends r.serial)) same in
     let stays = refused_stays old new refused in
-    let job = at_message old.over old.plan old.history (message_due old (due old.plan old.history) refused.0 refused.1).0 refused.0 history.1 (message_due old (due old.plan old.history) refused.0 refused.1).1 in
+    let due' = message_due old (due old.plan old.history) refused.0 refused.1 in
+    let job = at_message old.over old.plan old.history due'.0 refused.0 history.1 due'.1 in
+    let sender = awaited_at old.plan old.history due'.0 refused.0 due'.1 in
+    let asked : asks (between_jobs old.history) (Refused TooManyValues) ≡ to_refuse = ap (λ b. asks b (Refused TooManyValues)) job in
+    let deeds = f.deed ∷ Spends r.serial ∷ [] in
     let fetched : f.deed ≡ Takes refused.0 (Some (Block r.block r.serial)) r.words = subst (λ q. Fetches q r f.deed) refused.1 f.fetches in
-    tells old new k (f.deed ∷ Spends r.serial ∷ []) (Refused TooManyValues)
+    tells old new None k deeds (Refused TooManyValues)
     (does old m k (f.deed ∷ []) (Spent r.serial) (Spends r.serial) f.midway more mine refl (ap (λ w. may_do w (Spends r.serial)) f.free) f.undrained)
-    (grown_history old new (Refused TooManyValues) refused.3) stays.step.number
-    (ap (λ b. after (tickets old) (asks b (Refused TooManyValues)) (f.deed ∷ Spends r.serial ∷ [])) job
+    refused.3
+    (ap (λ q. after (tickets old) q deeds) asked
     ∙ ap (λ d. after (tickets old) to_refuse (d ∷ Spends r.serial ∷ [])) fetched
     ∙ ap (λ b. some_if b (tickets old)) (eq-eqb r.serial r.serial refl)
     ∙ ap Some (sym stays.same))
+    (unbrought old.over (ticket_in (asks (between_jobs old.history) (Refused TooManyValues)) deeds) (ap (λ q. ticket_in q deeds) asked))
+    (λ refuses. sender ∙ sym (ap (λ q. refused_in q deeds) asked ∙ ap (λ d. refused_in to_refuse (d ∷ Spends r.serial ∷ [])) fetched))
     (ap (λ m. waits m old.number) more ∙ f.free)
 
 -- Many tickets
 
 -- a collection
 pub collected_ties : (old new : Book) (s : Share) (l : Books) (m : Ledger) (out : List (ℕ × Row)) → IsReady old s l → need old ≡ asks_marks → Collects old out new → AreDeedsOf old.number (map (λ t. Spent t.1.serial) out) l.history → m ≡ spent out l.history
-    → IsTied new m
+    → IsSettled new m
 collected_ties old new s l m out ready is c deeds more =
     let none = free old l.history ready.tied (λ s other. let clash : asks_marks ≡ asks_message s = sym is ∙ other in cc) in
     let still = undrained old l ready.legal ready.seated (open_for old asks_marks (λ f. cc) is) in
     let all = spends_all old l.history [] out (begun old l.history ready.tied) deeds none still in
-    tells old new m (all_spent out) (Emptied c.0) (subst (λ m. Midway old m (all_spent out)) (sym more) all.0) (grown_history old new (Emptied c.0) c.3) (ap (λ b. b.number) c.3)
+    tells old new None m (all_spent out) (Emptied c.0) (subst (λ m. Midway old m (all_spent out)) (sym more) all.0) c.3
     (ap (λ out. after (tickets old) (to_empty c.0) (all_spent out)) c.4 ∙ empty_met (tickets old) c.0 ∙ ap Some (sym (ap tickets c.3 ∙ emptied_tickets old c.0 c.2)))
+    (unbrought old.over [] refl)
+    (unnamed old (to_empty c.0) (all_spent out) refl)
     (ap (λ m. waits m old.number) more ∙ all.1)
 
 -- a closing
 pub closed_ties : (old new : Book) (s : Share) (l : Books) (m : Ledger) (out : List (ℕ × Row)) → IsReady old s l → need old ≡ asks_closing → Records old Closed new → out ≡ tickets old → AreDeedsOf old.number (map (λ t. Spent t.1.serial) out) l.history
-    → m ≡ Ended old.number ∷ spent out l.history → IsTied new m
+    → m ≡ Ended old.number ∷ spent out l.history → IsSettled new m
 closed_ties old new s l m out ready is records same deeds more =
     let none = free old l.history ready.tied (λ s other. let clash : asks_closing ≡ asks_message s = sym is ∙ other in cc) in
     let still = undrained old l ready.legal ready.seated (open_for old asks_closing (λ f. cc) is) in
     let all = spends_all old l.history [] out (begun old l.history ready.tied) deeds none still in
-    tells old new m (all_spent out ++ Ends ∷ []) Closed
+    tells old new None m (all_spent out ++ Ends ∷ []) Closed
     (does old (spent out l.history) m (all_spent out) (Ended old.number) Ends all.0 more refl refl (ap (λ w. may_do w Ends) all.1) all.2)
-    (grown_history old new Closed records) (ap (λ b. b.number) records)
+    records
     (ap (λ out. after (tickets old) to_close (all_spent out ++ Ends ∷ [])) same ∙ close_met (tickets old) ∙ ap Some (sym (ap tickets records)))
+    (unbrought old.over [] refl)
+    (unnamed old to_close (all_spent out ++ Ends ∷ []) refl)
     (ap (λ m. waits m old.number) more ∙ all.1)

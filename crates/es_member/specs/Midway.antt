@@ -11,9 +11,8 @@ use Rattle.es_match.specs.Deeds.{Deed, Opens, Takes, part}
 use Rattle.es_ticket.specs.Shares.{Share}
 use Rattle.es_record.specs.Book.{Book}
 use Rattle.es_rules.specs.Needs.{for_block, Need, asks_ledger, asks_message, asks_nothing, need}
-use Rattle.es_agent.specs.Tickets.{tickets}
 use Rattle.es_member.specs.Seats.{Holds}
-use Rattle.es_member.specs.Tied.{IsTied}
+use Rattle.es_member.specs.Tied.{IsTied, came_to}
 use Rattle.es_member.specs.Turned.{IsSeated}
 
 -- the agent has its stake, it has not ended in the ledger while it asks for something, and the ledger's history is legal and says
@@ -36,7 +35,7 @@ pub record IsReady (b : Book) (s : Share) (l : Books) : Type 0 where
 -- the agent has done what its history does not tell yet: the deeds ds
 pub record Midway (b : Book) (l : Ledger) (ds : List Deed) : Type 0 where
   pub told : List Deed
-  pub mine : Ties b.history told (tickets b)
+  pub mine : Ties b.history told (came_to b)
   pub split : part l b.number ≡ told ++ ds
   pub waits_end : patient l ≡ true
   pub drains_end : drained_last l ≡ true

@@ -14,7 +14,7 @@ use Rattle.es_record.specs.Book.{Book, IsNext, Records, with_row}
 use Rattle.es_rules.specs.Needs.{for_block, for_post, for_buffer_post, for_load, for_store, for_add, Need, asks_nobody, asks_marks, asks_ledger, asks_message, asks_closing, asks_nothing, need}
 use Rattle.es_agent.specs.Tickets.{is_ended}
 use Rattle.es_member.specs.Seats.{Seat, Holds}
-use Rattle.es_member.specs.Tied.{GrowsBy, IsTied}
+use Rattle.es_member.specs.Tied.{GrowsBy, IsSettled, IsTied}
 use Rattle.es_member.specs.declared.member.Progress.{Progress}
 use Rattle.es_member.specs.declared.member.Progress.TheVariants.{Moved, Waiting, Ended}
 
@@ -65,9 +65,15 @@ Heard Ended b old new = new ≡ old
 abbrev pub OthersStay : ℕ → Books → Books → Type 0
 OthersStay n old new = (new.agents ≡ old.agents) × GrowsBy n old.history new.history
 
+-- agent and ledger go together; one that has one event more waits for nobody, whatever its next job waits for
+abbrev pub IsTiedAfter : Progress → Book → Ledger → Type 0
+IsTiedAfter Moved b l = IsSettled b l
+IsTiedAfter Waiting b l = IsTied b l
+IsTiedAfter Ended b l = IsTied b l
+
 -- where the agent and the ledger went together before, they do
-abbrev pub StaysTied : Book → Books → Book → Books → Type 0
-StaysTied old before b after = IsSeated old before → IsTied old before.history → IsTied b after.history
+abbrev pub StaysTied : Progress → Book → Books → Book → Books → Type 0
+StaysTied p old before b after = IsSeated old before → IsTied old before.history → IsTiedAfter p b after.history
 
 -- whatever came of a turn of the agent old, it has its stake, and its place where it had it
 pub record Keeps (old : Book) (before : Books) (b : Book) (s : Share) (after : Books) : Type 0 where

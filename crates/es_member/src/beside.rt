@@ -5,7 +5,7 @@ ghost use Rattle.std.specs.Prelude.{◌≡◌, ◌≢◌, ◌↔◌, IsTrue, IfO
 ghost use Rattle.es_record.specs.Graph.{AreMarksOf};
 ghost use Rattle.es_rules.specs.Needs.{need, asks_nobody, asks_marks, asks_nothing};
 ghost use Rattle.es_rules.specs.Shown.{shown};
-ghost use Rattle.es_member.specs.Turned.{IsSeated, Moves, Proceeds, NamesOthers, OthersStay, ProceedsBeside};
+ghost use Rattle.es_member.specs.Turned.{Heard, IsSeated, Moves, Proceeds, NamesOthers, OthersStay, ProceedsBeside};
 
 use crate::member::{Member, Progress};
 use crate::planned::Planned;
@@ -53,8 +53,8 @@ impl<L: Planned> Member<L> {
     }
 
     /// One turn, beside other agents, by the marks that `marks` gave where it is a collection. Where the
-    /// agent has its place and names other agents alone, it proceeds as by `step`; else it may end, and
-    /// then nothing has changed. That a wait was told by the rule is not promised here.
+    /// agent has its place and names other agents alone, it proceeds as by `step`, and waits where the rule
+    /// says so and nowhere else; else it may end, and then nothing has changed.
     pub fn turn_beside(
         &mut self,
         ledger: &mut LedgerCore<L>,
@@ -64,6 +64,7 @@ impl<L: Planned> Member<L> {
         requires due { IfSome marks (λ m. need self.old.book ≡ asks_marks) }
         ensures ok { IfOk result (λ p. ProceedsBeside p self.old self.new) }
         ensures placed { IsSeated self.old.book ledger.old → NamesOthers (need self.old.book) self.old.book.number ledger.old.agents → IfOk result (λ p. Proceeds p self.old self.new) }
+        ensures heard { IsSeated self.old.book ledger.old → NamesOthers (need self.old.book) self.old.book.number ledger.old.agents → IfOk result (λ p. Heard p self.old.book ledger.old ledger.new) }
         ensures err { OnErr result (self.new.book ≡ self.old.book) }
         ensures others { OthersStay self.old.book.number ledger.old ledger.new }
     {

@@ -11,7 +11,7 @@ ghost use Rattle.es_rules.specs.Needs.{need};
 ghost use Rattle.es_agent.specs.Tickets.{is_ended, tickets};
 ghost use Rattle.es_member.specs.Tied.{IsTied};
 ghost use Rattle.es_member.specs.Seats.{IsPlanned};
-ghost use Rattle.es_member.specs.Turned.{Heard, IsSeated, NamesOthers, OthersStay, Proceeds, spent};
+ghost use Rattle.es_member.specs.Turned.{Heard, IsSeated, IsTiedAfter, NamesOthers, OthersStay, Proceeds, spent};
 
 use crate::planned::Planned;
 use crate::spending::spend_all;
@@ -86,7 +86,7 @@ impl<L: Planned> Member<L> {
         requires tied { IsTied self.old.book ledger.old.history }
         ensures ok { IfOk result (λ p. Proceeds p self.old self.new) }
         ensures told { IfOk result (λ p. Heard p self.old.book ledger.old ledger.new) }
-        ensures tied { OnOk result (IsTied self.new.book ledger.new.history) }
+        ensures tied { IfOk result (λ p. IsTiedAfter p self.new.book ledger.new.history) }
         ensures err { OnErr result (self.new.book ≡ self.old.book) }
         ensures same { (self.new.book.plan ≡ self.old.book.plan) × (self.new.book.agents ≡ self.old.book.agents) }
         ensures number { self.new.book.number ≡ self.old.book.number }

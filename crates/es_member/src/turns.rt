@@ -31,7 +31,7 @@ pub(crate) fn turn<L: Run>(
     ensures ok { IfOk result (λ p. Proceeds p (seat core.old stake.old) (seat core.new stake.new)) }
     ensures told { IfOk result (λ p. Heard p core.old ledger.old ledger.new) }
     ensures err { OnErr result (core.new ≡ core.old) }
-    ensures tied { OnOk result (StaysTied core.old ledger.old core.new ledger.new) }
+    ensures tied { IfOk result (λ p. StaysTied p core.old ledger.old core.new ledger.new) }
     ensures keeps { Keeps core.old ledger.old core.new stake.new ledger.new }
 {
     match core.next() {
@@ -75,7 +75,7 @@ fn perform<L: Run>(
     ensures ok { IfOk result (λ p. Proceeds p (seat core.old stake.now) (seat core.new stake.now)) }
     ensures told { IfOk result (λ p. Heard p core.old ledger.now ledger.now) }
     ensures err { OnErr result (core.new ≡ core.old) }
-    ensures tied { OnOk result (StaysTied core.old ledger.now core.new ledger.now) }
+    ensures tied { IfOk result (λ p. StaysTied p core.old ledger.now core.new ledger.now) }
     ensures keeps { Keeps core.old ledger.now core.new stake.now ledger.now }
 {
     let _ = core.history();
@@ -94,7 +94,7 @@ fn collect<L: Run>(
     ensures ok { IfOk result (λ p. Proceeds p (seat core.old stake.old) (seat core.new stake.new)) }
     ensures told { IfOk result (λ p. Heard p core.old ledger.old ledger.new) }
     ensures err { OnErr result (core.new ≡ core.old) }
-    ensures tied { OnOk result (StaysTied core.old ledger.old core.new ledger.new) }
+    ensures tied { IfOk result (λ p. StaysTied p core.old ledger.old core.new ledger.new) }
     ensures keeps { Keeps core.old ledger.old core.new stake.new ledger.new }
 {
     let marks = core.marks()?;
@@ -114,7 +114,7 @@ pub(crate) fn empty<L: Run>(
     ensures ok { IfOk result (λ p. Proceeds p (seat core.old stake.old) (seat core.new stake.new)) }
     ensures told { IfOk result (λ p. Heard p core.old ledger.old ledger.new) }
     ensures err { OnErr result (core.new ≡ core.old) }
-    ensures tied { OnOk result (StaysTied core.old ledger.old core.new ledger.new) }
+    ensures tied { IfOk result (λ p. StaysTied p core.old ledger.old core.new ledger.new) }
     ensures keeps { Keeps core.old ledger.old core.new stake.new ledger.new }
 {
     let rack = core.collect(marks)?;
@@ -133,7 +133,7 @@ fn close<L: Run>(
     ensures ok { IfOk result (λ p. Proceeds p (seat core.old stake.old) (seat core.new stake.new)) }
     ensures told { IfOk result (λ p. Heard p core.old ledger.old ledger.new) }
     ensures err { OnErr result (core.new ≡ core.old) }
-    ensures tied { OnOk result (StaysTied core.old ledger.old core.new ledger.new) }
+    ensures tied { IfOk result (λ p. StaysTied p core.old ledger.old core.new ledger.new) }
     ensures keeps { Keeps core.old ledger.old core.new stake.new ledger.new }
 {
     let rack = core.close();

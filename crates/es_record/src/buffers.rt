@@ -1,6 +1,6 @@
 //! The buffer objects that an agent ever had.
 
-ghost use Rattle.std.specs.Prelude.{◌≡◌, ◌<◌, ◌≤◌, ◌∷◌, ℕ, [], Some, None, true, IfOk, IfErr, OnOk, length, slice_index_or};
+ghost use Rattle.std.specs.Prelude.{◌≡◌, ◌<◌, ◌≤◌, ◌∷◌, ℕ, [], Some, None, true, IfOk, IfErr, OnOk, length, reverse, slice_index_or};
 ghost use Rattle.es_event.specs.declared.row.Row.{Row as RowSaid};
 ghost use Rattle.es_event.specs.Sharing.{row_at};
 ghost use Rattle.es_ticket.specs.Shares.{at, is_rising_from};
@@ -49,6 +49,13 @@ impl BufferTable {
             Ok(place) => Some(self.all[place].1),
             Err(_) => None,
         }
+    }
+
+    /// All of them, the oldest first.
+    pub(crate) fn as_slice(&self) -> &[(Id, Row)]
+        ensures { result.now ≡ reverse self.now.rows }
+    {
+        self.all.as_slice()
     }
 
     /// Makes room for one more.

@@ -3,7 +3,7 @@
 ghost use Rattle.std.specs.Prelude.{◌≡◌, ◌≢◌, ◌<◌, OnOk, OnErr, IfOk};
 ghost use Rattle.es_rules.specs.Needs.{need, asks_ledger, for_block, for_post, for_buffer_post, for_load, for_store, for_add, TakesTicket};
 ghost use Rattle.es_member.specs.Seats.{HoldsBeside, seat};
-ghost use Rattle.es_member.specs.Tied.{IsTied};
+ghost use Rattle.es_member.specs.Tied.{IsSettled};
 ghost use Rattle.es_member.specs.Turned.{Heard, Keeps, Moves, Proceeds, StaysTied};
 ghost use Rattle.es_member.specs.Midway.{IsHeld, HasFetched};
 
@@ -25,7 +25,7 @@ pub(crate) fn open<L: Run>(
     ensures ok { IfOk result (λ p. Proceeds p (seat core.old stake.old) (seat core.new stake.new)) }
     ensures told { IfOk result (λ p. Heard p core.old ledger.old ledger.new) }
     ensures err { OnErr result (core.new ≡ core.old) }
-    ensures tied { OnOk result (StaysTied core.old ledger.old core.new ledger.new) }
+    ensures tied { IfOk result (λ p. StaysTied p core.old ledger.old core.new ledger.new) }
     ensures keeps { Keeps core.old ledger.old core.new stake.new ledger.new }
 {
     let ticket = ledger.open_block(stake, words)?;
@@ -45,7 +45,7 @@ pub(crate) fn admit<L: Run>(
     requires held { HoldsBeside ticket core.old stake.old }
     ensures ok { OnOk result (Moves core.old core.new) }
     ensures err { OnErr result (core.new ≡ core.old) }
-    ensures tied { OnOk result (HasFetched core.old ticket ledger.old.history → IsTied core.new ledger.new.history) }
+    ensures tied { OnOk result (HasFetched core.old ticket ledger.old.history → IsSettled core.new ledger.new.history) }
     ensures keeps { Keeps core.old ledger.old core.new stake.new ledger.new }
 {
     let _ = core.history();
@@ -75,7 +75,7 @@ pub(crate) fn post<L: Run>(
     ensures ok { IfOk result (λ p. Proceeds p (seat core.old stake.now) (seat core.new stake.now)) }
     ensures told { IfOk result (λ p. Heard p core.old ledger.old ledger.new) }
     ensures err { OnErr result (core.new ≡ core.old) }
-    ensures tied { OnOk result (StaysTied core.old ledger.old core.new ledger.new) }
+    ensures tied { IfOk result (λ p. StaysTied p core.old ledger.old core.new ledger.new) }
     ensures keeps { Keeps core.old ledger.old core.new stake.now ledger.new }
 {
     ledger.post(core.number(), receiver, value)?;
@@ -97,7 +97,7 @@ pub(crate) fn post_buffer<L: Run>(
     ensures ok { IfOk result (λ p. Proceeds p (seat core.old stake.old) (seat core.new stake.new)) }
     ensures told { IfOk result (λ p. Heard p core.old ledger.old ledger.new) }
     ensures err { OnErr result (core.new ≡ core.old) }
-    ensures tied { OnOk result (StaysTied core.old ledger.old core.new ledger.new) }
+    ensures tied { IfOk result (λ p. StaysTied p core.old ledger.old core.new ledger.new) }
     ensures keeps { Keeps core.old ledger.old core.new stake.new ledger.new }
 {
     let _ = core.history();
@@ -119,7 +119,7 @@ pub(crate) fn load<L: Run>(
     ensures ok { IfOk result (λ p. Proceeds p (seat core.old stake.old) (seat core.new stake.new)) }
     ensures told { IfOk result (λ p. Heard p core.old ledger.old ledger.new) }
     ensures err { OnErr result (core.new ≡ core.old) }
-    ensures tied { OnOk result (StaysTied core.old ledger.old core.new ledger.new) }
+    ensures tied { IfOk result (λ p. StaysTied p core.old ledger.old core.new ledger.new) }
     ensures keeps { Keeps core.old ledger.old core.new stake.new ledger.new }
 {
     let _ = core.history();
@@ -142,7 +142,7 @@ pub(crate) fn store<L: Run>(
     ensures ok { IfOk result (λ p. Proceeds p (seat core.old stake.old) (seat core.new stake.new)) }
     ensures told { IfOk result (λ p. Heard p core.old ledger.old ledger.new) }
     ensures err { OnErr result (core.new ≡ core.old) }
-    ensures tied { OnOk result (StaysTied core.old ledger.old core.new ledger.new) }
+    ensures tied { IfOk result (λ p. StaysTied p core.old ledger.old core.new ledger.new) }
     ensures keeps { Keeps core.old ledger.old core.new stake.new ledger.new }
 {
     let _ = core.history();
@@ -165,7 +165,7 @@ pub(crate) fn add<L: Run>(
     ensures ok { IfOk result (λ p. Proceeds p (seat core.old stake.old) (seat core.new stake.new)) }
     ensures told { IfOk result (λ p. Heard p core.old ledger.old ledger.new) }
     ensures err { OnErr result (core.new ≡ core.old) }
-    ensures tied { OnOk result (StaysTied core.old ledger.old core.new ledger.new) }
+    ensures tied { IfOk result (λ p. StaysTied p core.old ledger.old core.new ledger.new) }
     ensures keeps { Keeps core.old ledger.old core.new stake.new ledger.new }
 {
     let _ = core.history();

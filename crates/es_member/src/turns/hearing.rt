@@ -27,7 +27,7 @@ pub(crate) fn hear<L: Run>(
     ensures ok { IfOk result (λ p. Proceeds p (seat core.old stake.old) (seat core.new stake.new)) }
     ensures told { IfOk result (λ p. Heard p core.old ledger.old ledger.new) }
     ensures err { OnErr result (core.new ≡ core.old) }
-    ensures tied { OnOk result (StaysTied core.old ledger.old core.new ledger.new) }
+    ensures tied { IfOk result (λ p. StaysTied p core.old ledger.old core.new ledger.new) }
     ensures keeps { Keeps core.old ledger.old core.new stake.new ledger.new }
 {
     match ledger.await_message(core.number(), sender)? {
@@ -54,7 +54,7 @@ fn receive<L: Run>(
     ensures ok { IfOk result (λ p. Proceeds p (seat core.old stake.old) (seat core.new stake.new)) }
     ensures told { IfOk result (λ p. Heard p core.old ledger.old ledger.new) }
     ensures err { OnErr result (core.new ≡ core.old) }
-    ensures tied { OnOk result (StaysTied core.old ledger.old core.new ledger.new) }
+    ensures tied { IfOk result (λ p. StaysTied p core.old ledger.old core.new ledger.new) }
     ensures keeps { Keeps core.old ledger.old core.new stake.new ledger.new }
 {
     let Some(Message { sender: _, body }) = ledger.take(stake, sender) else {

@@ -1,6 +1,6 @@
 //! What an agent's history says of one variable or one object, read from the tables.
 
-ghost use Rattle.std.specs.Prelude.{◌≡◌, ◌≤◌, ◌+◌, ◌∷◌, [], true, false, Some, IfOk, IfErr};
+ghost use Rattle.std.specs.Prelude.{◌≡◌, ◌≤◌, ◌+◌, ◌∷◌, [], true, false, Some, reverse, IfOk, IfErr};
 ghost use Rattle.std.specs.Option.{option_copied, option_map, option_map_or, option_and_then};
 ghost use Rattle.es_value.specs.Limits.{most_identities};
 ghost use Rattle.es_value.specs.Values.{identity};
@@ -19,7 +19,7 @@ ghost use Rattle.es_record.specs.Book.{AreThere};
 ghost use Rattle.es_record.specs.Tagged.{is_of};
 
 use super::AgentRecord;
-use es_event::{Command, OperandNames, Operands, Refusal, Row, Sequence};
+use es_event::{AgentPlan, Command, OperandNames, Operands, Refusal, Row, Sequence};
 use es_tables::Tag;
 use es_value::{Id, Name, NoMemory, Value};
 
@@ -60,6 +60,20 @@ impl AgentRecord {
         ensures { result ≡ row_at self.now.over buffer }
     {
         self.buffers.row(buffer)
+    }
+
+    /// Each buffer object that came, emptied ones too, with what its ticket named, the oldest first.
+    pub fn buffers(&self) -> &[(Id, Row)]
+        ensures { result.now ≡ reverse self.now.over }
+    {
+        self.buffers.as_slice()
+    }
+
+    /// Its plan.
+    pub fn plan(&self) -> &AgentPlan
+        ensures { result.now ≡ self.now.plan }
+    {
+        &self.plan
     }
 
     /// The variable's value where it stands: undefined where nothing was assigned to it. It is not

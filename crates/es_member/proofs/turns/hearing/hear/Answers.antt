@@ -44,7 +44,7 @@ pub returns-in-Ready-clause-tied : goal.returns-in-Ready-clause-tied
 returns-in-Ready-clause-tied g c =
     let same = where_ready c.args.ledger.now.history c.await_message.new.self.history c.args.ledger.now.agents c.number.result c.args.sender (subst (λ (t : Turn). ◌≡◌ {A = Turn × Ledger} (t, c.await_message.new.self.history) (told c.args.ledger.now.history c.args.ledger.now.agents c.number.result c.args.sender)) c.in-Ready.is c.in_ok-await_message.ensures.told) in
     let ledger : c.await_message.new.self ≡ c.args.ledger.now = λ i. record { agents = c.await_message.ensures.agents i; history = same.0 i } in
-    subst (λ l. OnOk c.receive.result (StaysTied c.args.core.now l c.receive.new.core c.receive.new.ledger)) ledger c.receive.ensures.tied
+    subst (λ l. IfOk c.receive.result (λ p. StaysTied p c.args.core.now l c.receive.new.core c.receive.new.ledger)) ledger c.receive.ensures.tied
 
 pub returns-in-Stay-clause-told : goal.returns-in-Stay-clause-told
 returns-in-Stay-clause-told g c = (
