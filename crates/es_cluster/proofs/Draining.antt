@@ -20,8 +20,8 @@ use Rattle.es_ledger.proofs.Lying.{lies_in_front, lying_all}
 use Rattle.es_match.specs.Cluster.{Ties, IsCluster, is_patient, patient, is_nobodys, drained_last, history_of}
 use Rattle.es_match.specs.Cluster.{drained as was_drained}
 use Rattle.es_match.specs.Deeds.{Spends, deed, part, part_of}
-use Rattle.es_agent.specs.Tickets.{tickets}
 use Rattle.es_member.proofs.Midway.{still_over}
+use Rattle.es_member.specs.Tied.{came_to}
 use Rattle.es_record.specs.Book.{Book}
 use Rattle.es_cluster.specs.Moves.{with_drained}
 use Rattle.es_cluster.specs.State.{Cluster, ArePlaced, AreTied}
@@ -140,7 +140,7 @@ still bs n l e none same ends stands = (
     each = λ i b is.
         (let was = stands.1.each i b is in
         record {
-          ties = subst (λ p. Ties b.history p (tickets b)) (sym (part_still l e b.number none)) was.ties;
+          ties = subst (λ p. Ties b.history p (came_to b)) (sym (part_still l e b.number none)) was.ties;
           awaits = λ s waiting. was.awaits s (sym (same b.number) ∙ waiting);
           waits_end = ap (λ o. is_patient l o && patient l) none ∙ was.waits_end;
           drains_end = ap (λ o. (is_nobodys o || not (was_drained l)) && drained_last l) none ∙ was.drains_end;

@@ -7,10 +7,10 @@ use Rattle.es_event.specs.LegalLedger.{LegalLedger, all_ended}
 use Rattle.es_event.specs.Rows.{held}
 use Rattle.es_ledger.specs.Books.{Books}
 use Rattle.es_ledger.specs.Draining.{drained}
-use Rattle.es_match.specs.Cluster.{IsCluster}
+use Rattle.es_match.specs.Cluster.{IsClusterOf}
 use Rattle.es_record.specs.Book.{Book}
 use Rattle.es_cluster.specs.Ends.{AreHistories, HaveNoTicket, EndsIn}
-use Rattle.es_cluster.specs.State.{Cluster, ArePlaced, AreTied, names_of}
+use Rattle.es_cluster.specs.State.{Cluster, ArePlaced, AreTied, accounts, names_of}
 use Rattle.es_cluster.proofs.Draining.{drained_stands}
 use Rattle.es_ledger.proofs.Mailed.{none_counted}
 use Rattle.es_cluster.proofs.Standing.{are_cluster}
@@ -35,7 +35,7 @@ ends_in c m o placed tied legal over agents history names histories events legal
   agents = histories;
   ledger = events ∙ history;
   legal = subst (λ n. LegalLedger n (reverse o.ledger)) agents (subst (LegalLedger m.agents) (sym events) legal_end);
-  cluster = subst (λ hs. IsCluster hs (reverse o.ledger)) (sym histories.are) (subst (IsCluster (map (λ b. b.history) c.agents)) (sym events) (are_cluster c.agents m stands.0 stands.1));
+  cluster = subst (IsClusterOf (accounts c.agents)) (sym events) (are_cluster c.agents m stands.0 stands.1);
   tickets = λ b. ap (λ l. count l b) events ∙ none_counted m.agents m.history legal_end.0 legal_end.1 (none_below c.agents m stands.0 none) empty b;
   messages = λ s r. ap (λ l. port_of l s r) events ∙ empty s r;
 }

@@ -1,22 +1,23 @@
 -- The histories of agents that have ended, one more.
 use Rattle.std.proofs.Common.{◌≡◌, ℕ, zero, suc, true, sym, ◌∙◌, ap, refl, subst, List, [], ◌∷◌, ◌++◌, append-nil, map, reverse, length, Some}
 use Rattle.std.specs.Prelude.{slice_get}
+use Rattle.std.specs.List.{AllByRecursion}
 use Rattle.std.proofs.lemmas.List.{map-append}
 use Rattle.es_event.specs.declared.event.Event.{Event}
-use Rattle.es_event.specs.declared.plan.AgentPlan.{AgentPlan}
 use Rattle.es_event.specs.Ledger.{Ledger, table}
 use Rattle.es_event.specs.LegalLedger.{all_ended}
 use Rattle.es_event.specs.Order.{Phase, between, handed, inside, stopped, ended, phase}
 use Rattle.es_event.specs.Rows.{held}
-use Rattle.es_event.specs.Runs.{IsRunOver, IsWholeRun, AreWholeRuns}
+use Rattle.es_event.specs.Runs.{IsRunOver}
+use Rattle.es_match.specs.Cluster.{Account}
 use Rattle.es_agent.specs.Tickets.{is_ended}
 use Rattle.es_ledger.specs.Books.{Books}
 use Rattle.es_member.proofs.Midway.{ended_where_all}
 use Rattle.es_member.specs.Seats.{Seat}
 use Rattle.es_record.specs.Book.{Book}
-use Rattle.es_cluster.specs.Ends.{AreEnded, AreHistories, HaveNoTicket}
+use Rattle.es_cluster.specs.Ends.{AreEnded, AreHistories, HaveNoTicket, IsWhole}
 use Rattle.es_cluster.specs.Moves.{is_over}
-use Rattle.es_cluster.specs.State.{books, ArePlaced, plans}
+use Rattle.es_cluster.specs.State.{account, accounts, books, ArePlaced}
 
 at_end : (p : Phase) → is_ended p ≡ true → p ≡ ended
 at_end between is = cc
@@ -25,17 +26,15 @@ at_end inside is = cc
 at_end stopped is = cc
 at_end ended is = refl
 
-whole_more : (ps : List AgentPlan) (hs : List (List Event)) (p : AgentPlan) (h : List Event) → AreWholeRuns ps hs → IsWholeRun p (reverse h) → AreWholeRuns (ps ++ p ∷ []) (hs ++ h ∷ [])
-whole_more [] [] p h before last = (last, tt)
-whole_more [] (g ∷ hs) p h before last = absurd before
-whole_more (q ∷ ps) [] p h before last = absurd before
-whole_more (q ∷ ps) (g ∷ hs) p h before last = (before.0, whole_more ps hs p h before.1 last)
+all_more : (P : Account → Type 0) (xs : List Account) (x : Account) → AllByRecursion P xs → P x → AllByRecursion P (xs ++ x ∷ [])
+all_more P [] x before last = (last, tt)
+all_more P (y ∷ xs) x before last = (before.0, all_more P xs x before.1 last)
 
 pub histories_more : (bs : List Book) (hs : List (List Event)) (b : Book) (h : List Event) → AreHistories bs hs → reverse h ≡ b.history → IsRunOver b.over b.plan b.history → is_over b ≡ true → AreHistories (bs ++ b ∷ []) (hs ++ h ∷ [])
 histories_more bs hs b h before events run over = record {
   are = map-append (λ h. reverse h) hs (h ∷ []) ∙ ap (λ ls. ls ++ reverse h ∷ []) before.are ∙ ap (λ e. map (λ b. b.history) bs ++ e ∷ []) events ∙ sym (map-append (λ b. b.history) bs (b ∷ []));
-  runs = subst (λ ps. AreWholeRuns ps (hs ++ h ∷ [])) (sym (map-append (λ b. b.plan) bs (b ∷ [])))
-      (whole_more (plans bs) hs b.plan h before.runs (subst (IsWholeRun b.plan) (sym events) (b.over, run.0, (run.1, at_end (phase b.history) over))));
+  runs = subst (AllByRecursion IsWhole) (sym (map-append account bs (b ∷ [])))
+      (all_more IsWhole (accounts bs) (account b) before.runs (run.0, (run.1, at_end (phase b.history) over)));
 }
 
 each_more : (P : Book → Type 0) (xs : List Book) (x : Book) → ((n : ℕ) (y : Book) → slice_get xs n ≡ Some y → P y) → P x → (n : ℕ) (y : Book) → slice_get (xs ++ x ∷ []) n ≡ Some y → P y

@@ -1,5 +1,6 @@
 pub mod Named
 pub mod Standing
+pub mod Stopping
 pub mod Counting
 pub mod Beginning
 pub mod Draining

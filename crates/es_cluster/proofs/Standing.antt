@@ -3,21 +3,20 @@ use Rattle.std.proofs.Common.{◌≡◌, ℕ, zero, suc, ◌<◌, ◌≤◌, ◌
 use Rattle.std.specs.Prelude.{slice_get, slice_set, slice_index_or}
 use Rattle.std.proofs.lemmas.Bool.{cases_Bool, eqb-true, eqb-false}
 use Rattle.es_event.specs.Others.{names_others}
-use Rattle.es_event.specs.Ledger.{Ledger}
+use Rattle.es_event.specs.Ledger.{Ledger, waits}
 use Rattle.es_ledger.specs.Books.{Books}
-use Rattle.es_match.specs.Cluster.{Ties, IsCluster, history_of}
+use Rattle.es_match.specs.Cluster.{Account, IsClusterOf, IsSaid, Ties, account_of, nobody}
 use Rattle.es_match.specs.Deeds.{part}
-use Rattle.es_match.specs.Meets.{Tickets}
+use Rattle.es_match.specs.Meets.{Came, nothing_came}
 use Rattle.es_record.specs.Book.{Book}
-use Rattle.es_agent.specs.Tickets.{tickets}
 use Rattle.es_member.specs.Seats.{Seat}
-use Rattle.es_member.specs.Tied.{GrowsBy, IsTied}
-use Rattle.es_member.specs.Turned.{IsSeated, OthersStay, Proceeds}
+use Rattle.es_member.specs.Tied.{GrowsBy, IsTied, came_to}
+use Rattle.es_member.specs.Turned.{IsSeated, IsTiedAfter, OthersStay, Proceeds}
 use Rattle.es_member.specs.declared.member.Progress.{Progress}
 use Rattle.es_member.specs.declared.member.Progress.TheVariants.{Moved, Waiting, Ended}
 use Rattle.es_cluster.specs.Turns.{Takes}
 use Rattle.es_member.proofs.Growing.{part_stays, waits_stay, ended_stays}
-use Rattle.es_cluster.specs.State.{books, IsPlaced, ArePlaced, AreTied}
+use Rattle.es_cluster.specs.State.{account, accounts, books, IsPlaced, ArePlaced, AreTied}
 
 -- Lists in which one is changed
 
@@ -74,7 +73,7 @@ seated_still b l m n other stay seated = record {
 
 tied_still : (b : Book) (l m : Ledger) (n : ℕ) → (b.number ≡ n → ⊥) → GrowsBy n l m → IsTied b l → (new : Book) → IsTied new m → IsTied b m
 tied_still b l m n other grows tied new after = record {
-  ties = subst (λ p. Ties b.history p (tickets b)) (sym (part_stays n b.number l m grows other)) tied.ties;
+  ties = subst (λ p. Ties b.history p (came_to b)) (sym (part_stays n b.number l m grows other)) tied.ties;
   awaits = λ s is. tied.awaits s (sym (waits_stay n b.number l m grows other) ∙ is);
   waits_end = after.waits_end;
   drains_end = after.drains_end;
@@ -117,30 +116,35 @@ tied_after bs l m n new within placed before here stay = record {
 
 -- The histories are those of one cluster
 
-pub are_cluster : (bs : List Book) (l : Books) → ArePlaced bs l → AreTied bs l → IsCluster (map (λ b. b.history) bs) l.history
+account_at : (bs : List Book) (a : ℕ) (b : Book) → slice_get bs a ≡ Some b → account_of (accounts bs) a ≡ account b
+account_at [] a b is = cc
+account_at (c ∷ bs) zero b is = ap account (let same : c ≡ b = cc in same)
+account_at (c ∷ bs) (suc a) b is = account_at bs a b is
+
+nobody_at : (bs : List Book) (a : ℕ) → slice_get bs a ≡ None → (account_of (accounts bs) a ≡ nobody) × (length bs ≤ a)
+nobody_at [] a is = (refl, omega arith)
+nobody_at (c ∷ bs) zero is = cc
+nobody_at (c ∷ bs) (suc a) is = let rest = nobody_at bs a is in (rest.0, (let r = rest.1 in omega (arith, r)))
+
+pub are_cluster : (bs : List Book) (l : Books) → ArePlaced bs l → AreTied bs l → IsClusterOf (accounts bs) l.history
 are_cluster bs l placed tied = record {
   parts = λ a. at a (slice_get bs a) refl;
   waits = tied.waits_end;
   drains = tied.drains_end;
 }
   where
-    history_at : (bs : List Book) (a : ℕ) (b : Book) → slice_get bs a ≡ Some b → slice_index_or (map (λ b. b.history) bs) a [] ≡ b.history
-    history_at [] a b is = cc
-    history_at (c ∷ bs) zero b is = ap (λ b. b.history) (let same : c ≡ b = cc in same)
-    history_at (c ∷ bs) (suc a) b is = history_at bs a b is
+    Said : ℕ → Account → Type 0
+    Said a x = (c : Came) × Ties x.history (part l.history a) c × IsSaid x c
 
-    none_at : (bs : List Book) (a : ℕ) → slice_get bs a ≡ None → (slice_index_or (map (λ b. b.history) bs) a [] ≡ []) × (length bs ≤ a)
-    none_at [] a is = (refl, omega arith)
-    none_at (c ∷ bs) zero is = cc
-    none_at (c ∷ bs) (suc a) is = let rest = none_at bs a is in (rest.0, (let r = rest.1 in omega (arith, r)))
-
-    at : (a : ℕ) (o : Option Book) → slice_get bs a ≡ o → (t : Tickets) × Ties (history_of (map (λ b. b.history) bs) a) (part l.history a) t
+    at : (a : ℕ) (o : Option Book) → slice_get bs a ≡ o → Said a (account_of (accounts bs) a)
     at a (Some b) is =
         let number = (placed.each a b is).number in
-        (tickets b, subst (λ h. Ties h (part l.history a) (tickets b)) (sym (history_at bs a b is)) (subst (λ n. Ties b.history (part l.history n) (tickets b)) number (tied.each a b is).ties))
+        let ties = subst (λ n. Ties b.history (part l.history n) (came_to b)) number (tied.each a b is).ties in
+        subst (Said a) (sym (account_at bs a b is)) (came_to b, ties, record { buffers = refl; senders = refl })
     at a None is =
-        let none = none_at bs a is in
-        ([], subst (λ h. Ties h (part l.history a) []) (sym none.0) (tied.strangers a (let size = placed.size in let few = none.1 in omega (arith, size, few)), refl))
+        let none = nobody_at bs a is in
+        let quiet = tied.strangers a (let size = placed.size in let few = none.1 in omega (arith, size, few)) in
+        subst (Said a) (sym none.0) (nothing_came, (quiet, refl), record { buffers = refl; senders = refl })
 
 -- A turn
 
@@ -153,6 +157,16 @@ pub takes_of : (p : Progress) (old new : Seat) → Proceeds p old new → Takes 
 takes_of Moved old new turn = turn
 takes_of Waiting old new turn = (turn.0, turn.1, ap (λ m. m.book) turn.2)
 takes_of Ended old new turn = (turn.0, ap (λ m. m.book) turn.1)
+
+pub tied_of : (p : Progress) (b : Book) (l : Ledger) → IsTiedAfter p b l → IsTied b l
+tied_of Moved b l settled = settled.tied
+tied_of Waiting b l tied = tied
+tied_of Ended b l tied = tied
+
+pub free_of : (p : Progress) (b : Book) (l : Ledger) (n : ℕ) → b.number ≡ n → IsTiedAfter p b l → p ≡ Moved → waits l n ≡ None
+free_of Moved b l n number settled is = ap (waits l) (sym number) ∙ settled.free
+free_of Waiting b l n number tied is = cc
+free_of Ended b l n number tied is = cc
 
 -- the agent that took it has its place still
 pub placed_here : (old new : Book) (l m : Books) (n : ℕ) → IsPlaced l n old → new.number ≡ old.number → new.plan ≡ old.plan → IsSeated new m → m.agents ≡ l.agents → IsPlaced m n new

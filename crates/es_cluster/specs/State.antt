@@ -2,9 +2,8 @@
 use Rattle.std.specs.Prelude.{ℕ, ◌≡◌, ◌≤◌, ◌+◌, Bool, true, false, List, [], ◌∷◌, Some, length, map, slice_get}
 use Rattle.es_event.specs.declared.plan.AgentPlan.{AgentPlan}
 use Rattle.es_event.specs.declared.plan.Plan.{Plan}
-use Rattle.es_event.specs.History.{History}
 use Rattle.es_event.specs.Others.{names_others}
-use Rattle.es_match.specs.Cluster.{patient, drained_last}
+use Rattle.es_match.specs.Cluster.{Account, patient, drained_last}
 use Rattle.es_match.specs.Deeds.{part}
 use Rattle.es_ledger.specs.Books.{Books}
 use Rattle.es_record.specs.Book.{Book}
@@ -27,8 +26,12 @@ plans bs = map (λ b. b.plan) bs
 abbrev pub names_of : List Book → List (List ℕ)
 names_of bs = map (λ b. b.plan.name) bs
 
-abbrev pub histories : Cluster → List History
-histories c = map (λ b. b.history) c.agents
+-- what an agent says of itself
+abbrev pub account : Book → Account
+account b = record { plan = b.plan; over = b.over; history = b.history }
+
+abbrev pub accounts : List Book → List Account
+accounts bs = map account bs
 
 -- it is agent n, it has its place in the ledger, and its plan names other agents alone
 pub record IsPlaced (l : Books) (n : ℕ) (b : Book) : Type 0 where

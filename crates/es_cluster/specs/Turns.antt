@@ -1,5 +1,6 @@
 -- To believe: what a turn of an agent, and a list of turns, make of a cluster.
-use Rattle.std.specs.Prelude.{ℕ, ◌≡◌, false, List, [], ◌∷◌, Some, slice_get, slice_set}
+use Rattle.std.specs.Prelude.{ℕ, ◌≡◌, true, false, List, [], ◌∷◌, ◌++◌, Some, None, slice_get, slice_set}
+use Rattle.es_event.specs.Ledger.{waits}
 use Rattle.es_member.specs.Tied.{GrowsBy}
 use Rattle.es_member.specs.Turned.{Heard, Moves}
 use Rattle.es_member.specs.declared.member.Progress.{Progress}
@@ -24,9 +25,23 @@ pub record Turned (p : Progress) (n : ℕ) (old new : Cluster) : Type 0 where
   pub told : Heard p before old.ledger new.ledger
   pub ledger : GrowsBy n old.ledger.history new.ledger.history
   pub number : new.ledger.agents ≡ old.ledger.agents
+  -- where it has one event more it waits for nobody yet, whatever its next job waits for
+  pub free : p ≡ Moved → waits new.ledger.history n ≡ None
   pub whole : (old.failed ≡ false) × (new.failed ≡ false)
 
 -- so did these agents, one after the other
 abbrev pub AllTurned : List ℕ → Cluster → Cluster → Type 0
 AllTurned [] old new = new ≡ old
 AllTurned (n ∷ ns) old new = (p : Progress) × (mid : Cluster) × Turned p n old mid × AllTurned ns mid new
+
+-- the turn of agent n ended for want of memory: no agent has changed, and what the ledger did are deeds of agent n alone
+pub record Stopped (n : ℕ) (old new : Cluster) : Type 0 where
+  pub agents : new.agents ≡ old.agents
+  pub ledger : GrowsBy n old.ledger.history new.ledger.history
+  pub number : new.ledger.agents ≡ old.ledger.agents
+  pub failed : new.failed ≡ true
+
+-- of these turns some were taken, and the next ended for want of memory; or one had failed before, and nothing has changed
+pub data StoppedIn (turns : List ℕ) (old new : Cluster) : Type 0 where
+  before : old.failed ≡ true → new ≡ old → StoppedIn turns old new
+  within : (done rest : List ℕ) (n : ℕ) (mid : Cluster) → turns ≡ done ++ n ∷ rest → AllTurned done old mid → Stopped n mid new → StoppedIn turns old new

@@ -3,11 +3,11 @@
 ghost use Rattle.std.specs.Prelude.{◌≡◌, ◌<◌, ◌≤◌, ℕ, [], vec_capacity, ◌&&◌, not, true, false, Some, length, reverse, slice_get, slice_index_or, IfOk, IfSome, OnOk, OnErr, is_err, is_some};
 ghost use Rattle.es_event.specs.Ledger.{count};
 ghost use Rattle.es_event.specs.Others.{all_name_others};
-ghost use Rattle.es_match.specs.Cluster.{IsCluster};
+ghost use Rattle.es_match.specs.Cluster.{IsClusterOf};
 ghost use Rattle.es_cluster.specs.Ends.{EndsIn};
 ghost use Rattle.es_cluster.specs.Moves.{all_over};
-ghost use Rattle.es_cluster.specs.State.{books, histories, first_state, names_of, plans};
-ghost use Rattle.es_cluster.specs.Turns.{Turned, AllTurned};
+ghost use Rattle.es_cluster.specs.State.{accounts, books, first_state, names_of, plans};
+ghost use Rattle.es_cluster.specs.Turns.{Turned, AllTurned, Stopped, StoppedIn};
 
 use crate::ending::{all_have_ended, give_up, into_histories};
 use crate::seating::{copy_names, seat_all};
@@ -91,11 +91,12 @@ impl<L: Planned> ClusterCore<L> {
     }
 
     /// One turn of an agent: its next event, with what it asks for done in the ledger, or none where
-    /// it waits on for a message or has ended. After want of memory every later step fails.
+    /// it waits on for a message or has ended. After want of memory every later step fails: no agent has
+    /// changed, and of the ledger's doing in this turn a part may stand.
     pub fn step(&mut self, agent: usize) -> Result<Progress, NoMemory>
         requires { agent < length self.old.agents }
         ensures turned { IfOk result (λ p. Turned p agent self.old self.new) }
-        ensures err { OnErr result (self.new.failed ≡ true) }
+        ensures err { OnErr result (Stopped agent self.old self.new) }
         ensures failed { self.old.failed ≡ true → is_err result ≡ true }
         ensures agents { length self.new.agents ≡ length self.old.agents }
         ensures plans { plans self.new.agents ≡ plans self.old.agents }
@@ -116,6 +117,7 @@ impl<L: Planned> ClusterCore<L> {
     pub fn run(&mut self, turns: &[usize]) -> Result<(), NoMemory>
         requires { (i : ℕ) → i < length turns.now → slice_index_or turns.now i 0 < length self.old.agents }
         ensures turned { OnOk result (AllTurned turns.now self.old self.new) }
+        ensures stopped { OnErr result (StoppedIn turns.now self.old self.new) }
         ensures err { OnErr result (self.new.failed ≡ true) }
         ensures failed { self.old.failed ≡ true → is_err result ≡ true }
         ensures agents { length self.new.agents ≡ length self.old.agents }
@@ -226,7 +228,7 @@ impl<L: Planned> ClusterCore<L> {
     /// cluster, unless a step failed.
     pub fn ledger(&self) -> &[LedgerEvent]
         ensures events { reverse result.now ≡ self.now.ledger.history }
-        ensures cluster { self.now.failed ≡ false → IsCluster (histories self.now) self.now.ledger.history }
+        ensures cluster { self.now.failed ≡ false → IsClusterOf (accounts self.now.agents) self.now.ledger.history }
     {
         self.ledger.history()
     }

@@ -1,3 +1,4 @@
+pub mod Accounts
 pub mod Bridge
 pub mod Counting
 pub mod Deciding

@@ -1,6 +1,6 @@
 use Rattle.std.proofs.Common.{◌≡◌, ◌≤◌, drop, false, length}
 use Rattle.es_cluster.specs.State.{Cluster, plans}
-use Rattle.es_cluster.specs.Turns.{AllTurned}
+use Rattle.es_cluster.specs.Turns.{AllTurned, StoppedIn}
 use Rattle.es_cluster.proofs.cluster.ClusterCore.run.Given as goal
 
 abbrev pub invariant-loop-i : goal.invariant-loop-i
@@ -11,4 +11,5 @@ invariant-loop-i g l = record {
   plans : plans l.self.agents ≡ plans l.fn.self.agents;
   -- what comes after the turns that are left
   turned : (end : Cluster) → AllTurned (drop l.i l.turns) l.self end → AllTurned l.turns l.fn.self end;
+  stopped : (end : Cluster) → StoppedIn (drop l.i l.turns) l.self end → StoppedIn l.turns l.fn.self end;
 }

@@ -1,10 +1,11 @@
-use Rattle.std.proofs.Common.{sym, ◌∙◌, ◌≤◌, ap, subst, Some}
+use Rattle.std.proofs.Common.{sym, ◌∙◌, ◌≤◌, ap, refl, subst, Some}
 use Rattle.std.specs.Prelude.{vec_capacity}
 use Rattle.es_member.specs.Seats.{Seat}
 use Rattle.es_member.specs.Turned.{OthersStay}
 use Rattle.es_cluster.specs.State.{books, names_of, plans, ArePlaced, AreTied}
+use Rattle.es_member.proofs.Growing.{grows_none}
 use Rattle.es_cluster.proofs.Named.{names}
-use Rattle.es_cluster.proofs.Standing.{found_at, takes_of, placed_here, mapped_still, one_changed, placed_after, set_length, tied_after}
+use Rattle.es_cluster.proofs.Standing.{found_at, takes_of, placed_here, mapped_still, one_changed, placed_after, free_of, set_length, set_same, tied_after, tied_of}
 use Rattle.es_cluster.proofs.cluster.ClusterCore.step.Goals as goal
 
 pub step-requires-clause-seated : goal.step-requires-clause-seated
@@ -36,7 +37,7 @@ invariant_of-self g c =
     let changed = one_changed c.self.inside.members.items c.args.agent c.step.new.self in (
       subst (λ bs. ArePlaced bs c.step.new.ledger) (sym changed) (placed_after (books c.self.inside.members.items) c.self.inside.ledger c.step.new.ledger c.args.agent c.step.new.self.book within c.self.invariant.0 still stay),
       λ whole. subst (λ bs. AreTied bs c.step.new.ledger) (sym changed)
-          (tied_after (books c.self.inside.members.items) c.self.inside.ledger c.step.new.ledger c.args.agent c.step.new.self.book within c.self.invariant.0 (c.self.invariant.1 whole) c.in-Ok.ensures.tied stay),
+          (tied_after (books c.self.inside.members.items) c.self.inside.ledger c.step.new.ledger c.args.agent c.step.new.self.book within c.self.invariant.0 (c.self.invariant.1 whole) (tied_of c.in-Ok.progress c.step.new.self.book c.step.new.ledger.history c.in-Ok.ensures.tied) stay),
       c.self.invariant.2 ∙ sym (ap names_of changed ∙ mapped_still (λ b. b.plan.name) (books c.self.inside.members.items) c.args.agent c.index_mut.result.now.book c.step.new.self.book here (ap (λ p. p.name) c.step.ensures.same.0)),
       c.self.invariant.3,
       subst (λ n. n ≤ vec_capacity c.self.inside.histories) (sym (set_length c.self.inside.members.items c.args.agent c.step.new.self)) c.self.invariant.4,
@@ -72,6 +73,7 @@ returns-in-Ok-clause-turned g c =
       told = c.in-Ok.ensures.told;
       ledger = stay.1;
       number = stay.0;
+      free = free_of c.in-Ok.progress c.step.new.self.book c.step.new.ledger.history c.args.agent (c.step.ensures.number ∙ placed.number) c.in-Ok.ensures.tied;
       whole = (c.if-self.false, c.if-self.false);
     })
 
@@ -86,3 +88,19 @@ returns-in-Err-clause-plans g c =
     let within = rw (← c.self.view_is) at c.requires in
     let here = found_at c.self.inside.members.items c.args.agent _ within ∙ ap (λ (m : Seat). Some m.book) (sym c.index_mut.ensures.value) in
     rw (← c.self.view_is) (ap plans (one_changed c.self.inside.members.items c.args.agent c.step.new.self) ∙ mapped_still (λ b. b.plan) (books c.self.inside.members.items) c.args.agent c.index_mut.result.now.book c.step.new.self.book here c.step.ensures.same.0)
+
+pub returns-in-Err-clause-err : goal.returns-in-Err-clause-err
+returns-in-Err-clause-err g c =
+    let within = rw (← c.self.view_is) at c.requires in
+    let here = found_at c.self.inside.members.items c.args.agent _ within ∙ ap (λ (m : Seat). Some m.book) (sym c.index_mut.ensures.value) in
+    let placed = c.self.invariant.0.each c.args.agent c.index_mut.result.now.book here in
+    let stay = subst (λ n. OthersStay n c.self.inside.ledger c.step.new.ledger) placed.number c.step.ensures.others in
+    rw (← c.self.view_is) (record {
+      agents = one_changed c.self.inside.members.items c.args.agent c.step.new.self ∙ set_same (books c.self.inside.members.items) c.args.agent c.step.new.self.book (here ∙ ap Some (sym c.in-Err.ensures.err));
+      ledger = stay.1;
+      number = stay.0;
+      failed = refl;
+    })
+
+pub returns-then-self-clause-err : goal.returns-then-self-clause-err
+returns-then-self-clause-err g c = rw (← c.self.view_is) (record { agents = refl; ledger = grows_none c.args.agent c.self.inside.ledger.history; number = refl; failed = c.if-self.true })
