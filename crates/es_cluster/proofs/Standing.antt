@@ -116,12 +116,12 @@ tied_after bs l m n new within placed before here stay = record {
 
 -- The histories are those of one cluster
 
-account_at : (bs : List Book) (a : ℕ) (b : Book) → slice_get bs a ≡ Some b → account_of (accounts bs) a ≡ account b
+pub account_at : (bs : List Book) (a : ℕ) (b : Book) → slice_get bs a ≡ Some b → account_of (accounts bs) a ≡ account b
 account_at [] a b is = cc
 account_at (c ∷ bs) zero b is = ap account (let same : c ≡ b = cc in same)
 account_at (c ∷ bs) (suc a) b is = account_at bs a b is
 
-nobody_at : (bs : List Book) (a : ℕ) → slice_get bs a ≡ None → (account_of (accounts bs) a ≡ nobody) × (length bs ≤ a)
+pub nobody_at : (bs : List Book) (a : ℕ) → slice_get bs a ≡ None → (account_of (accounts bs) a ≡ nobody) × (length bs ≤ a)
 nobody_at [] a is = (refl, omega arith)
 nobody_at (c ∷ bs) zero is = cc
 nobody_at (c ∷ bs) (suc a) is = let rest = nobody_at bs a is in (rest.0, (let r = rest.1 in omega (arith, r)))

@@ -17,3 +17,4 @@ mod want;
 
 pub use came::Came;
 pub use matching::{came_of, matches};
+pub use want::ends_job;

@@ -108,7 +108,7 @@ pub(crate) fn want_at<'a>(between: bool, event: &'a Event) -> Want<'a>
 }
 
 /// Whether no job is under way after the event.
-pub(crate) fn ends_job(event: &Event) -> bool
+pub fn ends_job(event: &Event) -> bool
     ensures { result ≡ ends_job event.now }
 {
     matches!(event, Event::JobEnded | Event::Skipped { .. })

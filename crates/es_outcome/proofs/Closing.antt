@@ -26,7 +26,8 @@ use Rattle.es_ledger.specs.Draining.{drained_one, drained_each, drained_to, drai
 use Rattle.es_match.specs.Asks.{Asking, nothing, to_open, to_measure, to_compare, to_load, to_store, to_add, to_post, to_receive, to_refuse, to_pass, to_empty, to_close, asks, asks_did, between_jobs, wants_room}
 use Rattle.es_match.specs.Cluster.{IsCluster, Ties, history_of}
 use Rattle.es_match.specs.Deeds.{Deed, Takes, Spends, Ends, deed, part, part_of}
-use Rattle.es_match.specs.Meets.{Tickets, after, is_add, is_load, is_one, is_pass, is_post, is_refusal, is_store, opening, pair, receiving, sole, some_if, spends, spends_ticket_in, strike}
+use Rattle.es_match.proofs.Bridge.{mapped}
+use Rattle.es_match.specs.Meets.{Came, Tickets, after, is_add, is_load, is_one, is_pass, is_post, is_refusal, is_store, opening, pair, receiving, sole, some_if, spends, spends_ticket_in, strike}
 use Rattle.es_agent.specs.Tickets.{is_ended}
 use Rattle.es_member.proofs.Midway.{ended_where_all, still_over}
 use Rattle.es_record.specs.Book.{Book}
@@ -162,14 +163,17 @@ closing_event between (Refused code) is = let clash : false ≡ true = sym (clos
 closing_event between Closed is = refl
 closing_event between _ is = cc
 
-ties_closed : (h : History) (ds : List Deed) (t : Tickets) → Ties h ds t → list_any is_end ds ≡ true → list_any is_closing h ≡ true
+ties_closed : (h : History) (ds : List Deed) (t : Came) → Ties h ds t → list_any is_end ds ≡ true → list_any is_closing h ≡ true
 ties_closed [] ds t ties any = let clash : false ≡ true = ap (list_any is_end) (sym ties.0) ∙ any in cc
 ties_closed (e ∷ h) ds t ties any =
     by (list_any is_end ties.0) refl (sym (list_any-append is_end ties.0 ties.1) ∙ ap (list_any is_end) (sym ties.3) ∙ any) (ties_closed h ties.0 ties.2 ties.4)
   where
     asked : (b : Bool) → closes (asks (between_jobs h) e) ≡ b → list_any is_end ties.1 ≡ true → list_any is_closing (e ∷ h) ≡ true
     asked true is some = ap (λ b. b || list_any is_closing h) (closing_event (between_jobs h) e is)
-    asked false is some = let clash : false ≡ true = sym (after_calm ties.2 (asks (between_jobs h) e) ties.1 t is ties.5) ∙ some in cc
+    asked false is some =
+        let m = mapped _ (after ties.2.tickets (asks (between_jobs h) e) ties.1) t ties.5 in
+        let clash : false ≡ true = sym (after_calm ties.2.tickets (asks (between_jobs h) e) ties.1 m.0 is m.1) ∙ some in
+        cc
 
     by : (b : Bool) → list_any is_end ties.0 ≡ b → (b || list_any is_end ties.1) ≡ true → (list_any is_end ties.0 ≡ true → list_any is_closing h ≡ true) → list_any is_closing (e ∷ h) ≡ true
     by true is some earlier = or_right (is_closing e) (list_any is_closing h) (earlier is)
@@ -233,7 +237,7 @@ over_last n l = over_below n n (with_ends n l) (ends_all n l)
 
 -- An agent of the cluster has closed
 
-history_at : (bs : List Book) (n : ℕ) (b : Book) → slice_get bs n ≡ Some b → history_of (map (λ b. b.history) bs) n ≡ b.history
+pub history_at : (bs : List Book) (n : ℕ) (b : Book) → slice_get bs n ≡ Some b → history_of (map (λ b. b.history) bs) n ≡ b.history
 history_at [] n b is = cc
 history_at (c ∷ bs) zero b is = let same : c ≡ b = cc in ap (λ b. b.history) same
 history_at (c ∷ bs) (suc n) b is = history_at bs n b is

@@ -2,3 +2,4 @@ pub mod Tallied
 pub mod Placed
 pub mod Closing
 pub mod Ended
+pub mod Telling

@@ -28,15 +28,20 @@ mapped_last : {X : Type 0} (f : Book → X) (bs : List Book) (b : Book) → map 
 mapped_last f [] b = refl
 mapped_last f (c ∷ bs) b = ap (λ xs. f c ∷ xs) (mapped_last f bs b)
 
+pub mapped_more : {X : Type 0} (f : Book → X) (bs : List Book) (i : ℕ) (b : Book) (xs more : List X) (x : X) → slice_get bs i ≡ Some b → xs ≡ map f (take i bs) → more ≡ xs ++ x ∷ [] → x ≡ f b → more ≡ map f (take (i + 1) bs)
+mapped_more f bs i b xs more x is before pushed here =
+    pushed ∙ ap (λ xs. xs ++ x ∷ []) before ∙ ap (λ x. map f (take i bs) ++ x ∷ []) here ∙ sym (ap (map f) (take_more bs i b is) ∙ mapped_last f (take i bs) b)
+
+pub mapped_all : {X : Type 0} (f : Book → X) (bs : List Book) (n : ℕ) (xs : List X) → n ≡ length bs → xs ≡ map f (take n bs) → xs ≡ map f bs
+mapped_all f bs n xs size are = are ∙ ap (map f) (take_all bs n (omega (arith, size)))
+
 pub tallies_more : (bs : List Book) (i : ℕ) (b : Book) (ts more : List Tally) (t : Tally) → slice_get bs i ≡ Some b → ts ≡ map (λ b. end_tally b.history) (take i bs) → more ≡ ts ++ t ∷ []
     → t.live ≡ tally b.history live → t.awaiting ≡ tally b.history awaiting → t.unregistered ≡ tally b.history unregistered → t.taken ≡ tally b.history taken
     → more ≡ map (λ b. end_tally b.history) (take (i + 1) bs)
-tallies_more bs i b ts more t is before pushed a c d e =
-    pushed ∙ ap (λ ts. ts ++ t ∷ []) before ∙ ap (λ t. map (λ b. end_tally b.history) (take i bs) ++ t ∷ []) (tally_is t b.history a c d e)
-    ∙ sym (ap (map (λ b. end_tally b.history)) (take_more bs i b is) ∙ mapped_last (λ b. end_tally b.history) (take i bs) b)
+tallies_more bs i b ts more t is before pushed a c d e = mapped_more (λ b. end_tally b.history) bs i b ts more t is before pushed (tally_is t b.history a c d e)
 
 pub tallies_all : (bs : List Book) (n : ℕ) (ts : List Tally) → n ≡ length bs → ts ≡ map (λ b. end_tally b.history) (take n bs) → ts ≡ map (λ b. end_tally b.history) bs
-tallies_all bs n ts size are = are ∙ ap (map (λ b. end_tally b.history)) (take_all bs n (omega (arith, size)))
+tallies_all bs n ts size are = mapped_all (λ b. end_tally b.history) bs n ts size are
 
 pub of_events : (hs : List (List Event)) → map (λ events. end_tally (reverse events)) hs ≡ map end_tally (map (λ h. reverse h) hs)
 of_events [] = refl

@@ -1,23 +1,36 @@
 -- To believe: what a run of all agents of a plan comes to, and when histories are those of no such run.
 use Rattle.std.specs.Prelude.{ℕ, ◌≡◌, List, [], length, map, reverse}
+use Rattle.std.specs.List.{AllByRecursion}
+use Rattle.es_event.specs.declared.event.Event.{Event}
 use Rattle.es_event.specs.declared.outcome.Outcome.{Outcome}
+use Rattle.es_event.specs.declared.plan.AgentPlan.{AgentPlan}
 use Rattle.es_event.specs.declared.plan.Plan.{Plan}
 use Rattle.es_event.specs.Ledger.{Ledger, count, port_of}
 use Rattle.es_event.specs.LegalLedger.{LegalLedger}
-use Rattle.es_event.specs.Runs.{IsOutcome}
 use Rattle.es_ledger.specs.Books.{Books}
 use Rattle.es_ledger.specs.Draining.{drained}
-use Rattle.es_match.specs.Cluster.{IsCluster}
+use Rattle.es_match.specs.Cluster.{Account, IsClusterOf}
 use Rattle.es_record.specs.Book.{Book}
-use Rattle.es_cluster.specs.Ends.{with_ends}
+use Rattle.es_cluster.specs.Ends.{IsWhole, with_ends}
+use Rattle.es_cluster.specs.State.{accounts}
 use Rattle.es_outcome.specs.Places.{AreAtPlaces}
 
--- the names of the plan, and whole runs of its agents; the ledger's history is legal and theirs are those of one cluster with it; no
+-- these agents have these plans and, the oldest event first, these histories, each a whole run of its plan, over what the tickets of its
+-- buffer objects named
+pub record AreRuns (plans : List AgentPlan) (hs : List (List Event)) (all : List Account) : Type 0 where
+  pub plans_are : map (λ a. a.plan) all ≡ plans
+  pub histories_are : map (λ a. a.history) all ≡ map (λ h. reverse h) hs
+  pub whole : AllByRecursion IsWhole all
+
+-- the names of the plan, and whole runs of its agents; the ledger's history is legal, and with it theirs are those of one cluster: each
+-- buffer object is over what its own ticket names, and each message that found no room was one of the sender that its job names; no
 -- ticket of any block and no message is left (Agents and Agent Clusters)
 pub record IsClusterOutcome (p : Plan) (o : Outcome) : Type 0 where
-  pub outcome : IsOutcome p o
+  pub names : o.names ≡ map (λ a. a.name) p.agents
+  pub agents : List Account
+  pub runs : AreRuns p.agents o.histories agents
   pub legal : LegalLedger (length p.agents) (reverse o.ledger)
-  pub cluster : IsCluster (map (λ h. reverse h) o.histories) (reverse o.ledger)
+  pub cluster : IsClusterOf agents (reverse o.ledger)
   pub tickets : (b : ℕ) → count (reverse o.ledger) b ≡ 0
   pub messages : (s r : ℕ) → port_of (reverse o.ledger) s r ≡ []
 
@@ -25,7 +38,7 @@ pub record IsClusterOutcome (p : Plan) (o : Outcome) : Type 0 where
 abbrev pub at_last : Books → Ledger
 at_last l = drained (with_ends l.agents l.history) l.agents
 
--- some agent is not in its place, or is none of the ledger's, or the ledger's is not there; or the histories are not those of one cluster
--- with the ledger's at last
+-- some agent is not in its place, or is none of the ledger's, or the ledger's is not there; or what they say is not that of one cluster
+-- with the ledger's history at last
 abbrev pub DoNotMatch : List Book → Books → Type 0
-DoNotMatch bs l = AreAtPlaces bs → length bs ≡ l.agents → IsCluster (map (λ b. b.history) bs) (at_last l) → ⊥
+DoNotMatch bs l = AreAtPlaces bs → length bs ≡ l.agents → IsClusterOf (accounts bs) (at_last l) → ⊥

@@ -8,12 +8,16 @@ ghost use Rattle.es_cluster.specs.State.{books};
 ghost use Rattle.es_report.specs.Tallies.{AreTallies};
 ghost use Rattle.es_outcome.specs.Outcomes.{DoNotMatch, IsClusterOutcome, at_last};
 ghost use Rattle.es_outcome.specs.Places.{AreAtPlaces, ArePlanned, SomeGoesOn};
+ghost use Rattle.es_outcome.specs.Said.{IsTold};
 
 use crate::counting::tallies_of;
+use crate::said::{Said, all_said, are_said};
 use crate::stop::RunStop;
-use es_cluster::{Member, Parts, Planned, end_all, give_up, into_histories, matches};
+use es_cluster::{Member, Parts, Planned, end_all, give_up, into_histories};
 use es_event::{Outcome, Sequence};
+use es_match::came_of;
 use es_registry::Tally;
+use es_value::NoMemory;
 use std::alloc::Global;
 
 /// What a plan's run came to, and how many registrations of each agent have each fate.
@@ -33,6 +37,7 @@ pub fn outcome_of<L: Planned>(alloc: Global, parts: Parts<L>) -> Result<Counted,
     ensures outcome { IfOk result (λ r. IsClusterOutcome L.plan r.outcome) }
     ensures tallies { IfOk result (λ r. AreTallies r.outcome.histories r.tallies.items) }
     ensures mismatch { IfErr result (λ e. e ≡ RunStop.Mismatch → DoNotMatch (books parts.members.items) parts.ledger) }
+    ensures open { SomeGoesOn (books parts.members.items) → IfErr result (λ e. e ≡ RunStop.Mismatch) }
 {
     let agents = parts.ledger.agents();
     if parts.members.len() != agents
@@ -49,12 +54,29 @@ pub fn outcome_of<L: Planned>(alloc: Global, parts: Parts<L>) -> Result<Counted,
             return Err(error.into());
         }
     };
+    let said = match all_said(alloc, parts.members.as_slice()) {
+        Ok(said) => said,
+        Err(error) => {
+            abandon(parts);
+            return Err(error.into());
+        }
+    };
     let outcome = finish(parts);
-    let histories = outcome.histories.as_slice();
-    if matches(alloc, histories, outcome.ledger.as_slice())? {
+    if is_told(alloc, &outcome, &said)? {
         Ok(Counted { outcome, tallies })
     } else {
         Err(RunStop::Mismatch)
+    }
+}
+
+/// Whether the histories are those of one cluster, and what each agent says came to it came to it.
+fn is_told(alloc: Global, outcome: &Outcome, said: &[Said]) -> Result<bool, NoMemory>
+    ensures { IfOk result (λ b. (b ≡ true) ↔ IsTold (map (λ h. reverse h) outcome.now.histories) (reverse outcome.now.ledger) said.now) }
+{
+    let histories = outcome.histories.as_slice();
+    match came_of(alloc, histories, outcome.ledger.as_slice())? {
+        Some(came) => Ok(are_said(&came, said)),
+        None => Ok(false),
     }
 }
 

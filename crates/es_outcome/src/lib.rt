@@ -5,6 +5,7 @@
 mod auditing;
 mod counting;
 mod ending;
+mod said;
 mod stop;
 
 pub use auditing::audit_of;

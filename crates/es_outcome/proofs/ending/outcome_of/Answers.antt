@@ -1,10 +1,10 @@
 use Rattle.std.proofs.Common.{◌≡◌, true, false, map, reverse, sym, ap, ◌∙◌, subst}
-use Rattle.es_match.specs.Cluster.{IsCluster}
+use Rattle.es_outcome.specs.Said.{IsTold, said_by}
 use Rattle.es_report.specs.Tallies.{end_tally}
 use Rattle.es_cluster.proofs.Standing.{books_length}
 use Rattle.es_cluster.specs.State.{books}
 use Rattle.es_outcome.specs.Places.{AreAtPlaces, ArePlanned, SomeGoesOn}
-use Rattle.es_outcome.proofs.Ended.{comes_to, goes_on_alone, tallies_are}
+use Rattle.es_outcome.proofs.Ended.{comes_to, goes_on_alone, not_told, tallies_are}
 use Rattle.es_outcome.proofs.ending.outcome_of.Goals.{then-len-agents-via-then-len-agents, then-len-agents-via-else-len-agents+then-not-are_at_places, then-len-agents-via-else-len-agents+else-not-are_at_places+then-not-have_closed}
 use Rattle.es_outcome.proofs.ending.outcome_of.Goals as goal
 
@@ -21,7 +21,8 @@ returns-then-len-agents-clause-mismatch g c = λ is placed size cluster.
 pub returns-then-branch-clause-outcome : goal.returns-then-branch-clause-outcome
 returns-then-branch-clause-outcome g c =
     let size = books_length c.args.parts.members.items in
-    let cluster = c.in_ok-matches.ensures.0 c.if-branch.true in
+    let all = c.deref.ensures.value ∙ c.in-Ok-all_said.ensures ∙ ap (λ ms. map said_by (books ms)) c.as_slice-3.ensures.value in
+    let told = subst (IsTold (map (λ h. reverse h) c.finish-outcome.result.histories) (reverse c.finish-outcome.result.ledger)) all (c.in_ok-is_told.ensures.0 c.if-branch.true) in
     comes_to g.L.Planned.plan (books c.args.parts.members.items) c.args.parts.ledger.agents
     (record { names = c.finish-outcome.result.names; histories = c.finish-outcome.result.histories; ledger = c.finish-outcome.result.ledger })
     (size ∙ c.requires.size)
@@ -29,9 +30,18 @@ returns-then-branch-clause-outcome g c =
     (subst (λ ms. AreAtPlaces (books ms)) c.as_slice.ensures.value (c.are_at_places.ensures.placed.0 c.if-not-are_at_places.false))
     (subst (λ ms. ArePlanned g.L.Planned.plan (books ms)) c.as_slice.ensures.value (c.are_at_places.ensures.planned c.if-not-are_at_places.false))
     (c.finish-outcome.ensures.names ∙ c.requires.names)
-    c.finish-outcome.ensures.histories c.finish-outcome.ensures.legal
-    (subst (λ l. IsCluster (map (λ h. reverse h) c.finish-outcome.result.histories) (reverse l)) c.as_slice-3.ensures (subst (λ hs. IsCluster (map (λ h. reverse h) hs) (reverse c.as_slice-3.result.now)) c.as_slice-histories.ensures cluster))
+    c.finish-outcome.ensures.histories c.finish-outcome.ensures.legal told
     c.finish-outcome.ensures.tickets c.finish-outcome.ensures.messages
+
+pub returns-else-branch-clause-mismatch : goal.returns-else-branch-clause-mismatch
+returns-else-branch-clause-mismatch g c = λ is placed size cluster.
+    let all = c.deref.ensures.value ∙ c.in-Ok-all_said.ensures ∙ ap (λ ms. map said_by (books ms)) c.as_slice-3.ensures.value in
+    let never : IsTold (map (λ h. reverse h) c.finish-outcome.result.histories) (reverse c.finish-outcome.result.ledger) (map said_by (books c.args.parts.members.items)) → ⊥ =
+        λ told. (let clash : false ≡ true = sym c.if-branch.false ∙ c.in_ok-is_told.ensures.1 (subst (IsTold (map (λ h. reverse h) c.finish-outcome.result.histories) (reverse c.finish-outcome.result.ledger)) (sym all) told) in cc)
+    in
+    not_told (books c.args.parts.members.items) c.args.parts.ledger
+    (record { names = c.finish-outcome.result.names; histories = c.finish-outcome.result.histories; ledger = c.finish-outcome.result.ledger })
+    c.finish-outcome.ensures.histories c.finish-outcome.ensures.ledger never cluster
 
 pub returns-then-branch-clause-tallies : goal.returns-then-branch-clause-tallies
 returns-then-branch-clause-tallies g c =

@@ -1,0 +1,45 @@
+-- Internal: what an agent says came to it from the ledger, and where it is in its plan.
+use Rattle.std.specs.Prelude.{ℕ, ◌≡◌, List, [], ◌∷◌, drop, is_some, map, reverse, slice_get, if◌then◌else◌}
+use Rattle.std.specs.Option.{option_and_then, option_map_or}
+use Rattle.es_event.specs.declared.event.Event.{Event}
+use Rattle.es_event.specs.declared.plan.AgentPlan.{AgentPlan}
+use Rattle.es_event.specs.declared.plan.Job.{Job}
+use Rattle.es_event.specs.History.{History, total}
+use Rattle.es_event.specs.Jobs.{cleaning, job, passes_job}
+use Rattle.es_match.specs.Asks.{asks, between_jobs}
+use Rattle.es_event.specs.Ledger.{Ledger}
+use Rattle.es_match.specs.Cluster.{HaveCome, awaited, is_refusal_asked, refused_senders}
+use Rattle.es_match.specs.Meets.{Came, Tickets}
+use Rattle.es_record.specs.Book.{Book}
+use Rattle.es_outcome.specs.declared.said.Place.{Place}
+
+-- what came, but for what is left of it
+pub record Told : Type 0 where
+  pub ever : Tickets
+  pub refused : List ℕ
+
+abbrev pub told_of : Came → Told
+told_of c = record { ever = c.ever; refused = c.refused }
+
+abbrev pub said_by : Book → Told
+said_by b = record { ever = reverse b.over; refused = refused_senders b.plan b.history }
+
+-- the sender whose message the event refused for want of room
+abbrev pub refused_at : AgentPlan → History → Event → List ℕ
+refused_at plan earlier e = if is_refusal_asked (asks (between_jobs earlier) e) then awaited plan (job earlier) else []
+
+-- the sender that the first of these jobs waits for
+abbrev pub awaited_first : List Job → List ℕ
+awaited_first jobs = option_map_or (λ on. on.0 ∷ []) (option_and_then (λ j. j.on) (slice_get jobs 0)) []
+
+-- the place is where the history leads in these jobs
+pub record IsAt (jobs : List Job) (h : History) (p : Place) : Type 0 where
+  pub left : p.jobs.now ≡ drop (total passes_job h) jobs
+  pub cleans : p.is_cleaning ≡ is_some (cleaning h)
+  pub between : p.is_between ≡ between_jobs h
+
+-- histories and ledger are those of one cluster, and this is what came to its agents
+pub record IsTold (hs : List History) (l : Ledger) (all : List Told) : Type 0 where
+  pub came : List Came
+  pub have : HaveCome hs l came
+  pub said : map told_of came ≡ all
