@@ -81,13 +81,13 @@ def exported(crate):
 
 def clauses(text, exports):
     """Each clause of an exported call, with the call's name, and the value of each exported type's model."""
-    owner, call = None, None
+    owner, call, trait = None, None, False
     for line in text.split("\n"):
         if begun := OWNER.match(line):
-            owner, call = begun[1], None
+            owner, call, trait = begun[1], None, line.startswith("pub trait ")
         elif begun := CALL.match(line):
             seen = owner in exports if begun[1] else begun[3] in exports
-            call = begun[3] if seen and begun[2] == "pub " else None
+            call = begun[3] if seen and (trait or begun[2] == "pub ") else None
         elif call and (clause := CLAUSE.match(line)):
             yield call, clause[1]
         elif owner in exports and (clause := MODEL.match(line)):
