@@ -1,8 +1,9 @@
 #!/bin/sh
 # Each growth refused in turn: the run ends with 'out of memory' and nothing written, or as if nothing
 # had been refused: with the report, or with the fault of its plan. Last, a few plans whose agents run in threads: there
-# the run ends with 'out of memory' wherever a growth is refused that `check` does not make and go on without. A library of
-# our own stands before the C library's malloc, realloc and pthread_create.
+# the run ends with 'out of memory' wherever a growth is refused that `check` does not make and go on without. How many
+# growths and how many threads a run makes tells too that its agents are threads, and that a watcher makes its audits. A
+# library of our own stands before the C library's malloc, realloc and pthread_create.
 # Usage: growths.sh PROGRAM. Prints each test that fails, and 'N passed, M failed' last.
 set -u
 
@@ -31,6 +32,10 @@ run() {
     got=$?
 }
 
+# How many growths the run made that has just ended, and how many of them were threads.
+growths_made() { sed -n 1p "$room/growths"; }
+threads_made() { sed -n 2p "$room/growths"; }
+
 # Tries each growth of a run on these words, which ends with this status where none is refused.
 each_growth() {
     status=$1
@@ -38,7 +43,7 @@ each_growth() {
     run 0 "$@"
     cp "$room/out" "$room/wanted"
     cp "$room/err" "$room/told"
-    growths=$(cat "$room/growths")
+    growths=$(growths_made)
     if [ "$got" -ne "$status" ] || [ "$growths" -lt 10 ]; then
         failed=$((failed + 1))
         echo "FAILED: $*: status $got and $growths growths with none refused"
@@ -59,7 +64,7 @@ each_growth() {
 }
 
 # What the run did that has just ended: whether it made a growth of this number, ran out of memory, gave the report.
-met() { [ "$(cat "$room/growths")" -ge "$number" ]; }
+met() { [ "$(growths_made)" -ge "$number" ]; }
 ran_out() { [ "$got" -eq 3 ] && [ ! -s "$room/out" ] && cmp -s "$room/err" "$room/complaint"; }
 reported() { [ "$got" -eq 0 ] && cmp -s "$room/out" "$room/wanted" && cmp -s "$room/err" "$room/told"; }
 
@@ -179,7 +184,7 @@ for first in get same; do
     for word in check "run --turns"; do
         # shellcheck disable=SC2086
         run 0 $word "$room/$first.json"
-        cp "$room/growths" "$room/growths_${word% *}_$first"
+        growths_made >"$room/growths_${word% *}_$first"
         if [ "$got" -eq 0 ]; then
             passed=$((passed + 1))
         else
@@ -194,6 +199,51 @@ if cmp -s "$room/growths_check_get" "$room/growths_check_same" &&
 else
     failed=$((failed + 1))
     echo "FAILED: check makes growths that depend on the run: $(cat "$room"/growths_*_* | paste -s -d ' ')"
+fi
+
+# Each agent but the first has a thread of its own, which is made for it, and the watcher one more; by turns there are
+# none.
+makes_threads() {
+    wanted=$1
+    shift
+    run 0 run "$@"
+    if [ "$got" -eq 0 ] && [ "$(threads_made)" -eq "$wanted" ]; then
+        passed=$((passed + 1))
+    else
+        failed=$((failed + 1))
+        echo "FAILED: $*: status $got and $(threads_made) threads made, not $wanted"
+    fi
+}
+for name in a b c d e f g h; do
+    printf '{"name":"%s","callbacks":{},"jobs":[]}\n' "$name"
+done | paste -s -d , | sed 's/.*/{"version":1,"agents":[&]}/' >"$room/eight.json"
+makes_threads 1 "$examples/worker.json"
+makes_threads 2 "$examples/worker.json" --watch 1
+makes_threads 0 "$examples/worker.json" --turns --watch 1
+makes_threads 7 "$room/eight.json"
+makes_threads 8 "$room/eight.json" --watch 3
+makes_threads 0 "$room/eight.json" --turns
+makes_threads 0 "$examples/kept.json"
+makes_threads 1 "$examples/kept.json" --watch 2
+
+# A watcher makes its audits: each makes three growths, a list of locks, one of agents and one of counts. What else a
+# run grows is not the same from run to run, so the most of five runs with many audits stands beside the least of five with
+# few.
+most=0
+least=1000000000
+for _ in 1 2 3 4 5; do
+    run 0 run "$examples/worker.json" --watch 1000
+    [ "$got" -eq 0 ] || most=-1000000000
+    [ "$(growths_made)" -le "$most" ] || most=$(growths_made)
+    run 0 run "$examples/worker.json" --watch 4
+    [ "$got" -eq 0 ] || least=1000000000
+    [ "$(growths_made)" -ge "$least" ] || least=$(growths_made)
+done
+if [ $((most - least)) -ge $((996 * 3)) ]; then
+    passed=$((passed + 1))
+else
+    failed=$((failed + 1))
+    echo "FAILED: 996 more audits make $((most - least)) growths more, not 2988"
 fi
 
 # a block that two agents use in turn; one whose last message nobody takes; and one that comes as two objects

@@ -647,6 +647,12 @@ told "a received buffer past the last identity" "1 1 1 1 0" "agent a" "$end" "ag
 cluster "$(agent a "$(many 1 '["post","w","x"]')" "$(job "post w x")" "$(job "new x" "post w x")")" "$(agent w)"
 told "10,001 posts" "0 0 10000 0 10000" "agent a" "error limit: posts" "$refused" "$end" "agent w" "$end"
 
+# as many messages as three agents can post lie in the ports at once, and nobody takes one
+for pair in "a b" "b c" "c a"; do
+    agent "${pair% *}" "$(yes "[\"post\",\"${pair#* }\",\"x\"]" | head -n 10000 | paste -s -d , | sed 's/.*/{"run":[&]}/')"
+done | paste -s -d , | sed 's/.*/{"version":1,"agents":[&]}/' >"$room/script"
+told "30,000 posts" "0 0 30000 0 30000" "agent a" "$end" "agent b" "$end" "agent c" "$end"
+
 # Heaps of many objects, collected twice: all held by one, and each held by the next
 
 emptied_of() {

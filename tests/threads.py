@@ -17,6 +17,10 @@ first has those whose indexes can be divided by 3, and the next those that follo
 hand (`handed_on`): an agent uses any word of a block, but only from taking it to posting it on. The rest are of agents
 that have nothing to do with each other.
 
+After the random plans comes one run in which an agent waits while another collects again and again: the program may
+take little more of the processors' time for it than by turns, as who waits sleeps. The better of up to PAIRS pairs of
+runs counts, since the same work takes more time on a machine that does much else.
+
 The second runs three plans RUNS times each, in which little is done and threads wake each other: two agents that post
 to and fro, a ring of eight, and eight that wait in vain again and again, until the first skips a job and posts. No run
 may take ten times as long as the plan's median: a thread that is not woken can hang, or show so. Other load on the
@@ -34,6 +38,7 @@ import multiprocessing
 import os
 import random
 import re
+import resource
 import statistics
 import subprocess
 import sys
@@ -44,6 +49,8 @@ import random_plans
 LIMIT = 60  # the seconds of a run
 MOST = 16384  # the most words of a block
 TOGETHER = 20  # the runs whose times count or do not count together
+PAIRS = 5
+MOST_TIME = 1.5  # how many times the processors' time of the run by turns a run with one that waits may take
 MOST_STOLEN = 0.02  # the part of our processors' time that the host may take where times count
 AUDITS = [1, 2, 5, 20, 100, 1000]
 # where in a command the index is
@@ -199,6 +206,33 @@ def timed(program, data, *options):
     return got, time.monotonic() - started
 
 
+def processor_time(program, data, *options):
+    """The answer, and how many seconds of processors it took."""
+    before = resource.getrusage(resource.RUSAGE_CHILDREN)
+    got = answer(program, data, *options)
+    after = resource.getrusage(resource.RUSAGE_CHILDREN)
+    return got, after.ru_utime + after.ru_stime - before.ru_utime - before.ru_stime
+
+
+def try_sleeping(program):
+    """1 where an agent that waits for one that collects takes processors' time all the while, else 0."""
+    chain = [["new", "a"]] + [["new", "b"], ["set", "b", "p", "a"], ["copy", "a", "b"]] * 2000
+    works = [{"run": chain}, {"run": [["collect"]] * 5000}, {"run": [["let", "x", 1], ["post", "w", "x"]]}]
+    data = json.dumps(plan_of({"a": works, "w": [{"on": ["a", "m"], "run": [["say", "m"]]}]})).encode()
+    ratios = []
+    while len(ratios) < PAIRS:
+        want, turns = processor_time(program, data, "--turns")
+        got, threads = processor_time(program, data)
+        if got != want or want[0] != 0:
+            print("an agent that waits while another collects: in threads another answer than by turns")
+            return 1
+        ratios.append(threads / turns)
+        if ratios[-1] < MOST_TIME:
+            return 0
+    print(f"an agent that waits takes processors' time: {ratios} times that of the run by turns")
+    return 1
+
+
 def stolen():
     """For how many seconds the host took our processors away since the machine began; 0 where none says."""
     ours = {f"cpu{number}" for number in os.sched_getaffinity(0)}
@@ -266,7 +300,8 @@ def main():
     if (given.seed is None) != (given.waking is not None) or (given.waking is not None and given.count is not None):
         words.error("either COUNT and SEED, or --waking RUNS")
     if given.waking is None:
-        tried, failed = given.count, try_plans(given.program, given.count, given.seed, given.jobs)
+        tried, failed = given.count + 1, try_plans(given.program, given.count, given.seed, given.jobs)
+        failed += try_sleeping(given.program)
     else:
         plans = {"ping-pong": ring(2, 400), "ring": ring(8, 200), "skips": skips(8, 25)}
         tried = given.waking * len(plans)

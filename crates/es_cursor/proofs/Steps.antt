@@ -18,7 +18,8 @@ use Rattle.es_event.proofs.Coming.{Comes, closes}
 use Rattle.es_cursor.specs.declared.cursor.Cursor.{Cursor}
 use Rattle.es_cursor.specs.declared.cursor.Position.{Position}
 use Rattle.es_cursor.specs.declared.cursor.Position.TheVariants.{Between, Handed, Inside, Stopped, Cleaning, CleanupStopped, Ended}
-use Rattle.es_cursor.specs.Cursor.{IsAt, IsCursorOf, commands_of, position_after}
+use Rattle.es_cursor.specs.Cursor.{IsAt, IsCursorOf, commands_of}
+use Rattle.es_cursor.specs.After.{position_after}
 
 -- Commands
 

@@ -1,5 +1,5 @@
--- Internal: where an agent is in its plan, and that its history says the same.
-use Rattle.std.specs.Prelude.{ℕ, ◌≡◌, ◌≤◌, ◌+◌, length, drop, nat_lt, List, [], Option, Some, None, if◌then◌else◌}
+-- To believe: where an agent is in its plan, and that its history says the same.
+use Rattle.std.specs.Prelude.{ℕ, ◌≡◌, ◌≤◌, length, drop, List, [], Option, Some, None}
 use Rattle.std.specs.Option.{option_map_or}
 use Rattle.es_event.specs.declared.command.Command.{Command}
 use Rattle.es_event.specs.declared.plan.AgentPlan.{AgentPlan}
@@ -31,35 +31,7 @@ IsAt plan h (Cleaning c) = IsCleaning plan h c
 IsAt plan h (CleanupStopped r) = (phase h ≡ stopped) × (cleaning h ≡ Some r)
 IsAt plan h Ended = (phase h ≡ ended) × (cleaning h ≡ None)
 
+-- the cursor stands where the history leads: at its job, and at its place in it
 pub record IsCursorOf (plan : AgentPlan) (h : History) (c : Cursor) : Type 0 where
   pub job : c.job ≡ job h
   pub position : IsAt plan h c.position
-
--- after one more of so many commands
-abbrev pub at_after : ℕ → ℕ → ℕ
-at_after at count = if nat_lt at count then at + 1 else at
-
--- the job after the end of a job, of so many jobs
-abbrev pub passed_at : Position → ℕ → ℕ → ℕ
-passed_at (Cleaning c) n jobs = n
-passed_at (CleanupStopped r) n jobs = n
-passed_at _ n jobs = at_after n (jobs + 1)
-
-abbrev pub job_passed : Cursor → ℕ → ℕ
-job_passed c jobs = passed_at c.position c.job jobs
-
--- after one more command of job n, or of the running callback
-abbrev pub position_after : AgentPlan → ℕ → Position → Position
-position_after plan n (Inside at) = Inside (at_after at (length (job_commands plan n)))
-position_after plan n (Cleaning c) = Cleaning (record c { at = at_after c.at (length (commands_of plan c.callback)) })
-position_after plan n p = p
-
--- after a refusal
-abbrev pub position_stopped : Position → Position
-position_stopped (Cleaning c) = CleanupStopped c.registry
-position_stopped _ = Stopped
-
--- after the taking of a cell
-abbrev pub position_taken : Option ℕ → Position → Position
-position_taken callback (Cleaning c) = Cleaning (record { registry = c.registry; callback = callback; at = 0 })
-position_taken callback p = p

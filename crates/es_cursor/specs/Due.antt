@@ -1,10 +1,11 @@
--- Internal: what is due, as the code has it.
+-- To believe: what an answer of the code says that is due: each variant of its own type is the word of es_event's Order of that meaning.
 use Rattle.std.specs.Prelude.{List, [], ◌∷◌}
 use Rattle.es_event.specs.declared.command.Command.{Command}
 use Rattle.es_event.specs.Order.{Due as DueSaid, begin, run, clean, take_cell, end_job, close, nothing, receive}
 use Rattle.es_cursor.specs.declared.due.Due.{Due}
 use Rattle.es_cursor.specs.declared.due.Due.TheVariants.{Begin, Receive, Run, Clean, Take, EndJob, Close, Nothing}
 
+-- what is due
 abbrev pub shown : Due → DueSaid
 shown (Begin n) = begin n
 shown (Receive n s) = receive n s

@@ -10,7 +10,8 @@ ghost use Rattle.es_event.specs.Registrations.{callback as callback_said};
 ghost use Rattle.es_event.specs.Follows.{Permits};
 ghost use Rattle.es_event.specs.Sharing.{Buffers};
 ghost use Rattle.es_cursor.specs.Due.{shown};
-ghost use Rattle.es_cursor.specs.Cursor.{IsCursorOf, commands_of, at_after, job_passed, position_after, position_stopped, position_taken};
+ghost use Rattle.es_cursor.specs.Cursor.{IsCursorOf, commands_of};
+ghost use Rattle.es_cursor.specs.After.{at_after, job_passed, position_after, position_stopped, position_taken};
 
 use crate::due::Due;
 use es_event::{AgentPlan, Command, Event};

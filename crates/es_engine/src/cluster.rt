@@ -1,6 +1,6 @@
 //! The cluster of a plan, run to its end.
 
-ghost use Rattle.std.specs.Prelude.{◌≡◌, ◌<◌, ℕ, false, true, not, length, map, reverse, IfOk, IfErr, OnOk};
+ghost use Rattle.std.specs.Prelude.{◌≡◌, ◌<◌, ℕ, false, true, not, length, map, reverse, IfOk, IfErr, OnOk, if◌then◌else◌};
 ghost use Rattle.es_cluster.specs.Moves.{all_over, cleans_quietly};
 ghost use Rattle.es_cluster.specs.State.{plans};
 ghost use Rattle.es_engine.specs.Engine.{IsAnswerFault};
@@ -25,13 +25,14 @@ use std::marker::Brand;
 use std::sync::Wait;
 use std::thread::Threads;
 
-/// What comes of a plan: how its run ended, how many registrations of each agent have each fate, and how
-/// many blocks were released.
+/// What comes of a plan: how its run ended, how many registrations of each agent have each fate, how many
+/// blocks were released, and how many audits were made beside the agents.
 #[derive(Drop)]
 pub(crate) struct Ended {
     pub(crate) outcome: Outcome,
     pub(crate) tallies: Vec<Tally>,
     pub(crate) released: usize,
+    pub(crate) audits: u32,
 }
 
 /// Runs the agents of a plan to their ends, as a cluster: each in a thread of its own, or all by turns.
@@ -47,22 +48,24 @@ pub(crate) fn run_plan<H: Threads + Wait + Sync>(
     ensures outcome { IfOk result (λ r. IsClusterOutcome plan r.outcome) }
     ensures tallies { IfOk result (λ r. AreTallies r.outcome.histories r.tallies.items) }
     ensures released { IfOk result (λ r. r.released ≡ released_said (reverse r.outcome.ledger)) }
+    ensures audits { IfOk result (λ r. r.audits ≡ (if options.turns then 0 else options.watch)) }
     ensures fault { IfErr result (IsAnswerFault (not options.turns)) }
 {
     if options.turns {
         let counted = run_by_turns(alloc, plan)?;
-        return Ok(with_released(counted));
+        return Ok(with_released(counted, 0));
     }
     let watch = u32::from(options.watch);
-    let counted = run_counted(rt, alloc, plan, options.helpers, watch, &NoGate)?;
-    Ok(with_released(counted))
+    let (counted, audits) = run_counted(rt, alloc, plan, options.helpers, watch, &NoGate)?;
+    Ok(with_released(counted, audits))
 }
 
 /// The same with the number of released blocks: no ticket is left, so each was released.
-fn with_released(counted: Counted) -> Ended
+fn with_released(counted: Counted, audits: u32) -> Ended
     requires none { (b : ℕ) → count (reverse counted.outcome.ledger) b ≡ 0 }
     ensures same { (result.outcome ≡ counted.outcome) × (result.tallies ≡ counted.tallies) }
     ensures released { result.released ≡ released_said (reverse result.outcome.ledger) }
+    ensures audits { result.audits ≡ audits }
 {
     let Counted { outcome, tallies } = counted;
     let released = count_blocks(outcome.ledger.as_slice());
@@ -70,6 +73,7 @@ fn with_released(counted: Counted) -> Ended
         outcome,
         tallies,
         released,
+        audits,
     }
 }
 

@@ -18,8 +18,8 @@ use std::sync::Wait;
 use std::thread::Threads;
 
 /// Reads a plan to the reader's end, runs it, or only checks it, and writes the answer. Its agents are
-/// threads, or run by turns in this one. Gives the number of audits beside the agents: as many as the
-/// options ask for, and none by turns or where the plan is only checked.
+/// threads, or run by turns in this one. Gives the number of audits that were made beside the agents: as
+/// many as the options ask for, and none by turns or where the plan is only checked.
 ///
 /// The report is written only after the run has ended well. On every fault but `Write` nothing is
 /// written.
@@ -33,19 +33,7 @@ pub fn run<H: AllocGlobal + Threads + Wait + Sync, R: Read, W: Write>(
     ensures unwritten { IfErr result (λ e. e ≢ RunFault.Write → writer.new ≡ writer.old) }
 {
     let plan = plan_from(rt.alloc(), reader)?;
-    answer(rt, plan, options, writer)?;
-    Ok(audits_of(options))
-}
-
-/// How many audits there are beside the agents.
-fn audits_of(options: Options) -> u32
-    ensures { result ≡ audits_of options }
-{
-    if options.check || options.turns {
-        0
-    } else {
-        u32::from(options.watch)
-    }
+    answer(rt, plan, options, writer)
 }
 
 /// The plan that the reader's bytes stand for.
@@ -60,22 +48,24 @@ fn plan_from<R: Read>(alloc: Global, reader: &mut R) -> Result<Plan, RunFault>
     Ok(plan)
 }
 
-/// Writes what there is to say of a plan.
+/// Writes what there is to say of a plan, and gives how many audits were made beside its agents.
 fn answer<H: AllocGlobal + Threads + Wait + Sync, W: Write>(
     rt: &H,
     plan: Plan,
     options: Options,
     writer: &mut W,
-) -> Result<(), RunFault>
+) -> Result<u32, RunFault>
     requires few { length plan.agents < 9 }
     requires others { all_name_others plan ≡ true }
     requires collects { no_callback_collects plan ≡ true }
     ensures answers { OnOk result (Answers options.check plan (W.contents writer.old) (W.contents writer.new)) }
+    ensures audits { IfOk result (λ n. n ≡ audits_of options) }
     ensures fault { IfErr result (IsAnswerFault (runs_threads options)) }
     ensures unwritten { IfErr result (λ e. e ≢ RunFault.Write → writer.new ≡ writer.old) }
 {
     if options.check {
-        return writer.write_all(b"ok\n").map_err(|_| RunFault::Write);
+        writer.write_all(b"ok\n").map_err(|_| RunFault::Write)?;
+        return Ok(0);
     }
     let ended = run_plan(rt, rt.alloc(), plan, options)?;
     write_report(
@@ -84,5 +74,6 @@ fn answer<H: AllocGlobal + Threads + Wait + Sync, W: Write>(
         ended.released,
         writer,
     )
-    .map_err(|_| RunFault::Write)
+    .map_err(|_| RunFault::Write)?;
+    Ok(ended.audits)
 }

@@ -1,4 +1,4 @@
--- Internal: the entries of WeakMaps and the members of WeakSets as the table shows them to the agent (WeakMap Objects, WeakSet Objects): by key, and under each key by the WeakMap or WeakSet that holds the record.
+-- To believe: the entries of WeakMaps and the members of WeakSets as contracts see them (WeakMap Objects, WeakSet Objects): by key, and under each key by the WeakMap or WeakSet that holds the record.
 use Rattle.std.specs.Prelude.{ℕ, ◌≡◌, ◌≤◌, ◌-◌, ◌==◌, ◌&&◌, ◌||◌, List, [], ◌∷◌, Option, Some, None, map, slice_index_or, if◌then◌else◌, ⊤}
 use Rattle.es_value.specs.Ids.{is_in}
 use Rattle.es_value.specs.declared.value.Value.{Value}

@@ -15,7 +15,8 @@ asked l a s = if is_some (waits l a) then l else Waiting a s ∷ l
 abbrev pub waits_for : Ledger → ℕ → ℕ → Bool
 waits_for l a s = option_map_or (λ t. t == s) (waits l a) false
 
--- where its wait stands: of n agents, a skips its job, or stays
+-- where its wait stands: of n agents, a skips its job, or stays; one that waits for another sender stays, as it has one wait at
+-- a time
 abbrev pub judged : Ledger → ℕ → ℕ → ℕ → Turn × Ledger
 judged l n a s = if waits_for l a s && skips l n a s then (Skip, Passed a s ∷ l) else (Stay, l)
 

@@ -22,7 +22,7 @@ use std::marker::Model;
 /// What the spending of a ticket did.
 #[derive(Clone, Copy, Debug, PartialEq, Eq)]
 pub struct Spent {
-    /// It was the last ticket of its block, whose words are given back.
+    /// It was the last ticket of its block: nobody holds one any more, and the block is released.
     pub released: bool,
 }
 

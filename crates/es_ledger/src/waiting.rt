@@ -1,9 +1,10 @@
 //! Asking for a message: it is there, or the agent waits on, or it skips its job.
 
-ghost use Rattle.std.specs.Prelude.{◌≡◌, ◌≢◌, ◌<◌, ◌≤◌, ◌∷◌, ◌||◌, ◌&&◌, false, Some, IfOk, IfSome, OnOk, OnErr};
+ghost use Rattle.std.specs.Prelude.{◌≡◌, ◌≢◌, ◌<◌, ◌≤◌, ◌∷◌, ◌||◌, ◌&&◌, ℕ, false, Some, IfOk, IfSome, OnOk, OnErr, if◌then◌else◌};
 ghost use Rattle.es_event.specs.Ledger.{waits, ended};
 ghost use Rattle.es_event.specs.LegalLedger.{has_message, is_stuck, all_stuck, all_ended, is_chosen, skips};
 ghost use Rattle.es_ledger.specs.Turns.{told, asked, judged, waits_for};
+ghost use Rattle.es_ledger.specs.declared.turn.Turn.TheVariants.{Ready, Stay};
 
 use crate::ledger::{LedgerCore, make_room};
 use crate::turn::Turn;
@@ -13,12 +14,15 @@ use es_value::NoMemory;
 
 impl<L: Run> LedgerCore<L> {
     /// Asks for a message of a sender: whether it is there, or the agent waits on, or skips its job.
-    /// Where there is no memory nothing has changed.
+    /// Where there is no memory nothing has changed. An agent has one wait at a time: one that waits for
+    /// another sender is told that the message is there, where it is, and else to wait on, even where this
+    /// sender has ended; and nothing is recorded.
     pub fn await_message(&mut self, agent: usize, sender: usize) -> Result<Turn, NoMemory>
         requires known { (agent < self.old.agents) × (sender < self.old.agents) }
         requires other { agent ≢ sender }
         requires going { ended self.old.history agent ≡ false }
         ensures told { IfOk result (λ t. (t, self.new.history) ≡ told self.old.history self.old.agents agent sender) }
+        ensures elsewhere { IfOk result (λ t. (s : ℕ) → waits self.old.history agent ≡ Some s → s ≢ sender → (t ≡ (if has_message self.old.history sender agent then Ready else Stay)) × (self.new.history ≡ self.old.history)) }
         ensures agents { self.new.agents ≡ self.old.agents }
         ensures err { OnErr result (self.new ≡ self.old) }
     {

@@ -2,8 +2,8 @@
 use Rattle.std.proofs.Common.{◌≡◌, ◌≢◌, ℕ, Option, length, map, ap, subst, ◌+◌, ◌-◌, ◌≤◌, ◌<◌, suc, zero, nat_lt, List, [], ◌∷◌, Some, None, refl, arith, if◌then◌else◌, slice_index_or}
 use Rattle.std.proofs.lemmas.Bool.Decides.{nat_tests}
 use Rattle.std.specs.Option.{option_map_or}
-use Rattle.es_props.specs.Heap.{Properties, Place, object, room_at, KeepsRoom, KeepsRoomBut}
-use Rattle.es_props.specs.Slots.{objects_from, place_at}
+use Rattle.es_props.specs.Heap.{Properties, object, room_at, KeepsRoom, KeepsRoomBut}
+use Rattle.es_props.specs.Slots.{Place, objects_from, place_at}
 
 nowhere : Place
 nowhere = record { object = None; room = 0 }

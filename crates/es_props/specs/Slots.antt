@@ -1,10 +1,15 @@
 -- Internal: places as they are held, and the objects that stand in them.
-use Rattle.std.specs.Prelude.{ℕ, List, [], ◌∷◌, ◌-◌, ◌+◌, Some, None, slice_index_or}
+use Rattle.std.specs.Prelude.{ℕ, List, [], ◌∷◌, ◌-◌, ◌+◌, Option, Some, None, slice_index_or}
 use Rattle.std.specs.Option.{option_map_or}
 use Rattle.indexmap.specs.IndexMap.{spare}
 use Rattle.es_props.specs.declared.slot.Held.{Held}
 use Rattle.es_props.specs.declared.slot.Held.TheVariants.{Nothing, Bare, Few, Many}
-use Rattle.es_props.specs.Heap.{Store, Place}
+use Rattle.es_props.specs.Heap.{Properties, Store}
+
+-- the place of an identity: the properties of its object, none where no object stands there, and for how many more properties it has room
+pub record Place : Type 0 where
+  pub object : Option Properties
+  pub room : ℕ
 
 abbrev pub place_of : Held → Place
 place_of Nothing = record { object = None; room = 0 }

@@ -36,8 +36,7 @@ pub(crate) enum Held {
 }
 
 impl Model for Slot {
-    ghost use Rattle.es_props.specs.Heap.{Place};
-    ghost use Rattle.es_props.specs.Slots.{place_of};
+    ghost use Rattle.es_props.specs.Slots.{Place, place_of};
 
     ghost Value = { Place };
 

@@ -1,5 +1,5 @@
 -- That every cell stays listed, as slots and lists change.
-use Rattle.std.proofs.Common.{◌≡◌, ℕ, suc, zero, ◌+◌, ◌<◌, Bool, true, false, ◌&&◌, ◌||◌, nat_eq, ◌==◌, List, [], ◌∷◌, ◌++◌, length, set, get_or, map, filter, take, Option, Some, None, refl, ap, sym, ◌∙◌, arith, eq-eqb, inl, inr, ◌⊎◌, if◌then◌else◌}
+use Rattle.std.proofs.Common.{◌≡◌, ℕ, suc, zero, ◌+◌, ◌<◌, Bool, true, false, not, ◌&&◌, ◌||◌, nat_eq, ◌==◌, List, [], ◌∷◌, ◌++◌, length, set, get_or, map, filter, take, Option, Some, None, refl, ap, sym, ◌∙◌, arith, eq-eqb, inl, inr, ◌⊎◌, if◌then◌else◌}
 use Rattle.std.specs.List.{list_any, slice_get}
 use Rattle.std.specs.Option.{option_map_or, option_map, option_and_then}
 use Rattle.std.specs.Prelude.{is_none, is_some}
@@ -15,7 +15,7 @@ use Rattle.std.proofs.lemmas.Bool.{eqb-true}
 use Rattle.std.proofs.lemmas.Option.{slice_get-map}
 use Rattle.es_registry.specs.Places.{Tokens, Waiting, listed, waits, IsIndexed}
 use Rattle.es_value.specs.Ids.{is_in}
-use Rattle.es_registry.specs.Slots.{is_this, is_present, is_live, is_awaiting, passes_at, awaits, has_token, is_losing, emptied, unless_among, holds, unregistered_by, changed_if}
+use Rattle.es_registry.specs.Slots.{is_this, is_present, is_live, is_awaiting, passes_at, awaits, has_token, is_losing, emptied, unless_among, holds, unregistered_by, changed_if, is_of, registry_of}
 use Rattle.es_registry.specs.Cells.{ListsPresent}
 
 -- what passes one test passes another
@@ -38,6 +38,11 @@ at_push test (x ∷ xs) s (suc k) h =
       | inl old ↦ inl old
       | inr new ↦ inr (let e : k ≡ length xs = new.0 in omega arith, new.1)
     ]
+
+still_at_push : (test : Slot → Bool) (xs : List Slot) (s : Slot) (k : ℕ) → passes_at test xs k ≡ true → passes_at test (xs ++ s ∷ []) k ≡ true
+still_at_push test [] s k h = cc
+still_at_push test (x ∷ xs) s zero h = h
+still_at_push test (x ∷ xs) s (suc k) h = still_at_push test xs s k h
 
 -- one more place is among them, and the old ones still are
 pub among_pushed : (ks : List ℕ) (k j : ℕ) → is_in (ks ++ k ∷ []) j ≡ (is_in ks j || (k == j))
@@ -82,13 +87,98 @@ awaiting_there r xs k h = weaker (awaits r) is_awaiting (λ s. of_slot r s) xs k
     of_slot q Unregistered e = cc
     of_slot q Taken e = cc
 
-pub taken_stays_indexed : (xs : List Slot) (tokens : Tokens) (old new : Waiting) (i : ℕ) → IsIndexed xs tokens old → ((q j : ℕ) → nat_eq i j ≡ false → waits new q j ≡ waits old q j) → IsIndexed (set xs i Taken) tokens new
-taken_stays_indexed xs tokens old new i indexed kept = record {
+-- another slot at one place leaves every other as it is
+beside_set : (test : Slot → Bool) (xs : List Slot) (i : ℕ) (y : Slot) (k : ℕ) → nat_eq i k ≡ false → passes_at test (set xs i y) k ≡ passes_at test xs k
+beside_set test [] i y k apart = refl
+beside_set test (x ∷ xs) zero y zero apart = cc
+beside_set test (x ∷ xs) zero y (suc k) apart = refl
+beside_set test (x ∷ xs) (suc i) y zero apart = refl
+beside_set test (x ∷ xs) (suc i) y (suc k) apart = let less : nat_eq i k ≡ false = grind (arith, nat_tests) in beside_set test xs i y k less
+
+-- what is listed and is no place that was taken out
+still_listed : (b c o n : Bool) → n ≡ (if b && c then false else o) → n ≡ true → (o ≡ true) × ((b && c) ≡ false)
+still_listed true true o n is h = let never : true ≡ false = sym h ∙ is in cc
+still_listed true false o n is h = (sym is ∙ h, refl)
+still_listed false c o n is h = (sym is ∙ h, refl)
+
+unlisted_of : (b c o n : Bool) → n ≡ (if b && c then false else o) → c ≡ false → n ≡ o
+unlisted_of true true o n is apart = cc
+unlisted_of true false o n is apart = is
+unlisted_of false c o n is apart = is
+
+other_of : (b c : Bool) → b ≡ true → (b && c) ≡ false → c ≡ false
+other_of true c e h = h
+other_of false c e h = cc
+
+pub taken_stays_indexed : (xs : List Slot) (tokens : Tokens) (old new : Waiting) (i : ℕ) → IsIndexed xs tokens old → ((q j : ℕ) → waits new q j ≡ (if passes_at (is_of q) xs j && nat_eq i j then false else waits old q j)) → IsIndexed (set xs i Taken) tokens new
+taken_stays_indexed xs tokens old new i indexed after = record {
   by_token = λ q t k h. indexed.by_token q t k (at_set (has_token q t) xs i Taken k refl h).0;
   by_registry = λ q k h.
       let still = at_set (awaits q) xs i Taken k refl h in
-      kept q k still.1 ∙ indexed.by_registry q k still.0;
+      unlisted_of (passes_at (is_of q) xs k) (nat_eq i k) (waits old q k) (waits new q k) (after q k) still.1 ∙ indexed.by_registry q k still.0;
+  there = λ q k h.
+      let still = still_listed (passes_at (is_of q) xs k) (nat_eq i k) (waits old q k) (waits new q k) (after q k) h in
+      let here = indexed.there q k still.0 in
+      beside_set (is_of q) xs i Taken k (other_of (passes_at (is_of q) xs k) (nat_eq i k) here still.1) ∙ here;
 }
+
+-- a place without a cell is listed for no registry
+pub no_cell_there : (xs : List Slot) (i q j : ℕ) (o : Bool) → None ≡ option_and_then registry_of (slice_get xs i) → o ≡ (if passes_at (is_of q) xs j && nat_eq i j then false else o)
+no_cell_there xs i q j o none = by_test (nat_eq i j) refl
+  where
+    either : (b : Bool) → (b && false) ≡ false
+    either true = refl
+    either false = refl
+
+    of_none : (s : Option Slot) → None ≡ option_and_then registry_of s → option_map_or (is_of q) s false ≡ false
+    of_none None e = refl
+    of_none (Some s) e = ap (is_this q) (sym e)
+
+    by_test : (b : Bool) → nat_eq i j ≡ b → o ≡ (if passes_at (is_of q) xs j && nat_eq i j then false else o)
+    by_test true e =
+        let same : i ≡ j = grind (arith, nat_tests) in
+        let gone : passes_at (is_of q) xs j ≡ false = ap (passes_at (is_of q) xs) (sym same) ∙ of_none (slice_get xs i) none in
+        rw gone refl
+    by_test false e = rw (e, either (passes_at (is_of q) xs j)) refl
+
+-- the cell at a place is in one registry
+pub of_this_registry : (xs : List Slot) (i r q j : ℕ) (o : Bool) → Some r ≡ option_and_then registry_of (slice_get xs i) → (if nat_eq r q && nat_eq i j then false else o) ≡ (if passes_at (is_of q) xs j && nat_eq i j then false else o)
+of_this_registry xs i r q j o some = by_test (nat_eq i j) refl
+  where
+    either : (b : Bool) → (b && false) ≡ false
+    either true = refl
+    either false = refl
+
+    of_some : (s : Option Slot) → Some r ≡ option_and_then registry_of s → option_map_or (is_of q) s false ≡ nat_eq r q
+    of_some None e = cc
+    of_some (Some s) e = ap (is_this q) (sym e) ∙ grind (arith, nat_tests)
+
+    by_test : (b : Bool) → nat_eq i j ≡ b → (if nat_eq r q && nat_eq i j then false else o) ≡ (if passes_at (is_of q) xs j && nat_eq i j then false else o)
+    by_test true e =
+        let same : i ≡ j = grind (arith, nat_tests) in
+        let is : passes_at (is_of q) xs j ≡ nat_eq r q = ap (passes_at (is_of q) xs) (sym same) ∙ of_some (slice_get xs i) some in
+        rw is refl
+    by_test false e = rw (e, either (passes_at (is_of q) xs j), either (nat_eq r q)) refl
+
+-- more places are listed, each of a cell that loses its target
+pub expected_stays_indexed : (ids : List ℕ) (xs : List Slot) (tokens : Tokens) (old new : Waiting) → IsIndexed xs tokens old
+    → ((r k : ℕ) → waits old r k ≡ true → waits new r k ≡ true)
+    → ((r k : ℕ) → waits new r k ≡ true → (waits old r k ≡ true) ⊎ (passes_at (is_losing ids r) xs k ≡ true))
+    → IsIndexed xs tokens new
+expected_stays_indexed ids xs tokens old new indexed kept only = record {
+  by_token = indexed.by_token;
+  by_registry = λ r k h. kept r k (indexed.by_registry r k h);
+  there = λ r k h. elim (only r k h) [ inl before ↦ indexed.there r k before | inr loses ↦ weaker (is_losing ids r) (is_of r) (of_slot r) xs k loses ];
+}
+  where
+    of_option : (b : Bool) (q r : ℕ) → is_this r (if b then Some q else None) ≡ true → (q == r) ≡ true
+    of_option true q r e = e
+    of_option false q r e = cc
+
+    of_slot : (r : ℕ) (s : Slot) → is_losing ids r s ≡ true → is_of r s ≡ true
+    of_slot r (Present c) e = of_option (option_map_or (is_in ids) c.target false) c.registry r e
+    of_slot r Unregistered e = cc
+    of_slot r Taken e = cc
 
 -- Cells with a token
 
@@ -183,27 +273,90 @@ emptied_again ids Unregistered = refl
 emptied_again ids Taken = refl
 
 -- Cells with a token taken out
-still_has : (r t : ℕ) (b : Bool) (now old : Option Slot) → now ≡ option_map (changed_if (unregistered_by r t) b) old → option_map_or (has_token r t) now false ≡ true → option_map_or (has_token r t) old false ≡ true
-still_has r t b now None is h = let never : option_map_or (has_token r t) now false ≡ false = ap (λ o. option_map_or (has_token r t) o false) is in cc
-still_has r t false now (Some s) is h = sym (ap (λ o. option_map_or (has_token r t) o false) is) ∙ h
-still_has r t true now (Some s) is h = by_test (has_token r t s) refl
+pub has_no_more : (r t : ℕ) (b : Bool) (old : Option Slot) → option_map_or (has_token r t) (option_map (changed_if (unregistered_by r t) b) old) false ≡ (option_map_or (has_token r t) old false && not b)
+has_no_more r t b None = refl
+has_no_more r t false (Some s) = either (has_token r t s)
   where
-    by_test : (d : Bool) → has_token r t s ≡ d → has_token r t s ≡ true
-    by_test true e = e
-    by_test false e =
-        let same : option_map_or (has_token r t) now false ≡ has_token r t s = rw e at (ap (λ o. option_map_or (has_token r t) o false) is) in
-        sym same ∙ h
+    either : (d : Bool) → d ≡ (d && true)
+    either true = refl
+    either false = refl
+has_no_more r t true (Some s) = by_test (has_token r t s) refl
+  where
+    by_test : (d : Bool) → has_token r t s ≡ d → has_token r t (unregistered_by r t s) ≡ (has_token r t s && false)
+    by_test true e = rw e refl
+    by_test false e = rw e e
 
-pub waits_more : (r t : ℕ) (xs ys : List Slot) (old now new : Waiting) (ks : List ℕ)
-    → ((k : ℕ) → slice_get ys k ≡ option_map (changed_if (unregistered_by r t) (is_in ks k)) (slice_get xs k))
-    → ((q k : ℕ) → (waits now q k ≡ waits old q k) ⊎ (passes_at (has_token r t) xs k ≡ true))
-    → ((q k : ℕ) → (waits new q k ≡ waits now q k) ⊎ (passes_at (has_token r t) ys k ≡ true))
-    → (q k : ℕ) → (waits new q k ≡ waits old q k) ⊎ (passes_at (has_token r t) xs k ≡ true)
-waits_more r t xs ys old now new ks slots so_far step q k =
-    elim (step q k) [
-      | inr has ↦ inr (still_has r t (is_in ks k) (slice_get ys k) (slice_get xs k) (slots k) has)
-      | inl same ↦ elim (so_far q k) [ inr had ↦ inr had | inl before ↦ inl (same ∙ before) ]
-    ]
+one_more : (h i e p o : Bool) → (if (h && not i) && (e && p) then false else if h && (e && i) then false else o) ≡ (if h && (e && (i || p)) then false else o)
+one_more false i e p o = refl
+one_more true true true p o = refl
+one_more true true false p o = refl
+one_more true false true true o = refl
+one_more true false true false o = refl
+one_more true false false p o = refl
+
+pub waits_more : (r t : ℕ) (xs ys : List Slot) (old now new : Waiting) (ks : List ℕ) (i d : ℕ) → i < length ks
+    → ((k : ℕ) → slice_get ys k ≡ option_map (changed_if (unregistered_by r t) (is_in (take i ks) k)) (slice_get xs k))
+    → ((q k : ℕ) → waits now q k ≡ (if passes_at (has_token r t) xs k && (nat_eq r q && is_in (take i ks) k) then false else waits old q k))
+    → ((q k : ℕ) → waits new q k ≡ (if passes_at (has_token r t) ys k && (nat_eq r q && get_or ks i d == k) then false else waits now q k))
+    → (q k : ℕ) → waits new q k ≡ (if passes_at (has_token r t) xs k && (nat_eq r q && is_in (take (i + 1) ks) k) then false else waits old q k)
+waits_more r t xs ys old now new ks i d lt slots so_far step q k =
+    let left : passes_at (has_token r t) ys k ≡ (passes_at (has_token r t) xs k && not (is_in (take i ks) k)) = ap (λ o. option_map_or (has_token r t) o false) (slots k) ∙ has_no_more r t (is_in (take i ks) k) (slice_get xs k) in
+    step q k
+    ∙ ap (λ b. if b && (nat_eq r q && get_or ks i d == k) then false else waits now q k) left
+    ∙ ap (λ b. if (passes_at (has_token r t) xs k && not (is_in (take i ks) k)) && (nat_eq r q && get_or ks i d == k) then false else b) (so_far q k)
+    ∙ one_more (passes_at (has_token r t) xs k) (is_in (take i ks) k) (nat_eq r q) (get_or ks i d == k) (waits old q k)
+    ∙ ap (λ b. if passes_at (has_token r t) xs k && (nat_eq r q && b) then false else waits old q k) (sym (list_any_more (λ j. j == k) ks i d lt))
+
+-- a place at which nothing is taken out stays listed
+pub stays_at : (h : ℕ → Bool) (place k : ℕ) (e o : Bool) → h place ≡ false → o ≡ (if h k && (e && place == k) then false else o)
+stays_at h place k e o fails = by_test (place == k) refl
+  where
+    none : (a b : Bool) → (a && (b && false)) ≡ false
+    none true true = refl
+    none true false = refl
+    none false b = refl
+
+    by_test : (b : Bool) → (place == k) ≡ b → o ≡ (if h k && (e && place == k) then false else o)
+    by_test true f = let same : place ≡ k = eqb-true place k f in let gone : h k ≡ false = ap h (sym same) ∙ fails in rw gone refl
+    by_test false f = rw (f, none (h k) e) refl
+
+-- a place whose cell is taken out is listed no longer
+pub leaves_at : (h : ℕ → Bool) (place k : ℕ) (e o : Bool) → h place ≡ true → (if e && nat_eq place k then false else o) ≡ (if h k && (e && place == k) then false else o)
+leaves_at h place k e o passes = by_test (place == k) refl
+  where
+    none : (a b : Bool) → (a && (b && false)) ≡ false
+    none true true = refl
+    none true false = refl
+    none false b = refl
+
+    none_here : (b : Bool) → (b && false) ≡ false
+    none_here true = refl
+    none_here false = refl
+
+    by_test : (b : Bool) → (place == k) ≡ b → (if e && nat_eq place k then false else o) ≡ (if h k && (e && place == k) then false else o)
+    by_test true f =
+        let same : place ≡ k = eqb-true place k f in
+        let here : h k ≡ true = ap h (sym same) ∙ passes in
+        rw (here, f) refl
+    by_test false f = rw (f, none (h k) e, none_here e) refl
+
+one_registry : (r t q : ℕ) (xs : List Slot) (k : ℕ) → passes_at (has_token r t) xs k ≡ true → passes_at (is_of q) xs k ≡ true → nat_eq r q ≡ true
+one_registry r t q [] k h g = cc
+one_registry r t q (x ∷ xs) (suc k) h g = one_registry r t q xs k h g
+one_registry r t q (x ∷ xs) zero h g = of_slot x h g
+  where
+    of_slot : (s : Slot) → has_token r t s ≡ true → is_of q s ≡ true → nat_eq r q ≡ true
+    of_slot (Present c) e f =
+        let a : c.registry ≡ r = eqb-true c.registry r (and_parts (c.registry == r) (is_this t c.token) e).0 in
+        let b : c.registry ≡ q = eqb-true c.registry q f in
+        grind (arith, nat_tests, a, b)
+    of_slot Unregistered e f = cc
+    of_slot Taken e f = cc
+
+not_unregistered : (r t : ℕ) (test : Slot → Bool) (xs : List Slot) (k : ℕ) → passes_at (has_token r t) xs k ≡ false → passes_at test xs k ≡ true → passes_at test (map (unregistered_by r t) xs) k ≡ true
+not_unregistered r t test [] k none h = cc
+not_unregistered r t test (x ∷ xs) zero none h = rw none h
+not_unregistered r t test (x ∷ xs) (suc k) none h = not_unregistered r t test xs k none h
 
 at_unregistered : (r t : ℕ) (test : Slot → Bool) (xs : List Slot) (k : ℕ) → test Unregistered ≡ false → passes_at test (map (unregistered_by r t) xs) k ≡ true → (passes_at test xs k ≡ true) × (passes_at (has_token r t) xs k ≡ false)
 at_unregistered r t test [] k fails h = cc
@@ -223,21 +376,31 @@ same_keys r t q u xs k e h =
 
 pub unregistered_stays_indexed : (r t : ℕ) (xs : List Slot) (tokens tokens' : Tokens) (old new : Waiting) → IsIndexed xs tokens old
     → ((q u : ℕ) → listed tokens' q u ≡ (if nat_eq r q && nat_eq t u then [] else listed tokens q u))
-    → ((q k : ℕ) → (waits new q k ≡ waits old q k) ⊎ (passes_at (has_token r t) xs k ≡ true))
+    → (ks : List ℕ) → ((k : ℕ) → passes_at (has_token r t) xs k ≡ true → is_in ks k ≡ true)
+    → ((q k : ℕ) → waits new q k ≡ (if passes_at (has_token r t) xs k && (nat_eq r q && is_in ks k) then false else waits old q k))
     → IsIndexed (map (unregistered_by r t) xs) tokens' new
-unregistered_stays_indexed r t xs tokens tokens' old new indexed taken waited = record {
+unregistered_stays_indexed r t xs tokens tokens' old new indexed taken ks all_listed waited = record {
   by_token = λ q u k h.
       let was = at_unregistered r t (has_token q u) xs k refl h in
       by_key q u k was (nat_eq r q && nat_eq t u) refl;
   by_registry = λ q k h.
       let was = at_unregistered r t (awaits q) xs k refl h in
-      let there : waits old q k ≡ true = indexed.by_registry q k was.0 in
-      elim (waited q k) [
-        | inl same ↦ same ∙ there
-        | inr has ↦ let never : true ≡ false = sym has ∙ was.1 in cc
-      ];
+      let same : waits new q k ≡ waits old q k = rw was.1 at (waited q k) in
+      same ∙ indexed.by_registry q k was.0;
+  there = λ q k h. by_token_at q k h (passes_at (has_token r t) xs k) refl;
 }
   where
+    by_token_at : (q k : ℕ) → waits new q k ≡ true → (b : Bool) → passes_at (has_token r t) xs k ≡ b → passes_at (is_of q) (map (unregistered_by r t) xs) k ≡ true
+    by_token_at q k h false e =
+        let same : waits new q k ≡ waits old q k = rw e at (waited q k) in
+        not_unregistered r t (is_of q) xs k e (indexed.there q k (sym same ∙ h))
+    by_token_at q k h true e =
+        let now : waits new q k ≡ (if nat_eq r q && is_in ks k then false else waits old q k) = rw e at (waited q k) in
+        let still = still_listed (nat_eq r q) (is_in ks k) (waits old q k) (waits new q k) now h in
+        let here : nat_eq r q ≡ true = one_registry r t q xs k e (indexed.there q k still.0) in
+        let never : true ≡ false = sym (all_listed k e) ∙ other_of (nat_eq r q) (is_in ks k) here still.1 in
+        cc
+
     by_key : (q u k : ℕ) → (passes_at (has_token q u) xs k ≡ true) × (passes_at (has_token r t) xs k ≡ false) → (b : Bool) → (nat_eq r q && nat_eq t u) ≡ b → is_in (listed tokens' q u) k ≡ true
     by_key q u k was true e = let never : true ≡ false = sym (same_keys r t q u xs k e was.0) ∙ was.1 in cc
     by_key q u k was false e = ap (λ ks. is_in ks k) (rw e at (taken q u)) ∙ indexed.by_token q u k was.0
@@ -278,6 +441,7 @@ registered_stays_indexed xs c tokens tokens' waiting live indexed kept new = rec
     | inl old ↦ indexed.by_registry r k old
     | inr last ↦ let parts = and_parts (c.registry == r) (is_none c.target) last.1 in absurd (not_both c.target live parts.1)
   ];
+  there = λ r k h. still_at_push (is_of r) xs (Present c) k (indexed.there r k h);
 }
   where
     not_both : (o : Option ℕ) → is_some o ≡ true → is_none o ≡ true → ⊥

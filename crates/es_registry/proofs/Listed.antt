@@ -4,7 +4,8 @@ use Rattle.std.specs.Option.{option_map_or}
 use Rattle.std.specs.Ordering.{nat_cmp}
 use Rattle.std.specs.BTreeSet.{BTreeSet, contains}
 use Rattle.std.proofs.lemmas.Bool.Decides.{nat_tests}
-use Rattle.es_registry.specs.Places.{Listing, pair_eq}
+use Rattle.es_registry.specs.Places.{Listing}
+use Rattle.es_registry.specs.Registries.{pair_eq}
 
 same_number : (a r : ℕ) → nat_eq a r ≡ true → a ≡ r
 same_number a r e = grind (arith, nat_tests)

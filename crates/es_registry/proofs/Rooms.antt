@@ -2,8 +2,8 @@
 use Rattle.std.proofs.Common.{◌≡◌, ℕ, Bool, true, false, cond, List, [], ◌∷◌, Option, Some, None, Result, Ok, Err, OnOk, OnErr, map, refl}
 use Rattle.std.specs.Option.{option_map_or}
 use Rattle.std.specs.Map.{lookup}
-use Rattle.es_registry.specs.Places.{Tokens, Listing, pair_eq, CanList}
-use Rattle.es_registry.specs.Registries.{room_at, HasTokenRoom}
+use Rattle.es_registry.specs.Places.{Tokens, Listing, CanList}
+use Rattle.es_registry.specs.Registries.{pair_eq, room_at, HasTokenRoom}
 
 abbrev pub rooms_of : List ((ℕ × ℕ) × Listing) → List ((ℕ × ℕ) × ℕ)
 rooms_of es = map (λ e. (e.0, e.1.room)) es

@@ -1,5 +1,5 @@
 -- Internal: lists of places by key: for each registry, or each registry and token, where its cells stand.
-use Rattle.std.specs.Prelude.{ℕ, ◌≡◌, ◌-◌, ◌<◌, Bool, true, false, ◌&&◌, nat_eq, List, [], ◌∷◌, Option, Some, None, vec_len, vec_capacity, ⊤}
+use Rattle.std.specs.Prelude.{ℕ, ◌≡◌, ◌-◌, ◌<◌, Bool, true, false, nat_eq, List, [], ◌∷◌, Option, Some, None, vec_len, vec_capacity, ⊤}
 use Rattle.std.specs.Ordering.{nat_cmp}
 use Rattle.std.specs.Option.{option_map_or}
 use Rattle.std.specs.declared.hash.FoldHasher.{FoldHasher}
@@ -10,7 +10,8 @@ use Rattle.es_value.specs.Ids.{is_in}
 use Rattle.es_registry.specs.declared.places.Kept.{Kept}
 use Rattle.es_registry.specs.declared.places.Kept.TheVariants.{Nothing, One, Many}
 use Rattle.es_registry.specs.declared.slot.Slot.{Slot}
-use Rattle.es_registry.specs.Slots.{passes_at, awaits, has_token}
+use Rattle.es_registry.specs.Slots.{passes_at, awaits, has_token, is_of}
+use Rattle.es_registry.specs.Registries.{pair_eq}
 
 -- places, and for how many more there is room
 pub record Listing : Type 0 where
@@ -34,9 +35,6 @@ waits w r k = option_map_or (λ s. contains nat_cmp s k) (get nat_eq w r) false
 abbrev pub Tokens : Type 0
 Tokens = HashMap (ℕ × ℕ) Listing (BuildHasherDefault FoldHasher)
 
-abbrev pub pair_eq : ℕ × ℕ → ℕ × ℕ → Bool
-pair_eq p q = nat_eq p.0 q.0 && nat_eq p.1 q.1
-
 -- the places listed for registry r and token t
 abbrev pub listed : Tokens → ℕ → ℕ → List ℕ
 listed m r t = option_map_or (λ p. p.items) (get pair_eq m (r, t)) []
@@ -51,7 +49,9 @@ CanList m r None = ⊤
 CanList m r (Some t) = 0 < spare_at m r t
 
 -- each cell that is there is listed under its registry and token, and where its target was emptied
--- also under its registry
+-- also under its registry; and a place that is listed under a registry has a cell of it, so that what
+-- awaits its callback is found without passing over what is gone
 pub record IsIndexed (cells : List Slot) (tokens : Tokens) (waiting : Waiting) : Type 0 where
   pub by_token : (r t k : ℕ) → passes_at (has_token r t) cells k ≡ true → is_in (listed tokens r t) k ≡ true
   pub by_registry : (r k : ℕ) → passes_at (awaits r) cells k ≡ true → waits waiting r k ≡ true
+  pub there : (r k : ℕ) → waits waiting r k ≡ true → passes_at (is_of r) cells k ≡ true

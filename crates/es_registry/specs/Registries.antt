@@ -1,5 +1,5 @@
--- Internal: FinalizationRegistries, their cells and the cleanup queue (FinalizationRegistry Objects), as the table shows them to the agent.
-use Rattle.std.specs.Prelude.{ℕ, ◌≡◌, ◌<◌, ◌≤◌, Bool, ◌&&◌, ◌||◌, ◌==◌, not, List, [], ◌∷◌, Option, Some, None, is_some, if◌then◌else◌, ⊤}
+-- To believe: FinalizationRegistries, their cells and the cleanup queue (FinalizationRegistry Objects), as contracts see them.
+use Rattle.std.specs.Prelude.{ℕ, ◌≡◌, ◌<◌, ◌≤◌, Bool, ◌&&◌, ◌||◌, ◌==◌, not, nat_eq, List, [], ◌∷◌, Option, Some, None, is_some, if◌then◌else◌, ⊤}
 use Rattle.std.specs.List.{list_any, find}
 use Rattle.std.specs.List.Sorted.{IsStrictlyIncreasing}
 use Rattle.std.specs.Option.{option_and_then}
@@ -9,7 +9,6 @@ use Rattle.es_registry.specs.declared.slot.Cell.{Cell}
 use Rattle.es_registry.specs.declared.slot.Slot.{Slot}
 use Rattle.es_registry.specs.declared.slot.Slot.TheVariants.{Present}
 use Rattle.es_registry.specs.Slots.{is_losing, awaits, cell_of, holds}
-use Rattle.es_registry.specs.Places.{pair_eq}
 
 -- each registry with its callback, what became of each registration (the nth is registration n), the
 -- registries whose cleanup job is to run, the first one first, and for how many more there is room: of
@@ -41,6 +40,10 @@ AddsRegistry old r c new = (q : ℕ) → callback new q ≡ (if r == q then Some
 -- every registry has the callback that it had
 abbrev pub SameCallbacks : Contents → Contents → Type 0
 SameCallbacks old new = (q : ℕ) → callback new q ≡ callback old q
+
+-- the same registry and the same token
+abbrev pub pair_eq : ℕ × ℕ → ℕ × ℕ → Bool
+pair_eq p q = nat_eq p.0 q.0 && nat_eq p.1 q.1
 
 -- for how many more cells of r with the token k there is room among these
 abbrev pub room_at : List ((ℕ × ℕ) × ℕ) → ℕ → ℕ → ℕ

@@ -1,4 +1,4 @@
--- Internal: what became of a registration, and what is asked of it (FinalizationRegistry Objects).
+-- To believe: what became of a registration, and what is asked of it (FinalizationRegistry Objects).
 use Rattle.std.specs.Prelude.{ℕ, Bool, true, false, ◌&&◌, ◌==◌, List, Option, Some, None, is_some, is_none, if◌then◌else◌, slice_get}
 use Rattle.std.specs.List.{count_by}
 use Rattle.std.specs.Option.{option_and_then, option_map_or}
@@ -35,11 +35,13 @@ is_awaiting (Present c) = is_none c.target
 is_awaiting Unregistered = false
 is_awaiting Taken = false
 
+-- the cell was taken out by its token
 abbrev pub is_unregistered : Slot → Bool
 is_unregistered (Present c) = false
 is_unregistered Unregistered = true
 is_unregistered Taken = false
 
+-- the cell was handed to the callback
 abbrev pub is_taken : Slot → Bool
 is_taken (Present c) = false
 is_taken Unregistered = false
@@ -96,6 +98,10 @@ abbrev pub registry_of : Slot → Option ℕ
 registry_of (Present c) = Some c.registry
 registry_of Unregistered = None
 registry_of Taken = None
+
+-- the cell is there, and in r
+abbrev pub is_of : ℕ → Slot → Bool
+is_of r s = is_this r (registry_of s)
 
 -- the identity that a cell that is there holds
 abbrev pub held_identity : Slot → Option ℕ

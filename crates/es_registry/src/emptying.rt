@@ -1,6 +1,6 @@
 //! The steps of a collection that need memory, before any target is emptied.
 
-ghost use Rattle.std.specs.Prelude.{◌≡◌, ℕ, ◌++◌, ◌&&◌, ◌||◌, not, true, OnOk, OnErr, IfOk, slice_get};
+ghost use Rattle.std.specs.Prelude.{◌≡◌, ℕ, ◌++◌, ◌&&◌, ◌||◌, ◌⊎◌, not, true, OnOk, OnErr, IfOk, slice_get};
 ghost use Rattle.std.specs.List.{list_any};
 ghost use Rattle.std.specs.Option.{option_and_then};
 ghost use Rattle.std.specs.BTreeSet.{contains, IsOrdered};
@@ -24,6 +24,7 @@ pub(crate) fn expect(
     named: &IdSet<'_>,
 ) -> Result<(), NoMemory>
     ensures kept { (r k : ℕ) → waits waiting.old r k ≡ true → waits waiting.new r k ≡ true }
+    ensures only { (r k : ℕ) → waits waiting.new r k ≡ true → (waits waiting.old r k ≡ true) ⊎ (passes_at (is_losing named.now r) slots.now k ≡ true) }
     ensures ok { OnOk result ((r k : ℕ) → is_in places.now k ≡ true → passes_at (is_losing named.now r) slots.now k ≡ true → waits waiting.new r k ≡ true) }
 {
     for place in places {
@@ -40,6 +41,7 @@ fn expect_at(
     place: usize,
 ) -> Result<(), NoMemory>
     ensures kept { (r k : ℕ) → waits waiting.old r k ≡ true → waits waiting.new r k ≡ true }
+    ensures only { (r k : ℕ) → waits waiting.new r k ≡ true → (waits waiting.old r k ≡ true) ⊎ ((is_this r registry ≡ true) × (place ≡ k)) }
     ensures ok { OnOk result ((r : ℕ) → is_this r registry ≡ true → waits waiting.new r place ≡ true) }
 {
     match registry {

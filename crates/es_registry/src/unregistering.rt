@@ -1,6 +1,6 @@
 //! Which cells have a token, and taking them out.
 
-ghost use Rattle.std.specs.Prelude.{◌≡◌, ℕ, ◌==◌, ◌⊎◌, true, slice_get};
+ghost use Rattle.std.specs.Prelude.{◌≡◌, ℕ, ◌==◌, ◌&&◌, false, nat_eq, slice_get, if◌then◌else◌};
 ghost use Rattle.std.specs.List.{list_any};
 ghost use Rattle.std.specs.Option.{option_map};
 ghost use Rattle.es_value.specs.Ids.{is_in};
@@ -39,7 +39,7 @@ pub(crate) fn take_out(
     token: Id,
 )
     ensures cells { (k : ℕ) → slice_get cells.new.all k ≡ option_map (changed_if (unregistered_by registry token) (is_in places.now k)) (slice_get cells.old.all k) }
-    ensures waiting { (q k : ℕ) → (waits waiting.new q k ≡ waits waiting.old q k) ⊎ (passes_at (has_token registry token) cells.old.all k ≡ true) }
+    ensures waiting { (q k : ℕ) → waits waiting.new q k ≡ (if passes_at (has_token registry token) cells.old.all k && (nat_eq registry q && is_in places.now k) then false else waits waiting.old q k) }
 {
     for place in places {
         take_out_at(cells, waiting, *place, registry, token);
@@ -49,7 +49,7 @@ pub(crate) fn take_out(
 /// Takes the cell at a place out if it is in the registry and has the token.
 fn take_out_at(cells: &mut Cells, waiting: &mut Waiting, place: usize, registry: Id, token: Id)
     ensures cells { (k : ℕ) → slice_get cells.new.all k ≡ option_map (changed_if (unregistered_by registry token) (place == k)) (slice_get cells.old.all k) }
-    ensures waiting { (q k : ℕ) → (waits waiting.new q k ≡ waits waiting.old q k) ⊎ (passes_at (has_token registry token) cells.old.all k ≡ true) }
+    ensures waiting { (q k : ℕ) → waits waiting.new q k ≡ (if passes_at (has_token registry token) cells.old.all k && (nat_eq registry q && place == k) then false else waits waiting.old q k) }
 {
     if !has_token_at(cells.all(), place, registry, token) {
         return;

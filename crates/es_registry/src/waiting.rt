@@ -1,13 +1,14 @@
-//! For each registry the places of cells that may await their callback: all that do are there, and a
-//! place whose cell does not is passed over.
+//! For each registry the places of cells that may await their callback: all that do are there, each
+//! place has a cell of the registry, and one whose cell does not await it is passed over.
 
-ghost use Rattle.std.specs.Prelude.{◌≡◌, ℕ, ◌&&◌, ◌||◌, OnOk, OnErr, true, false, nat_eq, if◌then◌else◌, ◌<◌, IsOk, Some};
+ghost use Rattle.std.specs.Prelude.{◌≡◌, ℕ, ◌&&◌, ◌||◌, OnOk, OnErr, true, false, nat_eq, if◌then◌else◌, ◌<◌, IsOk, Some, slice_get};
 ghost use Rattle.std.specs.BTreeSet.{contains, IsOrdered, Updates};
 ghost use Rattle.std.specs.HashMap.{Updates as map_updates, spare};
 ghost use Rattle.std.specs.Ordering.{nat_cmp};
 ghost use Rattle.std.specs.List.{find, position};
+ghost use Rattle.std.specs.Option.{option_and_then};
 ghost use Rattle.es_registry.specs.Places.{waits};
-ghost use Rattle.es_registry.specs.Slots.{awaits, passes_at};
+ghost use Rattle.es_registry.specs.Slots.{awaits, is_of, registry_of, passes_at};
 
 use crate::slot::Slot;
 use es_value::{Id, NoMemory};
@@ -38,15 +39,22 @@ pub(crate) fn add(
 
 /// Lists a place no longer for the registry of its cell; it takes no memory.
 pub(crate) fn remove_at(waiting: &mut Waiting, slots: &[Slot], place: usize)
-    ensures { (q j : ℕ) → nat_eq place j ≡ false → waits waiting.new q j ≡ waits waiting.old q j }
+    ensures { (q j : ℕ) → waits waiting.new q j ≡ (if passes_at (is_of q) slots.now j && nat_eq place j then false else waits waiting.old q j) }
 {
-    let Some(slot) = slots.get(place) else {
-        return;
-    };
-    let Some(registry) = slot.registry() else {
+    let Some(registry) = registry_at(slots, place) else {
         return;
     };
     remove(waiting, registry, place);
+}
+
+/// The registry of the cell at a place, if one is there.
+fn registry_at(slots: &[Slot], place: usize) -> Option<Id>
+    ensures { result ≡ option_and_then registry_of (slice_get slots.now place) }
+{
+    match slots.get(place) {
+        Some(slot) => slot.registry(),
+        None => None,
+    }
 }
 
 /// Lists a place no longer; it takes no memory.

@@ -1,10 +1,11 @@
--- Internal: what is asked for, as the code has it.
+-- To believe: what an answer of the code says that an agent asks for: each variant of its own types is the word of Needs of that meaning.
 use Rattle.es_rules.specs.declared.need.Need.{Need}
 use Rattle.es_rules.specs.declared.need.Need.TheVariants.{Local, Collect, Ledger, Message, Close, Ended}
 use Rattle.es_rules.specs.declared.need.Request.{Request}
 use Rattle.es_rules.specs.declared.need.Request.TheVariants.{NewBlock, Post, PostBuffer, Load, Store, Add}
 use Rattle.es_rules.specs.Needs.{Request as RequestSaid, for_block, for_post, for_buffer_post, for_load, for_store, for_add, Need as NeedSaid, asks_nobody, asks_marks, asks_ledger, asks_message, asks_closing, asks_nothing}
 
+-- what the ledger is asked for
 abbrev pub requested : Request → RequestSaid
 requested (NewBlock n) = for_block n
 requested (Post a v) = for_post a v.now
@@ -13,6 +14,7 @@ requested (Load o i) = for_load o i
 requested (Store o i n) = for_store o i n
 requested (Add o i n) = for_add o i n
 
+-- what the agent asks for
 abbrev pub shown : Need → NeedSaid
 shown Local = asks_nobody
 shown Collect = asks_marks

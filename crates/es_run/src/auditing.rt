@@ -1,7 +1,8 @@
 //! Audits of a cluster under locks.
 
-ghost use Rattle.std.specs.Prelude.{◌≡◌, map, true};
+ghost use Rattle.std.specs.Prelude.{◌≡◌, map, length, true, IfOk, OnOk};
 ghost use Rattle.es_cluster.specs.State.{books};
+ghost use Rattle.es_member.specs.Audits.{Audits};
 ghost use Rattle.es_outcome.specs.Places.{AreAtPlaces};
 
 use crate::cluster::Cluster;
@@ -28,6 +29,24 @@ fn are_at_places<L: Planned>(members: &mut [&mut Member<L>]) -> bool
     true
 }
 
+/// An audit of these agents and their ledger, if they are all of its agents, each at the place of its
+/// number. It changes nothing.
+fn audit_all<L: Planned>(
+    members: &mut [&mut Member<L>],
+    ledger: &mut LedgerCore<L>,
+) -> Result<Audit, NoMemory>
+    ensures audit { IfOk result (λ a. Audits (books (map (λ m. m.now) members.old)) ledger.old a) }
+    ensures all { OnOk result (length members.old ≡ ledger.old.agents) }
+    ensures placed { OnOk result (AreAtPlaces (books (map (λ m. m.now) members.old))) }
+    ensures members { map (λ m. m.now) members.new ≡ map (λ m. m.now) members.old }
+    ensures ledger { ledger.new ≡ ledger.old }
+{
+    if members.len() != ledger.agents() || !are_at_places(members) {
+        return Err(NoMemory);
+    }
+    audit_of(members, ledger)
+}
+
 /// What the guards hold.
 fn lent<'a, 'b, L: Planned>(
     alloc: Global,
@@ -37,8 +56,9 @@ fn lent<'a, 'b, L: Planned>(
 }
 
 impl<L: Planned> Cluster<L> {
-    /// An audit, with all locks taken. Where the locks do not hold all of the ledger's agents, each at
-    /// the place of its number, there is none, as where there is no memory.
+    /// An audit of what stands in the locks, with all of them taken (`audit_all`). Where they do not hold
+    /// all of the ledger's agents, each at the place of its number, there is none, as where there is no
+    /// memory.
     pub fn audit<R: Wait>(&self, rt: &R, alloc: Global) -> Result<Audit, NoMemory> {
         let mut guards = Vec::with_capacity(alloc, self.agents.len())?;
         for lock in &self.agents {
@@ -47,9 +67,6 @@ impl<L: Planned> Cluster<L> {
         let mut members = lent(alloc, &mut guards)?;
         let mut guard = self.ledger.lock(rt);
         let ledger: &mut LedgerCore<L> = &mut guard;
-        if members.len() != ledger.agents() || !are_at_places(members.as_mut_slice()) {
-            return Err(NoMemory);
-        }
-        audit_of(members.as_mut_slice(), ledger)
+        audit_all(members.as_mut_slice(), ledger)
     }
 }

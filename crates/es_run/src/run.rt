@@ -36,8 +36,8 @@ pub fn run_threads<G: Gate + Sync, R: Threads + Wait + Sync>(
     Ok(outcome)
 }
 
-/// The same, with a watcher that makes so many audits beside the agents. How many were made is answered
-/// beside the outcome.
+/// The same, with a watcher that makes so many audits beside the agents. How many it counted is answered
+/// beside the outcome: as many as were asked for, since a watch that is cut short ends the run.
 pub fn run_watched<G: Gate + Sync, R: Threads + Wait + Sync>(
     rt: &R,
     alloc: Global,
@@ -51,8 +51,8 @@ pub fn run_watched<G: Gate + Sync, R: Threads + Wait + Sync>(
     ensures outcome { IfOk result (λ r. IsClusterOutcome plan r.0) }
     ensures audits { IfOk result (λ r. r.1 ≡ watch) }
 {
-    let counted = run_counted(rt, alloc, plan, helpers, watch, gate)?;
-    Ok((counted.outcome, watch))
+    let (counted, audits) = run_counted(rt, alloc, plan, helpers, watch, gate)?;
+    Ok((counted.outcome, audits))
 }
 
 /// The same, with the totals of registrations that a report has.
@@ -63,11 +63,12 @@ pub fn run_counted<G: Gate + Sync, R: Threads + Wait + Sync>(
     _helpers: u8,
     watch: u32,
     gate: &G,
-) -> Result<Counted, RunStop>
+) -> Result<(Counted, u32), RunStop>
     requires few { length plan.agents < 9 }
     requires others { all_name_others plan ≡ true }
-    ensures outcome { IfOk result (λ r. IsClusterOutcome plan r.outcome) }
-    ensures tallies { IfOk result (λ r. AreTallies r.outcome.histories r.tallies.items) }
+    ensures outcome { IfOk result (λ r. IsClusterOutcome plan r.0.outcome) }
+    ensures tallies { IfOk result (λ r. AreTallies r.0.outcome.histories r.0.tallies.items) }
+    ensures audits { IfOk result (λ r. r.1 ≡ watch) }
 {
     let opened = Opened::new(alloc)?;
     run_in::<Brand, G, R>(rt, alloc, opened, plan, watch, gate)
@@ -81,13 +82,14 @@ fn run_in<L: Planned + Send + Sync, G: Gate + Sync, R: Threads + Wait + Sync>(
     plan: Plan,
     watch: u32,
     gate: &G,
-) -> Result<Counted, RunStop>
+) -> Result<(Counted, u32), RunStop>
     requires name { opened ≡ L.table }
     requires planned { plan ≡ L.plan }
     requires few { length plan.agents < 9 }
     requires others { all_name_others plan ≡ true }
-    ensures outcome { IfOk result (λ r. IsClusterOutcome L.plan r.outcome) }
-    ensures tallies { IfOk result (λ r. AreTallies r.outcome.histories r.tallies.items) }
+    ensures outcome { IfOk result (λ r. IsClusterOutcome L.plan r.0.outcome) }
+    ensures tallies { IfOk result (λ r. AreTallies r.0.outcome.histories r.0.tallies.items) }
+    ensures audits { IfOk result (λ r. r.1 ≡ watch) }
 {
     let Parts {
         mut members,
@@ -112,7 +114,7 @@ fn run_in<L: Planned + Send + Sync, G: Gate + Sync, R: Threads + Wait + Sync>(
         ledger: Mutex::new(ledger),
         arrived: Condvar::new(),
     };
-    let ended = run_all(rt, alloc, &cluster, watch, gate);
+    let made = run_all(rt, alloc, &cluster, watch, gate);
     let Cluster {
         agents,
         ledger,
@@ -125,11 +127,15 @@ fn run_in<L: Planned + Send + Sync, G: Gate + Sync, R: Threads + Wait + Sync>(
         names,
         histories,
     };
-    if ended {
-        outcome_of(alloc, parts)
-    } else {
-        abandon(parts);
-        Err(RunStop::NoMemory)
+    match made {
+        Some(audits) if audits == watch => {
+            let counted = outcome_of(alloc, parts)?;
+            Ok((counted, audits))
+        }
+        _ => {
+            abandon(parts);
+            Err(RunStop::NoMemory)
+        }
     }
 }
 

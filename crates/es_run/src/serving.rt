@@ -10,7 +10,7 @@ use es_ledger::LedgerCore;
 use es_value::NoMemory;
 use std::alloc::Global;
 use std::sync::Wait;
-use std::sync::atomic::{AtomicBool, Ordering};
+use std::sync::atomic::{AtomicBool, AtomicU32, Ordering};
 use std::thread;
 use std::thread::Threads;
 
@@ -111,8 +111,15 @@ impl<L: Planned> Cluster<L> {
         }
     }
 
-    /// The watcher's thread: so many audits, unless the run is stopped.
-    fn watch<R: Wait>(&self, rt: &R, alloc: Global, audits: u32, stopped: &AtomicBool) {
+    /// The watcher's thread: so many audits, unless the run is stopped. Each that was made is counted.
+    fn watch<R: Wait>(
+        &self,
+        rt: &R,
+        alloc: Global,
+        audits: u32,
+        made: &AtomicU32,
+        stopped: &AtomicBool,
+    ) {
         for _ in 0..audits {
             if stopped.load(Ordering::SeqCst) {
                 return;
@@ -121,6 +128,7 @@ impl<L: Planned> Cluster<L> {
                 self.stop(rt, stopped);
                 return;
             }
+            made.fetch_add(1, Ordering::SeqCst);
         }
     }
 }
@@ -165,16 +173,18 @@ fn wakes<L: Planned>(ledger: &LedgerCore<L>, before: usize) -> bool {
 }
 
 /// Runs each agent in a thread, the first in that of the caller and each other in one of its own, and a watcher that
-/// makes so many audits in one more, until all have ended. Whether none ran out of memory.
+/// makes so many audits in one more, until all have ended. How many audits were made; none where a thread ran out of
+/// memory or could not be made.
 pub(crate) fn run_all<L: Planned + Send + Sync, G: Gate + Sync, R: Threads + Wait + Sync>(
     rt: &R,
     alloc: Global,
     cluster: &Cluster<L>,
     audits: u32,
     gate: &G,
-) -> bool {
+) -> Option<u32> {
     let flag = AtomicBool::new(false);
-    let stopped = &flag;
+    let count = AtomicU32::new(0);
+    let (stopped, made) = (&flag, &count);
     thread::scope(thread::scope_env(), rt, |scope| {
         for agent in 1..cluster.agents.len() {
             if scope
@@ -185,7 +195,7 @@ pub(crate) fn run_all<L: Planned + Send + Sync, G: Gate + Sync, R: Threads + Wai
             }
         }
         if audits > 0 {
-            let watcher = move || cluster.watch(rt, alloc, audits, stopped);
+            let watcher = move || cluster.watch(rt, alloc, audits, made, stopped);
             if scope.spawn(watcher).is_err() {
                 cluster.stop(rt, stopped);
             }
@@ -195,5 +205,9 @@ pub(crate) fn run_all<L: Planned + Send + Sync, G: Gate + Sync, R: Threads + Wai
             cluster.serve(rt, 0, stopped, gate);
         }
     });
-    !flag.load(Ordering::SeqCst)
+    if flag.load(Ordering::SeqCst) {
+        None
+    } else {
+        Some(count.load(Ordering::SeqCst))
+    }
 }

@@ -1,9 +1,9 @@
--- Internal: WeakRefs with their targets, and KeptAlive (WeakRef Objects), as the table shows them to the agent.
+-- To believe: WeakRefs with their targets, and KeptAlive (WeakRef Objects), as contracts see them.
 use Rattle.std.specs.Prelude.{ℕ, ◌≡◌, ◌==◌, List, [], ◌∷◌, Option, Some, None, if◌then◌else◌}
 use Rattle.std.specs.Option.{option_and_then}
 use Rattle.es_value.specs.Ids.{is_in}
 
--- what the table holds, and for how many more WeakRefs and kept values it has room
+-- each WeakRef with its target, what KeptAlive has, the oldest first, and for how many more of each there is room
 pub record Contents : Type 0 where
   pub targets : List (ℕ × ℕ)
   pub kept : List ℕ

@@ -1,4 +1,4 @@
-//! Whole runs, with a gate and with a watcher.
+//! Whole runs, with gates and with a watcher.
 
 use es_event::{Event, Outcome};
 use es_report::write_lines;
@@ -97,5 +97,64 @@ fn a_watcher_makes_its_audits(rt: HostRuntime) -> Result<(), Fail> {
         text.as_slice(),
         b"emptied 1\n;say 7\nerror RangeError: index\n;".as_slice()
     );
+    Ok(())
+}
+
+/// Notes which command each of two agents came to last, and whether one came out of turn.
+#[derive(Drop)]
+struct Counting {
+    first: AtomicU64,
+    second: AtomicU64,
+    out_of_turn: AtomicBool,
+}
+
+impl Counting {
+    fn new() -> Counting {
+        Counting {
+            first: AtomicU64::new(0),
+            second: AtomicU64::new(0),
+            out_of_turn: AtomicBool::new(false),
+        }
+    }
+}
+
+impl Gate for Counting {
+    fn at(&self, agent: usize, command: u64) {
+        let last = match agent {
+            0 => &self.first,
+            _ => &self.second,
+        };
+        let before = last.load(Ordering::SeqCst);
+        if agent > 1 || command == 0 || command - 1 != before {
+            self.out_of_turn.store(true, Ordering::SeqCst);
+        }
+        last.store(command, Ordering::SeqCst);
+    }
+}
+
+// The first agent comes to six commands and two of its callback, to one that says and one that is refused, and to one
+// of the job that waited; the second to two, and then its job is skipped. What comes beside commands counts nowhere.
+static NUMBERED: &str = r#"{"version":1,"agents":[
+    {"name":"a","callbacks":{"cb":[["let","y",1],["say","held"]]},"jobs":[
+        {"run":[["registry","r","cb"],["new","x"],["let","h",5],["register","r","x","h"],["let","x",null],["collect"]]},
+        {"run":[["say","h"],["keys","h"],["say","h"]]},
+        {"on":["b","m"],"run":[["say","m"]]}]},
+    {"name":"b","callbacks":{},"jobs":[
+        {"run":[["let","x",7],["post","a","x"]]},
+        {"on":["a","m"],"run":[["say","m"]]}]}]}"#;
+
+#[test]
+fn commands_are_numbered_as_they_come(rt: HostRuntime) -> Result<(), Fail> {
+    let plan = read_plan(rt.alloc(), NUMBERED.as_bytes())?;
+    let counting = Counting::new();
+    let outcome = run_threads(&rt, rt.alloc(), plan, 1, &counting)?;
+    let text = lines(rt.alloc(), &outcome)?;
+    assert_eq!(rt;
+        text.as_slice(),
+        b"emptied 1\ncleanup 1 held 5\nsay 5\nsay 5\nerror TypeError: not an object\nsay 7\n;skipped 2\n;".as_slice()
+    );
+    assert!(rt; !counting.out_of_turn.load(Ordering::SeqCst));
+    assert_eq!(rt; counting.first.load(Ordering::SeqCst), 11);
+    assert_eq!(rt; counting.second.load(Ordering::SeqCst), 2);
     Ok(())
 }

@@ -1,7 +1,8 @@
 use Rattle.std.proofs.Common.{[], ◌∷◌, ◌++◌, ap, ◌∙◌, rules}
 use Rattle.std.specs.Option.{option_map_or}
 use Rattle.std.specs.HashMap.{get}
-use Rattle.es_registry.specs.Places.{listed, pair_eq}
+use Rattle.es_registry.specs.Places.{listed}
+use Rattle.es_registry.specs.Registries.{pair_eq}
 use Rattle.es_registry.proofs.Listed.{listed_after}
 use Rattle.es_registry.proofs.tokens.add.Goals as goal
 

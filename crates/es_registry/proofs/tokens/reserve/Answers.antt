@@ -2,7 +2,8 @@ use Rattle.std.proofs.Common.{[], ap, ◌∙◌, sym, rules}
 use Rattle.std.specs.Option.{option_map_or}
 use Rattle.std.specs.HashMap.{get}
 use Rattle.std.specs.Map.{lookup}
-use Rattle.es_registry.specs.Places.{listed, pair_eq}
+use Rattle.es_registry.specs.Places.{listed}
+use Rattle.es_registry.specs.Registries.{pair_eq}
 use Rattle.es_registry.proofs.Rooms.{either_way}
 use Rattle.es_registry.proofs.Listed.{listed_still}
 use Rattle.es_registry.proofs.tokens.reserve.Goals as goal

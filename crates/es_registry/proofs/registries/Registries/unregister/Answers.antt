@@ -11,7 +11,7 @@ invariant_of-self c =
     let t = c.args.token in
     let all_listed : (k : ℕ) → passes_at (has_token r t) c.self.inside.cells.all k ≡ true → is_in c.as_slice-places.result.now k ≡ true = λ k h. ap (λ ks. is_in ks k) (c.as_slice-places.ensures ∙ c.take-listed.ensures.places) ∙ c.self.invariant.by_token r t k h in
     rw (all_changed (unregistered_by r t) (has_token r t) (none_unregistered r t) c.self.inside.cells.all c.take_out.new.cells.all c.as_slice-places.result.now all_listed c.take_out.ensures.cells)
-    (unregistered_stays_indexed r t c.self.inside.cells.all c.self.inside.tokens c.take-listed.new.tokens c.self.inside.waiting c.take_out.new.waiting c.self.invariant c.take-listed.ensures.after c.take_out.ensures.waiting)
+    (unregistered_stays_indexed r t c.self.inside.cells.all c.self.inside.tokens c.take-listed.new.tokens c.self.inside.waiting c.take_out.new.waiting c.self.invariant c.take-listed.ensures.after c.as_slice-places.result.now all_listed c.take_out.ensures.waiting)
 
 pub returns-clause-found : goal.returns-clause-found
 returns-clause-found c =
