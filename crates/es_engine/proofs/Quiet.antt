@@ -32,7 +32,8 @@ use Rattle.es_event.proofs.Alone.{left_alone, due_no_message}
 use Rattle.es_event.proofs.Coming.{Comes, begins_job, begins_handed, receives, skips, refuses_message, begins_cleanup, does, refuses, empties_dead, takes, ends, stops, closes, comes}
 use Rattle.es_match.specs.Deeds.{Deed, Opens, Posts, Passes, Ends, is_wait, deed, part_of, part}
 use Rattle.es_match.specs.Asks.{Asking, nothing, to_empty, to_close, between_jobs, asks, asks_did}
-use Rattle.es_match.specs.Meets.{Tickets, after}
+use Rattle.es_match.proofs.Bridge.{mapped}
+use Rattle.es_match.specs.Meets.{Came, Tickets, after}
 use Rattle.es_match.specs.Cluster.{Ties}
 use Rattle.es_match.proofs.Bridge.{both}
 use Rattle.es_outcome.proofs.Closing.{is_end}
@@ -102,15 +103,16 @@ calm_asks over plan h at _ alone follows here (stops s) = refl
 calm_asks over plan h at _ alone follows here (closes b none) = refl
 
 -- an agent that stays alone does nothing in the ledger but end, and has no ticket
-pub alone_deeds : (over : Buffers) (plan : AgentPlan) (h : History) (ds : List Deed) (t : Tickets)
-    → stays_alone plan ≡ true → LegalBy over (receivers plan.jobs) h → Follows over plan h → Ties h ds t
-    → (list_all is_end ds ≡ true) × (t ≡ [])
-alone_deeds over plan [] ds t alone legal follows ties = (ap (list_all is_end) ties.0, ties.1)
-alone_deeds over plan (e ∷ h) ds t alone legal follows (before, now, u, split, ties, met) =
-    let ih = alone_deeds over plan h before u alone legal.1 follows.1 ties in
+pub alone_deeds : (over : Buffers) (plan : AgentPlan) (h : History) (ds : List Deed) (c : Came)
+    → stays_alone plan ≡ true → LegalBy over (receivers plan.jobs) h → Follows over plan h → Ties h ds c
+    → (list_all is_end ds ≡ true) × (c.tickets ≡ [])
+alone_deeds over plan [] ds c alone legal follows ties = (ap (list_all is_end) ties.0, ap (λ c. c.tickets) ties.1)
+alone_deeds over plan (e ∷ h) ds c alone legal follows (before, now, d, split, ties, met) =
+    let ih = alone_deeds over plan h before d alone legal.1 follows.1 ties in
     let calm = calm_asks over plan h (phase h) e alone follows.1 refl (comes over plan h e follows.0) in
-    let more = calm_after (asks (between_jobs h) e) now t calm (ap (λ u. after u (asks (between_jobs h) e) now) (sym ih.1) ∙ met) in
-    (ap (list_all is_end) split ∙ list_all-append is_end before now ∙ ap (λ b. b && list_all is_end now) ih.0 ∙ more.0, more.1)
+    let m = mapped _ (after d.tickets (asks (between_jobs h) e) now) c met in
+    let more = calm_after (asks (between_jobs h) e) now m.0 calm (ap (λ u. after u (asks (between_jobs h) e) now) (sym ih.1) ∙ m.1) in
+    (ap (list_all is_end) split ∙ list_all-append is_end before now ∙ ap (λ b. b && list_all is_end now) ih.0 ∙ more.0, ap (λ c. c.tickets) (sym m.2) ∙ more.1)
 
 -- A ledger without deeds
 

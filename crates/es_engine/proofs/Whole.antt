@@ -8,15 +8,16 @@ use Rattle.es_event.specs.declared.outcome.Outcome.{Outcome}
 use Rattle.es_event.specs.declared.plan.Plan.{Plan}
 use Rattle.es_event.specs.Ledger.{Ledger, count, opened, is_opened, is_released}
 use Rattle.es_event.specs.LegalLedger.{LegalLedger}
-use Rattle.es_event.specs.Runs.{AreWholeRuns}
 use Rattle.es_event.specs.Totals.{released}
 use Rattle.es_cluster.proofs.Beginning.{first_plans}
 use Rattle.es_cluster.specs.Ends.{EndsIn}
-use Rattle.es_cluster.specs.State.{Cluster, first_state, names_of, plans}
+use Rattle.es_cluster.specs.State.{Cluster, accounts, first_state, names_of, plans}
 use Rattle.es_record.specs.Book.{Book}
 use Rattle.es_registry.specs.declared.slot.Tally.{Tally}
 use Rattle.es_report.specs.Tallies.{end_tally, AreTallies}
+use Rattle.es_outcome.proofs.Ended.{told_plans}
 use Rattle.es_outcome.proofs.Tallied.{of_books, of_events}
+use Rattle.es_outcome.proofs.Telling.{told_histories}
 use Rattle.es_outcome.specs.Outcomes.{IsClusterOutcome}
 
 -- Plans
@@ -31,9 +32,12 @@ plans_length (b ∷ bs) = ap suc (plans_length bs)
 
 pub outcome_of : (plan : Plan) (c : Cluster) (o : Outcome) → plans c.agents ≡ plan.agents → length c.agents ≡ c.ledger.agents → EndsIn c o → IsClusterOutcome plan o
 outcome_of plan c o same number end = record {
-  outcome = record {
-    names = end.names ∙ names_by_plans c.agents ∙ ap (λ ps. map (λ p. p.name) ps) same;
-    runs = subst (λ ps. AreWholeRuns ps o.histories) same end.agents.runs;
+  names = end.names ∙ names_by_plans c.agents ∙ ap (λ ps. map (λ p. p.name) ps) same;
+  agents = accounts c.agents;
+  runs = record {
+    plans_are = told_plans c.agents ∙ same;
+    histories_are = told_histories c.agents ∙ sym end.agents.are;
+    whole = end.agents.runs;
   };
   legal = subst (λ n. LegalLedger n (reverse o.ledger)) (sym number ∙ sym (plans_length c.agents) ∙ ap length same) end.legal;
   cluster = end.cluster;

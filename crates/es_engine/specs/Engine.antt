@@ -6,6 +6,9 @@ use Rattle.es_event.specs.declared.outcome.Outcome.{Outcome}
 use Rattle.es_event.specs.declared.plan.Plan.{Plan}
 use Rattle.es_event.specs.Report.{report}
 use Rattle.es_options.specs.declared.options.Options.{Options}
+use Rattle.es_cluster.specs.Ends.{EndsIn}
+use Rattle.es_cluster.specs.Moves.{RunsToEnd}
+use Rattle.es_cluster.specs.State.{Cluster, first_state}
 use Rattle.es_outcome.specs.Outcomes.{IsClusterOutcome}
 use Rattle.es_engine.specs.declared.run_fault.RunFault.{RunFault}
 use Rattle.es_engine.specs.declared.run_fault.RunFault.TheVariants.{Script, NoMemory, Mismatch, Read, Write}
@@ -33,14 +36,24 @@ IsAnswerFault threads Mismatch = threads ≡ true
 IsAnswerFault threads Read = ⊥
 IsAnswerFault threads Write = ⊤
 
--- `ok` where the plan is only checked, and else the report of an outcome of its cluster
-abbrev pub IsAnswer : Bool → Plan → List ℕ → Type 0
-IsAnswer true p text = text ≡ codes "ok\n"
-IsAnswer false p text = (o : Outcome) × IsClusterOutcome p o × (text ≡ report o)
+-- the outcome is that of the plan's run by turns: from its first state by moves, each of the lowest-numbered agent that can move, to
+-- the end of all agents
+abbrev pub IsByTurns : Plan → Outcome → Type 0
+IsByTurns p o = (c : Cluster) × RunsToEnd (first_state p) c × EndsIn c o
+
+-- how the agents ran: by turns, or in any order
+abbrev pub RanBy : (turns : Bool) → Plan → Outcome → Type 0
+RanBy true p o = IsByTurns p o
+RanBy false p o = ⊤
+
+-- `ok` where the plan is only checked, and else the report of an outcome of its cluster, by turns where that was asked for
+abbrev pub IsAnswer : (check turns : Bool) → Plan → List ℕ → Type 0
+IsAnswer true turns p text = text ≡ codes "ok\n"
+IsAnswer false turns p text = (o : Outcome) × IsClusterOutcome p o × RanBy turns p o × (text ≡ report o)
 
 -- the answer for the plan is added to what the writer holds
-abbrev pub Answers : Bool → Plan → Option (List ℕ) → Option (List ℕ) → Type 0
-Answers check p old new = (text : List ℕ) × IsAnswer check p text × Appends old new text
+abbrev pub Answers : Options → Plan → Option (List ℕ) → Option (List ℕ) → Type 0
+Answers options p old new = (text : List ℕ) × IsAnswer options.check options.turns p text × Appends old new text
 
 -- the plan that the reader's bytes stand for
 pub record GavePlan (old new : Option (List ℕ)) (p : Plan) : Type 0 where
@@ -70,7 +83,7 @@ audits_of o = if runs_threads o then o.watch else 0
 -- gave; for want of memory; by a failure of the reader; once a plan was read, by one of the writer, or in threads by histories that do
 -- not match
 abbrev pub RunsTo : Options → Option (List ℕ) → Option (List ℕ) → Option (List ℕ) → Option (List ℕ) → Result ℕ RunFault → Type 0
-RunsTo options before after old new (Ok audits) = (p : Plan) × GavePlan before after p × Answers options.check p old new × (audits ≡ audits_of options)
+RunsTo options before after old new (Ok audits) = (p : Plan) × GavePlan before after p × Answers options p old new × (audits ≡ audits_of options)
 RunsTo options before after old new (Err (Script f)) = (bytes : List ℕ) × GaveAll before after bytes × (fault_of bytes ≡ Some f)
 RunsTo options before after old new (Err NoMemory) = ⊤
 RunsTo options before after old new (Err Mismatch) = (runs_threads options ≡ true) × GaveSomePlan before after

@@ -9,6 +9,7 @@ use Rattle.es_engine.specs.Engine.{IsAnswer}
 abbrev pub stay_alone : Plan → Bool
 stay_alone p = list_all stays_alone p.agents
 
--- A plan whose agents stay alone has one answer: what a run writes is the report of the plan.
+-- A plan whose agents stay alone has one answer, by turns or not: what a run writes is the report of the plan.
 abbrev pub APlanHasOneAnswer : Type 0
-APlanHasOneAnswer = (check : Bool) (plan : Plan) (s t : List ℕ) → stay_alone plan ≡ true → IsAnswer check plan s → IsAnswer check plan t → s ≡ t
+APlanHasOneAnswer =
+    (check a b : Bool) (plan : Plan) (s t : List ℕ) → stay_alone plan ≡ true → IsAnswer check a plan s → IsAnswer check b plan t → s ≡ t

@@ -1,9 +1,9 @@
 //! The cluster of a plan, run to its end.
 
 ghost use Rattle.std.specs.Prelude.{◌≡◌, ◌<◌, ℕ, false, true, not, length, map, reverse, IfOk, IfErr, OnOk, if◌then◌else◌};
-ghost use Rattle.es_cluster.specs.Moves.{all_over, cleans_quietly};
+ghost use Rattle.es_cluster.specs.Moves.{RunsToEnd, all_over, cleans_quietly};
 ghost use Rattle.es_cluster.specs.State.{plans};
-ghost use Rattle.es_engine.specs.Engine.{IsAnswerFault};
+ghost use Rattle.es_engine.specs.Engine.{IsAnswerFault, IsByTurns, RanBy};
 ghost use Rattle.es_event.specs.Ledger.{count};
 ghost use Rattle.es_event.specs.Others.{all_name_others};
 ghost use Rattle.es_event.specs.Totals.{released as released_said};
@@ -46,6 +46,7 @@ pub(crate) fn run_plan<H: Threads + Wait + Sync>(
     requires others { all_name_others plan ≡ true }
     requires quiet { no_callback_collects plan ≡ true }
     ensures outcome { IfOk result (λ r. IsClusterOutcome plan r.outcome) }
+    ensures way { IfOk result (λ r. RanBy options.turns plan r.outcome) }
     ensures tallies { IfOk result (λ r. AreTallies r.outcome.histories r.tallies.items) }
     ensures released { IfOk result (λ r. r.released ≡ released_said (reverse r.outcome.ledger)) }
     ensures audits { IfOk result (λ r. r.audits ≡ (if options.turns then 0 else options.watch)) }
@@ -83,6 +84,7 @@ fn run_by_turns(alloc: Global, plan: Plan) -> Result<Counted, NoMemory>
     requires others { all_name_others plan ≡ true }
     requires quiet { no_callback_collects plan ≡ true }
     ensures outcome { IfOk result (λ r. IsClusterOutcome plan r.outcome) }
+    ensures turns { IfOk result (λ r. IsByTurns plan r.outcome) }
     ensures tallies { IfOk result (λ r. AreTallies r.outcome.histories r.tallies.items) }
 {
     let opened = Opened::new(alloc)?;
@@ -96,6 +98,7 @@ fn run_cluster<L: Planned>(alloc: Global, opened: Opened, plan: Plan) -> Result<
     requires others { all_name_others plan ≡ true }
     requires quiet { no_callback_collects plan ≡ true }
     ensures outcome { IfOk result (λ r. IsClusterOutcome plan r.outcome) }
+    ensures turns { IfOk result (λ r. IsByTurns plan r.outcome) }
     ensures tallies { IfOk result (λ r. AreTallies r.outcome.histories r.tallies.items) }
 {
     let mut cluster = ClusterCore::<L>::new(alloc, opened, plan)?;
@@ -120,6 +123,7 @@ fn run_to_end<L: Planned>(
 ) -> Result<Vec<Tally>, NoMemory>
     requires { cleans_quietly cluster.old ≡ true }
     ensures over { OnOk result ((all_over cluster.new ≡ true) × (cluster.new.failed ≡ false)) }
+    ensures runs { OnOk result (RunsToEnd cluster.old cluster.new) }
     ensures plans { plans cluster.new.agents ≡ plans cluster.old.agents }
     ensures number { OnOk result (length cluster.new.agents ≡ cluster.new.ledger.agents) }
     ensures tallies { IfOk result (λ ts. ts.items ≡ map (λ b. end_tally b.history) cluster.new.agents) }

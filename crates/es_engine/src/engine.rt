@@ -58,7 +58,7 @@ fn answer<H: AllocGlobal + Threads + Wait + Sync, W: Write>(
     requires few { length plan.agents < 9 }
     requires others { all_name_others plan ≡ true }
     requires collects { no_callback_collects plan ≡ true }
-    ensures answers { OnOk result (Answers options.check plan (W.contents writer.old) (W.contents writer.new)) }
+    ensures answers { OnOk result (Answers options plan (W.contents writer.old) (W.contents writer.new)) }
     ensures audits { IfOk result (λ n. n ≡ audits_of options) }
     ensures fault { IfErr result (IsAnswerFault (runs_threads options)) }
     ensures unwritten { IfErr result (λ e. e ≢ RunFault.Write → writer.new ≡ writer.old) }

@@ -4,6 +4,7 @@ pub mod Counting
 pub mod Deciding
 pub mod ExampleCluster
 mod ExampleNeighbours
+mod ExampleReceipt
 pub mod Examples
 pub mod Lists
 pub mod Noted

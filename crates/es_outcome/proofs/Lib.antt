@@ -3,3 +3,4 @@ pub mod Placed
 pub mod Closing
 pub mod Ended
 pub mod Telling
+mod ExampleOutcome

@@ -1,3 +1,5 @@
+use Rattle.std.proofs.Common.{subst}
+use Rattle.es_cluster.specs.Moves.{RunsToEnd}
 use Rattle.es_cluster.proofs.Beginning.{starts_quiet}
 use Rattle.es_engine.proofs.Whole.{outcome_of, plans_are, tallies_of_outcome}
 use Rattle.es_engine.proofs.cluster.run_cluster.Goals as goal
@@ -11,3 +13,6 @@ returns-in-Some-clause-outcome g c =
 
 pub returns-in-Some-clause-tallies : goal.returns-in-Some-clause-tallies
 returns-in-Some-clause-tallies g c = tallies_of_outcome c.run_to_end.new.cluster c.in-Some.outcome c.in-Ok.tallies.items c.in-Some.ensures.outcome c.in-Ok.ensures.tallies
+
+pub returns-in-Some-clause-turns : goal.returns-in-Some-clause-turns
+returns-in-Some-clause-turns g c = (c.run_to_end.new.cluster, subst (λ d. RunsToEnd d c.run_to_end.new.cluster) c.in_ok-cluster.ensures c.in-Ok.ensures.runs, c.in-Some.ensures.outcome)

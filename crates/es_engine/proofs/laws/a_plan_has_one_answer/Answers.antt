@@ -3,5 +3,5 @@ use Rattle.es_engine.proofs.Alone.{one_report}
 use Rattle.es_engine.proofs.laws.a_plan_has_one_answer.Goals as goal
 
 pub returns : goal.returns
-returns c true plan s t alone a b = a ∙ sym b
-returns c false plan s t alone a b = a.2 ∙ one_report plan a.0 b.0 alone a.1 b.1 ∙ sym b.2
+returns c true a b plan s t alone first second = first ∙ sym second
+returns c false a b plan s t alone first second = first.3 ∙ one_report plan first.0 second.0 alone first.1 second.1 ∙ sym second.3
