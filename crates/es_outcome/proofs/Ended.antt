@@ -76,7 +76,7 @@ whole_runs (a ∷ all) [] same whole = cc
 whole_runs (a ∷ all) (h ∷ hs) same whole =
     let first : a.history ≡ reverse h = cc in
     let rest : map (λ a. a.history) all ≡ map (λ h. reverse h) hs = cc in
-    (subst (IsWholeRun a.plan) first (a.over, whole.0), whole_runs all hs rest whole.1)
+    (subst (IsWholeRun a.plan) first (a.over, whole.0.0, whole.0.1), whole_runs all hs rest whole.1)
 
 -- the names of the plan, and whole runs of its agents
 pub outcome_in : (p : Plan) (o : Outcome) → IsClusterOutcome p o → IsOutcome p o
