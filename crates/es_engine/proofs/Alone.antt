@@ -27,7 +27,7 @@ only_ends (x ∷ all) alone runs (suc a) ds c ties = only_ends all (and_parts (s
 quiet : (plan : Plan) (o : Outcome) → stay_alone plan ≡ true → IsClusterOutcome plan o → cluster_text (reverse o.ledger) ≡ cluster_text []
 quiet plan o alone is =
     quiet_ledger _ (reverse o.ledger) is.legal (λ a.
-        only_ends is.agents (subst (λ ps. list_all stays_alone ps ≡ true) (sym is.runs.plans_are) alone) is.runs.whole a (part (reverse o.ledger) a) (is.cluster.parts a).0 (is.cluster.parts a).1)
+    only_ends is.agents (subst (λ ps. list_all stays_alone ps ≡ true) (sym is.runs.plans_are) alone) is.runs.whole a (part (reverse o.ledger) a) (is.cluster.parts a).0 (is.cluster.parts a).1)
 
 pub one_report : (plan : Plan) (o p : Outcome) → stay_alone plan ≡ true → IsClusterOutcome plan o → IsClusterOutcome plan p → report o ≡ report p
 one_report plan o p alone a b =

@@ -168,8 +168,8 @@ goes-tie h p c ties (e ∷ es) rest d go =
     let s = chained _ (came_after c (asks (between_jobs h) e) (take k rest)) d go in
     let further = goes-tie (e ∷ h) (p ++ take k rest) s.0 (p, take k rest, c, refl, ties, s.1) es (drop k rest) d s.2 in
     subst (λ (l : List Event). Ties l (p ++ rest) d) (sym (reverse_cons e es h))
-        (subst (λ (l : List Deed). Ties (reverse es ++ e ∷ h) l d) (append_assoc p (take k rest) (drop k rest)
-        ∙ ap (λ l. p ++ l) (take-append-drop k rest)) further)
+    (subst (λ (l : List Deed). Ties (reverse es ++ e ∷ h) l d) (append_assoc p (take k rest) (drop k rest)
+    ∙ ap (λ l. p ++ l) (take-append-drop k rest)) further)
 
 -- Both
 

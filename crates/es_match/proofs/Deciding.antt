@@ -110,7 +110,7 @@ ties_at hs l ps cs s size go a =
     (sym (reverse-reverse (slice_index_or hs a []))) (all hs l ps cs s size go a) in
     let tied = goes_means_ties (reverse (slice_index_or hs a [])) (part_at ps a) (slice_index_or cs a nothing_came) here in
     subst (λ (h : History). Ties h (part l a) (slice_index_or cs a nothing_came)) (sym (history_said hs a))
-        (subst (λ (p : List DeedSaid). Ties (reverse (slice_index_or hs a [])) p (slice_index_or cs a nothing_came)) (s.parts a) tied)
+    (subst (λ (p : List DeedSaid). Ties (reverse (slice_index_or hs a [])) p (slice_index_or cs a nothing_came)) (s.parts a) tied)
 
 pub makes_cluster : (hs : List (List Event)) (l : Ledger) (ps : List (List Deed)) (cs : List Came) → IsSplit (length hs) l ps → length cs ≡ length hs → AllGo hs ps cs
     → HaveCome (map reverse hs) l cs

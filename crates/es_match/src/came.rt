@@ -77,11 +77,7 @@ impl Came {
 }
 
 /// Adds the ticket that comes with the deeds, if one does.
-fn add_ticket(
-    ever: &mut Vec<(Id, Row)>,
-    want: Want<'_>,
-    deeds: &[Deed<'_>],
-) -> Result<(), NoMemory>
+fn add_ticket(ever: &mut Vec<(Id, Row)>, want: Want<'_>, deeds: &[Deed<'_>]) -> Result<(), NoMemory>
     ensures { OnOk result (ever.new.items ≡ ever.old.items ++ ticket_in (asking want.entry) (all_shown deeds.now)) }
 {
     if let Some(ticket) = ticket_in(want, deeds) {
@@ -91,11 +87,7 @@ fn add_ticket(
 }
 
 /// Adds the sender of the message that found no room, if one did not.
-fn add_refused(
-    refused: &mut Vec<usize>,
-    want: Want<'_>,
-    deeds: &[Deed<'_>],
-) -> Result<(), NoMemory>
+fn add_refused(refused: &mut Vec<usize>, want: Want<'_>, deeds: &[Deed<'_>]) -> Result<(), NoMemory>
     ensures { OnOk result (refused.new.items ≡ refused.old.items ++ refused_in (asking want.entry) (all_shown deeds.now)) }
 {
     if let Some(sender) = refused_in(want, deeds) {
@@ -162,14 +154,16 @@ fn refused_in(want: Want<'_>, deeds: &[Deed<'_>]) -> Option<usize>
 {
     match want {
         Want::Refusal => match two(deeds) {
-            Some((
-                Deed::Take {
-                    sender,
-                    message: _,
-                    words: _,
-                },
-                _,
-            )) => Some(sender),
+            Some(
+                (
+                    Deed::Take {
+                        sender,
+                        message: _,
+                        words: _,
+                    },
+                    _,
+                ),
+            ) => Some(sender),
             _ => None,
         },
         _ => None,

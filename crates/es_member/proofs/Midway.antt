@@ -134,9 +134,9 @@ tells old new row l ds e mid records met came named free =
     let ever : reverse new.over ≡ reverse old.over ++ ticket_in q ds = ap (λ b. reverse b.over) records ∙ came in
     let senders : refused_senders new.plan new.history ≡ refused_senders old.plan old.history ++ refused_in q ds = ap (λ b. refused_senders b.plan b.history) records ∙ senders_more old.plan old.history e ds named in
     let brought : came_after (came_to old) q ds ≡ Some (came_to new) =
-        ap (option_map (λ t. record { tickets = t; ever = reverse old.over ++ ticket_in q ds; refused = refused_senders old.plan old.history ++ refused_in q ds })) met
-        ∙ ap (λ v. Some (record { tickets = tickets new; ever = v; refused = refused_senders old.plan old.history ++ refused_in q ds })) (sym ever)
-        ∙ ap (λ r. Some (record { tickets = tickets new; ever = reverse new.over; refused = r })) (sym senders)
+    ap (option_map (λ t. record { tickets = t; ever = reverse old.over ++ ticket_in q ds; refused = refused_senders old.plan old.history ++ refused_in q ds })) met
+    ∙ ap (λ v. Some (record { tickets = tickets new; ever = v; refused = refused_senders old.plan old.history ++ refused_in q ds })) (sym ever)
+    ∙ ap (λ r. Some (record { tickets = tickets new; ever = reverse new.over; refused = r })) (sym senders)
     in
     record {
       tied = record {

@@ -230,14 +230,14 @@ admitted_comes : (old : Book) (r : Row) (d : Deed) (e : Event) (due' : Due) → 
     → Comes old r (asks (between_jobs old.history) e) d
 admitted_comes old r d e (receive n s) fetches is brings =
     subst (λ e. Comes old r (asks (between_jobs old.history) e) d) (sym brings)
-        (subst (Comes old r (to_receive s (Object (made old.history + 1)))) (sym fetches) (comes_in_message old r s))
+    (subst (Comes old r (to_receive s (Object (made old.history + 1)))) (sym fetches) (comes_in_message old r s))
 admitted_comes old r d e (run c) fetches is brings = command (need_of old (run c)) refl fetches
   where
     command : (q : Need) → need_of old (run c) ≡ q → Fetches q r d → Comes old r (asks (between_jobs old.history) e) d
     command (asks_ledger (for_block n)) asked fetches =
         subst (λ e. Comes old r (asks (between_jobs old.history) e) d) (sym brings)
-            (subst (λ q. Comes old r q d) (sym (open_asks old c n (Object (made old.history + 1)) (due_command old c (for_block n) is (ap (need_of old) is ∙ asked)) []))
-                (subst (Comes old r (to_open n (Object (made old.history + 1)))) (sym fetches.1) (comes_anew old r n fetches.0)))
+        (subst (λ q. Comes old r q d) (sym (open_asks old c n (Object (made old.history + 1)) (due_command old c (for_block n) is (ap (need_of old) is ∙ asked)) []))
+        (subst (Comes old r (to_open n (Object (made old.history + 1)))) (sym fetches.1) (comes_anew old r n fetches.0)))
     command (asks_message s) asked fetches = absurd (no_message (collects c) (request old c) asked)
       where
         no_message : (b : Bool) (q : Option Request) → cond b asks_marks (ledger_or_nobody q) ≡ asks_message s → ⊥

@@ -102,7 +102,7 @@ as_told bs l cluster = record {
     at : (a : ℕ) → a < length bs → (o : Option Book) → slice_get bs a ≡ o → Ties (history_of (map (λ b. b.history) bs) a) (part l a) (slice_index_or (gathered bs f) a nothing_came)
     at a few (Some b) is =
         subst (Ties (history_of (map (λ b. b.history) bs) a) (part l a)) (sym (gathered_at bs f a few))
-            (subst (λ h. Ties h (part l a) (f a)) (sym (history_at bs a b is)) (subst (λ x. Ties x.history (part l a) (f a)) (account_at bs a b is) (cluster.parts a).1))
+        (subst (λ h. Ties h (part l a) (f a)) (sym (history_at bs a b is)) (subst (λ x. Ties x.history (part l a) (f a)) (account_at bs a b is) (cluster.parts a).1))
     at a few None is = absurd (let past = (nobody_at bs a is).1 in omega (arith, few, past))
 
 -- What came is one
@@ -113,8 +113,8 @@ ties_one h ds c d first second = let both : Some c ≡ Some d = sym (ties_mean_g
 pub came_alike : (hs : List History) (l : Ledger) (cs ds : List Came) → HaveCome hs l cs → HaveCome hs l ds → cs ≡ ds
 came_alike hs l cs ds first second =
     ext_get_or nothing_came cs ds (first.size ∙ sym second.size) (λ a few. (let size = first.size in
-        let near : a < length hs = omega (arith, few, size) in
-        ties_one (history_of hs a) (part l a) _ _ (first.each a near) (second.each a near)))
+    let near : a < length hs = omega (arith, few, size) in
+    ties_one (history_of hs a) (part l a) _ _ (first.each a near) (second.each a near)))
 
 pub told_one : (hs : List History) (l : Ledger) (cs : List Came) (all : List Told) → HaveCome hs l cs → IsTold hs l all → map told_of cs ≡ all
 told_one hs l cs all have told = ap (map told_of) (came_alike hs l cs told.came have told.have) ∙ told.said

@@ -37,7 +37,7 @@ pub returns-else-branch-clause-mismatch : goal.returns-else-branch-clause-mismat
 returns-else-branch-clause-mismatch g c = λ is placed size cluster.
     let all = c.deref.ensures.value ∙ c.in-Ok-all_said.ensures ∙ ap (λ ms. map said_by (books ms)) c.as_slice-3.ensures.value in
     let never : IsTold (map (λ h. reverse h) c.finish-outcome.result.histories) (reverse c.finish-outcome.result.ledger) (map said_by (books c.args.parts.members.items)) → ⊥ =
-        λ told. (let clash : false ≡ true = sym c.if-branch.false ∙ c.in_ok-is_told.ensures.1 (subst (IsTold (map (λ h. reverse h) c.finish-outcome.result.histories) (reverse c.finish-outcome.result.ledger)) (sym all) told) in cc)
+    λ told. (let clash : false ≡ true = sym c.if-branch.false ∙ c.in_ok-is_told.ensures.1 (subst (IsTold (map (λ h. reverse h) c.finish-outcome.result.histories) (reverse c.finish-outcome.result.ledger)) (sym all) told) in cc)
     in
     not_told (books c.args.parts.members.items) c.args.parts.ledger
     (record { names = c.finish-outcome.result.names; histories = c.finish-outcome.result.histories; ledger = c.finish-outcome.result.ledger })
