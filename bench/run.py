@@ -150,7 +150,7 @@ def main():
         none = " or ".join(FEW_JOBS)
         words.error(f"--growth takes names of plans, without numbers, and not {none}, which would have too many jobs")
     if not os.path.isfile(PROGRAM):
-        sys.exit("the program is not built: run ./clusterrun first")
+        sys.exit("the program is not built: run ./clusterrun prove first")
     if not os.path.isfile("/usr/bin/time"):
         sys.exit("/usr/bin/time is missing: install GNU time")
     measured = tools(given.threads)

@@ -1,5 +1,5 @@
 -- What comes of a cluster whose agents have all ended.
-use Rattle.std.proofs.Common.{◌≡◌, ℕ, zero, suc, ◌<◌, true, sym, ◌∙◌, ap, subst, arith, List, [], ◌∷◌, refl, map, reverse, length, Some}
+use Rattle.std.proofs.Common.{◌≡◌, ℕ, zero, suc, ◌<◌, true, sym, ◌∙◌, ap, subst, arith, List, [], ◌∷◌, refl, reverse, length, Some}
 use Rattle.std.specs.Prelude.{slice_get}
 use Rattle.es_event.specs.declared.outcome.Outcome.{Outcome}
 use Rattle.es_event.specs.Ledger.{count, port_of, table}

@@ -1,7 +1,7 @@
 -- Turns of which one ends for want of memory.
 use Rattle.std.proofs.Common.{◌≡◌, ℕ, true, false, List, [], ◌∷◌, sym, ◌∙◌, ap, refl}
 use Rattle.es_cluster.specs.State.{Cluster}
-use Rattle.es_cluster.specs.Turns.{AllTurned, Stopped, StoppedIn, before, within, Turned}
+use Rattle.es_cluster.specs.Turns.{Stopped, StoppedIn, before, within, Turned}
 use Rattle.es_member.specs.declared.member.Progress.{Progress}
 
 -- after one more turn before them

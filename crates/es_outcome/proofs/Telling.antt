@@ -1,17 +1,17 @@
 -- What came to each agent is what it says, both ways.
-use Rattle.std.proofs.Common.{◌≡◌, ℕ, zero, suc, ◌+◌, ◌<◌, ◌≤◌, List, [], ◌∷◌, map, take, length, Option, Some, None, refl, sym, ap, ◌∙◌, subst, arith}
+use Rattle.std.proofs.Common.{◌≡◌, ℕ, zero, suc, ◌+◌, ◌<◌, List, [], ◌∷◌, map, take, length, Option, Some, None, refl, sym, ap, ◌∙◌, subst, arith}
 use Rattle.std.specs.Prelude.{slice_get, slice_index_or}
 use Rattle.std.proofs.lemmas.List.{ext_get_or, length-map}
 use Rattle.es_event.specs.History.{History}
 use Rattle.es_event.specs.Ledger.{Ledger}
 use Rattle.es_match.proofs.Accounts.{as_cluster}
 use Rattle.es_match.proofs.Bridge.{ties_mean_goes}
-use Rattle.es_match.specs.Cluster.{Account, HaveCome, IsCluster, IsClusterOf, IsSaid, Ties, account_of, history_of, nobody}
+use Rattle.es_match.specs.Cluster.{Account, HaveCome, IsCluster, IsClusterOf, IsSaid, Ties, account_of, history_of}
 use Rattle.es_match.specs.Deeds.{Deed, part}
 use Rattle.es_match.specs.Meets.{Came, nothing_came}
 use Rattle.es_record.specs.Book.{Book}
 use Rattle.es_cluster.proofs.Standing.{account_at, nobody_at, within}
-use Rattle.es_cluster.specs.State.{account, accounts}
+use Rattle.es_cluster.specs.State.{accounts}
 use Rattle.es_outcome.proofs.Closing.{history_at}
 use Rattle.es_outcome.specs.Said.{IsTold, Told, said_by, told_of}
 

@@ -1,4 +1,4 @@
-use Rattle.std.proofs.Common.{◌≡◌, ◌<◌, arith, ap, sym, ◌∙◌, length}
+use Rattle.std.proofs.Common.{arith, ap, sym, ◌∙◌}
 use Rattle.es_outcome.specs.Said.{told_of}
 use Rattle.es_outcome.proofs.Telling.{same_more}
 use Rattle.es_outcome.proofs.said.are_said.Goals as goal

@@ -1,7 +1,6 @@
-use Rattle.std.proofs.Common.{◌≡◌, subst, ℕ, suc, ◌+◌, ◌<◌, ◌≤◌, arith, ◌∷◌, ◌∙◌, drop, get_or, length, Result, Ok, Err}
+use Rattle.std.proofs.Common.{◌≡◌, subst, suc, ◌+◌, arith, ◌∙◌, drop, get_or, Result, Ok, Err}
 use Rattle.std.specs.Prelude.{OnErr}
 use Rattle.std.proofs.Math.Seq.{drop-cons}
-use Rattle.es_cluster.specs.State.{Cluster}
 use Rattle.es_cluster.specs.Turns.{AllTurned, StoppedIn}
 use Rattle.es_cluster.proofs.Stopping.{at_once, later}
 use Rattle.es_cluster.proofs.cluster.ClusterCore.run.Goals as goal

@@ -1,5 +1,5 @@
 use Rattle.std.proofs.Common.{◌≡◌, refl, ap, subst, sym, ◌∙◌}
-use Rattle.std.specs.Prelude.{IfOk, OnOk}
+use Rattle.std.specs.Prelude.{IfOk}
 use Rattle.es_event.specs.Ledger.{Ledger, ended}
 use Rattle.es_event.specs.LegalLedger.{has_message}
 use Rattle.es_ledger.specs.Turns.{told}
