@@ -3,7 +3,7 @@ use Rattle.std.proofs.Common.{◌≡◌, ℕ, zero, suc, ◌<◌, ◌≤◌, ◌
 use Rattle.std.specs.Prelude.{slice_get, slice_set, slice_index_or}
 use Rattle.std.proofs.lemmas.Bool.{cases_Bool, eqb-true, eqb-false}
 use Rattle.es_event.specs.Others.{names_others}
-use Rattle.es_event.specs.Ledger.{Ledger, waits}
+use Rattle.es_event.specs.Ledger.{Ledger}
 use Rattle.es_ledger.specs.Books.{Books}
 use Rattle.es_match.specs.Cluster.{Account, IsClusterOf, IsSaid, Ties, account_of, nobody}
 use Rattle.es_match.specs.Deeds.{part}
@@ -162,11 +162,6 @@ pub tied_of : (p : Progress) (b : Book) (l : Ledger) → IsTiedAfter p b l → I
 tied_of Moved b l settled = settled.tied
 tied_of Waiting b l tied = tied
 tied_of Ended b l tied = tied
-
-pub free_of : (p : Progress) (b : Book) (l : Ledger) (n : ℕ) → b.number ≡ n → IsTiedAfter p b l → p ≡ Moved → waits l n ≡ None
-free_of Moved b l n number settled is = ap (waits l) (sym number) ∙ settled.free
-free_of Waiting b l n number tied is = cc
-free_of Ended b l n number tied is = cc
 
 -- the agent that took it has its place still
 pub placed_here : (old new : Book) (l m : Books) (n : ℕ) → IsPlaced l n old → new.number ≡ old.number → new.plan ≡ old.plan → IsSeated new m → m.agents ≡ l.agents → IsPlaced m n new

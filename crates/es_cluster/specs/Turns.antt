@@ -1,8 +1,7 @@
 -- To believe: what a turn of an agent, and a list of turns, make of a cluster.
-use Rattle.std.specs.Prelude.{ℕ, ◌≡◌, true, false, List, [], ◌∷◌, ◌++◌, Some, None, slice_get, slice_set}
-use Rattle.es_event.specs.Ledger.{waits}
+use Rattle.std.specs.Prelude.{ℕ, ◌≡◌, true, false, List, [], ◌∷◌, ◌++◌, Some, slice_get, slice_set}
 use Rattle.es_member.specs.Tied.{GrowsBy}
-use Rattle.es_member.specs.Turned.{Heard, Moves}
+use Rattle.es_member.specs.Turned.{Heard, IsSeated, IsTiedAfter, Moves}
 use Rattle.es_member.specs.declared.member.Progress.{Progress}
 use Rattle.es_member.specs.declared.member.Progress.TheVariants.{Moved, Waiting, Ended}
 use Rattle.es_record.specs.Book.{Book}
@@ -25,8 +24,10 @@ pub record Turned (p : Progress) (n : ℕ) (old new : Cluster) : Type 0 where
   pub told : Heard p before old.ledger new.ledger
   pub ledger : GrowsBy n old.ledger.history new.ledger.history
   pub number : new.ledger.agents ≡ old.ledger.agents
-  -- where it has one event more it waits for nobody yet, whatever its next job waits for
-  pub free : p ≡ Moved → waits new.ledger.history n ≡ None
+  -- the agent and its part in the ledger go together; where it has one event more it waits for nobody yet, whatever its next job waits for
+  pub tied : IsTiedAfter p after new.ledger.history
+  -- it has ended in the ledger where it has closed
+  pub seated : IsSeated after new.ledger
   pub whole : (old.failed ≡ false) × (new.failed ≡ false)
 
 -- so did these agents, one after the other

@@ -5,7 +5,7 @@ use Rattle.es_member.specs.Turned.{OthersStay}
 use Rattle.es_cluster.specs.State.{books, names_of, plans, ArePlaced, AreTied}
 use Rattle.es_member.proofs.Growing.{grows_none}
 use Rattle.es_cluster.proofs.Named.{names}
-use Rattle.es_cluster.proofs.Standing.{found_at, takes_of, placed_here, mapped_still, one_changed, placed_after, free_of, set_length, set_same, tied_after, tied_of}
+use Rattle.es_cluster.proofs.Standing.{found_at, takes_of, placed_here, mapped_still, one_changed, placed_after, set_length, set_same, tied_after, tied_of}
 use Rattle.es_cluster.proofs.cluster.ClusterCore.step.Goals as goal
 
 pub step-requires-clause-seated : goal.step-requires-clause-seated
@@ -73,7 +73,8 @@ returns-in-Ok-clause-turned g c =
       told = c.in-Ok.ensures.told;
       ledger = stay.1;
       number = stay.0;
-      free = free_of c.in-Ok.progress c.step.new.self.book c.step.new.ledger.history c.args.agent (c.step.ensures.number ∙ placed.number) c.in-Ok.ensures.tied;
+      tied = c.in-Ok.ensures.tied;
+      seated = c.step.ensures.seated;
       whole = (c.if-self.false, c.if-self.false);
     })
 
