@@ -102,7 +102,7 @@ pub mapped : {A B : Type 0} (f : A → B) (o : Option A) (b : B) → option_map 
 mapped f None b e = cc
 mapped f (Some a) b e = (a, refl, let same : Some (f a) ≡ Some b = e in cc)
 
-came-length : (c : Came) (w : Asking) (ds : List Deed) (d : Came) → came_after c w ds ≡ Some d → length ds ≡ asked c.tickets w
+pub came-length : (c : Came) (w : Asking) (ds : List Deed) (d : Came) → came_after c w ds ≡ Some d → length ds ≡ asked c.tickets w
 came-length c w ds d e = let m = mapped _ (after c.tickets w ds) d e in after-length c.tickets w ds m.0 m.1
 
 -- Lists
@@ -139,7 +139,7 @@ one_step h c d e es ds rest a =
     let r : drop (asked c.tickets (asks (between_jobs h) e)) (ds ++ rest) ≡ rest = drop-front ds rest _ n in
     rw k (rw r (rw a refl))
 
-ties-go : (h : History) (p : List Deed) (c : Came) → Ties h p c → (es : List Event) (rest : List Deed)
+pub ties-go : (h : History) (p : List Deed) (c : Came) → Ties h p c → (es : List Event) (rest : List Deed)
     → goes true nothing_came (reverse h ++ es) (p ++ rest) ≡ goes (between_jobs h) c es rest
 ties-go [] p c ties es rest = rw (ties.0) (rw (ties.1) refl)
 ties-go (e ∷ h) p c (q, ds, b, split, ties, a) es rest =
