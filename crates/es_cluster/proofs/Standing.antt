@@ -64,14 +64,14 @@ mapped_still f (z ∷ xs) (suc i) x y is same = ap (λ vs. f z ∷ vs) (mapped_s
 
 -- An agent after a turn of another
 
-seated_still : (b : Book) (l m : Books) (n : ℕ) → (b.number ≡ n → ⊥) → OthersStay n l m → IsSeated b l → IsSeated b m
+pub seated_still : (b : Book) (l m : Books) (n : ℕ) → (b.number ≡ n → ⊥) → OthersStay n l m → IsSeated b l → IsSeated b m
 seated_still b l m n other stay seated = record {
   known = subst (λ k. b.number < k) (sym stay.0) seated.known;
   agents = seated.agents ∙ sym stay.0;
   over = ended_stays n b.number l.history m.history stay.1 other ∙ seated.over;
 }
 
-tied_still : (b : Book) (l m : Ledger) (n : ℕ) → (b.number ≡ n → ⊥) → GrowsBy n l m → IsTied b l → (new : Book) → IsTied new m → IsTied b m
+pub tied_still : (b : Book) (l m : Ledger) (n : ℕ) → (b.number ≡ n → ⊥) → GrowsBy n l m → IsTied b l → (new : Book) → IsTied new m → IsTied b m
 tied_still b l m n other grows tied new after = record {
   ties = subst (λ p. Ties b.history p (came_to b)) (sym (part_stays n b.number l m grows other)) tied.ties;
   awaits = λ s is. tied.awaits s (sym (waits_stay n b.number l m grows other) ∙ is);
