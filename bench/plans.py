@@ -1,7 +1,7 @@
 #!/usr/bin/env python3
 """Prints a plan for measuring, always the same one for the same words.
 
-Usage: plans.py NAME [NUMBER]. NAME is one of these, whose plans have one agent,
+Usage: plans.py NAME [NUMBER [MORE]]. NAME is one of these, whose plans have one agent,
   start     nothing to do
   commands  NUMBER commands let, set, get and copy over 8 objects (1,000,000)
   new       NUMBER objects, none of them held for long (900,000)
@@ -38,7 +38,7 @@ goes up to 7,996.
 With wide the collections empty 0 and NUMBER + 1, with list 0 and NUMBER, with entries-* 1 (what held the keys while the
 entries were set) and NUMBER + 2, with maps 0 and three times NUMBER, with nested 0 and twice NUMBER, with registrations
 0 and twice NUMBER and one. Where there are entries, the value to which most of them lead is asked for after each
-collection, by a WeakRef.
+collection, by a WeakRef. MORE is how many collections there are besides, right after the first, which empty nothing.
 """
 
 import json
@@ -47,6 +47,7 @@ import sys
 
 LONGEST = 10000  # the most commands that a job has
 MOST = 1000  # the most jobs that an agent has
+more = 0  # how many collections there are right after the first
 
 
 def commands(count):
@@ -145,7 +146,7 @@ def registrations(count):
         ]
     )
     yield from jobs([[["get", "t", "o", f"k{number}"], ["unregister", "b", "r", "t"]] for number in range(0, count, 2)])
-    yield [["say", "b"], ["collect"], *forgotten("o", "x", "t")]
+    yield [["say", "b"], *first_collections(), *forgotten("o", "x", "t")]
     yield [["collect"]]
 
 
@@ -249,15 +250,19 @@ def forgotten(*names):
     return [["let", name, None] for name in names]
 
 
+def first_collections():
+    return [["collect"]] * (1 + more)
+
+
 def two_collections(*names):
-    return [["collect"], *forgotten(*names), ["collect"]]
+    return [*first_collections(), *forgotten(*names), ["collect"]]
 
 
 def collections_watched(*names):
     """The two in jobs of their own, so that asking for the target of w keeps nothing alive."""
-    asked = [["collect"], ["deref", "x", "w"], ["say", "x"]]
-    yield asked
-    yield [*forgotten("x", *names), *asked]
+    asked = [["deref", "x", "w"], ["say", "x"]]
+    yield [*first_collections(), *asked]
+    yield [*forgotten("x", *names), ["collect"], *asked]
 
 
 PLANS = {
@@ -287,11 +292,13 @@ CLUSTERS = {
 
 
 def main():
-    name = sys.argv[1] if len(sys.argv) in (2, 3) else None
+    global more
+    name = sys.argv[1] if len(sys.argv) in (2, 3, 4) else None
     if name not in PLANS and name not in CLUSTERS:
         sys.exit(__doc__)
     made, usual = PLANS.get(name) or CLUSTERS[name]
-    count = int(sys.argv[2]) if len(sys.argv) == 3 else usual
+    count = int(sys.argv[2]) if len(sys.argv) > 2 else usual
+    more = int(sys.argv[3]) if len(sys.argv) > 3 else 0
     agents = made(count) if name in CLUSTERS else [("a", ({"run": run} for run in made(count)))]
     # Job by job, since a plan as one value takes much memory.
     text = json.JSONEncoder(separators=(",", ":")).encode

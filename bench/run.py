@@ -3,15 +3,17 @@
 
 Usage: run.py [--times N] [--limit SECONDS] [--threads] [NAME[=NUMBER] ..]
        run.py [--times N] [--limit SECONDS] [--threads] --growth NAME ..
+       run.py [--times N] [--limit SECONDS] --collections [NAME[=NUMBER] ..]
 The program runs each plan by turns, in one thread. Without names all plans but those of eight agents that add are run,
 without N three times each, the two in turn, and each run has 60 seconds. Prints a table: the median time by the clock
 and of all processors (which other load changes less), the highest peak memory, and the program's numbers as multiples
 of the interpreter's. With --threads the program runs each plan in threads as well, and the multiples are those of that
 run; without names the plans of several agents are run. With --growth each plan is run at 10,000, 30,000, 100,000 and
 300,000 in place of its usual number, and a line below it has the exponents between the first and the last: with 1 a
-time grows as the number, with 2 as its square; a constant part, such as node's start, lowers them. Reports that differ,
-but for `emptied N` and for the order of `cleanup` lines that follow each other, which is an engine's own, are told below
-the table. It needs GNU time as `/usr/bin/time`.
+time grows as the number, with 2 as its square; a constant part, such as node's start, lowers them. With --collections
+the table has the milliseconds of one collection while all is held, of the program by turns and of the interpreter,
+which forces a full one: a twentieth of what twenty more of them take. Reports that differ, but for `emptied N` and for
+the order of `cleanup` lines that follow each other, which is an engine's own, are told below the table. It needs GNU time as `/usr/bin/time`.
 """
 
 import argparse
@@ -34,6 +36,8 @@ NAMES = [
     "start", "commands", "new", "held", "wide", "list", "entries-forward", "entries-reversed", "entries-shuffled",
     "maps", "nested", "registrations", "check", "posts", "ping-pong", "ring", "words",
 ]
+COLLECTED = ["wide", "list", "entries-forward", "entries-shuffled", "maps", "nested", "registrations"]
+MORE = 20  # so many collections more are timed
 THREADED = ["posts", "ping-pong", "ring", "words", "adds-shared", "adds-own"]
 FEW_JOBS = ["check", "posts", "ping-pong", "ring"]  # an agent has no room for as many jobs as larger numbers ask for
 SIZES = [10000, 30000, 100000, 300000]
@@ -97,6 +101,14 @@ def tools(threads):
     return [Tool("threads", [PROGRAM], [])] * threads + [by_turns, Tool("node", ENGINE, [])]
 
 
+def made(room, what, *words):
+    """The file of the plan that plans.py makes of these words."""
+    plan = os.path.join(room, "-".join(["plan", *words]) + ".json")
+    with open(plan, "wb") as file:
+        subprocess.run([sys.executable, os.path.join(HERE, "plans.py"), what, *words], stdout=file, check=True)
+    return plan
+
+
 def compare(name, given, measured):
     """Runs a plan with these tools, of which node may be missing, and prints its line of the table, in which the first
     is compared with node. Gives a row of each, and whether the reports were the same."""
@@ -104,10 +116,7 @@ def compare(name, given, measured):
     verb = "check" if what == "check" else "run"
     same = True
     with tempfile.TemporaryDirectory() as room:
-        plan = os.path.join(room, "plan.json")
-        with open(plan, "wb") as file:
-            made = [sys.executable, os.path.join(HERE, "plans.py"), what, *[number] * bool(number)]
-            subprocess.run(made, stdout=file, check=True)
+        plan = made(room, what, *[number] * bool(number))
         rows = [Row() for _ in measured]
         for _ in range(given.times):
             reports = []
@@ -128,6 +137,28 @@ def compare(name, given, measured):
     return rows, same
 
 
+def collect(name, given, measured):
+    """Times one collection of these tools on a plan, and prints its line of the table."""
+    what, _, number = name.partition("=")
+    number = number or "300000"
+    with tempfile.TemporaryDirectory() as room:
+        plans = [made(room, what, number), made(room, what, number, str(MORE))]
+        rows = [[Row() for _ in plans] for _ in measured]
+        for _ in range(given.times):
+            for row_pair, tool in zip(rows, measured):
+                if shutil.which(tool.words[0]) is not None:
+                    for row, plan in zip(row_pair, plans):
+                        if not row.fault:
+                            measure(row, [*tool.words, "run", plan, *tool.options], room, given.limit)
+    taken = []
+    for few, many in rows:
+        timed = few.seconds and many.seconds and not few.fault and not many.fault
+        taken.append((statistics.median(many.seconds) - statistics.median(few.seconds)) / MORE if timed else None)
+    cells = [f"{seconds * 1000:.1f}" if seconds is not None else "" for seconds in taken]
+    cells.append(ratio(*taken) if None not in taken and taken[1] > 0 else "")
+    print("| " + " | ".join([f"`{what}`", number, *cells]) + " |", flush=True)
+
+
 def exponents(first, last):
     """Those of the time by the clock and of all processors, where both sizes were run to the end."""
     if first.fault or last.fault or not first.seconds:
@@ -145,7 +176,10 @@ def main():
     words.add_argument("--limit", type=float, default=60)
     words.add_argument("--threads", action="store_true")
     words.add_argument("--growth", action="store_true")
+    words.add_argument("--collections", action="store_true")
     given = words.parse_args()
+    if given.collections and (given.threads or given.growth):
+        words.error("--collections goes with neither --threads nor --growth")
     if given.growth and (not given.names or any("=" in name or name in FEW_JOBS for name in given.names)):
         none = " or ".join(FEW_JOBS)
         words.error(f"--growth takes names of plans, without numbers, and not {none}, which would have too many jobs")
@@ -154,6 +188,11 @@ def main():
     if not os.path.isfile("/usr/bin/time"):
         sys.exit("/usr/bin/time is missing: install GNU time")
     measured = tools(given.threads)
+    if given.collections:
+        print("| Plan | Number | clusterrun, ms | node, ms | ratio |\n|---|---|---|---|---|", flush=True)
+        for name in given.names or COLLECTED:
+            collect(name, given, measured)
+        return
     columns = [column for tool in measured for column in (f"{tool.name}, s", "CPU, s", "peak, MB")]
     print("| " + " | ".join(["Plan", "MB", *columns, "time, ratio", "memory, ratio"]) + " |")
     print("|" + "---|" * (len(columns) + 4), flush=True)

@@ -90,7 +90,7 @@ settled_stays l b over awaits is = by_end (ended l b.number) refl is
 
 -- An agent that asks for a message
 
-by_asked : (P : Ledger → Type 0) (l : Ledger) (a s : ℕ) → P l → P (WaitingEvent a s ∷ l) → P (asked l a s)
+pub by_asked : (P : Ledger → Type 0) (l : Ledger) (a s : ℕ) → P l → P (WaitingEvent a s ∷ l) → P (asked l a s)
 by_asked P l a s was more = at (is_some (waits l a))
   where
     at : (b : Bool) → P (cond b l (WaitingEvent a s ∷ l))

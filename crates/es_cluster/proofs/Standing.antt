@@ -81,7 +81,7 @@ tied_still b l m n other grows tied new after = record {
 
 -- All agents after a turn of one
 
-by_place : {X : Type 0} (P : ℕ → X → Type 0) (xs : List X) (n : ℕ) (x : X) → n < length xs → P n x → ((i : ℕ) (y : X) → (i ≡ n → ⊥) → slice_get xs i ≡ Some y → P i y) → (i : ℕ) (y : X) → slice_get (slice_set xs n x) i ≡ Some y → P i y
+pub by_place : {X : Type 0} (P : ℕ → X → Type 0) (xs : List X) (n : ℕ) (x : X) → n < length xs → P n x → ((i : ℕ) (y : X) → (i ≡ n → ⊥) → slice_get xs i ≡ Some y → P i y) → (i : ℕ) (y : X) → slice_get (slice_set xs n x) i ≡ Some y → P i y
 by_place P xs n x within here there i y is = elim (cases_Bool (i == n)) [
   | inl e ↦
       let same = eqb-true i n e in

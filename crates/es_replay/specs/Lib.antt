@@ -1,0 +1,6 @@
+pub mod Alike
+pub mod Laws
+pub mod Doing
+pub mod Settled
+pub mod Move
+pub mod Together
