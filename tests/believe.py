@@ -17,7 +17,14 @@ TOP = os.path.dirname(os.path.dirname(os.path.abspath(__file__)))
 SECTION = "## What a reader has to believe"
 LINE = re.compile(r"- \*\*(\w+)\*\*: (`\w+`(?:, `\w+`)*)")
 # an agent's inside, and what is told part by part; and of es_event what is no promise of its own
-INSIDE = {("es_tables", None), ("es_record", None), ("es_reading", None), ("es_event", "Log"), ("es_event", "Reading")}
+INSIDE = {
+    ("es_tables", None),
+    ("es_record", None),
+    ("es_reading", None),
+    ("es_tokens", None),
+    ("es_event", "Log"),
+    ("es_event", "Reading"),
+}
 WORDS = re.compile(r"use Rattle\.(\w+)\.specs\.(\w+)\.\{([^}]*)\}")
 EXPORTS = re.compile(r"^pub use [\w:]+::(?:\{([^}]*)\}|(\w+));", re.MULTILINE)
 OWNER = re.compile(r"(?:impl(?:<[^>]*>)? (?:[\w<>, ]+ for )?|pub trait )(\w+)")

@@ -23,7 +23,7 @@ use Rattle.es_reading.specs.declared.number_table.NumberTable.{NumberTable}
 use Rattle.es_reading.specs.declared.scope.Scope.{Scope as NumberTables}
 use Rattle.serde_json.specs.Events.{items_len, members_len}
 use Rattle.es_reading.specs.Parts.{items_in, members_in, text_in}
-use Rattle.es_reading.specs.Scope.{Numbers, Scope, number_from, other_than, is_used}
+use Rattle.es_reading.specs.Scope.{Numbers, Scope, number_from, agent_from, other_than, is_used}
 use Rattle.es_reading.specs.Forms.{OperandType, name, literal, text, callback, agent, whole, words, Meaning, Makes, Form, form, is_allowed, is_whole, fit}
 use Rattle.es_reading.specs.Places.{at, is_in_callback}
 
@@ -225,3 +225,7 @@ agent_read agents a d =
 abbrev pub agents_read : Numbers → ℕ → Items → Result (List AgentPlan) ScriptFault
 agents_read agents a no_items = Ok []
 agents_read agents a (item d ds) = and_rest (agent_read agents a d) (agents_read agents (a + 1) ds)
+
+-- their names, and then the agents
+abbrev pub all_read : Items → Result (List AgentPlan) ScriptFault
+all_read ds = then_read (names_read 0 [] ds) (λ _. agents_read (agent_from 0 ds) 0 ds)

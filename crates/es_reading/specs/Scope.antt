@@ -1,5 +1,5 @@
 -- To believe: which callbacks and which agents the commands and the jobs of an agent can name.
-use Rattle.std.specs.Prelude.{ℕ, ◌+◌, ◌==◌, Bool, List, Option, Some, None, codes, if◌then◌else◌}
+use Rattle.std.specs.Prelude.{ℕ, ◌+◌, ◌==◌, ◌&&◌, ◌++◌, not, Bool, true, List, [], ◌∷◌, Option, Some, None, codes, if◌then◌else◌}
 use Rattle.std.specs.List.{list_any}
 use Rattle.std.specs.Str.{bytes_eq}
 use Rattle.std.specs.Option.{option_and_then}
@@ -26,6 +26,11 @@ abbrev pub agent_from : ℕ → Items → Numbers
 agent_from k no_items n = None
 agent_from k (item d ds) n = if bytes_eq (text_in (get (codes "name") d)) n then Some k else agent_from (k + 1) ds n
 
+-- names in order, of which the first has the number k
+abbrev pub number_in : ℕ → List (List ℕ) → Numbers
+number_in k [] n = None
+number_in k (m ∷ ms) n = if bytes_eq m n then Some k else number_in (k + 1) ms n
+
 -- unless it is this one
 abbrev pub other_than : ℕ → ℕ → Option ℕ
 other_than a n = if n == a then None else Some n
@@ -40,3 +45,8 @@ scope_of agents a d = record {
 -- whether a name is one of the names
 abbrev pub is_used : List ℕ → List (List ℕ) → Bool
 is_used n ns = list_any (λ m. bytes_eq m n) ns
+
+-- no name is one of those before it
+abbrev pub are_new : List (List ℕ) → List (List ℕ) → Bool
+are_new before [] = true
+are_new before (n ∷ ns) = not (is_used n before) && are_new (before ++ n ∷ []) ns

@@ -1,14 +1,16 @@
 //! Jobs of an agent.
 
-ghost use Rattle.std.specs.Prelude.{◌≡◌, option_map};
-ghost use Rattle.serde_json.specs.View.{view, items_view};
-ghost use Rattle.es_reading.specs.Reading.{Gives, said, on_read, job_read, jobs_read};
+ghost use Rattle.std.specs.Prelude.{◌≡◌, ◌∷◌, [], map, option_map};
+ghost use Rattle.serde_json.specs.View.{view, items_of, items_view};
+ghost use Rattle.es_reading.specs.Forms.{agent, name};
+ghost use Rattle.es_reading.specs.Reading.{Gives, said, operands_read, on_read, job_read, jobs_read};
 
 use crate::command::job_run;
 use crate::fault::Spot;
 use crate::known_names::KnownNames;
 use crate::operand::AgentNumber;
 use crate::operands::two;
+use crate::part::Seen;
 use crate::parts::{items, taken_items};
 use crate::scope::Scope;
 use crate::{Place, ReadFault};
@@ -48,7 +50,7 @@ fn job_of(
 }
 
 /// The agent whose message a job waits for, and the variable for its value, where the job has `on`.
-/// They are read as a command's operands are; the shape says that they are two texts.
+/// The shape says that they are two texts.
 fn on_of(
     names: &mut KnownNames,
     scope: &Scope,
@@ -59,9 +61,23 @@ fn on_of(
 {
     match value {
         Some(pair) => {
-            let (AgentNumber(sender), variable) = two(names, scope, items(Some(pair)), spot)?;
-            Ok(Some((sender, variable)))
+            let on = awaited_of(names, scope, items(Some(pair)), spot)?;
+            Ok(Some(on))
         }
         None => Ok(None),
     }
+}
+
+/// The agent and the variable of the pair that `on` is. They are read as a command's operands are.
+pub fn awaited_of<V: Seen>(
+    names: &mut KnownNames,
+    scope: &Scope,
+    pair: &[V],
+    spot: Spot,
+) -> Result<(usize, Name), ReadFault>
+    ensures { Gives (λ on. (on.0, (on.1, tt))) result
+        (operands_read (said scope.now) spot (agent ∷ name ∷ []) (items_of (map V.shown pair.now))) }
+{
+    let (sender, variable) = two::<AgentNumber, Name, V>(names, scope, pair, spot)?;
+    Ok((sender.0, variable))
 }

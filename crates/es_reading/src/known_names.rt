@@ -9,14 +9,14 @@ use std::alloc::Global;
 /// The names of an agent that were read so far. One of those that were read last is found by its length
 /// and its last byte, without a look into the table of all.
 #[derive(Drop)]
-pub(crate) struct KnownNames {
+pub struct KnownNames {
     all: Names,
     last: [Option<Name>; 8],
 }
 
 impl KnownNames {
     /// No name yet; it takes no memory.
-    pub(crate) fn new(alloc: Global) -> KnownNames {
+    pub fn new(alloc: Global) -> KnownNames {
         KnownNames {
             all: Names::new(alloc),
             last: [None, None, None, None, None, None, None, None],
@@ -24,12 +24,12 @@ impl KnownNames {
     }
 
     /// The allocator that it was made with.
-    pub(crate) fn allocator(&self) -> Global {
+    pub fn allocator(&self) -> Global {
         self.all.allocator()
     }
 
     /// The name that is spelled like this, or `BadName` exactly where it is no name.
-    pub(crate) fn read(&mut self, text: &str) -> Result<Name, NameFault>
+    pub fn read(&mut self, text: &str) -> Result<Name, NameFault>
         ensures ok { IfOk result (λ n. n ≡ text.now) }
         ensures only { IfOk result (λ n. IsTrue (is_name text.now)) }
         ensures bad { (result ≡ Err NameFault.BadName) ↔ (is_name text.now ≢ true) }

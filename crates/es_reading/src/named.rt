@@ -1,8 +1,8 @@
 //! The table of commands: the word of each, and what its operands make. Their kinds are those of the
 //! command's fields.
 
-ghost use Rattle.std.specs.Prelude.{◌≡◌};
-ghost use Rattle.serde_json.specs.View.{items_view};
+ghost use Rattle.std.specs.Prelude.{◌≡◌, map};
+ghost use Rattle.serde_json.specs.View.{items_of};
 ghost use Rattle.serde_json.specs.Events.{items_len};
 ghost use Rattle.es_reading.specs.Forms.{form, weak_form};
 ghost use Rattle.es_reading.specs.Reading.{Gives, said, outside_read, form_read};
@@ -13,21 +13,21 @@ mod shared;
 use crate::fault::{FaultCode, Spot};
 use crate::known_names::KnownNames;
 use crate::operands::{none, one, three, two};
+use crate::part::Seen;
 use crate::scope::Scope;
 use crate::{Place, ReadFault};
 use es_event::Command;
-use serde_json::Value;
 use shared::shared_command;
 
 /// A command on values, variables or objects, or a collection, and then the others.
-pub(crate) fn command_named(
+pub fn command_named<V: Seen>(
     names: &mut KnownNames,
     scope: &Scope,
     word: &str,
-    operands: &[Value],
+    operands: &[V],
     spot: Spot,
 ) -> Result<Command, ReadFault>
-    ensures { Gives (λ c. c) result (form_read (said scope.now) spot (form word.now (items_len (items_view operands.now))) (items_view operands.now)) }
+    ensures { Gives (λ c. c) result (form_read (said scope.now) spot (form word.now (items_len (items_of (map V.shown operands.now)))) (items_of (map V.shown operands.now))) }
 {
     match word {
         "let" => {
@@ -84,14 +84,14 @@ pub(crate) fn command_named(
 }
 
 /// A command on WeakRefs, WeakMaps or WeakSets, and then the others.
-fn weak_command(
+fn weak_command<V: Seen>(
     names: &mut KnownNames,
     scope: &Scope,
     word: &str,
-    operands: &[Value],
+    operands: &[V],
     spot: Spot,
 ) -> Result<Command, ReadFault>
-    ensures { Gives (λ c. c) result (form_read (said scope.now) spot (weak_form word.now (items_len (items_view operands.now))) (items_view operands.now)) }
+    ensures { Gives (λ c. c) result (form_read (said scope.now) spot (weak_form word.now (items_len (items_of (map V.shown operands.now)))) (items_of (map V.shown operands.now))) }
 {
     match word {
         "weakref" => {

@@ -1,21 +1,21 @@
 //! Tables of numbers by name: of the callbacks of an agent, and of the agents of a plan.
 
-ghost use Rattle.std.specs.Prelude.{◌≡◌, List, ℕ, Some, None, IfOk, OnOk, option_map, if◌then◌else◌};
+ghost use Rattle.std.specs.Prelude.{◌≡◌, ◌≤◌, List, ℕ, Some, None, IfOk, OnOk, option_map, if◌then◌else◌};
 ghost use Rattle.std.specs.Str.{bytes_eq};
 ghost use Rattle.serde_json.specs.View.{view, items_view, members_view};
 ghost use Rattle.es_reading.specs.Parts.{members_in};
-ghost use Rattle.es_reading.specs.Scope.{number_from, agent_from};
+ghost use Rattle.es_reading.specs.Scope.{number_from, agent_from, number_in};
 ghost use Rattle.es_reading.specs.Reading.{numbered, or_else};
 
 use crate::parts::text;
-use es_value::NoMemory;
+use es_value::{Name, NoMemory};
 use serde_json::{Map, Value};
 use std::alloc::Global;
 use std::collections::HashMap;
 
 /// Numbers by name.
 #[derive(Drop)]
-pub(crate) struct NumberTable {
+pub struct NumberTable {
     by_name: HashMap<String, usize>,
 }
 
@@ -85,6 +85,18 @@ pub(crate) fn agent_numbers(alloc: Global, agents: &[Value]) -> Result<NumberTab
     let mut numbers = NumberTable::new(alloc);
     for (index, agent) in agents.iter().enumerate() {
         numbers.add(alloc, text(agent.get("name")), index)?;
+    }
+    Ok(numbers)
+}
+
+/// The numbers of names in order, the first of which has this number.
+pub fn numbers_of(alloc: Global, names: &[Name], first: usize) -> Result<NumberTable, NoMemory>
+    requires { first ≤ 1 }
+    ensures { IfOk result (λ numbers. numbered numbers ≡ number_in first names.now) }
+{
+    let mut numbers = NumberTable::new(alloc);
+    for (index, name) in names.iter().enumerate() {
+        numbers.add(alloc, name.as_str(), first + index)?;
     }
     Ok(numbers)
 }

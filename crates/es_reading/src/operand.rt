@@ -1,18 +1,18 @@
 //! What can be an operand of a command.
 
 ghost use Rattle.std.specs.Prelude.{◌≡◌};
-ghost use Rattle.serde_json.specs.View.{view};
 ghost use Rattle.es_reading.specs.Forms.{OperandType, name, literal, text, callback, agent, whole, words, Meaning, fits};
 ghost use Rattle.es_reading.specs.Reading.{Gives, said, operand_read};
+ghost use Rattle.es_reading.specs.Part.{part_data};
 
 use crate::ReadFault;
 use crate::fault::{FaultCode, Spot};
 use crate::known_names::KnownNames;
+use crate::part::Part;
 use crate::scope::Scope;
 use crate::spelled::{agent_named, callback_named, name_of, text_of, whole_of, words_of};
 use es_event::Literal;
 use es_value::{Name, Text};
-use serde_json::Value;
 
 /// What can be an operand of a command.
 pub(crate) trait Operand: Sized + Drop {
@@ -21,17 +21,17 @@ pub(crate) trait Operand: Sized + Drop {
     ghost meaning: { Self → Meaning kind };
 
     /// Whether a value is of the JSON kind that such an operand has.
-    fn fits(value: &Value) -> bool
-        ensures { result ≡ fits kind (view value.now) };
+    fn fits(part: Part<'_>) -> bool
+        ensures { result ≡ fits kind (part_data part.entry) };
 
     /// The operand that a value of its JSON kind stands for.
     fn read(
         names: &mut KnownNames,
         scope: &Scope,
-        value: &Value,
+        part: Part<'_>,
         spot: Spot,
     ) -> Result<Self, ReadFault>
-        ensures { Gives meaning result (operand_read (said scope.now) spot kind (view value.now)) };
+        ensures { Gives meaning result (operand_read (said scope.now) spot kind (part_data part.entry)) };
 }
 
 /// A variable, or a property's key.
@@ -40,18 +40,18 @@ impl Operand for Name {
 
     ghost meaning = { λ n. n };
 
-    fn fits(value: &Value) -> bool {
-        value.is_string()
+    fn fits(part: Part<'_>) -> bool {
+        matches!(part, Part::Text(_))
     }
 
     fn read(
         names: &mut KnownNames,
         _scope: &Scope,
-        value: &Value,
+        part: Part<'_>,
         spot: Spot,
     ) -> Result<Name, ReadFault> {
-        match value {
-            Value::String(chars) => name_of(names, chars.as_str(), spot),
+        match part {
+            Part::Text(chars) => name_of(names, chars, spot),
             _ => Err(spot.fault(FaultCode::Operands)),
         }
     }
@@ -62,25 +62,21 @@ impl Operand for Literal {
 
     ghost meaning = { λ l. l };
 
-    fn fits(value: &Value) -> bool {
-        !matches!(value, Value::Array(_) | Value::Object(_))
+    fn fits(part: Part<'_>) -> bool {
+        !matches!(part, Part::List)
     }
 
     fn read(
         names: &mut KnownNames,
         _scope: &Scope,
-        value: &Value,
+        part: Part<'_>,
         spot: Spot,
     ) -> Result<Literal, ReadFault> {
-        match value {
-            Value::Null => Ok(Literal::Undefined),
-            Value::Bool(b) => Ok(Literal::Boolean(*b)),
-            Value::Number(number) => Ok(Literal::Number(whole_of(number, spot)?)),
-            Value::String(chars) => Ok(Literal::Text(text_of(
-                names.allocator(),
-                chars.as_str(),
-                spot,
-            )?)),
+        match part {
+            Part::Null => Ok(Literal::Undefined),
+            Part::Bool(b) => Ok(Literal::Boolean(b)),
+            Part::Number(number) => Ok(Literal::Number(whole_of(&number, spot)?)),
+            Part::Text(chars) => Ok(Literal::Text(text_of(names.allocator(), chars, spot)?)),
             _ => Err(spot.fault(FaultCode::Operands)),
         }
     }
@@ -91,18 +87,18 @@ impl Operand for Text {
 
     ghost meaning = { λ t. t };
 
-    fn fits(value: &Value) -> bool {
-        value.is_string()
+    fn fits(part: Part<'_>) -> bool {
+        matches!(part, Part::Text(_))
     }
 
     fn read(
         names: &mut KnownNames,
         _scope: &Scope,
-        value: &Value,
+        part: Part<'_>,
         spot: Spot,
     ) -> Result<Text, ReadFault> {
-        match value {
-            Value::String(chars) => text_of(names.allocator(), chars.as_str(), spot),
+        match part {
+            Part::Text(chars) => text_of(names.allocator(), chars, spot),
             _ => Err(spot.fault(FaultCode::Operands)),
         }
     }
@@ -114,18 +110,18 @@ impl Operand for usize {
 
     ghost meaning = { λ n. n };
 
-    fn fits(value: &Value) -> bool {
-        value.is_string()
+    fn fits(part: Part<'_>) -> bool {
+        matches!(part, Part::Text(_))
     }
 
     fn read(
         names: &mut KnownNames,
         scope: &Scope,
-        value: &Value,
+        part: Part<'_>,
         spot: Spot,
     ) -> Result<usize, ReadFault> {
-        match value {
-            Value::String(chars) => callback_named(names, scope, chars.as_str(), spot),
+        match part {
+            Part::Text(chars) => callback_named(names, scope, chars, spot),
             _ => Err(spot.fault(FaultCode::Operands)),
         }
     }
@@ -140,19 +136,19 @@ impl Operand for AgentNumber {
 
     ghost meaning = { λ a. a.0 };
 
-    fn fits(value: &Value) -> bool {
-        value.is_string()
+    fn fits(part: Part<'_>) -> bool {
+        matches!(part, Part::Text(_))
     }
 
     fn read(
         names: &mut KnownNames,
         scope: &Scope,
-        value: &Value,
+        part: Part<'_>,
         spot: Spot,
     ) -> Result<AgentNumber, ReadFault> {
-        match value {
-            Value::String(chars) => {
-                let number = agent_named(names, scope, chars.as_str(), spot)?;
+        match part {
+            Part::Text(chars) => {
+                let number = agent_named(names, scope, chars, spot)?;
                 Ok(AgentNumber(number))
             }
             _ => Err(spot.fault(FaultCode::Operands)),
@@ -166,18 +162,18 @@ impl Operand for i64 {
 
     ghost meaning = { λ z. z };
 
-    fn fits(value: &Value) -> bool {
-        value.is_number()
+    fn fits(part: Part<'_>) -> bool {
+        matches!(part, Part::Number(_))
     }
 
     fn read(
         _names: &mut KnownNames,
         _scope: &Scope,
-        value: &Value,
+        part: Part<'_>,
         spot: Spot,
     ) -> Result<i64, ReadFault> {
-        match value {
-            Value::Number(number) => whole_of(number, spot),
+        match part {
+            Part::Number(number) => whole_of(&number, spot),
             _ => Err(spot.fault(FaultCode::Operands)),
         }
     }
@@ -189,18 +185,18 @@ impl Operand for u32 {
 
     ghost meaning = { λ n. n };
 
-    fn fits(value: &Value) -> bool {
-        value.is_number()
+    fn fits(part: Part<'_>) -> bool {
+        matches!(part, Part::Number(_))
     }
 
     fn read(
         _names: &mut KnownNames,
         _scope: &Scope,
-        value: &Value,
+        part: Part<'_>,
         spot: Spot,
     ) -> Result<u32, ReadFault> {
-        match value {
-            Value::Number(number) => words_of(number, spot),
+        match part {
+            Part::Number(number) => words_of(&number, spot),
             _ => Err(spot.fault(FaultCode::Operands)),
         }
     }

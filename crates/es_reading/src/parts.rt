@@ -1,11 +1,12 @@
 //! The parts of a JSON value. A part that is not there reads as an empty one: the shape of a plan's
 //! value is tested before its parts are read.
 
-ghost use Rattle.std.specs.Prelude.{◌≡◌, ◌==◌, nat_le, option_map};
-ghost use Rattle.serde_json.specs.View.{view, items_view, members_view};
+ghost use Rattle.std.specs.Prelude.{◌≡◌, ◌==◌, nat_le, map, option_map};
+ghost use Rattle.serde_json.specs.View.{view, items_of, items_view, members_view};
 ghost use Rattle.serde_json.specs.Events.{items_len, members_len};
 ghost use Rattle.es_reading.specs.Parts.{items_in, members_in, text_in};
 
+use crate::part::Seen;
 use serde_json::{Map, Value};
 use std::alloc::Global;
 
@@ -50,8 +51,8 @@ pub(crate) fn has_at_most(list: &[Value], most: usize) -> bool
 }
 
 /// Whether an array has exactly so many items.
-pub(crate) fn has_exactly(list: &[Value], count: usize) -> bool
-    ensures { result ≡ (items_len (items_view list.now) == count) }
+pub(crate) fn has_exactly<V: Seen>(list: &[V], count: usize) -> bool
+    ensures { result ≡ (items_len (items_of (map V.shown list.now)) == count) }
 {
     list.len() == count
 }

@@ -7,7 +7,7 @@ use crate::number_table::NumberTable;
 
 /// What the commands and the jobs of an agent can name: its callbacks, and each other agent.
 #[derive(Drop)]
-pub(crate) struct Scope<'a> {
+pub struct Scope<'a> {
     callbacks: NumberTable,
     agents: &'a NumberTable,
     agent: usize,
@@ -16,7 +16,7 @@ pub(crate) struct Scope<'a> {
 impl<'a> Scope<'a> {
     /// Of the agent with this number.
     #[tactic(auto, unfolding(crate::specs::Reading::said))]
-    pub(crate) fn new(callbacks: NumberTable, agents: &'a NumberTable, agent: usize) -> Scope<'a>
+    pub fn new(callbacks: NumberTable, agents: &'a NumberTable, agent: usize) -> Scope<'a>
         ensures { said result ≡ scope_by (numbered callbacks) (numbered agents.now) agent }
     {
         Scope {

@@ -8,7 +8,7 @@ use Rattle.std.proofs.lemmas.Map.Lookups.{exact_bytes}
 use Rattle.serde_json.specs.Data.{Data, object, no_members, member}
 use Rattle.serde_json.specs.Find.{get}
 use Rattle.es_reading.specs.Parts.{size}
-use Rattle.es_script.specs.Shape.{is_array_of, is_command, is_text_pair, is_job}
+use Rattle.es_reading.specs.Shape.{is_array_of, is_command, is_text_pair, is_job}
 
 -- one key is not both
 not_both : (k : List ℕ) (e : Data) (o p : Ordering) → slice_cmp nat_cmp (codes "run") k ≡ o → slice_cmp nat_cmp (codes "on") k ≡ p

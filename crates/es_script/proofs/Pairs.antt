@@ -3,7 +3,7 @@ use Rattle.std.proofs.Common.{◌≡◌, false, List, [], ◌∷◌, length, Som
 use Rattle.serde_json.specs.Data.{Data, string, array, Items, no_items, item}
 use Rattle.serde_json.specs.View.{view, items_view}
 use Rattle.serde_json.specs.declared.value.Value.{Value}
-use Rattle.es_script.specs.Shape.{is_text_pair}
+use Rattle.es_reading.specs.Shape.{is_text_pair}
 
 single : (d : Data) → is_text_pair (Some (array (item d no_items))) ≡ false
 single (string s) = refl

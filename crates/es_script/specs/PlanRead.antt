@@ -13,7 +13,7 @@ use Rattle.es_reading.specs.Places.{at}
 use Rattle.es_reading.specs.Parts.{items_in}
 use Rattle.es_reading.specs.Scope.{agent_from}
 use Rattle.es_reading.specs.Reading.{then_read, unless_fault, names_read, agents_read}
-use Rattle.es_script.specs.Shape.{is_plan}
+use Rattle.es_reading.specs.Shape.{is_plan}
 use Rattle.es_script.specs.Fault.{is_one}
 
 abbrev pub agents_checked : Items → Result (List AgentPlan) ScriptFault

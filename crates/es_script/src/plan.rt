@@ -13,6 +13,7 @@ ghost use Rattle.es_script.specs.PlanRead.{plan_read, agents_checked};
 use crate::shape::has_plan_shape;
 use es_event::{AgentPlan, Plan, Sequence};
 use es_reading::{FaultCode, Place, ReadFault, agents_of, check_names, fault_in, taken_items};
+use es_tokens::{Quit, quick_agents};
 use es_value::MOST_AGENTS;
 use serde_json::Value;
 use std::alloc::Global;
@@ -23,6 +24,9 @@ use std::alloc::Global;
 /// the version, the number of agents, their names, and then agent by agent the limits, the callbacks
 /// by rising names and the jobs in order, of each job first whose message it waits for, and then its
 /// commands. It answers `NoMemory` where memory ends before that fault is reached.
+///
+/// A plan that is written as plans mostly are is read from the tokens of its text (es_tokens), every other
+/// text by way of its JSON value.
 pub fn read_plan(alloc: Global, bytes: &[u8]) -> Result<Plan, ReadFault>
     ensures reads { Reads bytes.now result }
     // There are at most eight agents.
@@ -30,6 +34,21 @@ pub fn read_plan(alloc: Global, bytes: &[u8]) -> Result<Plan, ReadFault>
     // Each agent posts to other agents alone, and waits for messages of other agents alone.
     ensures others { IfOk result (λ p. all_name_others p ≡ true) }
     // Only jobs collect.
+    ensures harmless { IfOk result (λ p. no_callback_collects p ≡ true) }
+{
+    match quick_agents(alloc, bytes) {
+        Ok(agents) => Ok(Plan { agents }),
+        Err(Quit::NoMemory) => Err(ReadFault::NoMemory),
+        Err(Quit::Unusual) => read_value(alloc, bytes),
+    }
+}
+
+/// The same by way of the text's JSON value: of each text, and with the first fault of one that stands for
+/// no plan.
+fn read_value(alloc: Global, bytes: &[u8]) -> Result<Plan, ReadFault>
+    ensures reads { Reads bytes.now result }
+    ensures few { IfOk result (λ p. length p.agents < 9) }
+    ensures others { IfOk result (λ p. all_name_others p ≡ true) }
     ensures harmless { IfOk result (λ p. no_callback_collects p ≡ true) }
 {
     match Value::from_slice(alloc, bytes) {

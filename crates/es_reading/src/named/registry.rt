@@ -1,7 +1,7 @@
 //! Commands on FinalizationRegistries.
 
-ghost use Rattle.std.specs.Prelude.{◌≡◌};
-ghost use Rattle.serde_json.specs.View.{items_view};
+ghost use Rattle.std.specs.Prelude.{◌≡◌, map};
+ghost use Rattle.serde_json.specs.View.{items_of};
 ghost use Rattle.serde_json.specs.Events.{items_len};
 ghost use Rattle.es_reading.specs.Forms.{registry_form, register_form};
 ghost use Rattle.es_reading.specs.Reading.{Gives, said, form_read};
@@ -10,20 +10,20 @@ use crate::ReadFault;
 use crate::fault::{FaultCode, Spot};
 use crate::known_names::KnownNames;
 use crate::operands::{four, three, two};
+use crate::part::Seen;
 use crate::parts::has_exactly;
 use crate::scope::Scope;
 use es_event::Command;
-use serde_json::Value;
 
 /// A command on FinalizationRegistries.
-pub(crate) fn registry_command(
+pub(crate) fn registry_command<V: Seen>(
     names: &mut KnownNames,
     scope: &Scope,
     word: &str,
-    operands: &[Value],
+    operands: &[V],
     spot: Spot,
 ) -> Result<Command, ReadFault>
-    ensures { Gives (λ c. c) result (form_read (said scope.now) spot (registry_form word.now (items_len (items_view operands.now))) (items_view operands.now)) }
+    ensures { Gives (λ c. c) result (form_read (said scope.now) spot (registry_form word.now (items_len (items_of (map V.shown operands.now)))) (items_of (map V.shown operands.now))) }
 {
     match word {
         "registry" => {
@@ -44,14 +44,14 @@ pub(crate) fn registry_command(
 }
 
 /// A `register`, with a token where there are four operands.
-fn register_of(
+fn register_of<V: Seen>(
     names: &mut KnownNames,
     scope: &Scope,
-    operands: &[Value],
+    operands: &[V],
     spot: Spot,
 ) -> Result<Command, ReadFault>
     ensures { Gives (λ c. c) result
-        (form_read (said scope.now) spot (register_form (items_len (items_view operands.now))) (items_view operands.now)) }
+        (form_read (said scope.now) spot (register_form (items_len (items_of (map V.shown operands.now)))) (items_of (map V.shown operands.now))) }
 {
     if has_exactly(operands, 4) {
         let (registry, target, held, token) = four(names, scope, operands, spot)?;

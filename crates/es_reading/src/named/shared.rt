@@ -1,7 +1,7 @@
 //! Commands on buffers and messages.
 
-ghost use Rattle.std.specs.Prelude.{◌≡◌};
-ghost use Rattle.serde_json.specs.View.{items_view};
+ghost use Rattle.std.specs.Prelude.{◌≡◌, map};
+ghost use Rattle.serde_json.specs.View.{items_of};
 ghost use Rattle.serde_json.specs.Events.{items_len};
 ghost use Rattle.es_reading.specs.Forms.{shared_form};
 ghost use Rattle.es_reading.specs.Reading.{Gives, said, form_read};
@@ -12,19 +12,19 @@ use crate::fault::Spot;
 use crate::known_names::KnownNames;
 use crate::operand::AgentNumber;
 use crate::operands::{four, three, two};
+use crate::part::Seen;
 use crate::scope::Scope;
 use es_event::Command;
-use serde_json::Value;
 
 /// A command on buffers or messages, and then the others.
-pub(crate) fn shared_command(
+pub(crate) fn shared_command<V: Seen>(
     names: &mut KnownNames,
     scope: &Scope,
     word: &str,
-    operands: &[Value],
+    operands: &[V],
     spot: Spot,
 ) -> Result<Command, ReadFault>
-    ensures { Gives (λ c. c) result (form_read (said scope.now) spot (shared_form word.now (items_len (items_view operands.now))) (items_view operands.now)) }
+    ensures { Gives (λ c. c) result (form_read (said scope.now) spot (shared_form word.now (items_len (items_of (map V.shown operands.now)))) (items_of (map V.shown operands.now))) }
 {
     match word {
         "buffer" => {

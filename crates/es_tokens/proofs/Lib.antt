@@ -1,0 +1,11 @@
+pub mod Numbers
+pub mod Converted
+pub mod Counted
+pub mod Taking
+pub mod TakingCommands
+pub mod Objects
+pub mod Anywhere
+pub mod TakingJobs
+pub mod TakingCallbacks
+pub mod TakingAgents
+pub mod TakingPlan

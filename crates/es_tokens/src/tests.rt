@@ -1,0 +1,224 @@
+//! Which plans are read quickly. That what is read is right is proved; that anything is read no clause says.
+
+use crate::quick_agents;
+use es_event::{AgentPlan, Command};
+use std::alloc::Global;
+use std::io::Write;
+use std::test::Fail;
+
+fn write_commands(commands: &[Command], told: &mut Vec<u8>) -> Result<(), Fail> {
+    for command in commands {
+        write!(told, " {command:?}")?;
+    }
+    Ok(write!(told, "\n")?)
+}
+
+fn write_agent(agent: &AgentPlan, told: &mut Vec<u8>) -> Result<(), Fail> {
+    write!(told, "{:?}\n", agent.name)?;
+    for callback in agent.callbacks.as_slice() {
+        write!(told, "callback {:?}:", callback.name)?;
+        write_commands(callback.run.as_slice(), told)?;
+    }
+    for job in agent.jobs.as_slice() {
+        match &job.on {
+            Some((sender, variable)) => write!(told, "on {sender} {variable:?}:")?,
+            None => write!(told, "job:")?,
+        }
+        write_commands(job.run.as_slice(), told)?;
+    }
+    Ok(())
+}
+
+/// What is read of a plan's text: a line for each agent, callback and job; or why nothing is.
+fn told(alloc: Global, text: &str) -> Result<Vec<u8>, Fail> {
+    let mut told = Vec::new(alloc);
+    match quick_agents(alloc, text.as_bytes()) {
+        Ok(agents) => {
+            for agent in agents.as_slice() {
+                write_agent(agent, &mut told)?;
+            }
+        }
+        Err(quit) => write!(told, "{quit:?}")?,
+    }
+    Ok(told)
+}
+
+/// The same, with names and texts as they are.
+fn read(alloc: Global, text: &str) -> Result<String, Fail> {
+    let told = told(alloc, text)?;
+    let told = String::from_utf8_lossy(alloc, told.as_slice())?;
+    let told = told.as_str().replace(alloc, "Name { chars: \"", "")?;
+    let told = told.as_str().replace(alloc, "Text { chars: \"", "'")?;
+    Ok(told.as_str().replace(alloc, "\" }", "")?)
+}
+
+/// A plan in the order in which it is mostly written.
+const PLAN: &str =
+    r#"{"version":1,"agents":[{"name":"main","callbacks":{"a":[["say","held"]],"b":[]},"jobs":[{"run":[["let","x","A"],["post","other","x"]]},{"on":["other","m"],"run":[["registry","r","b"]]}]},{"name":"other","callbacks":{},"jobs":[{"on":["main","m"],"run":[["post","main","m"]]}]}]}"#;
+
+const READ: &str = "\
+main
+callback a: Say { from: held }
+callback b:
+job: Let { to: x, literal: Text('A) } Post { receiver: 1, from: x }
+on 1 m: FinalizationRegistry { to: r, callback: 2 }
+other
+on 0 m: Post { receiver: 0, from: m }
+";
+
+/// The same plan in other orders.
+const OTHERS: &[&str] = &[
+    // Sorted keys.
+    r#"{"agents":[{"callbacks":{"a":[["say","held"]],"b":[]},"jobs":[{"run":[["let","x","A"],["post","other","x"]]},{"on":["other","m"],"run":[["registry","r","b"]]}],"name":"main"},{"callbacks":{},"jobs":[{"on":["main","m"],"run":[["post","main","m"]]}],"name":"other"}],"version":1}"#,
+    // All else than in the first.
+    r#"{"agents":[{"jobs":[{"run":[["let","x","A"],["post","other","x"]]},{"run":[["registry","r","b"]],"on":["other","m"]}],"name":"main","callbacks":{"b":[],"a":[["say","held"]]}},{"jobs":[{"run":[["post","main","m"]],"on":["main","m"]}],"callbacks":{},"name":"other"}],"version":1}"#,
+    r#"{"version":1,"agents":[{"name":"main","jobs":[{"run":[["let","x","A"],["post","other","x"]]},{"on":["other","m"],"run":[["registry","r","b"]]}],"callbacks":{"b":[],"a":[["say","held"]]}},{"callbacks":{},"name":"other","jobs":[{"on":["main","m"],"run":[["post","main","m"]]}]}]}"#,
+    // Of a key that comes twice the last counts.
+    r#"{"version":1,"agents":[{"name":"main","callbacks":{"a":[],"b":[],"a":[["say","held"]]},"jobs":[{"run":[["let","x","A"],["post","other","x"]]},{"on":["other","n"],"on":["other","m"],"run":[],"run":[["registry","r","b"]]}]},{"name":"other","jobs":[],"callbacks":{},"jobs":[{"on":["main","m"],"run":[["post","main","m"]]}]}],"version":1}"#,
+    // Escapes.
+    r#"{"vers\u0069on":1,"\u0061gents":[{"name":"m\u0061in","callbacks":{"\u0061":[["s\u0061y","held"]],"b":[]},"\u006aobs":[{"r\u0075n":[["l\u0065t","\u0078","\u0041"],["post","\u006fther","x"]]},{"\u006fn":["other","m"],"run":[["registry","r","\u0062"]]}]},{"name":"other","callbacks":{},"jobs":[{"on":["main","m"],"run":[["post","main","m"]]}]}]}"#,
+    // White space.
+    "\t{ \"version\" : 1 ,\r\n \"agents\" : [ { \"name\" : \"main\" , \"callbacks\" : { \"a\" : [ [ \"say\" , \"held\" ] ] , \"b\" : [ ] } ,\n \"jobs\" : [ { \"run\" : [ [ \"let\" , \"x\" , \"A\" ] , [ \"post\" , \"other\" , \"x\" ] ] } , { \"on\" : [ \"other\" , \"m\" ] , \"run\" : [ [ \"registry\" , \"r\" , \"b\" ] ] } ] } , { \"name\"\t:\r\n\"other\" , \"callbacks\"\n:\r{ } , \"jobs\" : [ { \"on\" : [ \"main\" , \"m\" ] , \"run\" : [ [ \"post\" , \"main\" , \"m\" ] ] } ] } ] } \n",
+];
+
+#[test]
+fn the_members_come_in_any_order(rt: HostRuntime) -> Result<(), Fail> {
+    let alloc = rt.alloc();
+    assert_eq!(rt; read(alloc, PLAN)?.as_str(), READ);
+    for text in OTHERS {
+        assert_eq!(rt; read(alloc, text)?.as_str(), READ, "{text}");
+    }
+    Ok(())
+}
+
+/// Each command, and what is read of it.
+const COMMANDS: &[&str] = &[
+    r#"["let","x",null] = Let { to: x, literal: Undefined }"#,
+    r#"["let","x",true] = Let { to: x, literal: Boolean(true) }"#,
+    r#"["let","x",false] = Let { to: x, literal: Boolean(false) }"#,
+    r#"["let","x",0] = Let { to: x, literal: Number(0) }"#,
+    r#"["let","x",9007199254740991] = Let { to: x, literal: Number(9007199254740991) }"#,
+    r#"["let","x",-9007199254740991] = Let { to: x, literal: Number(-9007199254740991) }"#,
+    r#"["let","x",""] = Let { to: x, literal: Text(') }"#,
+    r#"["let","x"," ~!#[]"] = Let { to: x, literal: Text(' ~!#[]) }"#,
+    r#"["new","x"] = New { to: x }"#,
+    r#"["symbol","x"] = Symbol { to: x }"#,
+    r#"["symbolfor","x","k"] = SymbolFor { to: x, text: 'k }"#,
+    r#"["copy","x","y"] = Copy { to: x, from: y }"#,
+    r#"["same","x","y","z"] = Same { to: x, left: y, right: z }"#,
+    r#"["say","x"] = Say { from: x }"#,
+    r#"["set","o","k","y"] = Set { object: o, key: k, from: y }"#,
+    r#"["get","x","o","k"] = Get { to: x, object: o, key: k }"#,
+    r#"["delete","x","o","k"] = Delete { to: x, object: o, key: k }"#,
+    r#"["keys","o"] = Keys { object: o }"#,
+    r#"["weakref","x","y"] = WeakRef { to: x, target: y }"#,
+    r#"["deref","x","w"] = Deref { to: x, weakref: w }"#,
+    r#"["weakmap","m"] = WeakMap { to: m }"#,
+    r#"["wmset","m","k","y"] = WeakMapSet { map: m, key: k, from: y }"#,
+    r#"["wmget","x","m","k"] = WeakMapGet { to: x, map: m, key: k }"#,
+    r#"["wmhas","x","m","k"] = WeakMapHas { to: x, map: m, key: k }"#,
+    r#"["wmdelete","x","m","k"] = WeakMapDelete { to: x, map: m, key: k }"#,
+    r#"["weakset","s"] = WeakSet { to: s }"#,
+    r#"["wsadd","s","y"] = WeakSetAdd { set: s, member: y }"#,
+    r#"["wshas","x","s","y"] = WeakSetHas { to: x, set: s, member: y }"#,
+    r#"["wsdelete","x","s","y"] = WeakSetDelete { to: x, set: s, member: y }"#,
+    r#"["registry","r","c"] = FinalizationRegistry { to: r, callback: 1 }"#,
+    r#"["register","r","y","h"] = Register { registry: r, target: y, held: h, token: None }"#,
+    r#"["register","r","y","h","t"] = Register { registry: r, target: y, held: h, token: Some(t) }"#,
+    r#"["unregister","x","r","t"] = Unregister { to: x, registry: r, token: t }"#,
+    r#"["buffer","b",16384] = SharedArrayBuffer { to: b, words: 16384 }"#,
+    r#"["length","x","b"] = Length { to: x, buffer: b }"#,
+    r#"["sameblock","x","a","b"] = SameBlock { to: x, left: a, right: b }"#,
+    r#"["load","x","b",1] = Load { to: x, buffer: b, index: 1 }"#,
+    r#"["store","b",1,-2] = Store { buffer: b, index: 1, number: -2 }"#,
+    r#"["add","x","b",0,3] = Add { to: x, buffer: b, index: 0, number: 3 }"#,
+    r#"["post","other","x"] = Post { receiver: 1, from: x }"#,
+    r#"["collect"] = Collect"#,
+];
+
+#[test]
+fn each_command_is_read(rt: HostRuntime) -> Result<(), Fail> {
+    let alloc = rt.alloc();
+    for row in COMMANDS {
+        let (command, shown) = row.split_once(" = ").unwrap_or_default();
+        let text = format!(in alloc;
+            r#"{{"version":1,"agents":[{{"name":"main","callbacks":{{"c":[]}},"jobs":[{{"run":[{command},{command}]}}]}},{{"name":"other","callbacks":{{}},"jobs":[]}}]}}"#
+        )?;
+        let want = format!(in alloc; "main\ncallback c:\njob: {shown} {shown}\nother\n")?;
+        assert_eq!(rt; read(alloc, text.as_str())?.as_str(), want.as_str());
+    }
+    Ok(())
+}
+
+/// Plans that are written in an unusual way.
+const UNUSUAL: &[&str] = &[
+    // The keys `name` and `callbacks` with an escape, and twice.
+    r#"{"version":1,"agents":[{"n\u0061me":"a","callbacks":{},"jobs":[]}]}"#,
+    r#"{"version":1,"agents":[{"name":"a","c\u0061llbacks":{},"jobs":[]}]}"#,
+    r#"{"version":1,"agents":[{"name":"b","name":"a","callbacks":{},"jobs":[]}]}"#,
+    r#"{"version":1,"agents":[{"name":"a","callbacks":{"c":[]},"callbacks":{},"jobs":[]}]}"#,
+    // The key `agents` twice, and other keys whose first value is none that may stand there.
+    r#"{"version":1,"agents":[],"agents":[{"name":"a","callbacks":{},"jobs":[]}]}"#,
+    r#"{"version":2,"agents":[{"name":"a","callbacks":{},"jobs":[]}],"version":1}"#,
+    r#"{"version":1,"agents":[{"name":"a","callbacks":{},"jobs":[{"run":1,"run":[]}]}]}"#,
+];
+
+/// Texts that are no plans.
+const FAULTY: &[&str] = &[
+    "",
+    r#"{"version":1,"agents":[]}"#,
+    r#"{"version":2,"agents":[{"name":"a","callbacks":{},"jobs":[]}]}"#,
+    r#"{"version":1.0,"agents":[{"name":"a","callbacks":{},"jobs":[]}]}"#,
+    r#"{"agents":[{"name":"a","callbacks":{},"jobs":[]}]}"#,
+    r#"{"version":1}"#,
+    r#"{"version":1,"agents":[{"name":"a","callbacks":{},"jobs":[]}]"#,
+    r#"{"version":1,"agents":[{"name":"a","callbacks":{},"jobs":[]}]}}"#,
+    r#"{"version":1,"agents":[{"name":"a","callbacks":{},"jobs":[]}]} 1"#,
+    r#"{"version":1,"agents":[{"name":"a","callbacks":{},"jobs":[]},{"name":"a","callbacks":{},"jobs":[]}]}"#,
+    r#"{"version":1,"agents":[{"name":"1","callbacks":{},"jobs":[]}]}"#,
+    r#"{"version":1,"agents":[{"name":"a","callbacks":{}}]}"#,
+    r#"{"version":1,"agents":[{"name":"a","jobs":[]}]}"#,
+    r#"{"version":1,"agents":[{"callbacks":{},"jobs":[]}]}"#,
+    r#"{"version":1,"agents":[{"name":"a","callbacks":{},"jobs":[],"more":1}]}"#,
+    r#"{"version":1,"agents":[{"name":"a","callbacks":{"c":[["collect"]]},"jobs":[]}]}"#,
+    r#"{"version":1,"agents":[{"name":"a","callbacks":{},"jobs":[{}]}]}"#,
+    r#"{"version":1,"agents":[{"name":"a","callbacks":{},"jobs":[{"run":[],"on":["a","m"]}]}]}"#,
+    r#"{"version":1,"agents":[{"name":"a","callbacks":{},"jobs":[{"run":[["post","a","x"]]}]}]}"#,
+    r#"{"version":1,"agents":[{"name":"a","callbacks":{},"jobs":[{"run":[["registry","r","c"]]}]}]}"#,
+    r#"{"version":1,"agents":[{"name":"a","callbacks":{},"jobs":[{"run":[["let","x",-0]]}]}]}"#,
+    r#"{"version":1,"agents":[{"name":"a","callbacks":{},"jobs":[{"run":[["let","x",1.5]]}]}]}"#,
+    r#"{"version":1,"agents":[{"name":"a","callbacks":{},"jobs":[{"run":[["let","x",[]]]}]}]}"#,
+    r#"{"version":1,"agents":[{"name":"a","callbacks":{},"jobs":[{"run":[["other","x"]]}]}]}"#,
+];
+
+#[test]
+fn what_is_left_to_the_reader_of_values(rt: HostRuntime) -> Result<(), Fail> {
+    let alloc = rt.alloc();
+    for text in UNUSUAL {
+        assert_eq!(rt; read(alloc, text)?.as_str(), "Unusual", "{text}");
+    }
+    for text in FAULTY {
+        assert_eq!(rt; read(alloc, text)?.as_str(), "Unusual", "{text}");
+    }
+    Ok(())
+}
+
+/// What is called like a key stands in nobody's way.
+#[test]
+fn names_may_be_those_of_keys(rt: HostRuntime) -> Result<(), Fail> {
+    let read = read(
+        rt.alloc(),
+        r#"{"agents":[{"jobs":[{"run":[["get","name","callbacks","name"],["registry","r","name"]],"on":["name","on"]}],"name":"callbacks","callbacks":{"name":[["keys","name"]],"callbacks":[]}},{"name":"name","callbacks":{},"jobs":[]}],"version":1}"#,
+    )?;
+    assert_eq!(rt;
+        read.as_str(),
+        "\
+callbacks
+callback callbacks:
+callback name: Keys { object: name }
+on 1 on: Get { to: name, object: callbacks, key: name } FinalizationRegistry { to: r, callback: 2 }
+name
+"
+    );
+    Ok(())
+}
