@@ -52,7 +52,7 @@ input=$examples/gone.json
 expect "standard input" 0 "$examples/gone.report" "" run --turns
 input=/dev/null
 expect "a faulty plan" 1 "$room/nothing" "refused S4" check faulty.json
-expect "a missing file" 4 "$room/nothing" "cannot read" run missing.json
+expect "a missing file, explained" 4 "$room/nothing" "cannot read" explain missing.json
 before=$(ls -A "$clone/crates/clusterrun")
 expect "a word that is none" 2 "$room/nothing" "error: unrecognized subcommand 'walk'" walk
 [ "$before" = "$(ls -A "$clone/crates/clusterrun")" ] || failed=$((failed + 1))

@@ -123,6 +123,7 @@ each_growth 0 run "$examples/skipped.json" --turns
 each_growth 0 run "$examples/two_buffers.json" --turns
 each_growth 0 run "$examples/nobody_takes.json" --turns
 each_growth 0 check "$examples/refusals.json"
+each_growth 0 explain "$examples/refusals.json"
 
 # a chain of entries, a key of several WeakMaps that is a member of several WeakSets, and each of the nine
 # commands on them; a collection while only the chain's first key leads to the rest, and one after
@@ -174,6 +175,7 @@ each_growth 0 run "$room/blocks.json" --turns
 # a fault in the last command of the last agent, so that all before it is read
 sed 's/\["keys", "x"\]/["keys", "1x"]/' "$examples/agents.json" >"$room/faulty.json"
 each_growth 1 run "$room/faulty.json" --turns
+each_growth 1 explain "$room/faulty.json"
 
 # `check` takes no step of the plan: it makes as many growths for a plan that ends its job at once, by a
 # command that is refused, as for one that goes on with 50 objects. A run makes fewer for the former.

@@ -204,6 +204,63 @@ run check
 expect "check" 0 "$room/ok" ""
 run check "$room/plan.json"
 expect "check of a file" 0 "$room/ok" ""
+run explain
+expect "explain" 0 "$room/ok" ""
+run explain "$room/plan.json"
+expect "explain of a file" 0 "$room/ok" ""
+run explain "$room/missing.json"
+expect "explain of no file" 4 "$room/nothing" "cannot read"
+usage "two files, explained" explain a b
+usage "an option of run beside explain" explain --turns
+help explain explain --help
+# explained TEXT LINE..: what explain says of this text
+explained() {
+    printf %s "$1" >"$room/script"
+    text=$1
+    shift
+    printf '%s\n' "$@" >"$room/wanted"
+    run explain "$room/script"
+    expect "explain $text" 1 "$room/wanted" ""
+}
+# explained_agent PARTS LINE..: the same of a plan of one agent with these callbacks and jobs
+explained_agent() {
+    parts=$1
+    shift
+    explained "{\"version\":1,\"agents\":[{\"name\":\"a\",$parts}]}" "$@"
+}
+name_fault="A name is not spelled as one, or an earlier agent has it."
+operand_fault="The command is unknown, or its operands are of a wrong number or JSON kind."
+explained '{"version":1' 'S1 ""' "The text is no JSON in UTF-8."
+explained '{"version":1}' 'S2 ""' "The value has not the shape of a plan." 'found {"version":1}'
+explained '{"version":2,"agents":[]}' 'S3 "/version"' "The version is not 1." "found 2"
+explained '{"version":1,"agents":[]}' 'S4 "/agents"' "A plan has 1 to 8 agents." "found []"
+explained '{"version":1,"agents":[{"name":"1","callbacks":{},"jobs":[]}]}' 'S5 "/agents/0/name"' "$name_fault" 'found "1"'
+explained_agent '"callbacks":{"b/c":[]},"jobs":[]' 'S5 "/agents/0/callbacks/b~1c"' "$name_fault" 'found "b/c"'
+explained_agent '"callbacks":{"a":[],"~~1\n\"é":[]},"jobs":[]' 'S5 "/agents/0/callbacks/~0~01\n\"é"' "$name_fault" \
+    'found "~~1\n\"é"'
+explained_agent '"callbacks":{},"jobs":[{"run":[]},{"on":["b","1"],"run":[]}]},{"name":"b","callbacks":{},"jobs":[]' \
+    'S5 "/agents/0/jobs/1/on"' "$name_fault" 'found ["b","1"]'
+explained_agent '"callbacks":{},"jobs":[{"on":["b","x"],"run":[]}]' 'S6 "/agents/0/jobs/0/on"' \
+    "No callback, or no other agent, has this name." 'found ["b","x"]'
+explained_agent '"callbacks":{},"jobs":[{"run":[]},{"run":[["new","a"],["nwe","b"]]}]' 'S7 "/agents/0/jobs/1/run/1"' \
+    "$operand_fault" 'found ["nwe","b"]'
+explained_agent '"callbacks":{},"jobs":[{"run":[["let","a",9007199254740992]]}]' 'S8 "/agents/0/jobs/0/run/0"' \
+    "A number or a text is outside what a plan may have." 'found ["let","a",9007199254740992]'
+explained_agent '"callbacks":{"b":[],"c":[["new","x"],["collect"]]},"jobs":[]' 'S9 "/agents/0/callbacks/c/1"' \
+    "A callback may not collect." 'found ["collect"]'
+explained_agent '"callbacks":{},"jobs":[{"run":[["buffer","b",16385]]}]' 'S10 "/agents/0/jobs/0/run/0"' \
+    "There are more callbacks, jobs, commands or words than the limits allow." 'found ["buffer","b",16385]'
+explained_agent '"callbacks":{},"jobs":[{"run":[["abcdefghijklmnopqrstuvwxyzabcdefghijklmnopqrstuvwxyzabcd"]]}]' \
+    'S7 "/agents/0/jobs/0/run/0"' "$operand_fault" 'found ["abcdefghijklmnopqrstuvwxyzabcdefghijklmnopqrstuvwxyzabcd"]'
+explained_agent '"callbacks":{},"jobs":[{"run":[["abcdefghijklmnopqrstuvwxyzabcdefghijklmnopqrstuvwxyzabcde"]]}]' \
+    'S7 "/agents/0/jobs/0/run/0"' "$operand_fault" 'found ["abcdefghijklmnopqrstuvwxyzabcdefghijklmnopqrstuvwxyzabcde"..'
+# a letter of two bytes of which the second is byte 60, 61 and 62
+explained_agent '"callbacks":{},"jobs":[{"run":[["abcdefghijklmnopqrstuvwxyzabcdefghijklmnopqrstuvwxyzabcdé.."]]}]' \
+    'S7 "/agents/0/jobs/0/run/0"' "$operand_fault" 'found ["abcdefghijklmnopqrstuvwxyzabcdefghijklmnopqrstuvwxyzabcdé..'
+explained_agent '"callbacks":{},"jobs":[{"run":[["abcdefghijklmnopqrstuvwxyzabcdefghijklmnopqrstuvwxyzabcdeé."]]}]' \
+    'S7 "/agents/0/jobs/0/run/0"' "$operand_fault" 'found ["abcdefghijklmnopqrstuvwxyzabcdefghijklmnopqrstuvwxyzabcde..'
+explained_agent '"callbacks":{},"jobs":[{"run":[["abcdefghijklmnopqrstuvwxyzabcdefghijklmnopqrstuvwxyzabcdefé"]]}]' \
+    'S7 "/agents/0/jobs/0/run/0"' "$operand_fault" 'found ["abcdefghijklmnopqrstuvwxyzabcdefghijklmnopqrstuvwxyzabcdef..'
 usage "another word" fly
 usage "help as a word" help
 usage "two dashes alone" --
@@ -283,6 +340,10 @@ if [ "$program" = "$top/crates/clusterrun/out/clusterrun" ]; then
     (cd "$room" && "$top/clusterrun" run plan.json) >"$room/out" 2>"$room/err"
     got=$?
     expect "the script at the top, from another folder" 0 "$room/report" ""
+    "$top/clusterrun" --help >"$room/out" 2>"$room/err"
+    got=$?
+    grep -q "clusterrun prove" "$room/out" || got="$got without 'clusterrun prove'"
+    expect "the script's own word in its help" 0 - ""
 fi
 
 # Scripts

@@ -1,6 +1,11 @@
 -- Internal: what the program knows of its reader once a run has ended.
-use Rattle.std.specs.Prelude.{ℕ, ◌≡◌, ⊤, List, Option, Some, Result, Ok, Err}
+use Rattle.std.specs.Prelude.{ℕ, ◌≡◌, ⊤, List, Option, Some, None, Result, Ok, Err}
+use Rattle.std.specs.Io.KnownBytes.{Appends}
+use Rattle.es_reading.specs.declared.fault.ScriptFault.{ScriptFault}
 use Rattle.es_script.specs.Fault.{fault_of}
+use Rattle.es_explain.specs.declared.explanation.Explanation.{Explanation}
+use Rattle.es_explain.specs.declared.explanation.Explanation.TheVariants.{Plan as IsPlan, Fault}
+use Rattle.es_explain.specs.Explaining.{Explains, explanation_text}
 use Rattle.es_engine.specs.declared.run_fault.RunFault.{RunFault}
 use Rattle.es_engine.specs.declared.run_fault.RunFault.TheVariants.{Script, NoMemory, Mismatch, Read, Write}
 use Rattle.es_options.specs.declared.options.Options.{Options}
@@ -14,3 +19,14 @@ ReadsTo options old new (Err NoMemory) = ⊤
 ReadsTo options old new (Err Mismatch) = GaveSomePlan old new
 ReadsTo options old new (Err Read) = ⊤
 ReadsTo options old new (Err Write) = ⊤
+
+-- the fault of an explanation
+abbrev pub fault_in : Explanation → Option ScriptFault
+fault_in IsPlan = None
+fault_in (Fault fault place found) = Some fault
+
+-- the reader gave bytes that the explanation explains, whose text was added to what the writer holds; else nothing is known
+abbrev pub ExplainsTo : (old new : Option (List ℕ)) (before after : Option (List ℕ)) → Result (Option ScriptFault) RunFault → Type 0
+ExplainsTo old new before after (Ok f) =
+    (bytes : List ℕ) × GaveAll old new bytes × (e : Explanation) × Explains bytes e × (f ≡ fault_in e) × Appends before after (explanation_text e)
+ExplainsTo old new before after (Err fault) = ⊤

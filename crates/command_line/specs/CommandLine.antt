@@ -1,5 +1,5 @@
 -- To believe: the command line. Which words stand for which argument of it is clap's to say.
-use Rattle.std.specs.Prelude.{ℕ, ◌≡◌, ◌<◌, ◌^◌, min, max, Bool, true, false, pos, List, Option, Some, None, codes}
+use Rattle.std.specs.Prelude.{ℕ, ◌≡◌, ◌<◌, ◌≤◌, ◌^◌, min, max, Bool, true, false, pos, List, Option, Some, None, codes}
 use Rattle.std.specs.Str.{bytes_eq}
 use Rattle.std.specs.Str.Parse.{IsNumeral, digits_value, without_leading_plus}
 use Rattle.clap.specs.Words.{App, Row, Rule, Text, first_of, new_app, new_rule, one_of, with_rule, with_subcommand}
@@ -9,6 +9,8 @@ use Rattle.clap.specs.declared.builder.command.Command.TheViews.{out-Command}
 use Rattle.clap.specs.declared.builder.action.ArgAction.TheVariants.{Set, SetTrue}
 use Rattle.clap.specs.declared.builder.value_parser.ValueParser.TheVariants.{Signed}
 use Rattle.es_options.specs.declared.options.Options.{Options}
+use Rattle.command_line.specs.declared.request.Request.{Request}
+use Rattle.command_line.specs.declared.request.Request.TheVariants.{Run, Explain}
 
 -- Its arguments
 
@@ -34,12 +36,15 @@ run_line =
 abbrev pub check_line : App
 check_line = with_rule (new_app (codes "check")) file_rule
 
+abbrev pub explain_line : App
+explain_line = with_rule (new_app (codes "explain")) file_rule
+
 abbrev pub top_line : App
 top_line = on_top (λ s. record s { disable_help_subcommand = true; subcommand_required = true; has_version = true }) (new_app (codes "clusterrun"))
 
--- `clusterrun run` and `clusterrun check`
+-- `clusterrun run`, `clusterrun check` and `clusterrun explain`
 abbrev pub command_line : App
-command_line = with_subcommand (with_subcommand top_line run_line.top) check_line.top
+command_line = with_subcommand (with_subcommand (with_subcommand top_line run_line.top) check_line.top) explain_line.top
 
 -- it has no argument that its subcommands have too
 abbrev pub IsLocal : Command → Type 0
@@ -70,12 +75,29 @@ abbrev pub AsksOptions : Bool → List Row → Options → Type 0
 AsksOptions true rows o = o ≡ record { check = true; turns = false; helpers = 1; watch = 0 }
 AsksOptions false rows o = AsksRun (λ id. one_of id rows) o
 
--- the command of this name, with what was found for its arguments, asks for these options and this file
-pub record Asks (name : Text) (rows : List Row) (o : Options) (file : Option Text) : Type 0 where
-  pub options : AsksOptions (bytes_eq name (codes "check")) rows o
+-- the words explain, or else a run's or a check's options
+abbrev pub AsksRequest : Bool → Text → List Row → Request → Type 0
+AsksRequest true name rows r = r ≡ Explain
+AsksRequest false name rows Explain = ⊥
+AsksRequest false name rows (Run o) = AsksOptions (bytes_eq name (codes "check")) rows o
+
+-- the command of this name, with what was found for its arguments, asks for this and this file
+pub record Asks (name : Text) (rows : List Row) (r : Request) (file : Option Text) : Type 0 where
+  pub request : AsksRequest (bytes_eq name (codes "explain")) name rows r
   pub file_is : file ≡ first_of (codes "FILE") rows
 
 -- no command asks for a plain run
-abbrev pub IsAsked : Option (Text × List Row) → Options → Option Text → Type 0
-IsAsked None o file = (o ≡ record { check = false; turns = false; helpers = 1; watch = 0 }) × (file ≡ None)
-IsAsked (Some found) o file = Asks found.0 found.1 o file
+abbrev pub IsAsked : Option (Text × List Row) → Request → Option Text → Type 0
+IsAsked None r file = (r ≡ Run (record { check = false; turns = false; helpers = 1; watch = 0 })) × (file ≡ None)
+IsAsked (Some found) r file = Asks found.0 found.1 r file
+
+-- a check has no other option, and the two numbers are within their bounds
+pub record IsBound (o : Options) : Type 0 where
+  pub check : o.check ≡ true → o ≡ record { check = true; turns = false; helpers = 1; watch = 0 }
+  pub fewest : 1 ≤ o.helpers
+  pub most : o.helpers ≤ 8
+  pub watch : o.watch ≤ 1000
+
+abbrev pub KeepsBounds : Request → Type 0
+KeepsBounds (Run o) = IsBound o
+KeepsBounds Explain = Unit {0}

@@ -16,7 +16,7 @@ const PIECE: usize = 65_536;
 ///
 /// Fails where the reader fails or gives more bytes than a plan has at most, or where there is no
 /// memory. Then some bytes are taken from the reader.
-pub(crate) fn read_all<R: Read>(alloc: Global, reader: &mut R) -> Result<Vec<u8>, RunFault>
+pub fn read_all<R: Read>(alloc: Global, reader: &mut R) -> Result<Vec<u8>, RunFault>
     ensures all { IfOk result (λ bytes. GaveAll (R.remaining reader.old) (R.remaining reader.new) bytes.items) }
     ensures fault { IfErr result IsInputFault }
 {

@@ -1,0 +1,121 @@
+//! What there is to say of a plan's text.
+
+ghost use Rattle.std.specs.Prelude.{◌≡◌, option_map, string_bytes, IfOk, OnOk};
+ghost use Rattle.std.specs.Io.KnownBytes.{Appends};
+ghost use Rattle.serde_json.specs.Data.{string};
+ghost use Rattle.serde_json.specs.View.{view};
+ghost use Rattle.serde_json.specs.Written.{compact_text};
+ghost use Rattle.es_script.specs.Fault.{json_value};
+ghost use Rattle.es_explain.specs.Explaining.{Explains, explanation_text, fault_lines, found_line};
+ghost use Rattle.es_explain.specs.Told.{Tells};
+
+use crate::found::found_at;
+use crate::pointer::pointer_of;
+use crate::sentence::write_sentence;
+use es_reading::{FaultCode, ReadFault, ScriptFault};
+use es_script::read_plan;
+use es_value::NoMemory;
+use serde_json::Value;
+use std::alloc::{AllocError, Global};
+use std::io;
+use std::io::Write;
+
+/// What a plan's text is, for people.
+#[derive(Debug, Drop)]
+pub enum Explanation {
+    /// A plan.
+    Plan,
+    /// It has a fault.
+    Fault {
+        /// What is wrong.
+        fault: ScriptFault,
+        /// Where: a JSON Pointer (RFC 6901), in quotation marks, as JSON has a text.
+        place: String,
+        /// What was found there: JSON on one line, cut at 60 bytes. It is empty where the text is no JSON.
+        found: String,
+    },
+}
+
+/// What there is to say of a text: that it is a plan, or its first fault (`docs/PLANS.md`, Faults of a
+/// plan), where that is, and what was found there. Fails for want of memory alone.
+pub fn explained(alloc: Global, bytes: &[u8]) -> Result<Explanation, NoMemory>
+    ensures { IfOk result (Explains bytes.now) }
+{
+    match read_plan(alloc, bytes) {
+        Ok(_) => Ok(Explanation::Plan),
+        Err(ReadFault::Script(fault)) => told(alloc, bytes, fault),
+        Err(ReadFault::NoMemory) => Err(NoMemory),
+    }
+}
+
+fn told(alloc: Global, bytes: &[u8], fault: ScriptFault) -> Result<Explanation, NoMemory>
+    ensures { IfOk result (Tells (json_value bytes.now) fault) }
+{
+    let value = value_of(alloc, bytes)?;
+    let pointer = pointer_of(alloc, value.as_ref(), fault)?;
+    let found = found_at(alloc, value.as_ref(), pointer.as_str(), fault)?;
+    let place = quoted(alloc, pointer)?;
+    Ok(Explanation::Fault {
+        fault,
+        place,
+        found,
+    })
+}
+
+/// A text as JSON has it, in quotation marks.
+fn quoted(alloc: Global, text: String) -> Result<String, AllocError>
+    ensures { IfOk result (λ s. string_bytes s ≡ compact_text (string (string_bytes text))) }
+{
+    Value::String(text).to_string(alloc)
+}
+
+/// The value of a JSON text, if it is one.
+fn value_of(alloc: Global, bytes: &[u8]) -> Result<Option<Value>, NoMemory>
+    ensures { IfOk result (λ o. option_map view o ≡ json_value bytes.now) }
+{
+    match Value::from_slice(alloc, bytes) {
+        Ok(value) => Ok(Some(value)),
+        Err(error) if error.is_memory() => Err(NoMemory),
+        Err(_) => Ok(None),
+    }
+}
+
+/// Writes an explanation, which takes no memory: `ok`; or a line with the fault's code and place, one with
+/// its sentence, and where something was found a third with that. Fails where the writer does, and part of
+/// it may be written then.
+pub fn write_explanation<W: Write>(
+    explanation: &Explanation,
+    writer: &mut W,
+) -> Result<(), io::Error>
+    ensures { OnOk result (Appends (W.contents writer.old) (W.contents writer.new) (explanation_text explanation.now)) }
+{
+    match explanation {
+        Explanation::Plan => writer.write_all(b"ok\n"),
+        Explanation::Fault {
+            fault,
+            place,
+            found,
+        } => {
+            write_fault(fault.code, place.as_str(), writer)?;
+            write_found(found.as_str(), writer)
+        }
+    }
+}
+
+fn write_fault<W: Write>(code: FaultCode, place: &str, writer: &mut W) -> Result<(), io::Error>
+    ensures { OnOk result (Appends (W.contents writer.old) (W.contents writer.new) (fault_lines code place.now)) }
+{
+    let number = code.number();
+    writeln!(writer, "S{number} {place}")?;
+    write_sentence(code, writer)?;
+    writer.write_all(b"\n")
+}
+
+fn write_found<W: Write>(found: &str, writer: &mut W) -> Result<(), io::Error>
+    ensures { OnOk result (Appends (W.contents writer.old) (W.contents writer.new) (found_line found.now)) }
+{
+    if found.is_empty() {
+        return writer.write_all(b"");
+    }
+    writeln!(writer, "found {found}")
+}
