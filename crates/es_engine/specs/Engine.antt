@@ -1,18 +1,13 @@
 -- To believe: what a run does, on bytes: the reader's bytes to its end, and what is written for them.
-use Rattle.std.specs.Prelude.{ℕ, ◌≡◌, ◌≤◌, ◌||◌, ⊤, Bool, true, false, not, List, Option, Some, Result, Ok, Err, length, codes, if◌then◌else◌}
+use Rattle.std.specs.Prelude.{ℕ, ◌≡◌, ◌≤◌, ◌||◌, ⊤, Bool, true, false, not, List, Option, Some, Result, Ok, Err, length, if◌then◌else◌}
 use Rattle.std.specs.Io.KnownBytes.{Appends, Consumes, IsAtEnd}
 use Rattle.es_value.specs.Limits.{longest_plan}
-use Rattle.es_event.specs.declared.outcome.Outcome.{Outcome}
 use Rattle.es_event.specs.declared.plan.Plan.{Plan}
-use Rattle.es_event.specs.Report.{report}
 use Rattle.es_options.specs.declared.options.Options.{Options}
-use Rattle.es_cluster.specs.Ends.{EndsIn}
-use Rattle.es_cluster.specs.Moves.{RunsToEnd}
-use Rattle.es_cluster.specs.State.{Cluster, first_state}
-use Rattle.es_outcome.specs.Outcomes.{IsClusterOutcome}
 use Rattle.es_engine.specs.declared.run_fault.RunFault.{RunFault}
 use Rattle.es_engine.specs.declared.run_fault.RunFault.TheVariants.{Script, NoMemory, Mismatch, Read, Write}
 use Rattle.es_script.specs.Fault.{IsPlanOf, fault_of}
+use Rattle.es_turns.specs.Answer.{IsAnswer}
 
 -- the reader gave these bytes and then its end, and they are no more than a plan has at most
 pub record GaveAll (old new : Option (List ℕ)) (bytes : List ℕ) : Type 0 where
@@ -35,21 +30,6 @@ IsAnswerFault threads NoMemory = ⊤
 IsAnswerFault threads Mismatch = threads ≡ true
 IsAnswerFault threads Read = ⊥
 IsAnswerFault threads Write = ⊤
-
--- the outcome is that of the plan's run by turns: from its first state by moves, each of the lowest-numbered agent that can move, to
--- the end of all agents
-abbrev pub IsByTurns : Plan → Outcome → Type 0
-IsByTurns p o = (c : Cluster) × RunsToEnd (first_state p) c × EndsIn c o
-
--- how the agents ran: by turns, or in any order
-abbrev pub RanBy : (turns : Bool) → Plan → Outcome → Type 0
-RanBy true p o = IsByTurns p o
-RanBy false p o = ⊤
-
--- `ok` where the plan is only checked, and else the report of an outcome of its cluster, by turns where that was asked for
-abbrev pub IsAnswer : (check turns : Bool) → Plan → List ℕ → Type 0
-IsAnswer true turns p text = text ≡ codes "ok\n"
-IsAnswer false turns p text = (o : Outcome) × IsClusterOutcome p o × RanBy turns p o × (text ≡ report o)
 
 -- the answer for the plan is added to what the writer holds
 abbrev pub Answers : Options → Plan → Option (List ℕ) → Option (List ℕ) → Type 0

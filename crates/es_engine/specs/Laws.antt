@@ -1,9 +1,9 @@
--- To believe: what is said of answers as a whole; each is the contract of a function that does nothing.
+-- To believe: what is said of answers as a whole; the contract of a function that does nothing.
 use Rattle.std.specs.Prelude.{ℕ, ◌≡◌, Bool, true, List}
 use Rattle.std.specs.List.{list_all}
 use Rattle.es_event.specs.declared.plan.Plan.{Plan}
 use Rattle.es_event.specs.Jobs.{stays_alone}
-use Rattle.es_engine.specs.Engine.{IsAnswer}
+use Rattle.es_turns.specs.Answer.{IsAnswer}
 
 -- each agent stays alone: it neither posts nor waits for messages, and has no shared buffer
 abbrev pub stay_alone : Plan → Bool
@@ -13,7 +13,3 @@ stay_alone p = list_all stays_alone p.agents
 abbrev pub APlanHasOneAnswer : Type 0
 APlanHasOneAnswer =
     (check a b : Bool) (plan : Plan) (s t : List ℕ) → stay_alone plan ≡ true → IsAnswer check a plan s → IsAnswer check b plan t → s ≡ t
-
--- By turns each plan has one answer, with messages and shared buffers too.
-abbrev pub ByTurnsAPlanHasOneAnswer : Type 0
-ByTurnsAPlanHasOneAnswer = (check : Bool) (plan : Plan) (s t : List ℕ) → IsAnswer check true plan s → IsAnswer check true plan t → s ≡ t

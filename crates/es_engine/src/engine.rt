@@ -67,7 +67,7 @@ fn answer<H: AllocGlobal + Threads + Wait + Sync, W: Write>(
         writer.write_all(b"ok\n").map_err(|_| RunFault::Write)?;
         return Ok(0);
     }
-    let ended = run_plan(rt, rt.alloc(), plan, options)?;
+    let (ended, audits) = run_plan(rt, rt.alloc(), plan, options)?;
     write_report(
         &ended.outcome,
         ended.tallies.as_slice(),
@@ -75,5 +75,5 @@ fn answer<H: AllocGlobal + Threads + Wait + Sync, W: Write>(
         writer,
     )
     .map_err(|_| RunFault::Write)?;
-    Ok(ended.audits)
+    Ok(audits)
 }

@@ -1,8 +1,8 @@
 use Rattle.std.proofs.Common.{subst}
 use Rattle.es_cluster.specs.Moves.{RunsToEnd}
 use Rattle.es_cluster.proofs.Beginning.{starts_quiet}
-use Rattle.es_engine.proofs.Whole.{outcome_of, plans_are, tallies_of_outcome}
-use Rattle.es_engine.proofs.cluster.run_cluster.Goals as goal
+use Rattle.es_turns.proofs.Whole.{outcome_of, plans_are, tallies_of_outcome}
+use Rattle.es_turns.proofs.by_turns.run_cluster.Goals as goal
 
 pub run_to_end-requires : goal.run_to_end-requires
 run_to_end-requires g c = starts_quiet c.args.plan c.in_ok-cluster.cluster c.in_ok-cluster.ensures c.requires.quiet

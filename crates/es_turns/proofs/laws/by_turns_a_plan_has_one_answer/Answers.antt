@@ -1,7 +1,7 @@
 use Rattle.std.proofs.Common.{true, false, sym, ◌∙◌}
 use Rattle.es_replay.proofs.Ends.{one_end}
 use Rattle.es_replay.proofs.Telling.{same_report}
-use Rattle.es_engine.proofs.laws.by_turns_a_plan_has_one_answer.Goals as goal
+use Rattle.es_turns.proofs.laws.by_turns_a_plan_has_one_answer.Goals as goal
 
 pub returns : goal.returns
 returns c true plan s t first second = first ∙ sym second

@@ -1,0 +1,4 @@
+pub mod Faults
+pub mod Answer
+pub mod Laws
+pub mod Failing

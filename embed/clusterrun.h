@@ -1,0 +1,116 @@
+/* The engine of clusterrun as a C library: the bytes of a plan in, the bytes of its report out.
+
+   A plan is JSON, and a report is text; docs/PLANS.md says how both are written. The agents of a plan run by turns in
+   the thread that calls, and each plan has one report by turns. `./clusterrun library` makes libclusterrun.a, which
+   stands beside this file:
+
+       cc -o run embed/run.c embed/libclusterrun.a
+
+   There are two ways. clusterrun_run and clusterrun_check write the text of the answer into memory of the caller's, as
+   much of it as there is room for. clusterrun_keep_run and clusterrun_keep_check keep it, however long it is, until the
+   caller has copied it and gives it up; so no plan is run twice.
+
+   Memory. A plan, and what a function writes to, belongs to the caller before and after the call; the library keeps no
+   pointer to it. What a call takes for its own work it takes by malloc and realloc, and has given back by free when
+   it returns, whatever it answers. Only a `struct clusterrun_answer` owns memory between calls.
+
+   Threads. The library itself keeps nothing from one call to the next, and a call starts no thread and takes no lock.
+   So calls may be made from several threads at the same time, each with memory of its own to write to. An answer that
+   is kept stays with the thread that made it. No call may be made from a signal handler, nor in a child that was
+   forked from a process with threads.
+
+   What the caller owes, since nothing checks it:
+   - No pointer is NULL, not even one to 0 bytes.
+   - What a call writes to overlaps nothing else that is passed, and no other thread touches it, or writes to the plan,
+     during the call.
+   - `*length` has some value before the call, and the `room` bytes at `out` have been written to, as by calloc.
+   - A `struct clusterrun_answer` is handled as is said with it.
+   - malloc, realloc and free are those of one allocator, and align as C says. */
+#ifndef CLUSTERRUN_H
+#define CLUSTERRUN_H
+
+#include <stdbool.h>
+#include <stddef.h>
+#include <stdint.h>
+
+#ifdef __cplusplus
+extern "C" {
+#endif
+
+/* What a call answers: its status, which is the program's. */
+enum {
+    /* All went well. The text is the report, or "ok" and a line end where the plan was only checked. */
+    CLUSTERRUN_DONE = 0,
+    /* The plan has a fault. The text names the first one, as "refused S7 agent 0 job 1 command 1", without a line end. */
+    CLUSTERRUN_REFUSED = 1,
+    /* There was not memory enough. There is no text. */
+    CLUSTERRUN_NO_MEMORY = 3,
+    /* The plan has more than 4,294,967,295 bytes. There is no text. */
+    CLUSTERRUN_TOO_LONG = 4
+};
+
+/* Runs a plan.
+
+   The text of the answer goes to the front of `out`, as much of it as there is room for, and its whole length in
+   bytes to `*length`; no zero byte follows it. What lies behind it in `out` is unchanged. Where there is no text, all
+   of `out` is unchanged, and `*length` is 0.
+
+   So the text is whole exactly where `*length <= room`. Where it is not, call again with `*length` bytes of room: the
+   plan is then run once more, to the same report. */
+uint32_t clusterrun_run(const uint8_t *plan, size_t plan_length, uint8_t *out, size_t room, size_t *length);
+
+/* Checks a plan and does not run it. All else is as with clusterrun_run. */
+uint32_t clusterrun_check(const uint8_t *plan, size_t plan_length, uint8_t *out, size_t room, size_t *length);
+
+/* The text of an answer that is kept, where it is filled; else it owns nothing. It begins with zeros:
+
+       struct clusterrun_answer answer = {0};
+
+   No more than one copy of a filled one may be used, as with the pointer that malloc gives: a function that takes it by
+   value takes its text over. `at` is the library's own. */
+struct clusterrun_answer {
+    bool filled;
+    uint8_t *at;
+};
+
+/* Runs a plan, and keeps the text of the answer in `*answer`, which is not filled before the call. The whole length in
+   bytes goes to `*length`. With the statuses 0 and 1 the answer is filled then; with the others there is no text, `*length`
+   is 0 and `*answer` unchanged. */
+uint32_t clusterrun_keep_run(const uint8_t *plan, size_t plan_length, struct clusterrun_answer *answer, size_t *length);
+
+/* Checks a plan and does not run it. All else is as with clusterrun_keep_run. */
+uint32_t clusterrun_keep_check(const uint8_t *plan, size_t plan_length, struct clusterrun_answer *answer, size_t *length);
+
+/* Puts what the text of `answer`, which is filled, has from the byte `place` on, counted from 0, to the front of `out`, as
+   much of it as there is room for. Gives how many bytes the text has from there on: 0 where it ends before. What lies
+   behind it in `out` is unchanged. The text goes over to `*next`, which is not filled before the call and is filled then;
+   `answer` may not be used any more. The call cannot fail. */
+size_t clusterrun_kept_part(
+    struct clusterrun_answer answer, size_t place, uint8_t *out, size_t room, struct clusterrun_answer *next);
+
+/* Gives up the text of `answer`, which is filled, with its memory. It may not be used any more. */
+void clusterrun_kept_free(struct clusterrun_answer answer);
+
+/* The same in place: copies a part of the text of `*answer`, which is filled and stays so. */
+static inline size_t clusterrun_copy(struct clusterrun_answer *answer, size_t place, uint8_t *out, size_t room)
+{
+    struct clusterrun_answer next = {false, NULL};
+    size_t left = clusterrun_kept_part(*answer, place, out, room, &next);
+
+    *answer = next;
+    return left;
+}
+
+/* The same in place: gives up the text of `*answer`, where it is filled, and leaves it unfilled. */
+static inline void clusterrun_release(struct clusterrun_answer *answer)
+{
+    if (answer->filled)
+        clusterrun_kept_free(*answer);
+    answer->filled = false;
+}
+
+#ifdef __cplusplus
+}
+#endif
+
+#endif

@@ -1,0 +1,92 @@
+#!/bin/sh
+# The C library, from C and from Python: it is built over the libraries that the gate built, as `./clusterrun library`
+# builds it, and linked; then tests/library.c and tests/library.py, which say what they try.
+#
+# Usage: library.sh PROGRAM [COUNT SEED [ARCHIVE]]. COUNT is how many random plans there are, 300 without it; ARCHIVE is
+# an archive of es_library that is built already. The last line is 'N passed, M failed'.
+set -u
+
+program=$(readlink -f "$1")
+count=${2:-300}
+seed=${3:-1}
+top=$(dirname "$(dirname "$(readlink -f "$0")")")
+room=$(mktemp -d)
+trap 'rm -rf "$room"' EXIT
+archive=${4:-$room/libes_library.a}
+passed=0
+failed=0
+
+give_up() {
+    echo "FAILED: $1"
+    echo "0 passed, 1 failed"
+    exit 1
+}
+
+# The crates of the repository that the crate $1 names, one a line.
+named_by() { sed -n "s/^$1\( staticlib\)\{0,1\}: *//p" "$top/crates.txt" | tr ' ' '\n'; }
+
+# The gate proves the crate and leaves no archive, so the toolchain's compiler is called once more, which proves it again.
+# It finds each library where the gate left it.
+build() {
+    kit=$(dirname "$(rt doc)")
+    set -- --crate-name es_library src/lib.rt --extern std="$kit/rlibs/std.rlib" -L dependency="$kit/rlibs"
+    for crate in $(named_by es_library); do
+        set -- "$@" --extern "$crate=$top/crates/$crate/out/rlib/$crate.rlib"
+    done
+    for folder in "$top"/crates/*/out/rlib; do
+        set -- "$@" -L dependency="$folder"
+    done
+    (cd "$top/crates/es_library" && "$kit/bin/rattle" build "$@" --antt-project "$kit/rattle/logic/antt-project.json" \
+        --logic-built "$kit/logic_built" --jobs 1 --links es_library= --crate-type staticlib \
+        --toolchain "$kit/toolchain" --backend llvm -o "$archive") >"$room/built" 2>&1 && return
+    tail -n 20 "$room/built"
+    return 1
+}
+
+# Runs a test, shows what it says, and adds its numbers.
+try() {
+    name=$1
+    shift
+    "$@" >"$room/said" 2>&1
+    status=$?
+    sed '$d' "$room/said"
+    numbers=$(tail -n 1 "$room/said" | sed -n 's/^\([0-9][0-9]*\) passed, \([0-9][0-9]*\) failed$/\1 \2/p')
+    if [ -z "$numbers" ]; then
+        tail -n 1 "$room/said"
+        echo "FAILED: $name did not say how many passed, and ended with status $status"
+        failed=$((failed + 1))
+        return
+    fi
+    passed=$((passed + ${numbers% *}))
+    failed=$((failed + ${numbers#* }))
+}
+
+[ -e "$archive" ] || build || give_up "the archive was not built"
+"$top/embed/make.sh" "$archive" "$room" >"$room/made" 2>&1 || { cat "$room/made"; give_up "the C library was not made"; }
+
+# It exports its calls and the heap's, and takes nothing but what any C library has.
+nm -g --defined-only "$room/libclusterrun.a" 2>/dev/null | awk '$2 == "T" { print $3 }' | sort >"$room/exported"
+printf '%s\n' clusterrun_check clusterrun_keep_check clusterrun_keep_run clusterrun_kept_free clusterrun_kept_part \
+    clusterrun_run rattle_alloc rattle_dealloc rattle_realloc >"$room/wanted"
+nm -u "$room/libclusterrun.a" 2>/dev/null | awk '$1 == "U" { print $2 }' | sort -u >"$room/taken"
+printf '%s\n' free malloc memcpy memmove memset rattle_alloc rattle_dealloc rattle_realloc realloc >"$room/allowed"
+if cmp -s "$room/exported" "$room/wanted" && [ -z "$(comm -23 "$room/taken" "$room/allowed")" ]; then
+    passed=$((passed + 1))
+else
+    failed=$((failed + 1))
+    echo "FAILED: the library exports $(paste -s -d ' ' "$room/exported") and takes $(paste -s -d ' ' "$room/taken")"
+fi
+
+flags="-std=c11 -O2 -Wall -Wextra -Werror"
+compiler=${CC:-cc}
+# shellcheck disable=SC2086
+"$compiler" $flags -pedantic -o "$room/run" "$top/embed/run.c" "$room/libclusterrun.a" || give_up "embed/run.c was not compiled"
+# shellcheck disable=SC2086
+"$compiler" $flags -D_GNU_SOURCE -o "$room/library" "$top/tests/library.c" "$room/libclusterrun.a" \
+    -Wl,--wrap=malloc,--wrap=realloc,--wrap=free || give_up "tests/library.c was not compiled"
+
+printf '{"version":1,"agents":[{"name":"a","callbacks":{},"jobs":[{"run":[["new","o"],["get","x","o"]]}]}]}' >"$room/faulty.json"
+try library.c "$room/library" "$top"/examples/*.json "$room/faulty.json"
+try library.py "$top/tests/library.py" "$program" "$room" "$count" "$seed"
+echo "$passed passed, $failed failed"
+[ "$failed" -eq 0 ]
