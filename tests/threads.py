@@ -7,7 +7,7 @@ The gate runs 300 of the first; more of them, and the second, are run by hand. E
 `N passed, M failed` last. A run that has not ended after a minute has failed.
 
 The first tries COUNT random plans, N of them at a time (1), and prints how many had what. Each is run by turns, in
-threads, and in threads beside a watcher, who makes a number of audits that is drawn too. Status, report and what stands
+threads, and in threads beside a watcher, who makes a number of audits that is drawn too, as is that of the helpers. Status, report and what stands
 on standard error must be the same, but for the line `audits K`, which must stand there after a watched run that went
 well. The plan of a number is the same for each N.
 
@@ -53,6 +53,7 @@ PAIRS = 5
 MOST_TIME = 1.5  # how many times the processors' time of the run by turns a run with one that waits may take
 MOST_STOLEN = 0.02  # the part of our processors' time that the host may take where times count
 AUDITS = [1, 2, 5, 20, 100, 1000]
+HELPERS = [1, 2, 3, 8]
 # where in a command the index is
 INDEX_AT = {word: uses.index("i") + 1 for word, uses in random_plans.USES.items() if "i" in uses}
 # what a plan may have, as what its report then has
@@ -151,9 +152,10 @@ def try_plan(program, seed, number):
     want = answer(program, data, "--turns")
     if not went_well(want):
         return f"plan {number} of seed {seed} by turns: {data!r}\n  got {want}", []
-    watched = ["--watch", str(audits)]
+    helpers = ["--helpers", str(rng.choice(HELPERS))]
+    watched = ["--watch", str(audits), *helpers]
     said = ""
-    for options, told in [([], want[2]), (watched, f"audits {audits}\n" if want[0] == 0 else want[2])]:
+    for options, told in [(helpers, want[2]), (watched, f"audits {audits}\n" if want[0] == 0 else want[2])]:
         got = answer(program, data, *options)
         if got != (*want[:2], told):
             words = " ".join(["in threads", *options])

@@ -14,9 +14,21 @@ use std::alloc::Global;
 
 /// What the graph answered last, kept so that its memory serves the next question too.
 #[derive(Drop)]
-struct Found {
-    ids: Vec<Id>,
-    entries: Vec<(Id, Value)>,
+pub struct Found {
+    /// Roots, or what an identity leads to.
+    pub ids: Vec<Id>,
+    /// Map and value of each entry with an identity as its key.
+    pub entries: Vec<(Id, Value)>,
+}
+
+impl Found {
+    /// Nothing was asked yet; it takes no memory.
+    pub fn new(alloc: Global) -> Found {
+        Found {
+            ids: Vec::new(alloc),
+            entries: Vec::new(alloc),
+        }
+    }
 }
 
 /// The least set that has the roots, what each of its members leads to, and the value of each
@@ -32,10 +44,7 @@ pub fn mark<G: Graph>(alloc: Global, graph: &G) -> Result<Marks, NoMemory>
 {
     let mut reached = Reached::new(alloc, graph.made())?;
     let mut waiting = Waiting::new(alloc);
-    let mut found = Found {
-        ids: Vec::new(alloc),
-        entries: Vec::new(alloc),
-    };
+    let mut found = Found::new(alloc);
     find_roots(graph, &mut found.ids)?;
     reached.add_all(found.ids.as_slice())?;
     let mut followed = 0;
@@ -49,7 +58,10 @@ pub fn mark<G: Graph>(alloc: Global, graph: &G) -> Result<Marks, NoMemory>
 
 /// Marks what the identity leads to, the value of each entry with it as the key whose map is
 /// marked, and what waited for it.
-fn follow<G: Graph>(
+///
+/// It fails where there is no memory for the list of what is marked, for what waits or for an answer
+/// of the graph.
+pub fn follow<G: Graph>(
     graph: &G,
     id: Id,
     reached: &mut Reached,
@@ -104,24 +116,27 @@ fn enter(entry: &(Id, Value), reached: &mut Reached, waiting: &mut Waiting) -> R
     waiting.add(entry.0, id)
 }
 
-/// Puts the roots into `found`, in place of what it had.
-fn find_roots<G: Graph>(graph: &G, found: &mut Vec<Id>) -> Result<(), NoMemory>
+/// Puts the roots into `found`, in place of what it had. It fails where
+/// `found` cannot grow.
+pub fn find_roots<G: Graph>(graph: &G, found: &mut Vec<Id>) -> Result<(), NoMemory>
     ensures { OnOk result (Finds (G.made_of graph.now) (G.has_roots graph.now) [] found.new.items) }
 {
     found.clear();
     graph.roots(found)
 }
 
-/// Puts what the identity leads to into `found`, in place of what it had.
-fn find_edges<G: Graph>(graph: &G, id: Id, found: &mut Vec<Id>) -> Result<(), NoMemory>
+/// Puts what the identity leads to into `found`, in place of what it had. It fails where
+/// `found` cannot grow.
+pub fn find_edges<G: Graph>(graph: &G, id: Id, found: &mut Vec<Id>) -> Result<(), NoMemory>
     ensures { OnOk result (Finds (G.made_of graph.now) (G.has_edges graph.now id) [] found.new.items) }
 {
     found.clear();
     graph.edges(id, found)
 }
 
-/// Puts the entries with the identity as their key into `found`, in place of what it had.
-fn find_entries<G: Graph>(graph: &G, id: Id, found: &mut Vec<(Id, Value)>) -> Result<(), NoMemory>
+/// Puts the entries with the identity as their key into `found`, in place of what it had. It fails where
+/// `found` cannot grow.
+pub fn find_entries<G: Graph>(graph: &G, id: Id, found: &mut Vec<(Id, Value)>) -> Result<(), NoMemory>
     ensures { OnOk result (FindsEntries (G.made_of graph.now) (G.has_entries graph.now id) [] found.new.items) }
 {
     found.clear();

@@ -1,6 +1,6 @@
 //! Values of entries whose map is not marked yet.
 
-ghost use Rattle.std.specs.Prelude.{◌≡◌, ◌++◌, ◌∷◌, ℕ, [], OnOk};
+ghost use Rattle.std.specs.Prelude.{◌≡◌, ◌++◌, ◌∷◌, ℕ, [], OnOk, IsTrue};
 ghost use Rattle.es_mark.specs.Waiting.{waiting_for, Waits};
 
 use es_value::{Id, NoMemory};
@@ -34,6 +34,14 @@ impl Waiting {
             alloc,
             lists: HashMap::new(alloc),
         }
+    }
+
+    /// Whether nothing waits.
+    #[tactic(auto, using(crate::proofs::Queues::waiting_of))]
+    pub fn is_empty(&self) -> bool
+        ensures { IsTrue result → (m : ℕ) → waiting_for self.now m ≡ [] }
+    {
+        self.lists.is_empty()
     }
 
     /// What waits for the map.

@@ -8,6 +8,7 @@
 mod auditing;
 mod cluster;
 mod gate;
+mod helpers;
 mod run;
 mod serving;
 

@@ -7,6 +7,7 @@ ghost use Rattle.es_outcome.specs.Outcomes.{IsClusterOutcome};
 
 use crate::cluster::Cluster;
 use crate::gate::Gate;
+use crate::helpers::Helpers;
 use crate::serving::run_all;
 use es_cluster::{ClusterCore, Member, Parts, Planned};
 use es_event::{Outcome, Plan};
@@ -20,7 +21,8 @@ use std::thread::Threads;
 
 /// Runs a plan, the first agent in the caller's thread and each other in one of its own, until all have
 /// ended. Each agent posts to other agents alone, and waits for messages of other agents alone. So many
-/// helpers may mark; none does yet.
+/// helpers mark what an agent reaches, at least 1 and at most 8: what they are asked for does not change
+/// the outcome.
 pub fn run_threads<G: Gate + Sync, R: Threads + Wait + Sync>(
     rt: &R,
     alloc: Global,
@@ -60,7 +62,7 @@ pub fn run_counted<G: Gate + Sync, R: Threads + Wait + Sync>(
     rt: &R,
     alloc: Global,
     plan: Plan,
-    _helpers: u8,
+    helpers: u8,
     watch: u32,
     gate: &G,
 ) -> Result<(Counted, u32), RunStop>
@@ -71,7 +73,8 @@ pub fn run_counted<G: Gate + Sync, R: Threads + Wait + Sync>(
     ensures audits { IfOk result (λ r. r.1 ≡ watch) }
 {
     let opened = Opened::new(alloc)?;
-    run_in::<Brand, G, R>(rt, alloc, opened, plan, watch, gate)
+    let helpers = Helpers::new(alloc, helpers);
+    run_in::<Brand, G, R>(rt, alloc, opened, plan, &helpers, watch, gate)
 }
 
 /// The run of the plan that L names.
@@ -80,6 +83,7 @@ fn run_in<L: Planned + Send + Sync, G: Gate + Sync, R: Threads + Wait + Sync>(
     alloc: Global,
     opened: Opened,
     plan: Plan,
+    helpers: &Helpers,
     watch: u32,
     gate: &G,
 ) -> Result<(Counted, u32), RunStop>
@@ -114,7 +118,7 @@ fn run_in<L: Planned + Send + Sync, G: Gate + Sync, R: Threads + Wait + Sync>(
         ledger: Mutex::new(ledger),
         arrived: Condvar::new(),
     };
-    let made = run_all(rt, alloc, &cluster, watch, gate);
+    let made = run_all(rt, alloc, &cluster, helpers, watch, gate);
     let Cluster {
         agents,
         ledger,

@@ -1,9 +1,11 @@
 //! The threads of a run: each agent's, and that of the watcher.
 
 ghost use Rattle.std.specs.Prelude.{◌<◌, vec_len};
+ghost use Rattle.std.specs.Thread.{IsSync};
 
 use crate::cluster::Cluster;
 use crate::gate::Gate;
+use crate::helpers::Helpers;
 use es_cluster::{Member, Planned, Progress};
 use es_event::LedgerEvent;
 use es_ledger::LedgerCore;
@@ -18,7 +20,7 @@ use std::thread::Threads;
 /// be woken takes longer than a few looks.
 const LOOKS: u32 = 50;
 
-impl<L: Planned> Cluster<L> {
+impl<L: Planned + Sync> Cluster<L> {
     /// Stops the run: no thread begins another event.
     fn stop<R: Wait>(&self, rt: &R, stopped: &AtomicBool) {
         // under the ledger's lock, so that who is about to wait sees it
@@ -29,7 +31,14 @@ impl<L: Planned> Cluster<L> {
     }
 
     /// An agent's thread: its turns, until it has ended or the run is stopped.
-    fn serve<G: Gate, R: Wait>(&self, rt: &R, agent: usize, stopped: &AtomicBool, gate: &G)
+    fn serve<G: Gate, R: Threads + Wait + Sync>(
+        &self,
+        rt: &R,
+        agent: usize,
+        helpers: &Helpers,
+        stopped: &AtomicBool,
+        gate: &G,
+    )
         requires { agent < vec_len self.now.agents }
     {
         let mut commands = 0;
@@ -37,7 +46,7 @@ impl<L: Planned> Cluster<L> {
             if stopped.load(Ordering::SeqCst) {
                 return;
             }
-            match self.turn(rt, agent, &mut commands, stopped, gate) {
+            match self.turn(rt, agent, helpers, &mut commands, stopped, gate) {
                 Ok(Progress::Moved | Progress::Waiting) => (),
                 Ok(Progress::Ended) => return,
                 Err(NoMemory) => {
@@ -49,10 +58,11 @@ impl<L: Planned> Cluster<L> {
     }
 
     /// One turn of an agent; where it waits on for a message, until it is woken.
-    fn turn<G: Gate, R: Wait>(
+    fn turn<G: Gate, R: Threads + Wait + Sync>(
         &self,
         rt: &R,
         agent: usize,
+        helpers: &Helpers,
         commands: &mut u64,
         stopped: &AtomicBool,
         gate: &G,
@@ -70,7 +80,7 @@ impl<L: Planned> Cluster<L> {
             return Ok(Progress::Moved);
         }
         // before the ledger's lock is taken, so that no other agent waits for the marking
-        let marks = member.marks()?;
+        let marks = helpers.marks(rt, member)?;
         let mut ledger = self.ledger.lock(rt);
         let core: &mut LedgerCore<L> = &mut ledger;
         let before = core.history().len();
@@ -179,6 +189,7 @@ pub(crate) fn run_all<L: Planned + Send + Sync, G: Gate + Sync, R: Threads + Wai
     rt: &R,
     alloc: Global,
     cluster: &Cluster<L>,
+    helpers: &Helpers,
     audits: u32,
     gate: &G,
 ) -> Option<u32> {
@@ -187,10 +198,11 @@ pub(crate) fn run_all<L: Planned + Send + Sync, G: Gate + Sync, R: Threads + Wai
     let (stopped, made) = (&flag, &count);
     thread::scope(thread::scope_env(), rt, |scope| {
         for agent in 1..cluster.agents.len() {
-            if scope
-                .spawn(move || cluster.serve(rt, agent, stopped, gate))
-                .is_err()
-            {
+            let served = move ||
+                requires place { agent < vec_len cluster.now.agents }
+                requires shared { IsSync L.row × IsSync R.row }
+            { cluster.serve(rt, agent, helpers, stopped, gate) };
+            if scope.spawn(served).is_err() {
                 cluster.stop(rt, stopped);
             }
         }
@@ -202,7 +214,7 @@ pub(crate) fn run_all<L: Planned + Send + Sync, G: Gate + Sync, R: Threads + Wai
         }
         // the caller would only wait: a single agent needs no thread more
         if !cluster.agents.is_empty() {
-            cluster.serve(rt, 0, stopped, gate);
+            cluster.serve(rt, 0, helpers, stopped, gate);
         }
     });
     if flag.load(Ordering::SeqCst) {

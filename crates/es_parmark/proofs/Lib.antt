@@ -1,0 +1,6 @@
+pub mod CallerLemmas
+pub mod Fronts
+pub mod Gathering
+pub mod PairLists
+pub mod Rows
+pub mod Tests

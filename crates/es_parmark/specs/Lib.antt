@@ -1,0 +1,4 @@
+pub mod Copying
+pub mod Gathered
+pub mod Pairs
+pub mod Snapshot
