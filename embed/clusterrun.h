@@ -107,6 +107,7 @@ static inline void clusterrun_release(struct clusterrun_answer *answer)
     if (answer->filled)
         clusterrun_kept_free(*answer);
     answer->filled = false;
+    answer->at = NULL;
 }
 
 #ifdef __cplusplus

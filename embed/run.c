@@ -27,5 +27,8 @@ int main(int argc, char **argv)
     clusterrun_release(&answer);
     fwrite(text, 1, length, status == CLUSTERRUN_DONE ? stdout : stderr);
     fputs(complaints[status], stderr);
+    fclose(file);
+    free(plan);
+    free(text);
     return (int)status;
 }

@@ -16,8 +16,11 @@ import sys
 TOP = os.path.dirname(os.path.dirname(os.path.abspath(__file__)))
 SECTION = "## What a reader has to believe"
 LINE = re.compile(r"- \*\*(\w+)\*\*: (`\w+`(?:, `\w+`)*)")
-# an agent's inside, and what is told part by part; and of es_event what is no promise of its own
+# the steps of marking, an agent's inside, and what is told part by part; and of es_event what is no promise of its own
 INSIDE = {
+    ("es_mark", "Listed"),
+    ("es_mark", "Steps"),
+    ("es_mark", "Waiting"),
     ("es_tables", None),
     ("es_record", None),
     ("es_reading", None),

@@ -248,6 +248,55 @@ else
     echo "FAILED: 996 more audits make $((most - least)) growths more, not 2988"
 fi
 
+# Thousands of objects that one holds, and at last a collection: with helpers it makes threads, and its growths are the
+# run's last ones.
+{
+    printf '{"version":1,"agents":[{"name":"a","callbacks":{},"jobs":[{"run":[["new","p"]]}'
+    for half in 1 2; do
+        printf ',{"run":[%s]}' "$(seq 1 4500 | sed "s/.*/[\"new\",\"o\"],[\"set\",\"p\",\"k${half}_&\",\"o\"]/" | paste -s -d ,)"
+    done
+    printf ',{"run":[["let","o",null],["collect"]]}]}]}\n'
+} >"$room/wide.json"
+makes_threads 0 "$room/wide.json" --helpers 1
+run 0 run "$room/wide.json" --helpers 4
+if [ "$got" -eq 0 ] && [ "$(threads_made)" -gt 0 ]; then
+    passed=$((passed + 1))
+else
+    failed=$((failed + 1))
+    echo "FAILED: four helpers: status $got and $(threads_made) threads made"
+fi
+
+# Refuses the last growths of a plan's run with so many helpers, in turn. How many there are is not quite the same from
+# run to run.
+last_growths() {
+    run 0 run "$1" --turns
+    cp "$room/out" "$room/wanted"
+    : >"$room/told"
+    run 0 run "$1" --helpers "$2"
+    last=$(growths_made)
+    number=$((last - $3))
+    refused=0
+    while [ "$number" -lt $((last + 3)) ]; do
+        number=$((number + 1))
+        run "$number" run "$1" --helpers "$2"
+        if met && ran_out; then
+            refused=$((refused + 1))
+            passed=$((passed + 1))
+        elif reported; then
+            passed=$((passed + 1))
+        else
+            failed=$((failed + 1))
+            echo "FAILED: $1 with $2 helpers: growth $number of $last refused: status $got"
+        fi
+    done
+    if [ "$refused" -lt $(($3 / 2)) ]; then
+        failed=$((failed + 1))
+        echo "FAILED: $1 with $2 helpers: $refused growths of the last $3 refused"
+    fi
+}
+last_growths "$room/wide.json" 2 80
+last_growths "$room/wide.json" 8 120
+
 # a block that two agents use in turn; one whose last message nobody takes; and one that comes as two objects
 each_growth_in_threads "$examples/worker.json" 0
 each_growth_in_threads "$examples/nobody_takes.json" 0

@@ -145,10 +145,9 @@ def at_once():
 
 def long_plan():
     """60,000 commands take the C program no longer than the program, the best of seven runs each, within a tenth."""
-    commands = [["new", "a"], ["let", "b", 1], ["copy", "b", "a"]] * 20_000
-    plan = json.dumps(
-        {"version": 1, "agents": [{"name": "a", "callbacks": {}, "jobs": [{"run": commands}]}]}
-    ).encode()
+    commands = [["new", "a"], ["copy", "b", "a"], ["set", "a", "k", "b"], ["get", "c", "a", "k"]] * 2_500
+    agent = {"name": "a", "callbacks": {}, "jobs": [{"run": commands}] * 6}
+    plan = json.dumps({"version": 1, "agents": [agent]}).encode()
     with tempfile.NamedTemporaryFile() as file:
         file.write(plan)
         file.flush()
@@ -156,11 +155,13 @@ def long_plan():
         for _ in range(7):
             for name, words in (("C", [os.path.join(FOLDER, "run")]), ("program", [PROGRAM, "run", "--turns"])):
                 begun = time.perf_counter()
-                subprocess.run([*words, file.name], capture_output=True, check=True)
+                subprocess.run([*words, file.name], capture_output=True, check=False)
                 took = time.perf_counter() - begun
                 best[name] = min(took, best.get(name, took))
     print(f"60,000 commands: {1000 * best['C']:.0f} ms by the library, {1000 * best['program']:.0f} ms by the program")
-    yield by_program(False, plan), by_c(False, plan), "C, 60,000 commands"
+    wanted = by_program(False, plan)
+    yield 0, wanted[0], "the program, 60,000 commands"
+    yield wanted, by_c(False, plan), "C, 60,000 commands"
     yield True, best["C"] <= 1.1 * best["program"] + 0.01, "the time of 60,000 commands"
 
 

@@ -22,7 +22,7 @@ give_up() {
     exit 1
 }
 
-# The crates of the repository that the crate $1 names, one a line.
+# The libraries that the crate $1 names, of the repository and of the toolchain, one a line.
 named_by() { sed -n "s/^$1\( staticlib\)\{0,1\}: *//p" "$top/crates.txt" | tr ' ' '\n'; }
 
 # The gate proves the crate and leaves no archive, so the toolchain's compiler is called once more, which proves it again.
@@ -31,7 +31,9 @@ build() {
     kit=$(dirname "$(rt doc)")
     set -- --crate-name es_library src/lib.rt --extern std="$kit/rlibs/std.rlib" -L dependency="$kit/rlibs"
     for crate in $(named_by es_library); do
-        set -- "$@" --extern "$crate=$top/crates/$crate/out/rlib/$crate.rlib"
+        folder=$kit/rlibs
+        [ ! -d "$top/crates/$crate" ] || folder=$top/crates/$crate/out/rlib
+        set -- "$@" --extern "$crate=$folder/$crate.rlib"
     done
     for folder in "$top"/crates/*/out/rlib; do
         set -- "$@" -L dependency="$folder"

@@ -12,6 +12,8 @@ written by hand, mixed (`talks`); of suited commands, where each agent's next jo
 have come to (`grown`); of little but waiting (`waits`); and of any commands (`any_shared`). The others have faults
 (`doubtful_plan`). The callbacks of all but these were written by hand as well, and have any command among them here and
 there.
+
+In a third of all plans the members of the objects stand in any order, and a quarter is written over several lines.
 """
 
 import copy
@@ -963,6 +965,17 @@ def spoil(rng, value):
     return value
 
 
+def reordered(rng, value):
+    """The same value, with the members of its objects in another order."""
+    if isinstance(value, dict):
+        members = list(value.items())
+        rng.shuffle(members)
+        return {key: reordered(rng, member) for key, member in members}
+    if isinstance(value, list):
+        return [reordered(rng, item) for item in value]
+    return value
+
+
 def text(rng):
     kind = rng.random()
     jobs_of = lives if kind < 0.27 else tables if kind < 0.35 else registrations if kind < 0.46 else any_jobs
@@ -971,7 +984,9 @@ def text(rng):
         put_fault(rng, value)
     for _ in range(rng.choice([0, 0, 1, 1, 2] if 0.46 <= kind < 0.57 else [0, 0, 0, 0, 1])):
         value = spoil(rng, value)
-    data = json.dumps(value, ensure_ascii=rng.random() < 0.5).encode()
+    if rng.random() < 0.3:
+        value = reordered(rng, value)
+    data = json.dumps(value, ensure_ascii=rng.random() < 0.5, indent=rng.choice([None, None, None, 1])).encode()
     if rng.random() < 0.05:
         data = data.replace(b"null", rng.choice(ODD_JSON), 1)
     if rng.random() < 0.05:

@@ -25,8 +25,16 @@ abbrev pub fault_in : Explanation → Option ScriptFault
 fault_in IsPlan = None
 fault_in (Fault fault place found) = Some fault
 
--- the reader gave bytes that the explanation explains, whose text was added to what the writer holds; else nothing is known
+-- the reader gave bytes that this explains, and this is the fault that it tells
+abbrev pub ExplainsAll : (old new : Option (List ℕ)) → Option ScriptFault → Explanation → Type 0
+ExplainsAll old new f e = (bytes : List ℕ) × GaveAll old new bytes × Explains bytes e × (f ≡ fault_in e)
+
+-- the same of some explanation; where there is none, nothing is known
+abbrev pub ExplainsRead : (old new : Option (List ℕ)) → Result (Option ScriptFault) RunFault → Type 0
+ExplainsRead old new (Ok f) = (e : Explanation) × ExplainsAll old new f e
+ExplainsRead old new (Err fault) = ⊤
+
+-- of one whose text was added to what the writer holds
 abbrev pub ExplainsTo : (old new : Option (List ℕ)) (before after : Option (List ℕ)) → Result (Option ScriptFault) RunFault → Type 0
-ExplainsTo old new before after (Ok f) =
-    (bytes : List ℕ) × GaveAll old new bytes × (e : Explanation) × Explains bytes e × (f ≡ fault_in e) × Appends before after (explanation_text e)
+ExplainsTo old new before after (Ok f) = (e : Explanation) × ExplainsAll old new f e × Appends before after (explanation_text e)
 ExplainsTo old new before after (Err fault) = ⊤

@@ -1,5 +1,5 @@
 -- How the machine stores a struct of two fields.
 use mir.Val.{Val, vstruct, vcons, vnil}
 
-abbrev pub both : Val → Val → Val
-both v w = vstruct (vcons v (vcons w vnil))
+abbrev pub pair_word : Val → Val → Val
+pair_word first second = vstruct (vcons first (vcons second vnil))

@@ -93,7 +93,7 @@ pub(crate) fn copy_from(kept: Kept, place: usize, out: &mut [u8], next: &mut Kep
     ensures part { Holds (drop place kept.value.bytes.items) out.old out.new result }
     ensures stays { (next.new.filled ≡ true) × (next.new.value ≡ kept.value) }
 {
-    let held = kept.into_pointer().into_box();
+    let held = kept.into_pointer().boxed_again();
     let text = held.bytes.as_slice();
     let mut left = 0;
     hand_over(&text[place.min(text.len())..], out, &mut left);
@@ -105,5 +105,5 @@ pub(crate) fn copy_from(kept: Kept, place: usize, out: &mut [u8], next: &mut Kep
 pub(crate) fn give_up(kept: Kept)
     requires filled { kept.filled ≡ true }
 {
-    let _ = kept.into_pointer().into_box();
+    let _ = kept.into_pointer().boxed_again();
 }

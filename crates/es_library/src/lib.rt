@@ -1,5 +1,5 @@
 //! The engine as a C library: the bytes of a plan in, and the bytes of its report out. The agents run by
-//! turns in the calling thread; nothing is kept between calls.
+//! turns in the calling thread; between calls nothing is kept but the answers that C keeps.
 #![tactic(auto)]
 
 mod keeping;
@@ -22,7 +22,12 @@ use std::alloc::Global;
 /// The text goes to the front of `out`, as much of it as there is room for, and its whole length in bytes to
 /// `length`; the rest of `out` is unchanged. Where there is no text, `length` is 0 and all of `out` unchanged.
 #[unsafe(no_mangle)]
-pub extern "C" fn clusterrun_run(alloc: Global, plan: &[u8], out: &mut [u8], length: &mut usize) -> u32
+pub extern "C" fn clusterrun_run(
+    alloc: Global,
+    plan: &[u8],
+    out: &mut [u8],
+    length: &mut usize,
+) -> u32
     ensures { Replies false plan.now out.old out.new length.new result }
 {
     reply(alloc, plan, false, out, length)

@@ -26,7 +26,7 @@ impl<T: Drop, A: Allocator> Pointer<T, A> {
     }
 
     /// The box again.
-    pub(crate) fn into_box(self) -> Box<T, A>
+    pub(crate) fn boxed_again(self) -> Box<T, A>
         ensures { result.value ≡ self.value }
     {
         let Pointer { to, alloc } = self;

@@ -21,7 +21,13 @@ pub(crate) const NO_MEMORY: u32 = 3;
 pub(crate) const TOO_LONG: u32 = 4;
 
 /// Runs a plan, or only checks it, and hands over what there is to say of it. Answers the status.
-pub(crate) fn reply(alloc: Global, plan: &[u8], check: bool, out: &mut [u8], length: &mut usize) -> u32
+pub(crate) fn reply(
+    alloc: Global,
+    plan: &[u8],
+    check: bool,
+    out: &mut [u8],
+    length: &mut usize,
+) -> u32
     ensures { Replies check plan.now out.old out.new length.new result }
 {
     match answer_to(alloc, plan, check) {

@@ -1,4 +1,4 @@
--- Internal: what was made, as a test.
+-- To believe: what was made, as a test.
 use Rattle.std.specs.Prelude.{ℕ, ◌&&◌, Bool, nat_lt, nat_le}
 
 -- the number was made

@@ -136,7 +136,11 @@ pub fn find_edges<G: Graph>(graph: &G, id: Id, found: &mut Vec<Id>) -> Result<()
 
 /// Puts the entries with the identity as their key into `found`, in place of what it had. It fails where
 /// `found` cannot grow.
-pub fn find_entries<G: Graph>(graph: &G, id: Id, found: &mut Vec<(Id, Value)>) -> Result<(), NoMemory>
+pub fn find_entries<G: Graph>(
+    graph: &G,
+    id: Id,
+    found: &mut Vec<(Id, Value)>,
+) -> Result<(), NoMemory>
     ensures { OnOk result (FindsEntries (G.made_of graph.now) (G.has_entries graph.now id) [] found.new.items) }
 {
     found.clear();

@@ -9,7 +9,7 @@ pub struct Options {
     pub check: bool,
     /// Move the agents by turns, in one thread; else each has a thread, the first the caller's.
     pub turns: bool,
-    /// How many helpers mark, 1 to 8; no effect yet.
+    /// How many helpers mark what an agent reaches, 1 to 8; by turns none do.
     pub helpers: u8,
     /// How many audits of the shared blocks are made beside the agents, at most 1000; by turns none are.
     pub watch: u16,

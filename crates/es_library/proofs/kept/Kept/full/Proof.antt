@@ -30,7 +30,7 @@ use Rattle.std_alloc.specs.Box.Ownership.{box_owns}
 use Rattle.std_heap.specs.contracts.Global as HP
 use Rattle.std_heap.specs.contracts.GlobalAllocator.TheImpl.{ghosts}
 use Rattle.std_heap.proofs.Handle.{heap_val, heap_Tells}
-use Rattle.es_library.proofs.Values.{both}
+use Rattle.es_library.proofs.Values.{pair_word}
 use Rattle.es_library.specs.contracts.kept.Text as Row
 use Rattle.es_library.specs.contracts.pointer.Pointer as kept
 use Rattle.es_library.specs.contracts.kept.Kept as keeper
@@ -54,7 +54,7 @@ full_spec 𝓤 𝓛 𝓜 𝓡 wired =
     rewrite ! 0 (λ (us : List Val). ‵ (HP.the_row.own_val d.alloc us)) (heap_Tells d.alloc vss.1.0 is) refl $ move ! (1 ∷ []) $ drop ! $ move ! (1 ∷ []) $
     in_a_block ! d.to (λ p. box_owns (λ t p. ghosts.dealloc_token d.alloc t p) Row.the_row p d.value) (fst∗ 𝓤 (never 𝓤) (sem 𝓛 (ghosts.dealloc_token d.alloc (bare (lone Row.the_row.mir)) null_ptr))) (λ b o e.
     regoal ! (λ (us : List Val). prop (WpFn 𝓤 H 𝓣.C 𝓣.Λ fn us Post)) (λ i. ((ev ∙ (λ j. vstruct (of_list (ep j ++ (heap_Tells d.alloc vss.1.0 is j ++ []))) ∷ [])) ∙ (λ j. vstruct (of_list (ptr_val (e j) ∷ heap_val ∷ [])) ∷ [])) i ++ []) refl $
-    enter ! 𝓣.C 𝓣.Λ fn (both (vptr b o) heap_val ∷ []) Post $
+    enter ! 𝓣.C 𝓣.Λ fn (pair_word (vptr b o) heap_val ∷ []) Post $
     alloc_all ! (λ l. pass_all ! refl ((tt, (tt, (((tt, tt), tt), tt))), tt) $
     sets ! (of_opd ! (get_in ! (fld ! refl (stop !)) (sub ! 0 refl (whole !)))) refl (tt, tt) $
     sets ! (of_opd ! (get_in ! (fld ! refl (stop !)) (sub ! 1 refl (whole !)))) refl (tt, ((tt, tt), tt)) $

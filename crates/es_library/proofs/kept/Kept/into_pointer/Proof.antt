@@ -30,7 +30,7 @@ use Rattle.std_alloc.specs.Box.Ownership.{box_owns}
 use Rattle.std_heap.specs.contracts.Global as HP
 use Rattle.std_heap.specs.contracts.GlobalAllocator.TheImpl.{ghosts}
 use Rattle.std_heap.proofs.Handle.{heap_val, heap_Tells}
-use Rattle.es_library.proofs.Values.{both}
+use Rattle.es_library.proofs.Values.{pair_word}
 use Rattle.es_library.specs.contracts.kept.Text as Row
 use Rattle.es_library.specs.contracts.pointer.Pointer as kept
 use Rattle.es_library.specs.contracts.kept.Kept as keeper
@@ -64,7 +64,7 @@ into_pointer_spec 𝓤 𝓛 𝓜 𝓡 wired =
     sets ! (of_opd ! (get ! refl)) refl (tt, tt) $
     sets ! (agg ! (and_then ! (get ! refl) (and_then ! (get ! refl) (no_more !)))) refl (tt, (tt, (((tt, tt), tt), tt))) $
     returns ! (look_at ! 0 refl) $ free_all ! refl $
-    let v : Val = both (vptr b o) heap_val in let r : L.Denot = record { to = block_ptr b o; alloc = d.alloc; value = d.value } in
+    let v : Val = pair_word (vptr b o) heap_val in let r : L.Denot = record { to = block_ptr b o; alloc = d.alloc; value = d.value } in
     nothing ! $ move ! (2 ∷ 0 ∷ []) $ fjoin ! $ feq_i ! (List Val) (vptr b o ∷ []) (vptr b o ∷ []) refl $ fjoin ! $ feq_i ! (List Val) (v ∷ []) (v ∷ []) refl $ fjoin ! $
     fpack ! (Valss (shape lt).fields) (within (shape lt) (to lt r) (v ∷ [])) (vptr b o ∷ [], (heap_val ∷ [], tt)) $ fjoin ! $
     use0 𝓛 (raw (fact 𝓤 (r.value ≡ d.value))) (fact_i 𝓤 (r.value ≡ d.value) (emp 𝓤) refl) $ nothing ! $ nothing ! $ fjoin ! $

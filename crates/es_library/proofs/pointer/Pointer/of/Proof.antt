@@ -5,7 +5,7 @@ use mir.Raw.{raw as bare}
 use mir.Val.{Val, vstruct, of_list}
 use mir.MapTy.{inst_fn}
 use base.Logic.{SProp, ent, id⊢, never, fst∗, emp}
-use base.Fml.{ftrue, flft, fsep}
+use base.Fml.{ftrue, flft}
 use prog.Wp.{WpFn}
 use types.Logic.{sem}
 use types.Kit.{Item, ‵, raw, ◌⊛◌, some, later, ◌$◌, ◌∵◌, !, qed, by, move, keep, drop, split, split3, join, fsplit, fjoin, fpick, pick, suffices, use0, use1, await, rewrite, feq_l}
@@ -16,7 +16,7 @@ use contract.Monad.{fact, fact_i}
 use contract.Running.{tables}
 use denote.Exit.{no}
 use denote.Builtin.{RawPtr}
-use denote.RattleType.{RattleType, owns}
+use denote.RattleType.{owns}
 use denote.Signature.{types_at, plain}
 use denote.RawPtr.{Ptr, block_ptr, null_ptr, ptr_val, in_a_block}
 use denote.Steps.{nothing, heard, only}
@@ -34,7 +34,6 @@ use Rattle.std_alloc.proofs.BoxSteps.Steps.{box_out, box_in}
 use Rattle.std.proofs.raw_atomic.Walks.{proved_at, leaves}
 use Rattle.std_alloc.specs.contracts.boxed.Box.into_raw_with_allocator as callee
 use Rattle.std_alloc.proofs.boxed.Box.into_raw_with_allocator.Met.{met}
-use Rattle.es_library.specs.contracts.pointer.Pointer as pointer
 use Rattle.es_library.specs.contracts.pointer.Pointer.of.{ended, clauses}
 use Rattle.es_library.specs.contracts.pointer.Pointer.of.Key.{name as key}
 use Rattle.es_library.proofs.pointer.Pointer.of.Statement.{statement}

@@ -1,4 +1,4 @@
--- `into_box` gives the pointer, the allocator and what the two own to `from_raw`. A `Pointer` is owned as its box is.
+-- `boxed_again` gives the pointer, the allocator and what the two own to `from_raw`. A `Pointer` is owned as its box is.
 use Rattle.std.proofs.Common.{◌≡◌, List, [], ◌∷◌, ◌++◌, refl, sym, ap, subst}
 use mir.Syntax.{a_type, dcons, dnil}
 use mir.Val.{Val, vptr}
@@ -33,13 +33,13 @@ use Rattle.std.proofs.raw_atomic.Walks.{proved_at, leaves}
 use Rattle.std_alloc.specs.contracts.boxed.Box.from_raw as callee
 use Rattle.std_alloc.proofs.boxed.Box.from_raw.Met.{met}
 use Rattle.es_library.specs.contracts.pointer.Pointer as pointer
-use Rattle.es_library.specs.contracts.pointer.Pointer.into_box.{ended, clauses}
-use Rattle.es_library.specs.contracts.pointer.Pointer.into_box.Key.{name as key}
-use Rattle.es_library.proofs.pointer.Pointer.into_box.Statement.{statement}
-use Rattle.es_library.proofs.pointer.Pointer.into_box.Code as code
+use Rattle.es_library.specs.contracts.pointer.Pointer.boxed_again.{ended, clauses}
+use Rattle.es_library.specs.contracts.pointer.Pointer.boxed_again.Key.{name as key}
+use Rattle.es_library.proofs.pointer.Pointer.boxed_again.Statement.{statement}
+use Rattle.es_library.proofs.pointer.Pointer.boxed_again.Code as code
 
-pub into_box_spec : {M : Type 1} → statement M
-into_box_spec 𝓤 𝓛 𝓜 𝓡 wired T A LT LA g methods drop_T drop_A allocator glue glued =
+pub boxed_again_spec : {M : Type 1} → statement M
+boxed_again_spec 𝓤 𝓛 𝓜 𝓡 wired T A LT LA g methods drop_T drop_A allocator glue glued =
     let E : Bx = record { row = T; laws = LT; al = record { row = A; laws = LA; g = g; d = methods; drops = drop_A } } in
     let given = bounded (a_type ∷ a_type ∷ []) (T, (A, tt)) (dcons methods (dcons drop_T (dcons drop_A dnil))) in
     let function = inst_fn given code.function in
