@@ -4,6 +4,7 @@
 Usage: run.py [--times N] [--limit SECONDS] [--threads] [NAME[=NUMBER] ..]
        run.py [--times N] [--limit SECONDS] [--threads] --growth NAME ..
        run.py [--times N] [--limit SECONDS] --collections [NAME[=NUMBER] ..]
+       run.py [--times N] [--limit SECONDS] --reading [NAME[=NUMBER] ..]
 The program runs each plan by turns, in one thread. Without names all plans but those of eight agents that add are run,
 without N three times each, the two in turn, and each run has 60 seconds. Prints a table: the median time by the clock
 and of all processors (which other load changes less), the highest peak memory, and the program's numbers as multiples
@@ -12,8 +13,10 @@ run; without names the plans of several agents are run. With --growth each plan 
 300,000 in place of its usual number, and a line below it has the exponents between the first and the last: with 1 a
 time grows as the number, with 2 as its square; a constant part, such as node's start, lowers them. With --collections
 the table has the milliseconds of one collection while all is held, of the program by turns and of the interpreter,
-which forces a full one: a twentieth of what twenty more of them take. Reports that differ, but for `emptied N` and for
-the order of `cleanup` lines that follow each other, which is an engine's own, are told below the table. It needs GNU time as `/usr/bin/time`.
+which forces a full one: a twentieth of what twenty more of them take. With --reading it has what the program's `check`
+takes, and its peak in bytes for each byte of the plan's text. Reports that differ, but for `emptied N` and for the
+order of `cleanup` lines that follow each other, which is an engine's own, are told below the table. It needs GNU time
+as `/usr/bin/time`.
 """
 
 import argparse
@@ -38,6 +41,7 @@ NAMES = [
 ]
 COLLECTED = ["wide", "list", "entries-forward", "entries-shuffled", "maps", "nested", "registrations"]
 MORE = 20  # so many collections more are timed
+READ = ["commands", "held", "registrations", "words", "check"]
 THREADED = ["posts", "ping-pong", "ring", "words", "adds-shared", "adds-own"]
 FEW_JOBS = ["check", "posts", "ping-pong", "ring"]  # an agent has no room for as many jobs as larger numbers ask for
 SIZES = [10000, 30000, 100000, 300000]
@@ -159,6 +163,20 @@ def collect(name, given, measured):
     print("| " + " | ".join([f"`{what}`", number, *cells]) + " |", flush=True)
 
 
+def read(name, given):
+    """Measures the program's `check` of a plan, and prints its line of the table."""
+    what, _, number = name.partition("=")
+    with tempfile.TemporaryDirectory() as room:
+        plan = made(room, what, *[number] * bool(number))
+        size = os.path.getsize(plan)
+        row = Row()
+        for _ in range(given.times):
+            if not row.fault:
+                measure(row, [PROGRAM, "check", plan], room, given.limit)
+    per_byte = "" if row.fault else f"{row.peak * 1e6 / size:.1f}"
+    print("| " + " | ".join([f"`{name}`", f"{size / 1e6:.1f}", *row.cells(2), per_byte]) + " |", flush=True)
+
+
 def exponents(first, last):
     """Those of the time by the clock and of all processors, where both sizes were run to the end."""
     if first.fault or last.fault or not first.seconds:
@@ -177,9 +195,10 @@ def main():
     words.add_argument("--threads", action="store_true")
     words.add_argument("--growth", action="store_true")
     words.add_argument("--collections", action="store_true")
+    words.add_argument("--reading", action="store_true")
     given = words.parse_args()
-    if given.collections and (given.threads or given.growth):
-        words.error("--collections goes with neither --threads nor --growth")
+    if given.threads + given.growth > 0 and given.collections + given.reading > 0 or given.collections and given.reading:
+        words.error("--collections and --reading go with none of the others")
     if given.growth and (not given.names or any("=" in name or name in FEW_JOBS for name in given.names)):
         none = " or ".join(FEW_JOBS)
         words.error(f"--growth takes names of plans, without numbers, and not {none}, which would have too many jobs")
@@ -192,6 +211,11 @@ def main():
         print("| Plan | Number | clusterrun, ms | node, ms | ratio |\n|---|---|---|---|---|", flush=True)
         for name in given.names or COLLECTED:
             collect(name, given, measured)
+        return
+    if given.reading:
+        print("| Plan | MB | check, s | CPU, s | peak, MB | bytes for each byte |\n|---|---|---|---|---|---|", flush=True)
+        for name in given.names or READ:
+            read(name, given)
         return
     columns = [column for tool in measured for column in (f"{tool.name}, s", "CPU, s", "peak, MB")]
     print("| " + " | ".join(["Plan", "MB", *columns, "time, ratio", "memory, ratio"]) + " |")
