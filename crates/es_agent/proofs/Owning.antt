@@ -12,7 +12,7 @@ use Rattle.es_ticket.specs.Owned.{Owns}
 use Rattle.es_ticket.specs.Shares.{among, besides}
 use Rattle.es_ticket.proofs.Counted.{owned_parts}
 use Rattle.es_record.specs.Book.{Book, IsNext, Records, with_buffer}
-use Rattle.es_agent.specs.Tickets.{is_ended, tickets, Admits, Collects}
+use Rattle.es_agent.specs.Tickets.{is_ended, tickets, Admits, Empties}
 use Rattle.es_agent.proofs.Racks.{still, opened, in_both, filtered_twice, open_before, emptied_tickets}
 
 -- those after an event are among those before
@@ -59,8 +59,8 @@ admitted_owned old new r admits rows owns =
     one_more i r p ts false = (let a = ap (λ us. count_by (λ t. p t.1) us) (append-nil ts) in omega (arith, a))
 
 -- of those that a collection hands out and those that stay, it held each
-pub collected_parts : (old new : Book) (out : List (ℕ × Row)) → Collects old out new → (rows : List Row) → Owns rows (tickets old) → (p : Row → Bool)
+pub collected_parts : (chosen : List ℕ → Type 0) (old new : Book) (out : List (ℕ × Row)) → Empties chosen old out new → (rows : List Row) → Owns rows (tickets old) → (p : Row → Bool)
     → count_by (λ t. p t.1) out + count_by (λ t. p t.1) (tickets new) ≤ count_by p rows
-collected_parts old new out collects rows owns =
+collected_parts chosen old new out collects rows owns =
     let left = ap tickets collects.3 ∙ emptied_tickets old collects.0 collects.2 in
     (owned_parts rows collects.0 owns collects.4 left).owned

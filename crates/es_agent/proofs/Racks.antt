@@ -1,6 +1,6 @@
 -- The tickets of an agent after one more event.
 use Rattle.std.proofs.Common.{◌≡◌, ℕ, ◌+◌, ◌<◌, ◌≤◌, ◌==◌, ◌&&◌, Bool, true, false, cond, not, nat_lt, sym, ◌∙◌, ap, refl, subst, arith, List, [], ◌∷◌, ◌++◌, reverse, Option, Some, None, Result, Ok, Err}
-use Rattle.std.specs.Prelude.{OnOk, OnErr, IsOk, is_err}
+use Rattle.std.specs.Prelude.{OnOk, OnErr, IsOk, is_err, is_some}
 use Rattle.std.specs.List.{filter, list_all}
 use Rattle.std.proofs.lemmas.Bool.{eqb-true}
 use Rattle.std.proofs.lemmas.Bool.Decides.{nat_tests}
@@ -17,8 +17,10 @@ use Rattle.es_event.specs.Jobs.{Receivers, receivers}
 use Rattle.es_event.specs.Sharing.{Buffers, row_at}
 use Rattle.es_event.specs.Legal.{is_rising}
 use Rattle.es_event.specs.Reach.{AreDead}
-use Rattle.es_event.specs.Order.{Phase, between, handed, inside, stopped, ended, phase, Due, begin, receive, run, clean, take_cell, end_job, close, nothing, due, due_at}
+use Rattle.es_event.specs.Order.{Phase, between, handed, inside, stopped, ended, phase, Due, begin, receive, run, clean, take_cell, finish, end_job, close, nothing, due, due_at}
 use Rattle.es_event.specs.Follows.{Permits}
+use Rattle.es_event.specs.Later.{snapshot}
+use Rattle.es_event.proofs.Finishing.{is_open}
 use Rattle.es_tables.specs.Effects.{IsQuiet}
 use Rattle.es_tables.proofs.Registering.{quiet_empties}
 use Rattle.es_ticket.specs.Shares.{at, placed, besides, is_rising_from}
@@ -26,9 +28,9 @@ use Rattle.es_ticket.proofs.Racked.{rest_rises}
 use Rattle.es_record.specs.Book.{Book, IsNext, Records, with_buffer}
 use Rattle.es_record.specs.Newest.{newest}
 use Rattle.es_record.proofs.Buffered.{rises_added, same_row}
-use Rattle.es_rules.specs.Needs.{asks_nobody, asks_marks, need_of, need, IsDone, Brings}
-use Rattle.es_rules.proofs.Needs.{collects_due}
-use Rattle.es_agent.specs.Tickets.{is_ended, tickets, Admits}
+use Rattle.es_rules.specs.Needs.{asks_nobody, asks_marks, asks_late_marks, need_of, need, IsDone, Brings}
+use Rattle.es_rules.proofs.Needs.{collects_due, finish_due}
+use Rattle.es_agent.specs.Tickets.{is_ended, tickets, Admits, AreLateNow}
 
 -- Whether the agent has closed
 
@@ -234,7 +236,7 @@ abbrev pub HasTickets : List (ℕ × Row) → Book → Type 0
 HasTickets ts b = (ts ≡ tickets b) × (is_rising_from 0 (reverse b.over) ≡ true) × (newest b.over ≤ made b.history)
 
 -- an event that leaves them as they are
-pub has_after : {E : Type 0} (r : Result (Unit {0}) E) (ts : List (ℕ × Row)) (old new : Book) (e : Event) → HasTickets ts old → IsNext old e → IsQuiet e → (e ≡ Closed → ⊥) → OnOk r (Records old e new)
+pub has_after : {A E : Type 0} (r : Result A E) (ts : List (ℕ × Row)) (old new : Book) (e : Event) → HasTickets ts old → IsNext old e → IsQuiet e → (e ≡ Closed → ⊥) → OnOk r (Records old e new)
     → OnErr r (new ≡ old) → HasTickets ts new
 has_after (Ok u) ts old new e has next quiet other ok err =
     rw ok (has.0 ∙ sym (kept_tickets old e next quiet other), has.1, (let small = has.2 in omega (arith, small)))
@@ -251,6 +253,7 @@ brings_leaves (receive n s) o e is = subst (λ e. IsQuiet e × (e ≡ Closed →
 brings_leaves (run c) o e is = subst (λ e. IsQuiet e × (e ≡ Closed → ⊥)) (sym is) (tt, λ f. cc)
 brings_leaves (clean r) o e is = absurd is
 brings_leaves (take_cell n) o e is = absurd is
+brings_leaves (finish p) o e is = absurd is
 brings_leaves end_job o e is = absurd is
 brings_leaves close o e is = absurd is
 brings_leaves nothing o e is = absurd is
@@ -282,6 +285,30 @@ dead_next b ids asked dead there rising =
       lawful = (there, rising);
       permitted = subst (λ d. Permits b.over (receivers b.plan.jobs) b.history d (Emptied ids)) (sym command.1) (command.2, dead);
     }
+
+-- the same, told of what the record shows
+pub dead_next_of : (b q : Book) (ids : List ℕ) → q ≡ b → need b ≡ asks_marks → AreDead (receivers q.plan.jobs) q.history ids → list_all (is_there q.history) ids ≡ true → is_rising ids ≡ true → IsNext b (Emptied ids)
+dead_next_of b q ids same asked dead there rising =
+    dead_next b ids asked (subst (λ q. AreDead (receivers q.plan.jobs) q.history ids) same dead) (subst (λ q. list_all (is_there q.history) ids ≡ true) same there) rising
+
+-- a later collection that is to be finished empties all that is late
+pub late_next : (b : Book) (ids : List ℕ) → need b ≡ asks_late_marks → AreLateNow b ids → list_all (is_there b.history) ids ≡ true → is_rising ids ≡ true → IsNext b (Emptied ids)
+late_next b ids asked late there rising =
+    let at = finish_due b (due b.plan b.history) asked in
+    record {
+      lawful = (there, rising);
+      permitted = subst (λ d. Permits b.over (receivers b.plan.jobs) b.history d (Emptied ids)) (sym at.1) (late at.0 (is_open b.plan b.history at.0 at.1));
+    }
+
+pub late_next_of : (b q : Book) (ids : List ℕ) → q ≡ b → need b ≡ asks_late_marks → AreLateNow q ids → list_all (is_there q.history) ids ≡ true → is_rising ids ≡ true → IsNext b (Emptied ids)
+late_next_of b q ids same asked late there rising =
+    late_next b ids asked (subst (λ q. AreLateNow q ids) same late) (subst (λ q. list_all (is_there q.history) ids ≡ true) same there) rising
+
+-- where it is to be finished, it is open
+pub finish_open : (b : Book) → need b ≡ asks_late_marks → is_some (snapshot b.history) ≡ true
+finish_open b asked =
+    let at = finish_due b (due b.plan b.history) asked in
+    ap is_some (is_open b.plan b.history at.0 at.1)
 
 -- where no growth was refused
 pub if_no_error : {E : Type 0} (r : Result (Unit {0}) E) (P : Type 0) → is_err r ≡ false → OnOk r P → P

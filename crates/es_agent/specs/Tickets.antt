@@ -1,5 +1,5 @@
 -- To believe: the tickets that an agent has, and what is handed in and out with an event.
-use Rattle.std.specs.Prelude.{ℕ, ◌≡◌, ◌+◌, Bool, true, false, not, List, [], reverse, if◌then◌else◌}
+use Rattle.std.specs.Prelude.{ℕ, ◌≡◌, ◌+◌, Bool, true, false, not, List, [], Some, reverse, if◌then◌else◌}
 use Rattle.std.specs.List.{filter}
 use Rattle.es_value.specs.declared.value.Value.{Value}
 use Rattle.es_event.specs.declared.event.Answer.{Answer}
@@ -8,9 +8,12 @@ use Rattle.es_event.specs.declared.event.Event.TheVariants.{Received, Refused, E
 use Rattle.es_event.specs.declared.event.Refusal.TheVariants.{TooManyValues}
 use Rattle.es_event.specs.declared.row.Row.{Row}
 use Rattle.es_event.specs.Identities.{is_gone, made}
+use Rattle.es_event.specs.History.{History}
 use Rattle.es_event.specs.Jobs.{receivers}
+use Rattle.es_event.specs.Late.{AreLate}
+use Rattle.es_event.specs.Later.{snapshot, derefed_since}
 use Rattle.es_event.specs.Reach.{AreDead}
-use Rattle.es_event.specs.Order.{Phase, between, handed, inside, stopped, ended, phase, Due, begin, receive, run, clean, take_cell, end_job, close, nothing, due}
+use Rattle.es_event.specs.Order.{Phase, between, handed, inside, stopped, ended, phase, Due, begin, receive, run, clean, take_cell, finish, end_job, close, nothing, due}
 use Rattle.es_ticket.specs.Shares.{among}
 use Rattle.es_record.specs.Book.{Book, IsNext, Records, with_buffer}
 use Rattle.es_rules.specs.Needs.{asks_message, need, IsDone, Brings}
@@ -34,6 +37,7 @@ is_command (receive n s) = false
 is_command (run c) = true
 is_command (clean r) = false
 is_command (take_cell n) = false
+is_command (finish p) = false
 is_command end_job = false
 is_command close = false
 is_command nothing = false
@@ -42,9 +46,21 @@ is_command nothing = false
 abbrev pub RecordsNext : Book → Book → Type 0
 RecordsNext old new = (e : Event) × IsNext old e × Records old e new
 
--- all that was dead was emptied in one event, and the tickets of the buffer objects among it came out
+-- these were emptied in one event, and the tickets of the buffer objects among them came out
+abbrev pub Empties : (List ℕ → Type 0) → Book → List (ℕ × Row) → Book → Type 0
+Empties chosen old out new = (ids : List ℕ) × chosen ids × IsNext old (Emptied ids) × Records old (Emptied ids) new × (out ≡ among ids (tickets old))
+
+-- all that was dead was emptied
 abbrev pub Collects : Book → List (ℕ × Row) → Book → Type 0
-Collects old out new = (ids : List ℕ) × AreDead (receivers old.plan.jobs) old.history ids × IsNext old (Emptied ids) × Records old (Emptied ids) new × (out ≡ among ids (tickets old))
+Collects old out new = Empties (AreDead (receivers old.plan.jobs) old.history) old out new
+
+-- all that is late, by the copy of the open later collection and what derefs gave since
+abbrev pub AreLateNow : Book → List ℕ → Type 0
+AreLateNow b ids = (p : History) → snapshot b.history ≡ Some p → AreLate (receivers b.plan.jobs) p (derefed_since b.history) ids
+
+-- all that was late was emptied, and so the later collection was finished
+abbrev pub Finishes : Book → List (ℕ × Row) → Book → Type 0
+Finishes old out new = Empties (AreLateNow old) old out new
 
 -- a new buffer object over the row's block came, by the answer of the due command or by a receipt
 abbrev pub Admits : Book → Row → Book → Type 0

@@ -7,8 +7,8 @@ ghost use Rattle.es_rules.specs.Needs.{need, asks_message, TakesTicket};
 ghost use Rattle.es_agent.specs.Tickets.{Admits};
 ghost use Rattle.es_agent.specs.Failing.{FailsToAdmit};
 
+use crate::recorder::Recorder;
 use es_event::Row;
-use es_record::AgentRecord;
 use es_rules::{brought, refused_message};
 use es_value::{Id, MOST_IDENTITIES};
 
@@ -22,17 +22,17 @@ pub enum AdmitFault {
 }
 
 /// Records the coming of a buffer object over the row's block.
-pub(crate) fn enter(agent: &mut AgentRecord, row: Row) -> Result<Id, AdmitFault>
+pub(crate) fn enter(agent: &mut Recorder, row: Row) -> Result<Id, AdmitFault>
     requires { TakesTicket (need agent.old) row }
     ensures ok { IfOk result (λ id. (id ≡ made agent.old.history + 1) × (is_gone agent.old.history id ≡ false) × Admits agent.old row agent.new) }
     ensures comes { OnOk result (made agent.new.history ≡ made agent.old.history + 1) }
     ensures err { IfErr result (λ fault. FailsToAdmit agent.old fault agent.new) }
 {
-    if agent.identities() >= MOST_IDENTITIES {
+    if agent.read().identities() >= MOST_IDENTITIES {
         return Err(refuse(agent));
     }
-    let id = agent.next_identity();
-    let Ok(event) = brought(agent, row) else {
+    let id = agent.read().next_identity();
+    let Ok(event) = brought(agent.read(), row) else {
         return Err(AdmitFault::NoMemory);
     };
     match agent.record_buffer(event, row) {
@@ -42,12 +42,12 @@ pub(crate) fn enter(agent: &mut AgentRecord, row: Row) -> Result<Id, AdmitFault>
 }
 
 /// Records the refusal of a message with a buffer, for which there is no room.
-fn refuse(agent: &mut AgentRecord) -> AdmitFault
+fn refuse(agent: &mut Recorder) -> AdmitFault
     requires message { (s : ℕ) × (need agent.old ≡ asks_message s) }
     requires full { nat_lt (made agent.old.history) most_identities ≡ false }
     ensures { FailsToAdmit agent.old result agent.new }
 {
-    let event = refused_message(agent);
+    let event = refused_message(agent.read());
     match agent.record(event) {
         Ok(()) => AdmitFault::Refused,
         Err(_) => AdmitFault::NoMemory,

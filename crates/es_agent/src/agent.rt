@@ -13,18 +13,23 @@ ghost use Rattle.es_event.specs.Order.{due, is_cleaning_up};
 ghost use Rattle.es_event.specs.Runs.{IsRunOver};
 ghost use Rattle.es_ticket.specs.Shares.{at};
 ghost use Rattle.es_record.specs.Book.{Records};
-ghost use Rattle.es_record.specs.Graph.{AreMarksOf, AreReached};
-ghost use Rattle.es_rules.specs.Needs.{need, asks_nobody, asks_marks, asks_message, asks_closing, TakesTicket, TakesWord, TakesDone};
+ghost use Rattle.es_event.specs.Later.{snapshot};
+ghost use Rattle.es_record.specs.Graph.{AreMarksOf, AreReached, AreLateMarks};
+ghost use Rattle.std.specs.Arc.{arc_value};
+ghost use Rattle.es_rules.specs.Needs.{need, asks_nobody, asks_marks, asks_copy, asks_late_marks, asks_message, asks_closing, TakesTicket, TakesWord, TakesDone};
 ghost use Rattle.es_rules.specs.Shown.{shown};
-ghost use Rattle.es_agent.specs.Tickets.{is_command, tickets, RecordsNext, Collects, Admits, Receives, DoesWith, Skips};
+ghost use Rattle.es_agent.specs.Tickets.{is_command, tickets, RecordsNext, Collects, Finishes, Admits, Receives, DoesWith, Skips};
 ghost use Rattle.es_agent.specs.Failing.{FailsToAdmit};
+ghost use Rattle.es_agent.specs.Later.{opening, IsLaterCopy, AreDerefed, AreThen};
 
 mod reach;
 
 use crate::admission::{AdmitFault, enter};
+use crate::recorder::Recorder;
 use es_cursor::Due;
 use es_event::{AgentPlan, Answer, Event, Row, Sequence};
-use es_mark::Marks;
+use es_mark::{Graph, Marks};
+use es_parmark::Snapshot;
 use es_record::AgentRecord;
 use es_registry::Tally;
 use es_rules::{Need, answered_done, answered_word, asks, next_event, received, skipped};
@@ -33,6 +38,7 @@ use es_value::{Id, NoMemory, Value};
 use std::alloc::Global;
 use std::marker::Model;
 use std::mem;
+use std::sync::Arc;
 
 /// One agent, by its plan and its history (ECMA-262, Agents), of the run L.
 ///
@@ -41,7 +47,7 @@ use std::mem;
 /// and those alone: so it can't be dropped, but ends by `into_history` or `abandon`.
 pub struct AgentCore<L: Run> {
     alloc: Global,
-    record: AgentRecord,
+    record: Recorder,
     rack: Rack<L>,
 }
 
@@ -73,7 +79,7 @@ impl<L: Run> AgentCore<L> {
         match AgentRecord::new(alloc, plan, number, agents) {
             Ok(record) => Ok(AgentCore {
                 alloc,
-                record,
+                record: Recorder::new(alloc, record),
                 rack: Rack::new(alloc),
             }),
             Err(error) => Err(error),
@@ -84,7 +90,7 @@ impl<L: Run> AgentCore<L> {
     pub fn number(&self) -> usize
         ensures { result ≡ self.now.number }
     {
-        self.record.number()
+        self.record.read().number()
     }
 
     /// Its events so far, the oldest first. They are legal and follow its plan so far, over its buffer
@@ -96,7 +102,7 @@ impl<L: Run> AgentCore<L> {
         ensures honest { Honest (receivers self.now.plan.jobs) self.now.history }
         ensures named { (o : ℕ) (r : RowSaid) → Some r ≡ at o (tickets self.now) → Some r ≡ row_at self.now.over o }
     {
-        self.record.history()
+        self.record.read().history()
     }
 
     /// Each buffer object that came, emptied ones too, with what its ticket named (ECMA-262, SharedArrayBuffer
@@ -104,14 +110,14 @@ impl<L: Run> AgentCore<L> {
     pub fn buffers(&self) -> &[(Id, Row)]
         ensures { result.now ≡ reverse self.now.over }
     {
-        self.record.buffers()
+        self.record.read().buffers()
     }
 
     /// Its plan.
     pub fn plan(&self) -> &AgentPlan
         ensures { result.now ≡ self.now.plan }
     {
-        self.record.plan()
+        self.record.read().plan()
     }
 
     /// KeptAlive, in order of keeping (ECMA-262, AddToKeptObjects). Nothing in it is emptied.
@@ -119,7 +125,7 @@ impl<L: Run> AgentCore<L> {
         ensures said { reverse result.now ≡ kept self.now.history }
         ensures there { (i : ℕ) → is_in (kept self.now.history) i ≡ true → is_in (gone self.now.history) i ≡ true → ⊥ }
     {
-        self.record.kept()
+        self.record.read().kept()
     }
 
     /// How many registrations have each fate; together they are all that were made.
@@ -129,7 +135,7 @@ impl<L: Run> AgentCore<L> {
         ensures unregistered { result.unregistered ≡ tally_said self.now.history unregistered }
         ensures taken { result.taken ≡ tally_said self.now.history taken }
     {
-        self.record.tally()
+        self.record.read().tally()
     }
 
     /// Whether a cleanup job is under way, or is due next.
@@ -137,7 +143,7 @@ impl<L: Run> AgentCore<L> {
         ensures said { result ≡ is_cleaning_up self.now.history }
         ensures run { IsRunOver self.now.over self.now.plan self.now.history }
     {
-        self.record.is_cleaning_up()
+        self.record.read().is_cleaning_up()
     }
 
     /// The ticket of a buffer object that has one: of each that came and is not emptied, until the agent
@@ -161,14 +167,14 @@ impl<L: Run> AgentCore<L> {
     pub fn next(&self) -> Need<'_>
         ensures { shown result ≡ need self.now }
     {
-        asks(&self.record)
+        asks(self.record.read())
     }
 
     /// Whether what comes next is a command, of a job or of a callback.
     pub fn is_at_command(&self) -> bool
         ensures { result ≡ is_command (due self.now.plan self.now.history) }
     {
-        matches!(self.record.due(), Due::Run(_))
+        matches!(self.record.read().due(), Due::Run(_))
     }
 
     /// Takes the next step that asks nobody else, and records its one event; where there is no
@@ -178,7 +184,7 @@ impl<L: Run> AgentCore<L> {
         ensures ok { OnOk result (RecordsNext self.old self.new) }
         ensures err { OnErr result (self.new ≡ self.old) }
     {
-        let event = next_event(&self.record)?;
+        let event = next_event(self.record.read())?;
         self.record.record(event)
     }
 
@@ -191,13 +197,62 @@ impl<L: Run> AgentCore<L> {
         ensures ok { IfOk result (λ r. Collects self.old r.tickets self.new) }
         ensures err { OnErr result (self.new ≡ self.old) }
     {
-        let ids = self.record.dead(marks)?;
+        let ids = self.record.read().dead(marks)?;
         let room = self.rack.room_for(&ids)?;
         if let Err(error) = self.record.empty(ids) {
             room.end();
             return Err(error);
         }
-        Ok(self.rack.extract(self.record.emptied_last(), room))
+        Ok(self.rack.extract(self.record.read().emptied_last(), room))
+    }
+
+    /// Opens a later collection: takes a copy of its graph, which it keeps too, and records its command. The
+    /// copy may be marked while the agent goes on. Where there is no memory nothing has changed.
+    pub fn begin_later(&mut self) -> Result<Arc<Snapshot>, NoMemory>
+        requires { need self.old ≡ asks_copy }
+        ensures records { OnOk result (Records self.old opening self.new) }
+        ensures copy { IfOk result (λ copy. IsLaterCopy self.new (arc_value copy)) }
+        ensures err { OnErr result (self.new ≡ self.old) }
+    {
+        self.record.begin()
+    }
+
+    /// The copy of the open later collection.
+    pub fn later(&self) -> &Snapshot
+        requires { is_some (snapshot self.now.history) ≡ true }
+        ensures { IsLaterCopy self.now result.now }
+    {
+        self.record.later()
+    }
+
+    /// What derefs gave since that copy was taken, of the identities that it has, in order (ECMA-262,
+    /// WeakRefDeref).
+    pub fn derefed(&self) -> &[Id]
+        requires { is_some (snapshot self.now.history) ≡ true }
+        ensures given { AreDerefed self.now result.now }
+        ensures then { AreThen self.now result.now }
+    {
+        self.record.derefed()
+    }
+
+    /// Finishes the open later collection: empties all that was made when its copy was taken and is not
+    /// marked, and records it as one event (ECMA-262, Execution). With the marks of the copy and of what
+    /// derefs gave since, that is not live, though the graph has changed. It hands out the tickets of the
+    /// buffer objects among it. Where there is no memory nothing has changed.
+    pub fn finish_later(&mut self, marks: &Marks) -> Result<Rack<L>, NoMemory>
+        requires due { need self.old ≡ asks_late_marks }
+        requires marks { AreLateMarks self.old marks.now }
+        ensures ok { IfOk result (λ r. Finishes self.old r.tickets self.new) }
+        ensures err { OnErr result (self.new ≡ self.old) }
+    {
+        let copied = self.record.later().made();
+        let ids = self.record.read().late(marks, copied)?;
+        let room = self.rack.room_for(&ids)?;
+        if let Err(error) = self.record.empty(ids) {
+            room.end();
+            return Err(error);
+        }
+        Ok(self.rack.extract(self.record.read().emptied_last(), room))
     }
 
     /// Takes a ticket in: of the block that its next command asked for, or of one that came in the
@@ -230,7 +285,7 @@ impl<L: Run> AgentCore<L> {
         ensures ok { OnOk result (Receives self.old value self.new) }
         ensures err { OnErr result (self.new ≡ self.old) }
     {
-        let event = received(&self.record, value);
+        let event = received(self.record.read(), value);
         self.record.record(event)
     }
 
@@ -241,7 +296,7 @@ impl<L: Run> AgentCore<L> {
         ensures ok { OnOk result (DoesWith self.old (Answer.Gives (Value.Number (pos word))) self.new) }
         ensures err { OnErr result (self.new ≡ self.old) }
     {
-        let event = answered_word(&self.record, word)?;
+        let event = answered_word(self.record.read(), word)?;
         self.record.record(event)
     }
 
@@ -252,7 +307,7 @@ impl<L: Run> AgentCore<L> {
         ensures ok { OnOk result (DoesWith self.old Answer.Nothing self.new) }
         ensures err { OnErr result (self.new ≡ self.old) }
     {
-        let event = answered_done(&self.record)?;
+        let event = answered_done(self.record.read())?;
         self.record.record(event)
     }
 
@@ -263,7 +318,7 @@ impl<L: Run> AgentCore<L> {
         ensures ok { OnOk result (Skips self.old self.new) }
         ensures err { OnErr result (self.new ≡ self.old) }
     {
-        let event = skipped(&self.record);
+        let event = skipped(self.record.read());
         self.record.record(event)
     }
 
@@ -303,6 +358,6 @@ impl<L: Run> AgentCore<L> {
             rack,
         } = self;
         rack.end();
-        record.into_history()
+        record.into_record().into_history()
     }
 }

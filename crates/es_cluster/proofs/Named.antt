@@ -13,7 +13,8 @@ use Rattle.es_event.specs.declared.event.Event.TheVariants.{JobBegun, CleanupBeg
 use Rattle.es_event.specs.declared.event.Refusal.{Refusal}
 use Rattle.es_event.specs.declared.plan.AgentPlan.{AgentPlan}
 use Rattle.es_event.specs.declared.plan.Job.{Job}
-use Rattle.es_event.specs.Commands.{reads, first, collects}
+use Rattle.es_event.specs.Commands.{reads, first}
+use Rattle.es_event.specs.Later.{snapshot, collects_now}
 use Rattle.es_event.specs.History.{History}
 use Rattle.es_event.specs.Identities.{object_of}
 use Rattle.es_event.specs.Jobs.{job, cleaning, receivers}
@@ -21,9 +22,9 @@ use Rattle.es_event.specs.Others.{is_other, posts_where, speaks_where, names_oth
 use Rattle.es_event.specs.Registrations.{callback, first_awaiting}
 use Rattle.es_event.specs.Rules.{refusal}
 use Rattle.es_event.specs.Legal.{values_of}
-use Rattle.es_event.specs.Order.{Phase, between, handed, inside, stopped, ended, phase, Due, begin, receive, run, clean, take_cell, end_job, close, nothing, left, queue, job_commands, callback_commands, due_after, due_inside, due_job, due_between, due_at, due}
+use Rattle.es_event.specs.Order.{Phase, between, handed, inside, stopped, ended, phase, Due, begin, receive, run, clean, take_cell, finish, end_job, due_end, close, nothing, left, queue, job_commands, callback_commands, due_after, due_inside, due_job, due_between, due_at, due}
 use Rattle.es_record.specs.Book.{Book}
-use Rattle.es_rules.specs.Needs.{Request, posts_to, asked, unless_refused, request, Need, asks_marks, asks_ledger, ledger_or_nobody, need_of, need}
+use Rattle.es_rules.specs.Needs.{Request, posts_to, asked, unless_refused, request, Need, asks_marks, asks_copy, asks_ledger, ledger_or_nobody, opens_now, need_of, need}
 use Rattle.es_member.specs.Turned.{NamesOthers}
 
 all_at : {X : Type 0} (test : X → Bool) (xs : List X) (i : ℕ) (x : X) → list_all test xs ≡ true → slice_get xs i ≡ Some x → test x ≡ true
@@ -59,12 +60,16 @@ module _ (test : ℕ → Bool) (plan : AgentPlan) (jobs : list_all (speaks_where
   in_left (Skipped j t ∷ h) = refl
   in_left (Closed ∷ h) = refl
 
-  after_commands : (o : Option ℕ) (c : Command) → due_after o ≡ run c → ⊥
-  after_commands None c is = cc
-  after_commands (Some n) c is = cc
+  end_commands : (o : Option History) (c : Command) → due_end o ≡ run c → ⊥
+  end_commands None c is = cc
+  end_commands (Some p) c is = cc
+
+  after_commands : (h : History) (o : Option ℕ) (c : Command) → due_after h o ≡ run c → ⊥
+  after_commands h None c is = end_commands (snapshot h) c is
+  after_commands h (Some n) c is = cc
 
   run_inside : (h : History) (cs : List Command) (c : Command) → list_all (posts_where test) cs ≡ true → due_inside h cs ≡ run c → posts_where test c ≡ true
-  run_inside h [] c all is = absurd (after_commands (option_and_then (first_awaiting h) (cleaning h)) c is)
+  run_inside h [] c all is = absurd (after_commands h (option_and_then (first_awaiting h) (cleaning h)) c is)
   run_inside h (d ∷ cs) c all is = ap (posts_where test) (let same : c ≡ d = cc in same) ∙ (and_parts (posts_where test d) (list_all (posts_where test) cs) all).0
 
   run_between : (h : History) (rs : List ℕ) (c : Command) → due_between plan h rs ≡ run c → ⊥
@@ -80,7 +85,7 @@ module _ (test : ℕ → Bool) (plan : AgentPlan) (jobs : list_all (speaks_where
   run_posts h between c is = absurd (run_between h (queue h) c is)
   run_posts h handed c is = cc
   run_posts h inside c is = run_inside h (left plan h) c (in_left h) is
-  run_posts h stopped c is = cc
+  run_posts h stopped c is = absurd (end_commands (snapshot h) c is)
   run_posts h ended c is = cc
 
   heard_of : (n s : ℕ) (o : Option Job) → ((j : Job) → o ≡ Some j → speaks_where test j ≡ true) → (k : ℕ) → due_job k (option_map (λ j. j.on) o) ≡ receive n s → test s ≡ true
@@ -91,11 +96,15 @@ module _ (test : ℕ → Bool) (plan : AgentPlan) (jobs : list_all (speaks_where
       at_on None hears is = cc
       at_on (Some on) hears is = ap test (let same : s ≡ on.0 = cc in same) ∙ hears
 
+  end_receives : (o : Option History) (n s : ℕ) → due_end o ≡ receive n s → ⊥
+  end_receives None n s is = cc
+  end_receives (Some p) n s is = cc
+
   receive_inside : (h : History) (cs : List Command) (n s : ℕ) → due_inside h cs ≡ receive n s → ⊥
   receive_inside h [] n s is = at_cell (option_and_then (first_awaiting h) (cleaning h)) is
     where
-      at_cell : (o : Option ℕ) → due_after o ≡ receive n s → ⊥
-      at_cell None is = cc
+      at_cell : (o : Option ℕ) → due_after h o ≡ receive n s → ⊥
+      at_cell None is = end_receives (snapshot h) n s is
       at_cell (Some m) is = cc
   receive_inside h (c ∷ cs) n s is = cc
 
@@ -107,7 +116,7 @@ module _ (test : ℕ → Bool) (plan : AgentPlan) (jobs : list_all (speaks_where
   receive_hears h between n s is = receive_between h (queue h) n s is
   receive_hears h handed n s is = cc
   receive_hears h inside n s is = absurd (receive_inside h (left plan h) n s is)
-  receive_hears h stopped n s is = cc
+  receive_hears h stopped n s is = absurd (end_receives (snapshot h) n s is)
   receive_hears h ended n s is = cc
 
 is_other_agent : (agents n a : ℕ) → is_other agents n a ≡ true → (a < agents) × (n ≡ a → ⊥)
@@ -134,9 +143,10 @@ unless_names : (n agents : ℕ) (f : Option Refusal) (q : Option Request) → Na
 unless_names n agents None q is = is
 unless_names n agents (Some code) q is = tt
 
-marks_or : (n agents : ℕ) (b : Bool) (m : Need) → NamesOthers m n agents → NamesOthers (cond b asks_marks m) n agents
-marks_or n agents true m is = tt
-marks_or n agents false m is = is
+marks_or : (n agents : ℕ) (b o : Bool) (m : Need) → NamesOthers m n agents → NamesOthers (cond b asks_marks (cond o asks_copy m)) n agents
+marks_or n agents true o m is = tt
+marks_or n agents false true m is = tt
+marks_or n agents false false m is = is
 
 pub names : (b : Book) (agents n : ℕ) → b.number ≡ n → names_others agents n b.plan ≡ true → NamesOthers (need b) b.number agents
 names b agents n number is = subst (λ m. NamesOthers (need b) m agents) (sym number) (at (due b.plan b.history) refl)
@@ -148,11 +158,12 @@ names b agents n number is = subst (λ m. NamesOthers (need b) m agents) (sym nu
     at (begin m) e = tt
     at (receive m s) e = is_other_agent agents n s (receive_hears (is_other agents n) b.plan parts.0 parts.1 b.history (phase b.history) m s e)
     at (run c) e =
-        marks_or n agents (collects c) (ledger_or_nobody (request b c))
+        marks_or n agents (collects_now b.history c) (opens_now b.history c) (ledger_or_nobody (request b c))
         (unless_names n agents (refusal b.over b.history c (values_of (receivers b.plan.jobs) b.history (reads c))) (asked c (values_of (receivers b.plan.jobs) b.history (reads c)))
         (asked_names n agents c (values_of (receivers b.plan.jobs) b.history (reads c)) (run_posts (is_other agents n) b.plan parts.0 parts.1 b.history (phase b.history) c e)))
     at (clean r) e = tt
     at (take_cell m) e = tt
+    at (finish p) e = tt
     at end_job e = tt
     at close e = tt
     at nothing e = tt

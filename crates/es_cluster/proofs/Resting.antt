@@ -3,22 +3,22 @@ use Rattle.std.proofs.Common.{◌≡◌, ℕ, ◌<◌, Bool, true, false, cond, 
 use Rattle.es_event.specs.declared.command.Command.{Command}
 use Rattle.es_event.specs.declared.event.Event.{Event}
 use Rattle.es_event.specs.declared.plan.AgentPlan.{AgentPlan}
-use Rattle.es_event.specs.Commands.{collects}
+use Rattle.es_event.specs.Later.{snapshot, collects_now}
 use Rattle.es_event.specs.Follows.{Follows}
 use Rattle.es_event.specs.History.{History}
 use Rattle.es_event.specs.Jobs.{receivers, job, cleaning, callbacks_collect_nothing}
-use Rattle.es_event.specs.Order.{Phase, between, handed, inside, stopped, ended, phase, left, queue, due_at, due_job, due_between, due_inside, due_after, cleans_up, is_cleaning_up}
+use Rattle.es_event.specs.Order.{Phase, between, handed, inside, stopped, ended, phase, left, queue, due_at, due_end, due_job, due_between, due_inside, due_after, cleans_up, is_cleaning_up}
 use Rattle.es_event.specs.Runs.{IsRunOver}
 use Rattle.es_event.specs.Sharing.{Buffers}
 use Rattle.es_event.proofs.Awaiting.{between_clean}
-use Rattle.es_event.proofs.Coming.{Comes, begins_job, begins_handed, receives, skips, refuses_message, begins_cleanup, does, refuses, empties_dead, takes, ends, stops, closes, comes, next_cell}
+use Rattle.es_event.proofs.Coming.{Comes, begins_job, begins_handed, receives, skips, refuses_message, begins_cleanup, does, refuses, empties_dead, takes, ends, stops, finishes, finishes_stopped, closes, comes, next_cell}
 use Rattle.es_event.proofs.Work.{plan_work, cleanup_work, cleanup_less, plan_less}
 use Rattle.es_agent.specs.Tickets.{is_ended}
 use Rattle.es_member.specs.Turned.{Moves}
 use Rattle.es_member.specs.declared.member.Progress.{Progress}
 use Rattle.es_member.specs.declared.member.Progress.TheVariants.{Moved, Waiting, Ended}
 use Rattle.es_record.specs.Book.{Book, with_row}
-use Rattle.es_rules.specs.Needs.{Request, request, Need, asks_nobody, asks_marks, asks_ledger, asks_message, asks_closing, asks_nothing, ledger_or_nobody, need_of, need}
+use Rattle.es_rules.specs.Needs.{Request, request, Need, asks_nobody, asks_marks, asks_copy, asks_late_marks, asks_ledger, asks_message, asks_closing, asks_nothing, ledger_or_nobody, opens_now, need_of, need}
 use Rattle.es_cluster.specs.Moves.{is_between, rests}
 use Rattle.es_cluster.specs.Turns.{Takes}
 
@@ -46,8 +46,10 @@ newest_next over plan h at _ (does d cs vs a i is) here out = inside_not h at he
 newest_next over plan h at _ (refuses d cs code i is) here out = cc
 newest_next over plan h at _ (empties_dead d cs ids i is co dead) here out = inside_not h at here i out
 newest_next over plan h at _ (takes n v i is next) here out = inside_not h at here i out
-newest_next over plan h at _ (ends i is none) here out = refl
-newest_next over plan h at _ (stops s) here out = refl
+newest_next over plan h at _ (ends i is none shut) here out = refl
+newest_next over plan h at _ (stops s shut) here out = refl
+newest_next over plan h at _ (finishes ids i is none f) here out = inside_not h at here i out
+newest_next over plan h at _ (finishes_stopped ids s f) here out = let clash : false ≡ true = sym (ap is_outside (here ∙ s)) ∙ out in cc
 newest_next over plan h at _ (closes b none) here out = refl
 
 newest : (over : Buffers) (plan : AgentPlan) (h : History) → Follows over plan h → is_outside (phase h) ≡ true → is_between h ≡ true
@@ -66,8 +68,10 @@ clean_next over plan h at _ (does d cs vs a i is) here e = let f : inside ≡ en
 clean_next over plan h at _ (refuses d cs code i is) here e = cc
 clean_next over plan h at _ (empties_dead d cs ids i is co dead) here e = let f : inside ≡ ended = sym (here ∙ i) ∙ e in cc
 clean_next over plan h at _ (takes n v i is next) here e = let f : inside ≡ ended = sym (here ∙ i) ∙ e in cc
-clean_next over plan h at _ (ends i is none) here e = refl
-clean_next over plan h at _ (stops s) here e = refl
+clean_next over plan h at _ (ends i is none shut) here e = refl
+clean_next over plan h at _ (stops s shut) here e = refl
+clean_next over plan h at _ (finishes ids i is none f) here e = let g : inside ≡ ended = sym (here ∙ i) ∙ e in cc
+clean_next over plan h at _ (finishes_stopped ids s f) here e = let g : stopped ≡ ended = sym (here ∙ s) ∙ e in cc
 clean_next over plan h at _ (closes b none) here e = between_clean h (here ∙ b)
 
 ended_clean : (over : Buffers) (plan : AgentPlan) (h : History) → Follows over plan h → phase h ≡ ended → cleaning h ≡ None
@@ -79,23 +83,30 @@ ended_clean over plan (x ∷ h) follows e = clean_next over plan h (phase h) x (
 abbrev pub is_idle : Need → Bool
 is_idle asks_nobody = false
 is_idle asks_marks = false
+is_idle asks_copy = false
+is_idle asks_late_marks = false
 is_idle (asks_ledger r) = false
 is_idle (asks_message s) = true
 is_idle asks_closing = false
 is_idle asks_nothing = true
 
-idle_command : {P : Type 0} (collects : Bool) (q : Option Request) → is_idle (cond collects asks_marks (ledger_or_nobody q)) ≡ true → P
-idle_command true q idle = cc
-idle_command false None idle = cc
-idle_command false (Some r) idle = cc
+idle_command : {P : Type 0} (collects opens : Bool) (q : Option Request) → is_idle (cond collects asks_marks (cond opens asks_copy (ledger_or_nobody q))) ≡ true → P
+idle_command true opens q idle = cc
+idle_command false true q idle = cc
+idle_command false false None idle = cc
+idle_command false false (Some r) idle = cc
 
-idle_after : {P : Type 0} (b : Book) (o : Option ℕ) → is_idle (need_of b (due_after o)) ≡ true → P
-idle_after b None idle = cc
-idle_after b (Some n) idle = cc
+idle_end : {P : Type 0} (b : Book) (o : Option History) → is_idle (need_of b (due_end o)) ≡ true → P
+idle_end b None idle = cc
+idle_end b (Some p) idle = cc
+
+idle_after : {P : Type 0} (b : Book) (h : History) (o : Option ℕ) → is_idle (need_of b (due_after h o)) ≡ true → P
+idle_after b h None idle = idle_end b (snapshot h) idle
+idle_after b h (Some n) idle = cc
 
 idle_inside : {P : Type 0} (b : Book) (h : History) (cs : List Command) → is_idle (need_of b (due_inside h cs)) ≡ true → P
-idle_inside b h [] idle = idle_after b (next_cell h) idle
-idle_inside b h (c ∷ cs) idle = idle_command (collects c) (request b c) idle
+idle_inside b h [] idle = idle_after b h (next_cell h) idle
+idle_inside b h (c ∷ cs) idle = idle_command (collects_now b.history c) (opens_now b.history c) (request b c) idle
 
 resting : (h : History) (at : Phase) (q : List ℕ) → phase h ≡ at → queue h ≡ q → is_outside at ≡ true → is_between h ≡ true → cleans_up None at q ≡ false → cleaning h ≡ None → (b : Book) → b.history ≡ h → rests b ≡ true
 resting h at q here queued out newest none clean b is = rw (is, newest, here, queued, clean, none) refl
@@ -109,7 +120,7 @@ idle_at : (b : Book) (at : Phase) → IsRunOver b.over b.plan b.history → phas
 idle_at b between run here idle = idle_between b (queue b.history) run here refl idle
 idle_at b handed run here idle = cc
 idle_at b inside run here idle = idle_inside b b.history (left b.plan b.history) idle
-idle_at b stopped run here idle = cc
+idle_at b stopped run here idle = idle_end b (snapshot b.history) idle
 idle_at b ended run here idle =
     resting b.history ended (queue b.history) here refl refl (newest b.over b.plan b.history run.1 (ap is_outside here)) refl (ended_clean b.over b.plan b.history run.1 here) b refl
 
@@ -132,7 +143,7 @@ nothing_at : (b : Book) (at : Phase) → need_of b (due_at b.plan b.history at) 
 nothing_at b between is = between_asks b (queue b.history) is
 nothing_at b handed is = cc
 nothing_at b inside is = idle_inside b b.history (left b.plan b.history) (ap is_idle is)
-nothing_at b stopped is = cc
+nothing_at b stopped is = idle_end b (snapshot b.history) (ap is_idle is)
 nothing_at b ended is = refl
 
 pub nothing_over : (b : Book) → need b ≡ asks_nothing → is_ended (phase b.history) ≡ true

@@ -4,13 +4,13 @@ use Rattle.std.specs.Prelude.{slice_get, slice_set}
 use Rattle.std.specs.List.{position_from}
 use Rattle.std.proofs.lemmas.Bool.{and_parts, cases_Bool, eqb-true, eqb-false}
 use Rattle.es_event.specs.declared.event.Event.{Event}
-use Rattle.es_event.specs.Commands.{collects}
+use Rattle.es_event.specs.Later.{collects_now}
 use Rattle.es_event.specs.Follows.{Permits}
 use Rattle.es_event.specs.History.{History}
 use Rattle.es_event.specs.Jobs.{receivers, Receivers}
 use Rattle.es_event.specs.Ledger.{Ledger, ended, waits}
 use Rattle.es_event.specs.LegalLedger.{has_message, is_stuck, all_stuck, all_ended, is_chosen}
-use Rattle.es_event.specs.Order.{Due, begin, receive, run, clean, take_cell, end_job, close, nothing, due}
+use Rattle.es_event.specs.Order.{Due, begin, receive, run, clean, take_cell, finish, end_job, close, nothing, due}
 use Rattle.es_event.specs.Sharing.{Buffers}
 use Rattle.es_ledger.specs.Books.{Books}
 use Rattle.es_ledger.specs.Turns.{asked}
@@ -18,7 +18,7 @@ use Rattle.es_member.specs.Turned.{Heard, Moves}
 use Rattle.es_member.specs.declared.member.Progress.{Progress}
 use Rattle.es_member.specs.declared.member.Progress.TheVariants.{Moved, Waiting, Ended}
 use Rattle.es_record.specs.Book.{Book, with_row}
-use Rattle.es_rules.specs.Needs.{Request, request, Need, asks_nobody, asks_marks, asks_ledger, asks_message, asks_closing, asks_nothing, ledger_or_nobody, need_of, need}
+use Rattle.es_rules.specs.Needs.{Request, request, Need, asks_nobody, asks_marks, asks_copy, asks_late_marks, asks_ledger, asks_message, asks_closing, asks_nothing, ledger_or_nobody, opens_now, need_of, need}
 use Rattle.es_cluster.specs.Asked.{Hears}
 use Rattle.es_cluster.specs.Moves.{goes_on_by, goes_on, is_over, or_else}
 use Rattle.es_cluster.specs.State.{Cluster, ArePlaced, AreTied}
@@ -29,17 +29,19 @@ use Rattle.es_cluster.proofs.Standing.{set_same, within}
 
 -- An agent that asks for nothing does not move
 
-no_request : {P : Type 0} (collects : Bool) (q : Option Request) → cond collects asks_marks (ledger_or_nobody q) ≡ asks_nothing → P
-no_request true q is = cc
-no_request false None is = cc
-no_request false (Some r) is = cc
+no_request : {P : Type 0} (collects opens : Bool) (q : Option Request) → cond collects asks_marks (cond opens asks_copy (ledger_or_nobody q)) ≡ asks_nothing → P
+no_request true opens q is = cc
+no_request false true q is = cc
+no_request false false None is = cc
+no_request false false (Some r) is = cc
 
 nothing_permitted : (b : Book) (over : Buffers) (into : Receivers) (h : History) (d : Due) (e : Event) → need_of b d ≡ asks_nothing → Permits over into h d e → ⊥
 nothing_permitted b over into h (begin n) e is p = cc
 nothing_permitted b over into h (receive n s) e is p = cc
-nothing_permitted b over into h (run c) e is p = no_request (collects c) (request b c) is
+nothing_permitted b over into h (run c) e is p = no_request (collects_now b.history c) (opens_now b.history c) (request b c) is
 nothing_permitted b over into h (clean r) e is p = cc
 nothing_permitted b over into h (take_cell n) e is p = cc
+nothing_permitted b over into h (finish q) e is p = cc
 nothing_permitted b over into h end_job e is p = cc
 nothing_permitted b over into h close e is p = cc
 nothing_permitted b over into h nothing e is p = p
@@ -55,6 +57,8 @@ goes_same l k b messages ends = at (need b)
     at : (n : Need) → goes_on_by k b.number n ≡ goes_on_by l b.number n
     at asks_nobody = refl
     at asks_marks = refl
+    at asks_copy = refl
+    at asks_late_marks = refl
     at (asks_ledger r) = refl
     at (asks_message s) = rw (messages s b.number, ends s) refl
     at asks_closing = refl
@@ -131,6 +135,8 @@ module _ (bs : List Book) (l : Books) (placed : ArePlaced bs l) (tied : AreTied 
         stays : (d : Need) → need b ≡ d → goes_on_by l.history b.number d ≡ false → or_else (position_from (goes_on l.history) 0 bs) (position_from (λ b. not (is_over b)) 0 bs) ≡ Some n
         stays asks_nobody is not_on = cc
         stays asks_marks is not_on = cc
+        stays asks_copy is not_on = cc
+        stays asks_late_marks is not_on = cc
         stays (asks_ledger r) is not_on = cc
         stays (asks_message s) is not_on = mover_chosen s is (goes_or_chosen b l.history l.agents s (awaits_of n b here) is (heard s is) (ap (goes_on_by l.history b.number) is ∙ not_on))
         stays asks_closing is not_on = cc

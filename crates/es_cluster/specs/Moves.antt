@@ -13,7 +13,7 @@ use Rattle.es_agent.specs.Tickets.{is_ended}
 use Rattle.es_ledger.specs.Draining.{drained}
 use Rattle.es_member.specs.declared.member.Progress.TheVariants.{Moved, Waiting}
 use Rattle.es_record.specs.Book.{Book}
-use Rattle.es_rules.specs.Needs.{Need, asks_nobody, asks_marks, asks_ledger, asks_message, asks_closing, asks_nothing, need}
+use Rattle.es_rules.specs.Needs.{Need, asks_nobody, asks_marks, asks_copy, asks_late_marks, asks_ledger, asks_message, asks_closing, asks_nothing, need}
 use Rattle.es_cluster.specs.State.{Cluster, plans}
 use Rattle.es_cluster.specs.Turns.{Turned}
 
@@ -24,6 +24,8 @@ use Rattle.es_cluster.specs.Turns.{Turned}
 abbrev pub goes_on_by : Ledger → ℕ → Need → Bool
 goes_on_by l n asks_nobody = true
 goes_on_by l n asks_marks = true
+goes_on_by l n asks_copy = true
+goes_on_by l n asks_late_marks = true
 goes_on_by l n (asks_ledger r) = true
 goes_on_by l n (asks_message s) = has_message l s n || ended l s
 goes_on_by l n asks_closing = true

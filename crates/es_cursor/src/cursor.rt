@@ -9,6 +9,7 @@ ghost use Rattle.es_event.specs.Order.{due, due_between, job_commands, callback_
 ghost use Rattle.es_event.specs.Registrations.{callback as callback_said};
 ghost use Rattle.es_event.specs.Follows.{Permits};
 ghost use Rattle.es_event.specs.Sharing.{Buffers};
+ghost use Rattle.es_event.specs.Later.{snapshot};
 ghost use Rattle.es_cursor.specs.Due.{shown};
 ghost use Rattle.es_cursor.specs.Cursor.{IsCursorOf, commands_of};
 ghost use Rattle.es_cursor.specs.After.{at_after, job_passed, position_after, position_stopped, position_taken};
@@ -66,7 +67,7 @@ impl Cursor {
     /// The job of the plan that comes next, or its message, or the closing.
     pub fn due_job<'a>(&self, plan: &'a AgentPlan) -> Due<'a>
         requires { 0 < self.now.job }
-        ensures { (h : History) → self.now.job ≡ job_said h → shown result ≡ due_between plan.now h [] }
+        ensures { (h : History) → self.now.job ≡ job_said h → shown (snapshot h) result ≡ due_between plan.now h [] }
     {
         match plan.jobs.as_slice().get(self.job - 1) {
             Some(job) => match &job.on {

@@ -1,6 +1,7 @@
 //! What comes next by the plan.
 
-ghost use Rattle.std.specs.Prelude.{◌≡◌, drop};
+ghost use Rattle.std.specs.Prelude.{◌≡◌, drop, Option};
+ghost use Rattle.es_event.specs.History.{History};
 ghost use Rattle.es_cursor.specs.Due.{shown, due_of};
 
 use es_event::Command;
@@ -18,7 +19,7 @@ pub enum Due<'a> {
     Clean(u32),
     /// The running cleanup job takes the cell of the registration of this number.
     Take(usize),
-    /// The running job ends.
+    /// The running job ends, once the open later collection is finished, if there is one.
     EndJob,
     /// The agent closes.
     Close,
@@ -28,7 +29,7 @@ pub enum Due<'a> {
 
 /// The next of these commands, or the job's end.
 pub fn due_command<'a>(commands: &'a [Command], at: usize) -> Due<'a>
-    ensures { shown result ≡ due_of (drop at commands.now) }
+    ensures { (o : Option History) → shown o result ≡ due_of o (drop at commands.now) }
 {
     match commands.get(at) {
         Some(command) => Due::Run(command),

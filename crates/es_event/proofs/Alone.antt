@@ -26,7 +26,9 @@ use Rattle.es_event.specs.Legal.{word_in, HasWords, Lawful, values_of}
 use Rattle.es_event.specs.Order.{Phase, between, handed, inside, stopped, ended, phase, left, queue, Due, receive, run, due_after, due_inside, due_job, due_between, due_at, due}
 use Rattle.es_event.specs.Follows.{Permits, Follows}
 use Rattle.es_event.specs.Runs.{ComesNext, silence, heard_by, heard, IsRunOver, IsWholeRunOver}
-use Rattle.es_event.proofs.Coming.{next_cell, Comes, begins_job, begins_handed, receives, skips, refuses_message, begins_cleanup, does, refuses, empties_dead, takes, ends, stops, closes, comes}
+use Rattle.es_event.proofs.Coming.{next_cell, Comes, begins_job, begins_handed, receives, skips, refuses_message, begins_cleanup, does, refuses, empties_dead, takes, ends, stops, finishes, finishes_stopped, closes, comes}
+use Rattle.es_event.specs.Order.{due_end}
+use Rattle.es_event.specs.Later.{snapshot}
 use Rattle.es_event.proofs.Next.{one_next}
 use Rattle.es_event.proofs.Work.{of_cleanup}
 
@@ -82,8 +84,10 @@ local_next over plan alone h at _ (does d cs vs r i is) before = rest_local (lef
 local_next over plan alone h at _ (refuses d cs code i is) before = refl
 local_next over plan alone h at _ (empties_dead d cs ids i is co dead) before = rest_local (left plan h) before
 local_next over plan alone h at _ (takes m v i is next) before = of_cleanup IsLocal plan h refl alone.callbacks
-local_next over plan alone h at _ (ends i is none) before = refl
-local_next over plan alone h at _ (stops s) before = refl
+local_next over plan alone h at _ (ends i is none shut) before = refl
+local_next over plan alone h at _ (finishes ids i is next fin) before = rest_local (left plan h) before
+local_next over plan alone h at _ (finishes_stopped ids s fin) before = rest_local (left plan h) before
+local_next over plan alone h at _ (stops s shut) before = refl
 local_next over plan alone h at _ (closes b none) before = refl
 
 left_local : (over : Buffers) (plan : AgentPlan) → IsAlone plan → (h : History) → Follows over plan h → IsLocal (left plan h)
@@ -111,8 +115,10 @@ own_next over plan alone h at _ (does d cs vs r i is) before = own_command d vs 
 own_next over plan alone h at _ (refuses d cs code i is) before = own_refusal code
 own_next over plan alone h at _ (empties_dead d cs ids i is co dead) before = own_other (Emptied ids) refl (λ over other into h l. l)
 own_next over plan alone h at _ (takes m v i is next) before = own_other (Taken m v) refl (λ over other into h l. l)
-own_next over plan alone h at _ (ends i is none) before = own_other JobEnded refl (λ over other into h l. l)
-own_next over plan alone h at _ (stops s) before = own_other JobEnded refl (λ over other into h l. l)
+own_next over plan alone h at _ (ends i is none shut) before = own_other JobEnded refl (λ over other into h l. l)
+own_next over plan alone h at _ (finishes ids i is next fin) before = own_other (Emptied ids) refl (λ over other into h l. l)
+own_next over plan alone h at _ (finishes_stopped ids s fin) before = own_other (Emptied ids) refl (λ over other into h l. l)
+own_next over plan alone h at _ (stops s shut) before = own_other JobEnded refl (λ over other into h l. l)
 own_next over plan alone h at _ (closes b none) before = own_other Closed refl (λ over other into h l. l)
 
 own : (over : Buffers) (plan : AgentPlan) → IsAlone plan → (h : History) (e : Event) → Follows over plan h → Permits over (receivers plan.jobs) h (due plan h) e → IsOwn e
@@ -167,8 +173,12 @@ permits_too over other into h d e local p = p
 inside_local : (h : History) (cs : List Command) (c : Command) → IsLocal cs → due_inside h cs ≡ run c → is_shared c ≡ false
 inside_local h [] c e d = absurd (after_runs_none (next_cell h) c d)
   where
-    after_runs_none : (o : Option ℕ) (c : Command) → due_after o ≡ run c → ⊥
-    after_runs_none None c d = cc
+    end_runs_none : (o : Option History) (c : Command) → due_end o ≡ run c → ⊥
+    end_runs_none None c d = cc
+    end_runs_none (Some p) c d = cc
+
+    after_runs_none : (o : Option ℕ) (c : Command) → due_after h o ≡ run c → ⊥
+    after_runs_none None c d = end_runs_none (snapshot h) c d
     after_runs_none (Some n) c d = cc
 inside_local h (x ∷ cs) c e d = let same : x ≡ c = cc in subst (λ c. is_shared c ≡ false) same (or_parts (is_shared x) (list_any is_shared cs) e).0
 
@@ -181,11 +191,15 @@ between_runs_none : (plan : AgentPlan) (h : History) (rs : List ℕ) (c : Comman
 between_runs_none plan h [] c d = job_runs_none (job h) _ c d
 between_runs_none plan h (r ∷ rs) c d = cc
 
+end_runs_nothing : (o : Option History) (c : Command) → due_end o ≡ run c → ⊥
+end_runs_nothing None c d = cc
+end_runs_nothing (Some p) c d = cc
+
 due_local_at : (plan : AgentPlan) (h : History) (at : Phase) (c : Command) → IsLocal (left plan h) → due_at plan h at ≡ run c → is_shared c ≡ false
 due_local_at plan h between c e d = absurd (between_runs_none plan h (queue h) c d)
 due_local_at plan h handed c e d = cc
 due_local_at plan h inside c e d = inside_local h (left plan h) c e d
-due_local_at plan h stopped c e d = cc
+due_local_at plan h stopped c e d = absurd (end_runs_nothing (snapshot h) c d)
 due_local_at plan h ended c e d = cc
 
 -- for users of a plan's test
@@ -196,12 +210,16 @@ left_alone over plan h alone f = left_local over plan (is_alone plan alone) h f
 pub due_local : (over : Buffers) (plan : AgentPlan) (h : History) → stays_alone plan ≡ true → Follows over plan h → (c : Command) → due plan h ≡ run c → is_shared c ≡ false
 due_local over plan h alone f c d = due_local_at plan h (phase h) c (left_alone over plan h alone f) d
 
-after_receives_none : (o : Option ℕ) (n s : ℕ) → due_after o ≡ receive n s → ⊥
-after_receives_none None n s e = cc
-after_receives_none (Some m) n s e = cc
+end_receives_none : (o : Option History) (n s : ℕ) → due_end o ≡ receive n s → ⊥
+end_receives_none None n s e = cc
+end_receives_none (Some p) n s e = cc
+
+after_receives_none : (h : History) (o : Option ℕ) (n s : ℕ) → due_after h o ≡ receive n s → ⊥
+after_receives_none h None n s e = end_receives_none (snapshot h) n s e
+after_receives_none h (Some m) n s e = cc
 
 inside_receives_none : (h : History) (cs : List Command) (n s : ℕ) → due_inside h cs ≡ receive n s → ⊥
-inside_receives_none h [] n s e = after_receives_none (next_cell h) n s e
+inside_receives_none h [] n s e = after_receives_none h (next_cell h) n s e
 inside_receives_none h (c ∷ cs) n s e = cc
 
 on_receives_none : (m : ℕ) (on : Option (ℕ × List ℕ)) (n s : ℕ) → is_none on ≡ true → due_job m (Some on) ≡ receive n s → ⊥
@@ -220,7 +238,7 @@ receives_none_at : (plan : AgentPlan) → IsAlone plan → (h : History) (at : P
 receives_none_at plan alone h between n s e = between_receives_none plan alone h (queue h) n s e
 receives_none_at plan alone h handed n s e = cc
 receives_none_at plan alone h inside n s e = inside_receives_none h (left plan h) n s e
-receives_none_at plan alone h stopped n s e = cc
+receives_none_at plan alone h stopped n s e = end_receives_none (snapshot h) n s e
 receives_none_at plan alone h ended n s e = cc
 
 pub due_no_message : (plan : AgentPlan) (h : History) → stays_alone plan ≡ true → (n s : ℕ) → due plan h ≡ receive n s → ⊥

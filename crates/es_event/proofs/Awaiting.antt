@@ -20,7 +20,7 @@ use Rattle.es_event.specs.Follows.{Follows}
 use Rattle.es_event.specs.Runs.{IsWholeRunOver}
 use Rattle.es_event.proofs.Alive.{Alive, alive_at, stays_along}
 use Rattle.es_event.proofs.Cells.{made_by, cell_within, fate_emptied}
-use Rattle.es_event.proofs.Coming.{next_cell, Comes, begins_job, begins_handed, receives, skips, refuses_message, begins_cleanup, does, refuses, empties_dead, takes, ends, stops, closes, comes}
+use Rattle.es_event.proofs.Coming.{next_cell, Comes, begins_job, begins_handed, receives, skips, refuses_message, begins_cleanup, does, refuses, empties_dead, takes, ends, stops, finishes, finishes_stopped, closes, comes}
 use Rattle.es_event.proofs.Counting.{is_found, any_from}
 use Rattle.es_event.proofs.Fates.{same_from, Awaits, awaited, AwaitedBefore, none_awaits}
 use Rattle.es_event.proofs.Holds.{second_of}
@@ -78,8 +78,10 @@ handed_next over plan h at _ (does d cs vs r i is) here end = let now : inside �
 handed_next over plan h at _ (refuses d cs code i is) here end = cc
 handed_next over plan h at _ (empties_dead d cs ids i is co dead) here end = let now : inside ≡ handed = sym (here ∙ i) ∙ end in cc
 handed_next over plan h at _ (takes m v i is next) here end = let now : inside ≡ handed = sym (here ∙ i) ∙ end in cc
-handed_next over plan h at _ (ends i is none) here end = cc
-handed_next over plan h at _ (stops s) here end = cc
+handed_next over plan h at _ (ends i is none shut) here end = cc
+handed_next over plan h at _ (finishes ids i is none fin) here end = let now : inside ≡ handed = sym (here ∙ i) ∙ end in cc
+handed_next over plan h at _ (finishes_stopped ids s fin) here end = let now : stopped ≡ handed = sym (here ∙ s) ∙ end in cc
+handed_next over plan h at _ (stops s shut) here end = cc
 handed_next over plan h at _ (closes b none) here end = cc
 
 pub handed_at : (over : Buffers) (plan : AgentPlan) (h : History) → Follows over plan h → phase h ≡ handed → Handed plan h
@@ -198,8 +200,10 @@ served_next over plan h at _ (does d cs vs r i is) here l f served n c a = serve
 served_next over plan h at _ (refuses d cs code i is) here l f served n c a = served n c (awaited_before over over plan (Refused code) h l.0 l.1 f refl n c a)
 served_next over plan h at _ (empties_dead d cs ids i is co dead) here l f served n c a = served_emptied over (receivers plan.jobs) ids h l.1 served n c a
 served_next over plan h at _ (takes m v i is next) here l f served n c a = served n c (awaited_before over over plan (Taken m v) h l.0 l.1 f refl n c a)
-served_next over plan h at _ (ends i is none) here l f served n c a = served_ended h none served n c a
-served_next over plan h at _ (stops s) here l f served n c a = served_stopped h (here ∙ s) served n c a
+served_next over plan h at _ (ends i is none shut) here l f served n c a = served_ended h none served n c a
+served_next over plan h at _ (finishes ids i is none fin) here l f served n c a = served_emptied over (receivers plan.jobs) ids h l.1 served n c a
+served_next over plan h at _ (finishes_stopped ids s fin) here l f served n c a = served_emptied over (receivers plan.jobs) ids h l.1 served n c a
+served_next over plan h at _ (stops s shut) here l f served n c a = served_stopped h (here ∙ s) served n c a
 served_next over plan h at _ (closes b none) here l f served n c a = served n c (awaited_before over over plan Closed h l.0 l.1 f refl n c a)
 
 nothing_made : (c : Cell) → ◌≡◌ {A = Option Cell} None (Some c) → ⊥
@@ -223,8 +227,10 @@ closed_next over plan h at _ (does d cs vs r i is) here end = cc
 closed_next over plan h at _ (refuses d cs code i is) here end = cc
 closed_next over plan h at _ (empties_dead d cs ids i is co dead) here end = cc
 closed_next over plan h at _ (takes m v i is next) here end = cc
-closed_next over plan h at _ (ends i is none) here end = cc
-closed_next over plan h at _ (stops s) here end = cc
+closed_next over plan h at _ (ends i is none shut) here end = cc
+closed_next over plan h at _ (finishes ids i is none fin) here end = cc
+closed_next over plan h at _ (finishes_stopped ids s fin) here end = cc
+closed_next over plan h at _ (stops s shut) here end = cc
 closed_next over plan h at _ (closes b none) here end = (none, between_clean h (here ∙ b))
 
 closed_at : (over : Buffers) (plan : AgentPlan) (h : History) → Follows over plan h → phase h ≡ ended → (queue h ≡ []) × (cleaning h ≡ None)

@@ -22,15 +22,15 @@ use Rattle.es_event.proofs.Deciding.{implies, implies_true, said, all_born, all_
 abbrev pub Rule : Type 0
 Rule = List ℕ × Option ℕ
 
-abbrev has_each : List ℕ → List ℕ → Bool
+abbrev pub has_each : List ℕ → List ℕ → Bool
 has_each ids [] = true
 has_each ids (i ∷ []) = is_in ids i
 has_each ids (i ∷ j ∷ js) = is_in ids i && has_each ids (j ∷ js)
 
-abbrev has : List ℕ → Option ℕ → Bool
+abbrev pub has : List ℕ → Option ℕ → Bool
 has ids o = option_map_or (is_in ids) o true
 
-abbrev obeys : List ℕ → Rule → Bool
+abbrev pub obeys : List ℕ → Rule → Bool
 obeys ids r = implies (has_each ids r.0) (has ids r.1)
 
 abbrev Has : (ℕ → Type 0) → Option ℕ → Type 0
@@ -105,38 +105,38 @@ closing P (r ∷ rs) respects ids all =
 
 -- What is reached
 
-abbrev of_variable : Receivers → History → List ℕ → Rule
+abbrev pub of_variable : Receivers → History → List ℕ → Rule
 of_variable into h x = ([], identity (var into h x))
 
-abbrev of_registry : History → ℕ → Rule
+abbrev pub of_registry : History → ℕ → Rule
 of_registry h r = ([], registry_at h r)
 
-abbrev of_cell : History → ℕ → Rule
+abbrev pub of_cell : History → ℕ → Rule
 of_cell h n = ([], held_at h n)
 
-abbrev of_property : History → ℕ × List ℕ → Rule
+abbrev pub of_property : History → ℕ × List ℕ → Rule
 of_property h p = (p.0 ∷ [], option_and_then identity (prop h p.0 p.1))
 
-abbrev of_entry : History → ℕ × ℕ → Rule
+abbrev pub of_entry : History → ℕ × ℕ → Rule
 of_entry h p = (p.0 ∷ p.1 ∷ [], option_and_then identity (entry h p.0 p.1))
 
 -- the rules of all keys that are said, kind by kind
-abbrev of_variables : Receivers → History → List Rule
+abbrev pub of_variables : Receivers → History → List Rule
 of_variables into h = map (of_variable into h) (said (assigned into) h)
 
-abbrev of_registries : History → List Rule
+abbrev pub of_registries : History → List Rule
 of_registries h = map (of_registry h) (said all_born h)
 
-abbrev of_cells : History → List Rule
+abbrev pub of_cells : History → List Rule
 of_cells h = map (of_cell h) (said numbered_cell h)
 
-abbrev of_properties : History → List Rule
+abbrev pub of_properties : History → List Rule
 of_properties h = map (of_property h) (said all_puts h)
 
-abbrev of_entries : History → List Rule
+abbrev pub of_entries : History → List Rule
 of_entries h = map (of_entry h) (said all_entered h)
 
-abbrev rules_of : Receivers → History → List Rule
+abbrev pub rules_of : Receivers → History → List Rule
 rules_of into h = of_variables into h ++ (of_registries h ++ (of_cells h ++ (of_properties h ++ of_entries h)))
 
 variable_led : (into : Receivers) (h : History) (x : List ℕ) (o : Option ℕ) → identity (var into h x) ≡ o → Has (LedTo into h) o
@@ -183,6 +183,51 @@ respected into h =
     respects_both P (of_variables into h) _ variables
     (respects_both P (of_registries h) _ registries (respects_both P (of_cells h) _ cells (respects_both P (of_properties h) _ properties entries)))
 
+-- the same of any closed set
+
+variable_in : (P : ℕ → Type 0) (into : Receivers) (h : History) → IsClosed into h P → (x : List ℕ) (o : Option ℕ) → identity (var into h x) ≡ o → Has P o
+variable_in P into h c x None e = tt
+variable_in P into h c x (Some i) e = c.variables x i e
+
+registry_in : (P : ℕ → Type 0) (into : Receivers) (h : History) → IsClosed into h P → (r : ℕ) (o : Option ℕ) → callback h r ≡ o → Has P (option_map (λ c. r) o)
+registry_in P into h c r None e = tt
+registry_in P into h c r (Some k) e = c.registries r k e
+
+in_cell : (P : ℕ → Type 0) (into : Receivers) (h : History) → IsClosed into h P → (n : ℕ) (c : Cell) (b : Bool) (i : Option ℕ) → cell h n ≡ Some c → is_present (fate h n) ≡ b → identity c.held ≡ i → Has P (cond b i None)
+in_cell P into h closed n c false i e present f = tt
+in_cell P into h closed n c true None e present f = tt
+in_cell P into h closed n c true (Some i) e present f = closed.cells n c i e present f
+
+cell_in : (P : ℕ → Type 0) (into : Receivers) (h : History) → IsClosed into h P → (n : ℕ) (o : Option Cell) → cell h n ≡ o → Has P (if_present h n o)
+cell_in P into h closed n None e = tt
+cell_in P into h closed n (Some c) e = in_cell P into h closed n c (is_present (fate h n)) (identity c.held) e refl refl
+
+in_property : (P : ℕ → Type 0) (into : Receivers) (h : History) → IsClosed into h P → (o : ℕ) (k : List ℕ) (v : Value) (i : Option ℕ) → P o → prop h o k ≡ Some v → identity v ≡ i → Has P i
+in_property P into h c o k v None l e f = tt
+in_property P into h c o k v (Some i) l e f = c.properties o k v i l e f
+
+property_in : (P : ℕ → Type 0) (into : Receivers) (h : History) → IsClosed into h P → (o : ℕ) (k : List ℕ) (p : Option Value) → prop h o k ≡ p → P o → Has P (option_and_then identity p)
+property_in P into h c o k None e l = tt
+property_in P into h c o k (Some v) e l = in_property P into h c o k v (identity v) l e refl
+
+in_entry : (P : ℕ → Type 0) (into : Receivers) (h : History) → IsClosed into h P → (w k : ℕ) (v : Value) (i : Option ℕ) → P w → P k → entry h w k ≡ Some v → identity v ≡ i → Has P i
+in_entry P into h c w k v None a b e f = tt
+in_entry P into h c w k v (Some i) a b e f = c.entries w k v i a b e f
+
+entry_in : (P : ℕ → Type 0) (into : Receivers) (h : History) → IsClosed into h P → (w k : ℕ) (p : Option Value) → entry h w k ≡ p → P w → P k → Has P (option_and_then identity p)
+entry_in P into h c w k None e a b = tt
+entry_in P into h c w k (Some v) e a b = in_entry P into h c w k v (identity v) a b e refl
+
+respected_by : (P : ℕ → Type 0) (into : Receivers) (h : History) → IsClosed into h P → Respects P (rules_of into h)
+respected_by P into h c =
+    let entries : Respects P (of_entries h) = respects_map P (of_entry h) (λ p l. entry_in P into h c p.0 p.1 (entry h p.0 p.1) refl l.0 l.1.0) (said all_entered h) in
+    let properties : Respects P (of_properties h) = respects_map P (of_property h) (λ p l. property_in P into h c p.0 p.1 (prop h p.0 p.1) refl l.0) (said all_puts h) in
+    let cells : Respects P (of_cells h) = respects_map P (of_cell h) (λ n u. cell_in P into h c n (cell h n) refl) (said numbered_cell h) in
+    let registries : Respects P (of_registries h) = respects_map P (of_registry h) (λ r u. registry_in P into h c r (callback h r) refl) (said all_born h) in
+    let variables : Respects P (of_variables into h) = respects_map P (of_variable into h) (λ x u. variable_in P into h c x (identity (var into h x)) refl) (said (assigned into) h) in
+    respects_both P (of_variables into h) _ variables
+    (respects_both P (of_registries h) _ registries (respects_both P (of_cells h) _ cells (respects_both P (of_properties h) _ properties entries)))
+
 abbrev pub Reached : Receivers → History → Type 0
 Reached into h = Closing (LedTo into h) (rules_of into h) (kept h)
 
@@ -222,3 +267,22 @@ led_reached into h i l = λ m c. led_in (λ j. m j ≡ true) into h c i l
 
 pub reached_led : (into : Receivers) (h : History) (i : ℕ) → IsReached into h i → LedTo into h i
 reached_led into h i r = let all = reached into h in all.only i (r (is_in all.list) (reached_closed into h all))
+
+-- a list that is closed, has all of ids and KeptAlive, and nothing but what a closed P has
+pub closing_of : (P : ℕ → Type 0) (into : Receivers) (h : History) → IsClosed into h P → (ids : List ℕ) → ((i : ℕ) → is_in ids i ≡ true → P i) → Closing P (rules_of into h) ids
+closing_of P into h c ids all = closing P (rules_of into h) (respected_by P into h c) ids all
+
+pub closing_closed : (P : ℕ → Type 0) (into : Receivers) (h : History) (ids : List ℕ) (r : Closing P (rules_of into h) ids) → ((i : ℕ) → is_in (kept h) i ≡ true → is_in ids i ≡ true) → IsClosed into h (λ j. is_in r.list j ≡ true)
+closing_closed P into h ids r keeps =
+    let vs = obeys_both r.list (of_variables into h) _ r.closed in
+    let rs = obeys_both r.list (of_registries h) _ vs.1 in
+    let cs = obeys_both r.list (of_cells h) _ rs.1 in
+    let ps = obeys_both r.list (of_properties h) _ cs.1 in
+    record {
+      variables = closed_variable into h r.list (sym (list_all-map (obeys r.list) (of_variable into h) (said (assigned into) h)) ∙ vs.0);
+      kept = λ i e. r.grows i (keeps i e);
+      registries = closed_registry h r.list (sym (list_all-map (obeys r.list) (of_registry h) (said all_born h)) ∙ rs.0);
+      cells = closed_cell h r.list (sym (list_all-map (obeys r.list) (of_cell h) (said numbered_cell h)) ∙ cs.0);
+      properties = closed_property h r.list (sym (list_all-map (obeys r.list) (of_property h) (said all_puts h)) ∙ ps.0);
+      entries = closed_entry h r.list (sym (list_all-map (obeys r.list) (of_entry h) (said all_entered h)) ∙ ps.1);
+    }

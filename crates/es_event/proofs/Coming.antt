@@ -11,7 +11,9 @@ use Rattle.es_event.specs.declared.event.Refusal.TheVariants.{TooManyValues}
 use Rattle.es_event.specs.declared.command.Command.{Command}
 use Rattle.es_event.specs.declared.plan.AgentPlan.{AgentPlan}
 use Rattle.es_event.specs.declared.plan.Job.{Job}
-use Rattle.es_event.specs.Commands.{collects}
+use Rattle.es_event.specs.Later.{snapshot, collects_now}
+use Rattle.es_event.specs.Order.{Due, finish, end_job, due_end}
+use Rattle.es_event.proofs.Finishing.{IsFinish}
 use Rattle.es_event.specs.History.{History}
 use Rattle.es_event.specs.Identities.{object_of}
 use Rattle.es_event.specs.Jobs.{Receivers, receivers, job, cleaning}
@@ -34,10 +36,12 @@ pub data Comes (over : Buffers) (into : Receivers) (plan : AgentPlan) (h : Histo
   begins_cleanup : (r : ℕ) (rs : List ℕ) → at ≡ between → queue h ≡ r ∷ rs → Comes over into plan h at (CleanupBegun r)
   does : (c : Command) (cs : List Command) (vs : List Value) (r : Answer) → at ≡ inside → left plan h ≡ c ∷ cs → Comes over into plan h at (Did c vs r)
   refuses : (c : Command) (cs : List Command) (code : Refusal) → at ≡ inside → left plan h ≡ c ∷ cs → Comes over into plan h at (Refused code)
-  empties_dead : (c : Command) (cs : List Command) (ids : List ℕ) → at ≡ inside → left plan h ≡ c ∷ cs → collects c ≡ true → AreDead into h ids → Comes over into plan h at (Emptied ids)
+  empties_dead : (c : Command) (cs : List Command) (ids : List ℕ) → at ≡ inside → left plan h ≡ c ∷ cs → collects_now h c ≡ true → AreDead into h ids → Comes over into plan h at (Emptied ids)
   takes : (n : ℕ) (v : Value) → at ≡ inside → left plan h ≡ [] → next_cell h ≡ Some n → Comes over into plan h at (Taken n v)
-  ends : at ≡ inside → left plan h ≡ [] → next_cell h ≡ None → Comes over into plan h at JobEnded
-  stops : at ≡ stopped → Comes over into plan h at JobEnded
+  ends : at ≡ inside → left plan h ≡ [] → next_cell h ≡ None → snapshot h ≡ None → Comes over into plan h at JobEnded
+  stops : at ≡ stopped → snapshot h ≡ None → Comes over into plan h at JobEnded
+  finishes : (ids : List ℕ) → at ≡ inside → left plan h ≡ [] → next_cell h ≡ None → IsFinish into h ids → Comes over into plan h at (Emptied ids)
+  finishes_stopped : (ids : List ℕ) → at ≡ stopped → IsFinish into h ids → Comes over into plan h at (Emptied ids)
   closes : at ≡ between → queue h ≡ [] → Comes over into plan h at Closed
 
 comes_command : (over : Buffers) (into : Receivers) (plan : AgentPlan) (h : History) (c : Command) (cs : List Command) (e : Event) → left plan h ≡ c ∷ cs
@@ -47,10 +51,16 @@ comes_command over into plan h c cs (Refused code) is p = refuses c cs code refl
 comes_command over into plan h c cs (Emptied ids) is p = empties_dead c cs ids refl is p.0 p.1
 comes_command over into plan h c cs _ is p = absurd p
 
+comes_end : (over : Buffers) (into : Receivers) (plan : AgentPlan) (h : History) (o : Option History) (e : Event) → left plan h ≡ [] → next_cell h ≡ None → snapshot h ≡ o
+    → Permits over into h (due_end o) e → Comes over into plan h inside e
+comes_end over into plan h None JobEnded is next at p = ends refl is next at
+comes_end over into plan h None _ is next at p = absurd p
+comes_end over into plan h (Some q) (Emptied ids) is next at p = finishes ids refl is next (record { copy = q; open_at = at; late = p })
+comes_end over into plan h (Some q) _ is next at p = absurd p
+
 comes_after : (over : Buffers) (into : Receivers) (plan : AgentPlan) (h : History) (o : Option ℕ) (e : Event) → left plan h ≡ [] → next_cell h ≡ o
-    → Permits over into h (due_after o) e → Comes over into plan h inside e
-comes_after over into plan h None JobEnded is next p = ends refl is next
-comes_after over into plan h None _ is next p = absurd p
+    → Permits over into h (due_after h o) e → Comes over into plan h inside e
+comes_after over into plan h None e is next p = comes_end over into plan h (snapshot h) e is next refl p
 comes_after over into plan h (Some n) (Taken m v) is next p = takes m v refl is (subst (λ m. next_cell h ≡ Some m) (sym p) next)
 comes_after over into plan h (Some n) _ is next p = absurd p
 
@@ -84,9 +94,14 @@ comes_between over into plan h [] e is p = comes_job over into plan h (slice_get
 comes_between over into plan h (r ∷ rs) (CleanupBegun q) is p = begins_cleanup q rs refl (subst (λ q. queue h ≡ q ∷ rs) (sym p) is)
 comes_between over into plan h (r ∷ rs) _ is p = absurd p
 
+comes_stopped_end : (over : Buffers) (into : Receivers) (plan : AgentPlan) (h : History) (o : Option History) (e : Event) → snapshot h ≡ o → Permits over into h (due_end o) e → Comes over into plan h stopped e
+comes_stopped_end over into plan h None JobEnded at p = stops refl at
+comes_stopped_end over into plan h None _ at p = absurd p
+comes_stopped_end over into plan h (Some q) (Emptied ids) at p = finishes_stopped ids refl (record { copy = q; open_at = at; late = p })
+comes_stopped_end over into plan h (Some q) _ at p = absurd p
+
 comes_stopped : (over : Buffers) (into : Receivers) (plan : AgentPlan) (h : History) (e : Event) → Permits over into h (due_at plan h stopped) e → Comes over into plan h stopped e
-comes_stopped over into plan h JobEnded p = stops refl
-comes_stopped over into plan h _ p = absurd p
+comes_stopped over into plan h e p = comes_stopped_end over into plan h (snapshot h) e refl p
 
 comes_at : (over : Buffers) (into : Receivers) (plan : AgentPlan) (h : History) (at : Phase) (e : Event) → Permits over into h (due_at plan h at) e → Comes over into plan h at e
 comes_at over into plan h between e p = comes_between over into plan h (queue h) e refl p

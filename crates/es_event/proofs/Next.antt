@@ -1,11 +1,12 @@
 -- What may come next: one event, but for what it hears from outside, and some event wherever something is due.
-use Rattle.std.proofs.Common.{◌≡◌, ℕ, ◌+◌, cond, ◌-◌, ◌==◌, ◌&&◌, Bool, true, false, sym, ◌∙◌, ap, refl, subst, List, [], ◌∷◌, Option, Some, None, Result, Ok, Err}
+use Rattle.std.proofs.Common.{◌≡◌, ℕ, ◌+◌, cond, ◌-◌, ◌==◌, ◌&&◌, Bool, true, false, sym, ◌∙◌, ap, refl, subst, List, [], ◌∷◌, Option, Some, None, Result, Ok, Err, is_none, ◌≤◌, arith, nat_lt, nat_le, ◌<◌, not}
 use Rattle.std.specs.Prelude.{slice_get, is_some, nat_lt}
 use Rattle.std.specs.Option.{option_map, option_map_or, option_and_then}
-use Rattle.std.proofs.lemmas.Bool.{false≢true, and_parts, eq-eqb}
+use Rattle.std.proofs.lemmas.Bool.{false≢true, and_parts, eq-eqb, and_from, le-leb, leb-true}
 use Rattle.es_value.specs.Limits.{most_identities}
 use Rattle.es_value.specs.declared.value.Value.{Value}
 use Rattle.es_value.specs.declared.value.Value.TheVariants.{Object}
+use Rattle.std.specs.List.{list_all}
 use Rattle.es_event.specs.declared.row.Row.{Row}
 use Rattle.es_event.specs.declared.event.Answer.{Answer}
 use Rattle.es_event.specs.declared.event.Answer.TheVariants.{Gives}
@@ -17,12 +18,12 @@ use Rattle.es_event.specs.declared.command.Command.TheVariants.{Load, Add, Colle
 use Rattle.es_event.specs.declared.plan.AgentPlan.{AgentPlan}
 use Rattle.es_event.specs.Commands.{reads, opens_words, collects}
 use Rattle.es_event.specs.History.{History}
-use Rattle.es_event.specs.Identities.{identity, object_of, made}
+use Rattle.es_event.specs.Identities.{identity, object_of, made, is_there, is_made, is_gone, is_in}
 use Rattle.es_event.specs.Jobs.{Receivers, receivers, job, cleaning}
 use Rattle.es_event.specs.Registrations.{Cell, cell, Fate, fate, awaiting, same_fate, is_of, registrations, first_awaiting}
 use Rattle.es_event.specs.Rows.{row}
 use Rattle.es_event.specs.Sharing.{Buffers, row_at, AgreeSoFar}
-use Rattle.es_event.specs.Rules.{number_of_word, refusal, result, refuse_or, completion}
+use Rattle.es_event.specs.Rules.{number_of_word, refusal, result, refuse_or, completion, first_refusal}
 use Rattle.es_event.specs.Legal.{word_in, HasWords, Arrives, Lawful, values_of}
 use Rattle.es_event.specs.Order.{Phase, between, handed, inside, stopped, ended, phase, left, queue, Due, begin, receive, run, clean, take_cell, due_after, due_inside, due_job, due_between, due_at, end_job, close, nothing, due}
 use Rattle.es_event.specs.Follows.{AtCommand, HasRoom, Permits}
@@ -32,6 +33,15 @@ use Rattle.es_event.proofs.Extending.{agrees_with_itself, agrees_longer, refuses
 use Rattle.es_event.proofs.Counting.{found_passes}
 use Rattle.es_event.proofs.Entries.{inner}
 use Rattle.es_event.proofs.Fates.{awaits, is_same}
+use Rattle.es_event.specs.Later.{snapshot, derefed_since, collects_now}
+use Rattle.es_event.specs.Late.{AreLate}
+use Rattle.es_event.specs.Order.{finish, due_end}
+use Rattle.es_event.specs.declared.event.Refusal.TheVariants.{CollectionOpen}
+use Rattle.es_event.proofs.Opening.{Since, since_copy}
+use Rattle.es_event.proofs.Finishing.{is_open}
+use Rattle.es_event.proofs.Late.{the_late, one_late_list}
+use Rattle.es_event.proofs.Staying.{made_more}
+use Rattle.es_event.proofs.Lists.{all_from_members}
 use Rattle.es_event.proofs.Listing.{TheDead, the_dead, one_list, dead_there}
 
 -- One event
@@ -68,9 +78,16 @@ same_word over h (Load to b i) vs r q e = ap (completion over h (Load to b i) vs
 same_word over h (Add to b i n) vs r q e = ap (completion over h (Add to b i n) vs) (a_word_of (word_in r) (word_in q) e)
 same_word over h _ vs r q e = refl
 
-never_refused : (over : Buffers) (h : History) (c : Command) (vs : List Value) (code : Refusal) → collects c ≡ true → refusal over h c vs ≡ Some code → ⊥
-never_refused over h Collect vs code e f = cc
+none_refuses : (b : Bool) (code : Refusal) → b ≡ true → first_refusal ((b, CollectionOpen) ∷ []) ≡ Some code → ⊥
+none_refuses true code e f = cc
+none_refuses false code e f = cc
+
+never_refused : (over : Buffers) (h : History) (c : Command) (vs : List Value) (code : Refusal) → collects_now h c ≡ true → refusal over h c vs ≡ Some code → ⊥
+never_refused over h Collect vs code e f = none_refuses (is_none (snapshot h)) code e f
 never_refused over h _ vs code e f = cc
+
+now_collects : (h : History) (c : Command) → collects_now h c ≡ true → collects c ≡ true
+now_collects h c e = (and_parts (collects c) (is_none (snapshot h)) e).0
 
 -- what is refused is not done
 refused_not : (over : Buffers) (h : History) (c : Command) (vs : List Value) (r : Answer) (code : Refusal) → completion over h c vs (word_in r) ≡ Ok r → refusal over h c vs ≡ Some code → ⊥
@@ -86,11 +103,11 @@ one_at_command over into h c (Did d vs r) (Did b ws q) l p m o s =
     let alike : heard_by c r ≡ heard_by c q = ap (λ c. heard_by c r) (sym p) ∙ (s ∙ ap (λ c. heard_by c q) o) in
     same_done c d b vs ws r q p o (x.0 ∙ sym y.0) (same_answer (completion over h c (values_of into h (reads c)) (word_in r)) r q x.1 (same_word over h c (values_of into h (reads c)) r q alike ∙ y.1))
 one_at_command over into h c (Did d vs r) (Refused code) l p m o s = absurd (refused_not over h c (values_of into h (reads c)) r code (done over into h c d vs r l p).1 o)
-one_at_command over into h c (Did d vs r) (Emptied ids) l p m o s = absurd (false≢true (sym (done over into h c d vs r l p).2 ∙ o.0))
+one_at_command over into h c (Did d vs r) (Emptied ids) l p m o s = absurd (false≢true (sym (done over into h c d vs r l p).2 ∙ now_collects h c o.0))
 one_at_command over into h c (Refused code) (Did b ws q) l p m o s = absurd (refused_not over h c (values_of into h (reads c)) q code (done over into h c b ws q m o).1 p)
 one_at_command over into h c (Refused a) (Refused b) l p m o s = ap Refused (inner_code a b (sym p ∙ o))
 one_at_command over into h c (Refused code) (Emptied ids) l p m o s = absurd (never_refused over h c (values_of into h (reads c)) code o.0 p)
-one_at_command over into h c (Emptied ids) (Did b ws q) l p m o s = absurd (false≢true (sym (done over into h c b ws q m o).2 ∙ p.0))
+one_at_command over into h c (Emptied ids) (Did b ws q) l p m o s = absurd (false≢true (sym (done over into h c b ws q m o).2 ∙ now_collects h c p.0))
 one_at_command over into h c (Emptied ids) (Refused code) l p m o s = absurd (never_refused over h c (values_of into h (reads c)) code p.0 o)
 one_at_command over into h c (Emptied ids) (Emptied jds) l p m o s = ap Emptied (one_list into h ids jds p.1 o.1 l.1 m.1)
 one_at_command over into h c (Did d vs r) _ l p m o s = absurd o
@@ -149,6 +166,11 @@ pub closes : (over : Buffers) (into : Receivers) (h : History) (e : Event) → P
 closes over into h Closed p = refl
 closes over into h _ p = absurd p
 
+one_finish : (over : Buffers) (into : Receivers) (h p : History) (e f : Event) → Lawful over into h e → Permits over into h (finish p) e → Lawful over into h f → Permits over into h (finish p) f → e ≡ f
+one_finish over into h p (Emptied ids) (Emptied jds) l a m b = ap Emptied (one_late_list into p (derefed_since h) ids jds a b l.1 m.1)
+one_finish over into h p (Emptied ids) _ l a m b = absurd b
+one_finish over into h p _ f l a m b = absurd a
+
 one_at : (over : Buffers) (into : Receivers) (h : History) (d : Due) (e f : Event) → Lawful over into h e → Permits over into h d e → Lawful over into h f → Permits over into h d f → heard e ≡ heard f → e ≡ f
 one_at over into h (begin n) e f l p m o s = begins over into h n e p ∙ sym (begins over into h n f o)
 one_at over into h (receive n t) e f l p m o s = one_at_receive over into h n t e f p o s
@@ -158,6 +180,7 @@ one_at over into h (take_cell n) e f l p m o s =
     let a : Takes h n e = takes_next over into h n e l p in
     let b : Takes h n f = takes_next over into h n f m o in
     a.is ∙ (ap (Taken n) (inner (sym a.held_is ∙ b.held_is)) ∙ sym b.is)
+one_at over into h (finish q) e f l p m o s = one_finish over into h q e f l p m o
 one_at over into h end_job e f l p m o s = ends over into h e p ∙ sym (ends over into h f o)
 one_at over into h close e f l p m o s = closes over into h e p ∙ sym (closes over into h f o)
 one_at over into h nothing e f l p m o s = absurd p
@@ -218,13 +241,26 @@ answered over into h c e (Err code) is = record {
   permitted = refuses_so (refusal (with_block over h (opens_words c)) h c (values_of into h (reads c))) _ code is;
 }
 
-emptied : (over : Buffers) (into : Receivers) (h : History) (c : Command) → collects c ≡ true → SomeAt over into h (run c)
+emptied : (over : Buffers) (into : Receivers) (h : History) (c : Command) → collects_now h c ≡ true → SomeAt over into h (run c)
 emptied over into h c e =
     let all : TheDead into h = the_dead into h in
     at_hand over into h (run c) (Emptied all.list) (dead_there into h all.list all.dead, all.rising) (e, all.dead)
 
+-- a collection that is refused, as a later one is open
+refused_open : (b : Bool) → b ≡ false → first_refusal ((b, CollectionOpen) ∷ []) ≡ Some CollectionOpen
+refused_open true e = cc
+refused_open false e = refl
+
+open_refuses : (over : Buffers) (into : Receivers) (h : History) (c : Command) → collects c ≡ true → is_none (snapshot h) ≡ false → SomeAt over into h (run c)
+open_refuses over into h Collect e f = at_hand over into h (run Collect) (Refused CollectionOpen) tt (refused_open (is_none (snapshot h)) f)
+open_refuses over into h _ e f = cc
+
+collecting : (over : Buffers) (into : Receivers) (h : History) (c : Command) (b : Bool) → collects c ≡ true → is_none (snapshot h) ≡ b → SomeAt over into h (run c)
+collecting over into h c true e f = emptied over into h c (and_from (collects c) (is_none (snapshot h)) e f)
+collecting over into h c false e f = open_refuses over into h c e f
+
 at_command : (over : Buffers) (into : Receivers) (h : History) (c : Command) (b : Bool) → collects c ≡ b → SomeAt over into h (run c)
-at_command over into h c true e = emptied over into h c e
+at_command over into h c true e = collecting over into h c (is_none (snapshot h)) e refl
 at_command over into h c false e = answered over into h c e (completion (with_block over h (opens_words c)) h c (values_of into h (reads c)) 0) refl
 
 awaiting_held : (h : History) (n : ℕ) → fate h n ≡ awaiting → (v : Value) × (option_map (λ c. c.held) (cell h n) ≡ Some v)
@@ -234,18 +270,33 @@ awaiting_held h n e = let found = awaits h n e in (found.0.held, ap (option_map 
 abbrev IsReady : History → Due → Type 0
 IsReady h d = (n : ℕ) → d ≡ take_cell n → fate h n ≡ awaiting
 
-some_at : (over : Buffers) (into : Receivers) (h : History) (d : Due) → IsReady h d → (d ≡ nothing → ⊥) → SomeAt over into h d
-some_at over into h (begin n) ready on = at_hand over into h (begin n) (JobBegun n) tt refl
-some_at over into h (receive n t) ready on = at_hand over into h (receive n t) (Skipped n t) tt (refl, refl)
-some_at over into h (run c) ready on = at_command over into h c (collects c) refl
-some_at over into h (clean r) ready on = at_hand over into h (clean r) (CleanupBegun r) tt refl
-some_at over into h (take_cell n) ready on =
+-- what is late is there yet, as nothing was emptied since
+late_there : (into : Receivers) (h p : History) (more s : List ℕ) → Since h p → AreLate into p more s → list_all (is_there h) s ≡ true
+late_there into h p more s since late = all_from_members (is_there h) s (λ i e.
+    let l = (late.only i e).there in
+    let parts = and_parts (is_made p i) (not (is_gone p i)) l in
+    let bounds = and_parts (nat_lt 0 i) (nat_le i (made p)) parts.0 in
+    let grown : made p ≤ made h = rw since.whole (made_more since.later p) in
+    and_from (is_made h i) (not (is_gone h i)) (and_from (nat_lt 0 i) (nat_le i (made h)) bounds.0 (le-leb i (made h) (omega (arith, leb-true i (made p) bounds.1, grown)))) (ap (λ g. not (is_in g i)) since.still ∙ parts.1))
+
+finished : (over : Buffers) (into : Receivers) (h p : History) → snapshot h ≡ Some p → SomeAt over into h (finish p)
+finished over into h p is =
+    let all = the_late into p (derefed_since h) in
+    at_hand over into h (finish p) (Emptied all.0) (late_there into h p (derefed_since h) all.0 (since_copy h p is) all.1, all.2) all.1
+
+some_at : (over : Buffers) (into : Receivers) (h : History) (d : Due) → IsReady h d → ((p : History) → d ≡ finish p → snapshot h ≡ Some p) → (d ≡ nothing → ⊥) → SomeAt over into h d
+some_at over into h (begin n) ready is_at on = at_hand over into h (begin n) (JobBegun n) tt refl
+some_at over into h (receive n t) ready is_at on = at_hand over into h (receive n t) (Skipped n t) tt (refl, refl)
+some_at over into h (run c) ready is_at on = at_command over into h c (collects c) refl
+some_at over into h (clean r) ready is_at on = at_hand over into h (clean r) (CleanupBegun r) tt refl
+some_at over into h (take_cell n) ready is_at on =
     let waits = ready n refl in
     let held = awaiting_held h n waits in
     at_hand over into h (take_cell n) (Taken n held.0) (held.1, waits) refl
-some_at over into h end_job ready on = at_hand over into h end_job JobEnded tt tt
-some_at over into h close ready on = at_hand over into h close Closed tt tt
-some_at over into h nothing ready on = absurd (on refl)
+some_at over into h (finish p) ready is_at on = finished over into h p (is_at p refl)
+some_at over into h end_job ready is_at on = at_hand over into h end_job JobEnded tt tt
+some_at over into h close ready is_at on = at_hand over into h close Closed tt tt
+some_at over into h nothing ready is_at on = absurd (on refl)
 
 is_of_awaiting : (o : Option Cell) (r : ℕ) (f : Fate) → (option_map_or (λ c. c.registry == r) o false && same_fate f awaiting) ≡ true → f ≡ awaiting
 is_of_awaiting o r f e = is_same f (and_parts (option_map_or (λ c. c.registry == r) o false) (same_fate f awaiting) e).1
@@ -254,8 +305,12 @@ first_awaits : (h : History) (q : Option ℕ) (n : ℕ) → option_and_then (fir
 first_awaits h None n e = cc
 first_awaits h (Some r) n e = is_of_awaiting (cell h n) r (fate h n) (found_passes (is_of h r awaiting) (registrations h) n e)
 
-ready_after : (h : History) (o : Option ℕ) → ((n : ℕ) → o ≡ Some n → fate h n ≡ awaiting) → IsReady h (due_after o)
-ready_after h None first n e = cc
+end_ready : (o : Option History) (n : ℕ) → due_end o ≡ take_cell n → ⊥
+end_ready None n e = cc
+end_ready (Some p) n e = cc
+
+ready_after : (h : History) (o : Option ℕ) → ((n : ℕ) → o ≡ Some n → fate h n ≡ awaiting) → IsReady h (due_after h o)
+ready_after h None first n e = absurd (end_ready (snapshot h) n e)
 ready_after h (Some m) first n e = let same : m ≡ n = cc in first n (ap Some same)
 
 ready_inside : (h : History) (cs : List Command) → IsReady h (due_inside h cs)
@@ -275,14 +330,14 @@ ready_at : (plan : AgentPlan) (h : History) (at : Phase) → IsReady h (due_at p
 ready_at plan h between n e = ready_between plan h (queue h) n e
 ready_at plan h handed n e = cc
 ready_at plan h inside n e = ready_inside h (left plan h) n e
-ready_at plan h stopped n e = cc
+ready_at plan h stopped n e = absurd (end_ready (snapshot h) n e)
 ready_at plan h ended n e = cc
 
 ready : (plan : AgentPlan) (h : History) → IsReady h (due plan h)
 ready plan h = ready_at plan h (phase h)
 
 pub some_next : (over : Buffers) (plan : AgentPlan) (h : History) → (due plan h ≡ nothing → ⊥) → SomeAt over (receivers plan.jobs) h (due plan h)
-some_next over plan h on = some_at over (receivers plan.jobs) h (due plan h) (ready plan h) on
+some_next over plan h on = some_at over (receivers plan.jobs) h (due plan h) (ready plan h) (is_open plan h) on
 
 -- A message
 

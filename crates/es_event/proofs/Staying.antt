@@ -33,11 +33,11 @@ use Rattle.es_event.proofs.Targets.{target_from}
 
 -- Later histories
 
-not_gone : (f h : History) (i : ℕ) → is_gone (f ++ h) i ≡ false → is_gone h i ≡ false
+pub not_gone : (f h : History) (i : ℕ) → is_gone (f ++ h) i ≡ false → is_gone h i ≡ false
 not_gone [] h i e = e
 not_gone (x ∷ f) h i e = not_gone f h i (still_there x (f ++ h) i e)
 
-made_more : (f h : History) → made h ≤ made (f ++ h)
+pub made_more : (f h : History) → made h ≤ made (f ++ h)
 made_more [] h = omega arith
 made_more (e ∷ f) h = omega (arith, made_more f h)
 
@@ -63,7 +63,7 @@ pub in_set : (s : List ℕ) (v : Value) (i : ℕ) → has_identity_in s v ≡ fa
 in_set s v i e f = sym (ap (λ o. option_map_or (is_in s) o false) f) ∙ e
 
 -- what is neither in s nor emptied
-not_out : (into : Receivers) (h : History) (s : List ℕ) (m : ℕ → Bool) → IsClosedBeside s into h m → (i : ℕ) → is_in s i ≡ false → is_gone h i ≡ false → with_later h m i ≡ true
+pub not_out : (into : Receivers) (h : History) (s : List ℕ) (m : ℕ → Bool) → IsClosedBeside s into h m → (i : ℕ) → is_in s i ≡ false → is_gone h i ≡ false → with_later h m i ≡ true
 not_out into h s m all i out here =
     elim (cases_Bool (is_made h i)) [
       | inl e ↦ by_set h m i (all.others i (and_from (is_made h i) (not (is_gone h i)) e (ap not here)) out)

@@ -2,13 +2,14 @@
 use Rattle.std.proofs.Common.{◌≡◌, ℕ, zero, suc, ◌<◌, ◌≤◌, true, sym, ◌∙◌, ap, refl, subst, arith, List, [], ◌∷◌, ◌++◌, map, Option, Some, None, ◌⊎◌, inl, inr}
 use Rattle.std.proofs.lemmas.Bool.{cases_Bool}
 use Rattle.std.proofs.lemmas.List.{append_assoc}
+use Rattle.es_event.specs.Later.{snapshot}
 use Rattle.es_event.specs.declared.event.Event.{Event}
 use Rattle.es_event.specs.declared.command.Command.{Command}
 use Rattle.es_event.specs.declared.plan.AgentPlan.{AgentPlan}
 use Rattle.es_event.specs.History.{History}
 use Rattle.es_event.specs.Jobs.{receivers, job, callbacks_collect_nothing}
 use Rattle.es_event.specs.Sharing.{Buffers, AgreeSoFar}
-use Rattle.es_event.specs.Order.{Phase, between, handed, inside, stopped, ended, phase, left, queue, nothing, due_after, due_inside, due_job, due_between, due_at, is_cleaning_up}
+use Rattle.es_event.specs.Order.{Phase, between, handed, inside, stopped, ended, phase, left, queue, nothing, due_after, due_inside, due_job, due_between, due_at, is_cleaning_up, due_end}
 use Rattle.es_event.specs.Runs.{ComesNext, Heard, heard, IsRunOver, IsWholeRunOver}
 use Rattle.es_event.proofs.Coming.{next_cell}
 use Rattle.es_event.proofs.Extending.{agrees_with_itself, agrees_before, agrees_through, still_legal, still_follows}
@@ -20,12 +21,16 @@ due_job_some n None e = cc
 due_job_some n (Some None) e = cc
 due_job_some n (Some (Some on)) e = cc
 
-after_some : (o : Option ℕ) → due_after o ≡ nothing → ⊥
-after_some None e = cc
-after_some (Some n) e = cc
+end_some : (o : Option History) → due_end o ≡ nothing → ⊥
+end_some None e = cc
+end_some (Some p) e = cc
+
+after_some : (h : History) (o : Option ℕ) → due_after h o ≡ nothing → ⊥
+after_some h None e = end_some (snapshot h) e
+after_some h (Some n) e = cc
 
 inside_some : (h : History) (cs : List Command) → due_inside h cs ≡ nothing → ⊥
-inside_some h [] e = after_some (next_cell h) e
+inside_some h [] e = after_some h (next_cell h) e
 inside_some h (c ∷ cs) e = cc
 
 between_some : (plan : AgentPlan) (h : History) (rs : List ℕ) → due_between plan h rs ≡ nothing → ⊥
@@ -36,7 +41,7 @@ due_some : (plan : AgentPlan) (h : History) (at : Phase) → (at ≡ ended → �
 due_some plan h between un e = between_some plan h (queue h) e
 due_some plan h handed un e = cc
 due_some plan h inside un e = inside_some h (left plan h) e
-due_some plan h stopped un e = cc
+due_some plan h stopped un e = end_some (snapshot h) e
 due_some plan h ended un e = un refl
 
 is_ended : (at : Phase) → (at ≡ ended) ⊎ (at ≡ ended → ⊥)

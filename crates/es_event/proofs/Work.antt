@@ -1,6 +1,6 @@
 -- How much work is left to an agent, in the jobs of its plan and on the cleanup queue; and that each event leaves less.
 use Rattle.std.proofs.Common.{◌≡◌, ℕ, zero, suc, ◌+◌, ◌-◌, ◌*◌, ◌<◌, ◌≤◌, not, Bool, true, false, cond, sym, ◌∙◌, ap, refl, subst, arith, List, [], ◌∷◌, drop, length, length-append, Option, Some, None}
-use Rattle.std.specs.Prelude.{unwrap_or, slice_get, is_some}
+use Rattle.std.specs.Prelude.{unwrap_or, slice_get, is_some, is_none}
 use Rattle.std.specs.List.{list_all, list_any, filter}
 use Rattle.std.specs.Option.{option_map_or, option_and_then, option_to_list}
 use Rattle.std.proofs.lemmas.Bool.{and_parts, or_parts, not-true, false≢true}
@@ -16,7 +16,9 @@ use Rattle.es_event.specs.declared.command.Command.{Command}
 use Rattle.es_event.specs.declared.plan.AgentPlan.{AgentPlan}
 use Rattle.es_event.specs.declared.plan.Callback.{Callback}
 use Rattle.es_event.specs.declared.plan.Job.{Job}
-use Rattle.es_event.specs.Commands.{collects}
+use Rattle.es_event.specs.Commands.{collects, opens_or_collects}
+use Rattle.es_event.specs.declared.command.Command.TheVariants.{Collect, CollectLater}
+use Rattle.es_event.specs.Later.{snapshot, collects_now, is_later}
 use Rattle.es_event.specs.History.{History}
 use Rattle.es_event.specs.Jobs.{receivers, job, cleans, cleaning, callbacks_collect_nothing}
 use Rattle.es_event.specs.Registrations.{callback, awaiting, fate, tally, first_awaiting}
@@ -26,27 +28,34 @@ use Rattle.es_event.specs.Order.{Phase, between, handed, inside, stopped, ended,
 use Rattle.es_event.specs.Follows.{Follows}
 use Rattle.es_event.specs.Runs.{ComesNext}
 use Rattle.es_event.proofs.Awaiting.{awaited_before, between_clean, handed_at}
-use Rattle.es_event.proofs.Coming.{next_cell, Comes, begins_job, begins_handed, receives, skips, refuses_message, begins_cleanup, does, refuses, empties_dead, takes, ends, stops, closes, comes}
+use Rattle.es_event.proofs.Coming.{next_cell, Comes, begins_job, begins_handed, receives, skips, refuses_message, begins_cleanup, does, refuses, empties_dead, takes, ends, stops, finishes, finishes_stopped, closes, comes}
 use Rattle.es_event.proofs.Fates.{AwaitedBefore, no_more, fewer}
 
 -- The work in the jobs of the plan
 
 abbrev pub cost : List Job → ℕ
 cost [] = 0
-cost (j ∷ js) = (length j.run + 3) + cost js
+cost (j ∷ js) = (2 * length j.run + 4) + cost js
 
-cost_at : (jobs : List Job) (n : ℕ) (j : Job) → slice_get jobs n ≡ Some j → cost (drop n jobs) ≡ (length j.run + 3) + cost (drop (n + 1) jobs)
+cost_at : (jobs : List Job) (n : ℕ) (j : Job) → slice_get jobs n ≡ Some j → cost (drop n jobs) ≡ (2 * length j.run + 4) + cost (drop (n + 1) jobs)
 cost_at jobs n j e =
     let next : suc n ≡ n + 1 = omega arith in
     ap cost (drop-cons jobs n j (slice_get_within jobs n j e))
-    ∙ (ap (λ x. (length x.run + 3) + cost (drop (suc n) jobs)) (get_or_from_slice_get jobs n j j e)
-    ∙ ap (λ m. (length j.run + 3) + cost (drop m jobs)) next)
+    ∙ (ap (λ x. (2 * length x.run + 4) + cost (drop (suc n) jobs)) (get_or_from_slice_get jobs n j j e)
+    ∙ ap (λ m. (2 * length j.run + 4) + cost (drop m jobs)) next)
+
+-- an open later collection is to be finished
+abbrev pub open_work : History → ℕ
+open_work h = cond (is_none (snapshot h)) 0 1
+
+open_most : (h : History) → open_work h ≤ 1
+open_most h = elim (is_none (snapshot h)) as (λ b. cond b 0 1 ≤ 1) [ true ↦ omega arith | false ↦ omega arith ]
 
 abbrev pub job_work : AgentPlan → History → Phase → ℕ
 job_work plan h between = 1 + cost (drop (job h - 1) plan.jobs)
 job_work plan h handed = cost (drop (job h - 1) plan.jobs)
-job_work plan h inside = (2 + length (left plan h)) + cost (drop (job h) plan.jobs)
-job_work plan h stopped = 2 + cost (drop (job h) plan.jobs)
+job_work plan h inside = (2 + (2 * length (left plan h) + open_work h)) + cost (drop (job h) plan.jobs)
+job_work plan h stopped = (2 + open_work h) + cost (drop (job h) plan.jobs)
 job_work plan h ended = 0
 
 -- in a cleanup job the same jobs are ahead as between the two that it stands between
@@ -82,13 +91,13 @@ cleanup_work plan h = cleanup_work_at plan h (phase h)
 
 -- Callbacks that collect nothing
 
-callback_quiet : (cs : List Callback) (i : ℕ) (c : Callback) → list_all (λ c. not (list_any collects c.run)) cs ≡ true → slice_get cs i ≡ Some c → list_any collects c.run ≡ false
+callback_quiet : (cs : List Callback) (i : ℕ) (c : Callback) → list_all (λ c. not (list_any opens_or_collects c.run)) cs ≡ true → slice_get cs i ≡ Some c → list_any opens_or_collects c.run ≡ false
 callback_quiet [] i c all e = cc
 callback_quiet (x ∷ xs) zero c all e =
     let same : x ≡ c = cc in
-    subst (λ (c : Callback). list_any collects c.run ≡ false) same
-    (not-true (list_any collects x.run) (and_parts (not (list_any collects x.run)) (list_all (λ c. not (list_any collects c.run)) xs) all).0)
-callback_quiet (x ∷ xs) (suc i) c all e = callback_quiet xs i c (and_parts (not (list_any collects x.run)) (list_all (λ c. not (list_any collects c.run)) xs) all).1 e
+    subst (λ (c : Callback). list_any opens_or_collects c.run ≡ false) same
+    (not-true (list_any opens_or_collects x.run) (and_parts (not (list_any opens_or_collects x.run)) (list_all (λ c. not (list_any opens_or_collects c.run)) xs) all).0)
+callback_quiet (x ∷ xs) (suc i) c all e = callback_quiet xs i c (and_parts (not (list_any opens_or_collects x.run)) (list_all (λ c. not (list_any opens_or_collects c.run)) xs) all).1 e
 
 callback_short : (cs : List Callback) (i : ℕ) (c : Callback) → slice_get cs i ≡ Some c → length c.run ≤ most_commands cs
 callback_short [] i c e = cc
@@ -107,13 +116,17 @@ of_number P plan (Some n) none each = of_callback P (slice_get plan.callbacks (n
 pub of_cleanup : (P : List Command → Type 0) (plan : AgentPlan) (h : History) → P [] → ((i : ℕ) (c : Callback) → slice_get plan.callbacks i ≡ Some c → P c.run) → P (cleanup_commands plan h)
 of_cleanup P plan h none each = of_number P plan (option_and_then (callback h) (cleaning h)) none each
 
-rest_quiet : (cs : List Command) → list_any collects cs ≡ false → list_any collects (drop 1 cs) ≡ false
+collects_opens : (c : Command) → collects c ≡ true → opens_or_collects c ≡ true
+collects_opens Collect e = refl
+collects_opens _ e = cc
+
+rest_quiet : (cs : List Command) → list_any opens_or_collects cs ≡ false → list_any opens_or_collects (drop 1 cs) ≡ false
 rest_quiet [] e = refl
-rest_quiet (c ∷ cs) e = (or_parts (collects c) (list_any collects cs) e).1
+rest_quiet (c ∷ cs) e = (or_parts (opens_or_collects c) (list_any opens_or_collects cs) e).1
 
 quiet_next : (over : Buffers) (plan : AgentPlan) (h : History) (at : Phase) (e : Event) → Comes over (receivers plan.jobs) plan h at e → phase h ≡ at
-    → Follows over plan h → list_all (λ c. not (list_any collects c.run)) plan.callbacks ≡ true → ((r : ℕ) → cleaning h ≡ Some r → list_any collects (left plan h) ≡ false)
-    → (r : ℕ) → cleaning (e ∷ h) ≡ Some r → list_any collects (left plan (e ∷ h)) ≡ false
+    → Follows over plan h → list_all (λ c. not (list_any opens_or_collects c.run)) plan.callbacks ≡ true → ((r : ℕ) → cleaning h ≡ Some r → list_any opens_or_collects (left plan h) ≡ false)
+    → (r : ℕ) → cleaning (e ∷ h) ≡ Some r → list_any opens_or_collects (left plan (e ∷ h)) ≡ false
 quiet_next over plan h at _ (begins_job k j b none is same) here f all before r e = let clean : cleaning h ≡ None = between_clean h (here ∙ b) in cc
 quiet_next over plan h at _ (begins_handed k i same) here f all before r e = let clean : cleaning h ≡ None = (handed_at over plan h f (here ∙ i)).clean in cc
 quiet_next over plan h at _ (receives j s v b none is on room) here f all before r e = refl
@@ -123,15 +136,63 @@ quiet_next over plan h at _ (begins_cleanup q rs b is) here f all before r e = r
 quiet_next over plan h at _ (does d cs vs a i is) here f all before r e = rest_quiet (left plan h) (before r e)
 quiet_next over plan h at _ (refuses d cs code i is) here f all before r e = refl
 quiet_next over plan h at _ (empties_dead d cs ids i is co dead) here f all before r e = rest_quiet (left plan h) (before r e)
-quiet_next over plan h at _ (takes m v i is next) here f all before r e = of_cleanup (λ cs. list_any collects cs ≡ false) plan h refl (λ i c is. callback_quiet plan.callbacks i c all is)
-quiet_next over plan h at _ (ends i is none) here f all before r e = cc
-quiet_next over plan h at _ (stops s) here f all before r e = cc
+quiet_next over plan h at _ (takes m v i is next) here f all before r e = of_cleanup (λ cs. list_any opens_or_collects cs ≡ false) plan h refl (λ i c is. callback_quiet plan.callbacks i c all is)
+quiet_next over plan h at _ (ends i is none shut) here f all before r e = cc
+quiet_next over plan h at _ (finishes ids i is none fin) here f all before r e = rest_quiet (left plan h) (before r e)
+quiet_next over plan h at _ (finishes_stopped ids s fin) here f all before r e = rest_quiet (left plan h) (before r e)
+quiet_next over plan h at _ (stops s shut) here f all before r e = cc
 quiet_next over plan h at _ (closes b none) here f all before r e = refl
 
 -- in a cleanup job no command is left that collects
-pub quiet : (over : Buffers) (plan : AgentPlan) (h : History) → callbacks_collect_nothing plan ≡ true → Follows over plan h → (r : ℕ) → cleaning h ≡ Some r → list_any collects (left plan h) ≡ false
+pub quiet : (over : Buffers) (plan : AgentPlan) (h : History) → callbacks_collect_nothing plan ≡ true → Follows over plan h → (r : ℕ) → cleaning h ≡ Some r → list_any opens_or_collects (left plan h) ≡ false
 quiet over plan [] all f r e = cc
 quiet over plan (e ∷ h) all f r is = quiet_next over plan h (phase h) e (comes over plan h e f.0) refl f.1 all (quiet over plan h all f.1) r is
+
+-- No later collection is open between two jobs, before a job that was handed its message, and in a cleanup job
+
+pub record Shut (h : History) : Type 0 where
+  pub at_between : phase h ≡ between → snapshot h ≡ None
+  pub at_handed : phase h ≡ handed → snapshot h ≡ None
+  pub in_cleaning : (r : ℕ) → cleaning h ≡ Some r → snapshot h ≡ None
+
+not_opened : (c : Command) (vs : List Value) (a : Answer) (h : History) → opens_or_collects c ≡ false → snapshot (Did c vs a ∷ h) ≡ snapshot h
+not_opened CollectLater vs a h e = cc
+not_opened _ vs a h e = refl
+
+all_shut : (h : History) → snapshot h ≡ None → Shut h
+all_shut h e = record { at_between = λ _. e; at_handed = λ _. e; in_cleaning = λ _ _. e }
+
+shut_next : (over : Buffers) (plan : AgentPlan) (h : History) (at : Phase) (e : Event) → Comes over (receivers plan.jobs) plan h at e → phase h ≡ at → Shut h
+    → ((r : ℕ) → cleaning h ≡ Some r → list_any opens_or_collects (left plan h) ≡ false) → Shut (e ∷ h)
+shut_next over plan h at _ (begins_job k j b none is same) here s q = record { at_between = λ e. cc; at_handed = λ e. cc; in_cleaning = λ r e. s.at_between (here ∙ b) }
+shut_next over plan h at _ (begins_handed k i same) here s q = record { at_between = λ e. cc; at_handed = λ e. cc; in_cleaning = λ r e. s.at_handed (here ∙ i) }
+shut_next over plan h at (Received t v) (receives j _ _ b none is on room) here s q = all_shut (Received t v ∷ h) (s.at_between (here ∙ b))
+shut_next over plan h at (Skipped k t) (skips _ j _ b none is on same) here s q = all_shut (Skipped k t ∷ h) (s.at_between (here ∙ b))
+shut_next over plan h at (Refused code) (refuses_message j _ b none is on same) here s q = all_shut (Refused code ∷ h) (s.at_between (here ∙ b))
+shut_next over plan h at (CleanupBegun r) (begins_cleanup _ rs b is) here s q = all_shut (CleanupBegun r ∷ h) (s.at_between (here ∙ b))
+shut_next over plan h at (Did d vs a) (does _ cs _ _ i is) here s q = record {
+  at_between = λ e. let now : inside ≡ between = sym (here ∙ i) ∙ e in cc;
+  at_handed = λ e. let now : inside ≡ handed = sym (here ∙ i) ∙ e in cc;
+  in_cleaning = λ r e.
+      let none : list_any opens_or_collects (d ∷ cs) ≡ false = ap (list_any opens_or_collects) (sym is) ∙ q r e in
+      not_opened d vs a h (or_parts (opens_or_collects d) (list_any opens_or_collects cs) none).0 ∙ s.in_cleaning r e;
+}
+shut_next over plan h at _ (refuses d cs code i is) here s q = record { at_between = λ e. cc; at_handed = λ e. cc; in_cleaning = s.in_cleaning }
+shut_next over plan h at (Emptied ids) (empties_dead d cs _ i is co dead) here s q = all_shut (Emptied ids ∷ h) refl
+shut_next over plan h at (Emptied ids) (finishes _ i is none fin) here s q = all_shut (Emptied ids ∷ h) refl
+shut_next over plan h at (Emptied ids) (finishes_stopped _ t fin) here s q = all_shut (Emptied ids ∷ h) refl
+shut_next over plan h at _ (takes m v i is next) here s q = record { at_between = s.at_between; at_handed = s.at_handed; in_cleaning = s.in_cleaning }
+shut_next over plan h at JobEnded (ends i is none shut) here s q = all_shut (JobEnded ∷ h) shut
+shut_next over plan h at JobEnded (stops t shut) here s q = all_shut (JobEnded ∷ h) shut
+shut_next over plan h at Closed (closes b none) here s q = all_shut (Closed ∷ h) (s.at_between (here ∙ b))
+
+shut_along : (over : Buffers) (plan : AgentPlan) (h : History) → callbacks_collect_nothing plan ≡ true → Follows over plan h → Shut h
+shut_along over plan [] all f = all_shut [] refl
+shut_along over plan (e ∷ h) all f = shut_next over plan h (phase h) e (comes over plan h e f.0) refl (shut_along over plan h all f.1) (quiet over plan h all f.1)
+
+-- so nothing is finished in a cleanup job
+never_finishes : (over : Buffers) (plan : AgentPlan) (h p : History) (r : ℕ) → callbacks_collect_nothing plan ≡ true → Follows over plan h → cleaning h ≡ Some r → snapshot h ≡ Some p → ⊥
+never_finishes over plan h p r all f clean at = let none = (shut_along over plan h all f).in_cleaning r clean in cc
 
 -- An event of a cleanup job leaves less on the queue, and the jobs of the plan as they are
 
@@ -240,16 +301,20 @@ falls_next over other plan h at _ (refuses c cs code i is) here all now l f up =
     (falls_refused plan h clean.0 c cs code is (cells_fall plan (Refused code) h (awaited_before over other plan (Refused code) h now l f refl)))
 falls_next over other plan h at _ (empties_dead c cs ids i is co dead) here all now l f up =
     let clean = in_cleanup h inside up (here ∙ i) (λ e. cc) in
-    let none : list_any collects (c ∷ cs) ≡ false = ap (list_any collects) (sym is) ∙ quiet over plan h all f clean.0 clean.1 in
-    absurd (false≢true (sym (or_parts (collects c) (list_any collects cs) none).0 ∙ co))
+    let none : list_any opens_or_collects (c ∷ cs) ≡ false = ap (list_any opens_or_collects) (sym is) ∙ quiet over plan h all f clean.0 clean.1 in
+    absurd (false≢true (sym (or_parts (opens_or_collects c) (list_any opens_or_collects cs) none).0 ∙ collects_opens c (and_parts (collects c) (is_none (snapshot h)) co).0))
 falls_next over other plan h at _ (takes n v i is next) here all now l f up =
     let clean = in_cleanup h inside up (here ∙ i) (λ e. cc) in
     moved plan h (Taken n v) (Some clean.0) inside clean.1 (here ∙ i) (falls_taken plan h clean.0 n v is now.1)
-falls_next over other plan h at _ (ends i is none) here all now l f up =
+falls_next over other plan h at _ (ends i is none shut) here all now l f up =
     let clean = in_cleanup h inside up (here ∙ i) (λ e. cc) in
     moved plan h JobEnded (Some clean.0) inside clean.1 (here ∙ i)
     (falls_ended plan h clean.0 clean.1 (here ∙ i) (cells_fall plan JobEnded h (awaited_before over other plan JobEnded h now l f refl)))
-falls_next over other plan h at _ (stops s) here all now l f up =
+falls_next over other plan h at _ (finishes ids i is none fin) here all now l f up =
+    let clean = in_cleanup h inside up (here ∙ i) (λ e. cc) in absurd (never_finishes over plan h fin.copy clean.0 all f clean.1 fin.open_at)
+falls_next over other plan h at _ (finishes_stopped ids s fin) here all now l f up =
+    let clean = in_cleanup h stopped up (here ∙ s) (λ e. cc) in absurd (never_finishes over plan h fin.copy clean.0 all f clean.1 fin.open_at)
+falls_next over other plan h at _ (stops s shut) here all now l f up =
     let clean = in_cleanup h stopped up (here ∙ s) (λ e. cc) in
     moved plan h JobEnded (Some clean.0) stopped clean.1 (here ∙ s)
     (falls_stopped plan h clean.0 clean.1 (cells_fall plan JobEnded h (awaited_before over other plan JobEnded h now l f refl)))
@@ -267,23 +332,23 @@ abbrev Drops : AgentPlan → History → Event → Option ℕ → Phase → Type
 Drops plan h e clean at = plan_work_at plan (e ∷ h) (unwrap_or (cleans e) clean) (unwrap_or (phase_after e) at) < plan_work_at plan h clean at
 
 -- what job j leaves where it comes next, and where it has begun
-job_cost : (plan : AgentPlan) (h : History) (j : Job) → slice_get plan.jobs (job h - 1) ≡ Some j → cost (drop (job h - 1) plan.jobs) ≡ (length j.run + 3) + cost (drop (job h) plan.jobs)
+job_cost : (plan : AgentPlan) (h : History) (j : Job) → slice_get plan.jobs (job h - 1) ≡ Some j → cost (drop (job h - 1) plan.jobs) ≡ (2 * length j.run + 4) + cost (drop (job h) plan.jobs)
 job_cost plan h j at =
     let positive : (job h - 1) + 1 ≡ job h = omega arith in
-    cost_at plan.jobs (job h - 1) j at ∙ ap (λ m. (length j.run + 3) + cost (drop m plan.jobs)) positive
+    cost_at plan.jobs (job h - 1) j at ∙ ap (λ m. (2 * length j.run + 4) + cost (drop m plan.jobs)) positive
 
-begun_work : (plan : AgentPlan) (h : History) (k : ℕ) (j : Job) → slice_get plan.jobs (job h - 1) ≡ Some j → k ≡ job h → job_work plan (JobBegun k ∷ h) inside ≡ (2 + length j.run) + cost (drop (job h) plan.jobs)
+begun_work : (plan : AgentPlan) (h : History) (k : ℕ) (j : Job) → slice_get plan.jobs (job h - 1) ≡ Some j → k ≡ job h → job_work plan (JobBegun k ∷ h) inside ≡ (2 + (2 * length j.run + open_work h)) + cost (drop (job h) plan.jobs)
 begun_work plan h k j at e =
     let same : job (JobBegun k ∷ h) ≡ job h = omega arith in
     let run : job_commands plan k ≡ j.run = ap (job_commands plan) e ∙ ap (λ o. option_map_or (λ j. j.run) o []) at in
-    ap (λ cs. (2 + length cs) + cost (drop (job (JobBegun k ∷ h)) plan.jobs)) run ∙ ap (λ m. (2 + length j.run) + cost (drop m plan.jobs)) same
+    ap (λ cs. (2 + (2 * length cs + open_work h)) + cost (drop (job (JobBegun k ∷ h)) plan.jobs)) run ∙ ap (λ m. (2 + (2 * length j.run + open_work h)) + cost (drop m plan.jobs)) same
 
 drops_begun : (plan : AgentPlan) (h : History) (k : ℕ) (j : Job) → slice_get plan.jobs (job h - 1) ≡ Some j → k ≡ job h → Drops plan h (JobBegun k) None between
-drops_begun plan h k j at e = omega (arith, job_cost plan h j at, begun_work plan h k j at e)
+drops_begun plan h k j at e = omega (arith, job_cost plan h j at, begun_work plan h k j at e, open_most h)
 
 -- the job after it was handed a message
 drops_handed : (plan : AgentPlan) (h : History) (k : ℕ) (j : Job) → slice_get plan.jobs (job h - 1) ≡ Some j → k ≡ job h → Drops plan h (JobBegun k) None handed
-drops_handed plan h k j at e = omega (arith, job_cost plan h j at, begun_work plan h k j at e)
+drops_handed plan h k j at e = omega (arith, job_cost plan h j at, begun_work plan h k j at e, open_most h)
 
 drops_received : (plan : AgentPlan) (h : History) (s : ℕ) (v : Value) → Drops plan h (Received s v) None between
 drops_received plan h s v =
@@ -303,7 +368,7 @@ drops_unreceived plan h code j at =
     let same : job (Refused code ∷ h) ≡ job h = omega arith in
     let before = job_cost plan h j at in
     let after : cost (drop (job (Refused code ∷ h)) plan.jobs) ≡ cost (drop (job h) plan.jobs) = ap (λ n. cost (drop n plan.jobs)) same in
-    omega (arith, before, after)
+    omega (arith, before, after, open_most (Refused code ∷ h))
 
 -- the job's number stays
 same_cost : (plan : AgentPlan) (g h : History) → job g ≡ job h → cost (drop (job g) plan.jobs) ≡ cost (drop (job h) plan.jobs)
@@ -314,7 +379,7 @@ drops_did plan h d c cs vs r is =
     let jobs = same_cost plan (Did d vs r ∷ h) h (omega arith) in
     let before : length (left plan h) ≡ suc (length cs) = ap length is in
     let after : length (drop 1 (left plan h)) ≡ length cs = ap (λ l. length (drop 1 l)) is in
-    omega (arith, jobs, before, after)
+    omega (arith, jobs, before, after, open_most (Did d vs r ∷ h))
 
 drops_emptied : (plan : AgentPlan) (h : History) (ids : List ℕ) (c : Command) (cs : List Command) → left plan h ≡ c ∷ cs → Drops plan h (Emptied ids) None inside
 drops_emptied plan h ids c cs is =
@@ -322,6 +387,20 @@ drops_emptied plan h ids c cs is =
     let before : length (left plan h) ≡ suc (length cs) = ap length is in
     let after : length (drop 1 (left plan h)) ≡ length cs = ap (λ l. length (drop 1 l)) is in
     omega (arith, jobs, before, after)
+
+drops_finished : (plan : AgentPlan) (h p : History) (ids : List ℕ) → left plan h ≡ [] → snapshot h ≡ Some p → Drops plan h (Emptied ids) None inside
+drops_finished plan h p ids is at =
+    let jobs = same_cost plan (Emptied ids ∷ h) h (omega arith) in
+    let before : length (left plan h) ≡ 0 = ap length is in
+    let after : length (drop 1 (left plan h)) ≡ 0 = ap (λ l. length (drop 1 l)) is in
+    let one : open_work h ≡ 1 = ap (λ o. cond (is_none o) 0 1) at in
+    omega (arith, jobs, before, after, one)
+
+drops_finished_stopped : (plan : AgentPlan) (h p : History) (ids : List ℕ) → snapshot h ≡ Some p → Drops plan h (Emptied ids) None stopped
+drops_finished_stopped plan h p ids at =
+    let jobs = same_cost plan (Emptied ids ∷ h) h (omega arith) in
+    let one : open_work h ≡ 1 = ap (λ o. cond (is_none o) 0 1) at in
+    omega (arith, jobs, one)
 
 drops_refused : (plan : AgentPlan) (h : History) (code : Refusal) (c : Command) (cs : List Command) → left plan h ≡ c ∷ cs → Drops plan h (Refused code) None inside
 drops_refused plan h code c cs is =
@@ -361,8 +440,10 @@ drops_next over other plan h at _ (does c cs vs r i is) here f clean up = settle
 drops_next over other plan h at _ (refuses c cs code i is) here f clean up = settled plan h (Refused code) inside clean (here ∙ i) (drops_refused plan h code c cs is)
 drops_next over other plan h at _ (empties_dead c cs ids i is co dead) here f clean up = settled plan h (Emptied ids) inside clean (here ∙ i) (drops_emptied plan h ids c cs is)
 drops_next over other plan h at _ (takes n v i is next) here f clean up = let none : next_cell h ≡ None = ap (option_and_then (first_awaiting h)) clean in absurd (taken_none n (sym none ∙ next))
-drops_next over other plan h at _ (ends i is none) here f clean up = settled plan h JobEnded inside clean (here ∙ i) (omega (arith, ended_cost plan h clean))
-drops_next over other plan h at _ (stops s) here f clean up = settled plan h JobEnded stopped clean (here ∙ s) (omega (arith, ended_cost plan h clean))
+drops_next over other plan h at _ (ends i is none shut) here f clean up = settled plan h JobEnded inside clean (here ∙ i) (omega (arith, ended_cost plan h clean))
+drops_next over other plan h at _ (finishes ids i is none fin) here f clean up = settled plan h (Emptied ids) inside clean (here ∙ i) (drops_finished plan h fin.copy ids is fin.open_at)
+drops_next over other plan h at _ (finishes_stopped ids s fin) here f clean up = settled plan h (Emptied ids) stopped clean (here ∙ s) (drops_finished_stopped plan h fin.copy ids fin.open_at)
+drops_next over other plan h at _ (stops s shut) here f clean up = settled plan h JobEnded stopped clean (here ∙ s) (omega (arith, ended_cost plan h clean))
 drops_next over other plan h at _ (closes b none) here f clean up = settled plan h Closed between clean (here ∙ b) (omega arith)
 
 -- while it does not, an event leaves less of the jobs of the plan

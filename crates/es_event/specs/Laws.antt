@@ -1,6 +1,6 @@
 -- To believe: what is said of the definitions as a whole. Each is the contract of a function of its name that does
 -- nothing, so it is proved; none of them adds to what the definitions mean.
-use Rattle.std.specs.Prelude.{ℕ, ◌≡◌, ◌↔◌, ◌+◌, Bool, true, false, List, ◌∷◌, ◌++◌, Some, None, is_some, map, nat_lt}
+use Rattle.std.specs.Prelude.{ℕ, ◌≡◌, ◌↔◌, ◌+◌, Bool, true, false, List, [], ◌∷◌, ◌++◌, Some, None, is_some, map, nat_lt}
 use Rattle.std.specs.List.{list_all}
 use Rattle.es_value.specs.Limits.{most_identities}
 use Rattle.es_value.specs.declared.value.Value.{Value}
@@ -23,6 +23,7 @@ use Rattle.es_event.specs.Sharing.{Buffers, AgreeSoFar}
 use Rattle.es_event.specs.Legal.{is_rising, LegalBy}
 use Rattle.es_event.specs.Reach.{IsClosed, IsReached, LedTo, IsHeld, AreDead, IsClosedBeside, with_later}
 use Rattle.es_event.specs.Live.{AgreeAlong, Oblivious, Live, Honest}
+use Rattle.es_event.specs.Late.{derefed, IsReachedWith, AreLate}
 use Rattle.es_event.specs.Order.{receive, nothing, due}
 use Rattle.es_event.specs.Runs.{ComesNext, heard, IsRun, IsRunOver, IsWholeRunOver, IsOutcome}
 
@@ -175,3 +176,25 @@ NothingReachedIsGone = (plan : AgentPlan) (h : History) (i : ℕ) → IsRun plan
 -- Every set that was emptied was not live then.
 abbrev pub NothingEmptiedWasLive : Type 0
 NothingEmptiedWasLive = (plan : AgentPlan) (h : History) → IsRun plan h → Honest (receivers plan.jobs) h
+
+-- Later collections
+
+-- What is late, by a copy that was taken at p and what derefs gave in g since, is not live after g, however the graph has changed.
+abbrev pub NothingLateIsLive : Type 0
+NothingLateIsLive = (over : Buffers) (into : Receivers) (p g : History) (s : List ℕ) → LegalBy over into (g ++ p) → AreLate into p (derefed g) s → Live into (g ++ p) s → ⊥
+
+-- Where no deref gave anything, what is late is what was dead when the copy was taken.
+abbrev pub TheLateAreTheDead : Type 0
+TheLateAreTheDead = (into : Receivers) (p : History) (s : List ℕ) → AreLate into p [] s ↔ AreDead into p s
+
+-- What a deref gave since is not late, nor what is reached from it in the copy.
+abbrev pub WhatADerefGaveStays : Type 0
+WhatADerefGaveStays = (into : Receivers) (p g : History) (s : List ℕ) → AreLate into p (derefed g) s → ((i : ℕ) → is_in (derefed g) i ≡ true → is_in s i ≡ false) × ((i : ℕ) → IsReachedWith into p (derefed g) i → is_in s i ≡ false)
+
+-- All that is late can be listed, by rising identity.
+abbrev pub TheLateCanBeListed : Type 0
+TheLateCanBeListed = (into : Receivers) (p : History) (more : List ℕ) → (s : List ℕ) × AreLate into p more s × (is_rising s ≡ true)
+
+-- There is one such list.
+abbrev pub TheLateAreOneList : Type 0
+TheLateAreOneList = (into : Receivers) (p : History) (more s t : List ℕ) → AreLate into p more s → AreLate into p more t → is_rising s ≡ true → is_rising t ≡ true → s ≡ t

@@ -61,6 +61,7 @@ pub fn mark<G: Graph>(alloc: Global, graph: &G) -> Result<Marks, NoMemory>
 ///
 /// It fails where there is no memory for the list of what is marked, for what waits or for an answer
 /// of the graph.
+#[inline(always)]
 pub fn follow<G: Graph>(
     graph: &G,
     id: Id,
@@ -82,6 +83,7 @@ pub fn follow<G: Graph>(
 
 /// Marks the value of each entry whose map is marked, and lets the others wait for their maps if
 /// they are not marked yet.
+#[inline(always)]
 fn enter_all(
     entries: &[(Id, Value)],
     reached: &mut Reached,
@@ -127,6 +129,7 @@ pub fn find_roots<G: Graph>(graph: &G, found: &mut Vec<Id>) -> Result<(), NoMemo
 
 /// Puts what the identity leads to into `found`, in place of what it had. It fails where
 /// `found` cannot grow.
+#[inline(always)]
 pub fn find_edges<G: Graph>(graph: &G, id: Id, found: &mut Vec<Id>) -> Result<(), NoMemory>
     ensures { OnOk result (Finds (G.made_of graph.now) (G.has_edges graph.now id) [] found.new.items) }
 {
@@ -136,6 +139,7 @@ pub fn find_edges<G: Graph>(graph: &G, id: Id, found: &mut Vec<Id>) -> Result<()
 
 /// Puts the entries with the identity as their key into `found`, in place of what it had. It fails where
 /// `found` cannot grow.
+#[inline(always)]
 pub fn find_entries<G: Graph>(
     graph: &G,
     id: Id,

@@ -33,6 +33,14 @@ impl Marks {
         Ok(Marks { words })
     }
 
+    /// The same set again. It fails where there is no memory for it.
+    pub fn copy(&self) -> Result<Marks, NoMemory>
+        ensures { IfOk result (λ m. m ≡ self.now) }
+    {
+        let words = self.words.clone()?;
+        Ok(Marks { words })
+    }
+
     /// Whether the set has the identity.
     pub fn has(&self, id: Id) -> bool
         ensures { result ≡ is_marked self.now id }

@@ -32,6 +32,7 @@ impl Reached {
     }
 
     /// Marks all of them. It fails where the list cannot grow.
+    #[inline(always)]
     pub fn add_all(&mut self, ids: &[Id]) -> Result<(), NoMemory>
         requires { AllByRecursion (λ i. i < length self.old.marks) ids.now }
         ensures added { OnOk result (IsAdded ids.now self.old.order.items self.new.order.items) }
@@ -44,6 +45,7 @@ impl Reached {
     }
 
     /// Marks the identity. It fails where the list cannot grow.
+    #[inline(always)]
     pub fn add(&mut self, id: Id) -> Result<(), NoMemory>
         requires { id < length self.old.marks }
         ensures added { OnOk result (IsAdded (id ∷ []) self.old.order.items self.new.order.items) }

@@ -37,6 +37,7 @@ impl Waiting {
     }
 
     /// Whether nothing waits.
+    #[inline(always)]
     #[tactic(auto, using(crate::proofs::Queues::waiting_of))]
     pub fn is_empty(&self) -> bool
         ensures { IsTrue result → (m : ℕ) → waiting_for self.now m ≡ [] }
@@ -45,6 +46,7 @@ impl Waiting {
     }
 
     /// What waits for the map.
+    #[inline(always)]
     #[tactic(auto, using(crate::proofs::Queues::waiting_of))]
     pub fn at(&self, map: Id) -> &[Id]
         ensures { result.now ≡ waiting_for self.now map }

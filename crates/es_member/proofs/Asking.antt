@@ -29,7 +29,8 @@ use Rattle.es_event.specs.Follows.{Permits, Follows}
 use Rattle.es_event.specs.Sharing.{Buffers, row_at, is_index, to_uint32, words_of}
 use Rattle.es_event.specs.Rules.{is_buffer, kind_of, of_index, refusal, first_refusal}
 use Rattle.es_event.specs.Legal.{values_of}
-use Rattle.es_event.specs.Order.{Phase, between, handed, inside, stopped, ended, phase, phase_after, receive, run, clean, left, queue, due_after, due_inside, due_job, due_between, due_at, due}
+use Rattle.es_event.specs.Later.{snapshot}
+use Rattle.es_event.specs.Order.{Phase, between, handed, inside, stopped, ended, phase, phase_after, receive, run, clean, left, queue, due_end, due_after, due_inside, due_job, due_between, due_at, due}
 use Rattle.es_event.proofs.Accepted.{first_holds}
 use Rattle.es_match.specs.Asks.{to_open, to_load, to_store, to_add, to_post, to_receive, to_pass, asks_did, between_jobs}
 use Rattle.es_match.specs.Cluster.{awaited}
@@ -259,6 +260,14 @@ nothing_left plan (JobEnded ∷ h) is = refl
 nothing_left plan (Skipped j t ∷ h) is = refl
 nothing_left plan (e ∷ h) is = cc
 
+end_command : (o : Option History) (c : Command) → due_end o ≡ run c → ⊥
+end_command None c is = cc
+end_command (Some p) c is = cc
+
+end_message : (o : Option History) (n s : ℕ) → due_end o ≡ receive n s → ⊥
+end_message None n s is = cc
+end_message (Some p) n s is = cc
+
 no_command : (plan : AgentPlan) (h : History) (p : Phase) (c : Command) → left plan h ≡ [] → due_at plan h p ≡ run c → ⊥
 no_command plan h between c none is = at_queue (queue h) is
   where
@@ -273,10 +282,10 @@ no_command plan h between c none is = at_queue (queue h) is
 no_command plan h handed c none is = cc
 no_command plan h inside c none is = at_cell (option_and_then (first_awaiting h) (cleaning h)) (ap (due_inside h) (sym none) ∙ is)
   where
-    at_cell : (o : Option ℕ) → due_after o ≡ run c → ⊥
-    at_cell None is = cc
+    at_cell : (o : Option ℕ) → due_after h o ≡ run c → ⊥
+    at_cell None is = end_command (snapshot h) c is
     at_cell (Some n) is = cc
-no_command plan h stopped c none is = cc
+no_command plan h stopped c none is = end_command (snapshot h) c is
 no_command plan h ended c none is = cc
 
 -- where a command is due, a job is under way
@@ -327,8 +336,8 @@ between_where_phase over plan (e ∷ h) follows is = by_phase (phase_after e) (b
 pub at_message : (over : Buffers) (plan : AgentPlan) (h : History) (n s : ℕ) → Follows over plan h → due plan h ≡ receive n s → between_jobs h ≡ true
 at_message over plan h n s follows is = by_phase (phase h) refl is
   where
-    at_cell : (o : Option ℕ) → due_after o ≡ receive n s → ⊥
-    at_cell None is = cc
+    at_cell : (o : Option ℕ) → due_after h o ≡ receive n s → ⊥
+    at_cell None is = end_message (snapshot h) n s is
     at_cell (Some n) is = cc
 
     at_left : (cs : List Command) → due_inside h cs ≡ receive n s → ⊥
@@ -339,7 +348,7 @@ at_message over plan h n s follows is = by_phase (phase h) refl is
     by_phase between p is = between_where_phase over plan h follows p
     by_phase handed p is = cc
     by_phase inside p is = absurd (at_left (left plan h) is)
-    by_phase stopped p is = cc
+    by_phase stopped p is = absurd (end_message (snapshot h) n s is)
     by_phase ended p is = cc
 
 -- where a message is due, the plan's job waits for its sender
@@ -354,8 +363,8 @@ awaited_at plan h n s is = by_phase (phase h) is
     at_job k None is = cc
     at_job k (Some j) is = at_on k j.on is
 
-    at_cell : (o : Option ℕ) → due_after o ≡ receive n s → ⊥
-    at_cell None is = cc
+    at_cell : (o : Option ℕ) → due_after h o ≡ receive n s → ⊥
+    at_cell None is = end_message (snapshot h) n s is
     at_cell (Some n) is = cc
 
     at_left : (cs : List Command) → due_inside h cs ≡ receive n s → ⊥
@@ -370,5 +379,5 @@ awaited_at plan h n s is = by_phase (phase h) is
     by_phase between is = at_queue (queue h) is
     by_phase handed is = cc
     by_phase inside is = absurd (at_left (left plan h) is)
-    by_phase stopped is = cc
+    by_phase stopped is = absurd (end_message (snapshot h) n s is)
     by_phase ended is = cc

@@ -6,6 +6,7 @@ pub mod Asking
 pub mod Local
 pub mod SpentAll
 pub mod Moving
+pub mod Opening
 pub mod Tying
 pub mod Hearing
 pub mod Audited

@@ -21,7 +21,7 @@ use Rattle.es_event.specs.Variables.{var}
 use Rattle.es_event.specs.Sharing.{row_at, words_of, block_of}
 use Rattle.es_event.specs.Rules.{is_buffer, kind_of, of_index, of_buffer, refusal, first_refusal, tests, result}
 use Rattle.es_event.specs.Legal.{values_of, word_in, Lawful}
-use Rattle.es_event.specs.Order.{Due, begin, receive, run, clean, take_cell, end_job, close, nothing, phase, due}
+use Rattle.es_event.specs.Order.{Due, begin, receive, run, clean, take_cell, finish, end_job, close, nothing, phase, due}
 use Rattle.es_event.specs.Follows.{Permits}
 use Rattle.es_event.specs.Runs.{IsRunOver}
 use Rattle.es_event.proofs.Accepted.{first_holds, is_accepted, is_result}
@@ -143,6 +143,7 @@ local_at b (clean r) (CleanupBegun q) is here history named going lawful p = ref
 local_at b (take_cell n) (Taken m held) is here history named going lawful p = refl
 local_at b end_job JobEnded is here history named going lawful p = refl
 local_at b (receive n s) e is here history named going lawful p = cc
+local_at b (finish q) e is here history named going lawful p = cc
 local_at b close e is here history named going lawful p = cc
 local_at b nothing e is here history named going lawful p = cc
 local_at b _ _ is here history named going lawful p = absurd p

@@ -26,9 +26,11 @@ use Rattle.es_ticket.specs.Shares.{Share, among, besides}
 use Rattle.es_ticket.proofs.Counted.{counted_last}
 use Rattle.es_ledger.specs.Books.{Books}
 use Rattle.es_record.specs.Book.{Book, IsNext, Records, with_buffer, with_row}
-use Rattle.es_rules.specs.Needs.{need, asks_nobody, asks_closing}
+use Rattle.es_rules.specs.Needs.{need, asks_nobody, asks_copy, asks_closing}
+use Rattle.es_rules.proofs.Answering.{opening_next}
+use Rattle.es_agent.specs.Later.{opening}
 use Rattle.es_rules.proofs.Needs.{local_is_quiet, closes}
-use Rattle.es_agent.specs.Tickets.{is_ended, tickets, RecordsNext, Collects, Admits, RefusesMessage, Receives, DoesWith, Skips}
+use Rattle.es_agent.specs.Tickets.{is_ended, tickets, RecordsNext, Empties, Admits, RefusesMessage, Receives, DoesWith, Skips}
 use Rattle.es_agent.proofs.Racks.{open_before, open_after, local_stays, kept_tickets, emptied_tickets, done_leaves, brings_leaves}
 use Rattle.es_member.specs.Seats.{Seat, rows_of, Holds, HoldsBeside}
 use Rattle.es_match.specs.Deeds.{Ends}
@@ -75,6 +77,10 @@ stays_of old new e next quiet other records = record {
 pub local_leaves : (old new : Book) → need old ≡ asks_nobody → RecordsNext old new → Stays old new
 local_leaves old new is r = stays_of old new r.0 r.1 (local_is_quiet old r.0 is r.1) (local_stays old r.0 is r.1) r.2
 
+-- the opening of a later collection
+pub opened_leaves : (old new : Book) → need old ≡ asks_copy → Records old opening new → Stays old new
+opened_leaves old new is r = stays_of old new opening (opening_next old is) tt (λ f. cc) r
+
 pub done_stays : (old new : Book) (a : Answer) → DoesWith old a new → Stays old new
 done_stays old new a r = let leaves = done_leaves old a r.0 r.1 in stays_of old new r.0 r.2 leaves.0 leaves.1 r.3
 
@@ -92,17 +98,17 @@ holds_still old new s stays holds = (holds.0 ∙ sym stays.step.number, λ p. ap
 
 -- A collection
 
-pub collected_step : (old new : Book) (out : List (ℕ × Row)) → Collects old out new → Step old new
+pub collected_step : {chosen : List ℕ → Type 0} (old new : Book) (out : List (ℕ × Row)) → Empties chosen old out new → Step old new
 collected_step old new out c = step_of old new None (Emptied c.0) c.2 (λ f. cc) c.3
 
-pub collected_moves : (old new : Book) (out : List (ℕ × Row)) → Collects old out new → Moves old new
+pub collected_moves : {chosen : List ℕ → Type 0} (old new : Book) (out : List (ℕ × Row)) → Empties chosen old out new → Moves old new
 collected_moves old new out c = (Emptied c.0, None, c.2, c.3)
 
 counted_apart : (p : Row → Bool) (ids : List ℕ) (ts : List (ℕ × Row)) → count_by (λ t. p t.1) (among ids ts) + count_by (λ t. p t.1) (besides ids ts) ≡ count_by (λ t. p t.1) ts
 counted_apart p ids ts =
     let a = sum_by-filter_both (λ t. is_in ids t.0) (λ t. not (is_in ids t.0)) (λ t. refl) (λ t. cond {A = ℕ} (p t.1) 1 0) ts in omega (arith, a)
 
-collected_counts : (old new : Book) (out : List (ℕ × Row)) → Collects old out new → (p : Row → Bool) → count_by p (rows_of old) ≡ count_by p (rows_of new) + count_by (λ t. p t.1) out
+collected_counts : {chosen : List ℕ → Type 0} (old new : Book) (out : List (ℕ × Row)) → Empties chosen old out new → (p : Row → Bool) → count_by p (rows_of old) ≡ count_by p (rows_of new) + count_by (λ t. p t.1) out
 collected_counts old new out c p =
     let left = ap tickets c.3 ∙ emptied_tickets old c.0 c.2 in
     let a = counted_apart p c.0 (tickets old) in
@@ -112,10 +118,10 @@ collected_counts old new out c p =
     let f = counted_rows p (tickets new) in
     omega (arith, a, b, d, e, f)
 
-pub collected_owns : (old new : Book) (s : Share) (out : List (ℕ × Row)) → Collects old out new → Holds old s → Owns s.rows out
+pub collected_owns : {chosen : List ℕ → Type 0} (old new : Book) (s : Share) (out : List (ℕ × Row)) → Empties chosen old out new → Holds old s → Owns s.rows out
 collected_owns old new s out c holds p = let a = collected_counts old new out c p in let b = holds.1 p in omega (arith, a, b)
 
-pub collected_holds : (old new : Book) (s t : Share) (out : List (ℕ × Row)) → Collects old out new → Holds old s → t.agent ≡ s.agent
+pub collected_holds : {chosen : List ℕ → Type 0} (old new : Book) (s t : Share) (out : List (ℕ × Row)) → Empties chosen old out new → Holds old s → t.agent ≡ s.agent
     → ((p : Row → Bool) → count_by p s.rows ≡ count_by p t.rows + count_by (λ t. p t.1) out) → Holds new t
 collected_holds old new s t out c holds agent counts = (
   agent ∙ holds.0 ∙ sym (collected_step old new out c).number,

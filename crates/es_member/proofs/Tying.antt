@@ -16,7 +16,7 @@ use Rattle.es_event.specs.declared.ledger_event.Body.TheVariants.{Plain, Block}
 use Rattle.es_event.specs.declared.ledger_event.LedgerEvent.{LedgerEvent}
 use Rattle.es_event.specs.declared.ledger_event.LedgerEvent.TheVariants.{Opened, Posted, Taken, Spent, Loaded, Stored, Added, Passed, Ended}
 use Rattle.es_event.specs.declared.row.Row.{Row}
-use Rattle.es_event.specs.Commands.{reads, collects}
+use Rattle.es_event.specs.Commands.{reads}
 use Rattle.es_event.specs.Jobs.{receivers}
 use Rattle.es_event.specs.Identities.{made}
 use Rattle.es_event.specs.Ledger.{Ledger, size, front as front_of, holder_of, waits}
@@ -32,9 +32,10 @@ use Rattle.es_match.specs.Deeds.{Deed, Opens, Posts, Takes, Spends, Loads, Store
 use Rattle.es_match.specs.Meets.{Tickets, after, refused_in, some_if, ticket_in}
 use Rattle.es_ticket.specs.Shares.{Share, at}
 use Rattle.es_record.specs.Book.{Book, Records}
-use Rattle.es_rules.specs.Needs.{Request, for_block, for_post, for_buffer_post, for_load, for_store, for_add, request, ledger_or_nobody, Need, asks_nobody, asks_marks, asks_ledger, asks_message, asks_closing, need, need_of, Brings}
+use Rattle.es_rules.specs.Needs.{Request, for_block, for_post, for_buffer_post, for_load, for_store, for_add, request, Need, asks_nobody, asks_marks, asks_copy, asks_late_marks, asks_ledger, asks_message, asks_closing, asks_nothing, need, need_of, Brings}
 use Rattle.es_rules.proofs.Needs.{message_due}
-use Rattle.es_agent.specs.Tickets.{tickets, RecordsNext, Collects, Admits, RefusesMessage, Receives, DoesWith, Skips}
+use Rattle.es_agent.specs.Tickets.{tickets, RecordsNext, Empties, Collects, Finishes, Admits, RefusesMessage, Receives, DoesWith, Skips}
+use Rattle.es_agent.specs.Later.{opening}
 use Rattle.es_agent.proofs.Racks.{emptied_tickets}
 use Rattle.es_member.specs.Midway.{IsReady, Midway, HasFetched, Fetches}
 use Rattle.es_member.specs.Tied.{AreDeedsOf, GrowsBy, IsSettled, IsTied}
@@ -44,7 +45,7 @@ use Rattle.es_member.proofs.Asking.{due_command, load_asks, load_met, store_asks
 use Rattle.es_member.proofs.Growing.{by_ticket, grows_one}
 use Rattle.es_member.proofs.Local.{AreNamed, local_met}
 use Rattle.es_member.proofs.Midway.{brings_ticket, begun, did_not_refuse, does, no_ticket, no_ticket_alone, refused_alone, tells, unnamed, free, undrained}
-use Rattle.es_member.proofs.Moving.{local_leaves, done_stays, received_stays, skipped_stays, refused_stays, admitted_tickets}
+use Rattle.es_member.proofs.Moving.{local_leaves, opened_leaves, done_stays, received_stays, skipped_stays, refused_stays, admitted_tickets}
 use Rattle.es_member.proofs.SpentAll.{all_spent, spends_all, empty_met, close_met}
 
 -- no ticket came
@@ -63,6 +64,18 @@ local_ties old new s l ready is history named r =
     (unbrought old.over (ticket_in q []) (no_ticket_alone q))
     (unnamed old q [] (refused_alone (tickets old) (tickets old) q met))
     (free old l.history ready.tied (λ s other. let clash : asks_nobody ≡ asks_message s = sym is ∙ other in cc))
+
+-- a later collection that is opened asks nothing of the ledger
+pub opened_ties : (old new : Book) (s : Share) (l : Books) → IsReady old s l → need old ≡ asks_copy → Records old opening new → IsSettled new l.history
+opened_ties old new s l ready is r =
+    let stays = opened_leaves old new is r in
+    let met : after (tickets old) (asks (between_jobs old.history) opening) [] ≡ Some (tickets old) = refl in
+    let q = asks (between_jobs old.history) opening in
+    tells old new None l.history [] opening (begun old l.history ready.tied) r
+    (met ∙ ap Some (sym stays.same))
+    (unbrought old.over (ticket_in q []) (no_ticket_alone q))
+    (unnamed old q [] (refused_alone (tickets old) (tickets old) q met))
+    (free old l.history ready.tied (λ s other. let clash : asks_copy ≡ asks_message s = sym is ∙ other in cc))
 
 -- One deed
 
@@ -238,12 +251,7 @@ admitted_comes old r d e (run c) fetches is brings = command (need_of old (run c
         subst (λ e. Comes old r (asks (between_jobs old.history) e) d) (sym brings)
         (subst (λ q. Comes old r q d) (sym (open_asks old c n (Object (made old.history + 1)) (due_command old c (for_block n) is (ap (need_of old) is ∙ asked)) []))
         (subst (Comes old r (to_open n (Object (made old.history + 1)))) (sym fetches.1) (comes_anew old r n fetches.0)))
-    command (asks_message s) asked fetches = absurd (no_message (collects c) (request old c) asked)
-      where
-        no_message : (b : Bool) (q : Option Request) → cond b asks_marks (ledger_or_nobody q) ≡ asks_message s → ⊥
-        no_message true q e = cc
-        no_message false None e = cc
-        no_message false (Some q) e = cc
+    command (asks_message s) asked fetches = let f = message_due old (run c) s asked in let g : run c ≡ receive f.0 s = f.1 in cc
     command n asked fetches = absurd fetches
 admitted_comes old r d e _ fetches is brings = absurd brings
 
@@ -282,18 +290,28 @@ refused_ties old new m k r history f n same held more refused =
 
 -- Many tickets
 
--- a collection
-pub collected_ties : (old new : Book) (s : Share) (l : Books) (m : Ledger) (out : List (ℕ × Row)) → IsReady old s l → need old ≡ asks_marks → Collects old out new → AreDeedsOf old.number (map (λ t. Spent t.1.serial) out) l.history → m ≡ spent out l.history
-    → IsSettled new m
-collected_ties old new s l m out ready is c deeds more =
-    let none = free old l.history ready.tied (λ s other. let clash : asks_marks ≡ asks_message s = sym is ∙ other in cc) in
-    let still = undrained old l ready.legal ready.seated (open_for old asks_marks (λ f. cc) is) in
+-- an emptying
+emptied_ties : {chosen : List ℕ → Type 0} (old new : Book) (s : Share) (l : Books) (m : Ledger) (out : List (ℕ × Row)) (n : Need) → IsReady old s l → need old ≡ n → ((s : ℕ) → n ≡ asks_message s → ⊥) → (asks_nothing ≡ n → ⊥)
+    → Empties chosen old out new → AreDeedsOf old.number (map (λ t. Spent t.1.serial) out) l.history → m ≡ spent out l.history → IsSettled new m
+emptied_ties old new s l m out n ready is no_message some c deeds more =
+    let none = free old l.history ready.tied (λ s other. no_message s (sym is ∙ other)) in
+    let still = undrained old l ready.legal ready.seated (open_for old n some is) in
     let all = spends_all old l.history [] out (begun old l.history ready.tied) deeds none still in
     tells old new None m (all_spent out) (Emptied c.0) (subst (λ m. Midway old m (all_spent out)) (sym more) all.0) c.3
     (ap (λ out. after (tickets old) (to_empty c.0) (all_spent out)) c.4 ∙ empty_met (tickets old) c.0 ∙ ap Some (sym (ap tickets c.3 ∙ emptied_tickets old c.0 c.2)))
     (unbrought old.over [] refl)
     (unnamed old (to_empty c.0) (all_spent out) refl)
     (ap (λ m. waits m old.number) more ∙ all.1)
+
+-- a collection
+pub collected_ties : (old new : Book) (s : Share) (l : Books) (m : Ledger) (out : List (ℕ × Row)) → IsReady old s l → need old ≡ asks_marks → Collects old out new → AreDeedsOf old.number (map (λ t. Spent t.1.serial) out) l.history → m ≡ spent out l.history
+    → IsSettled new m
+collected_ties old new s l m out ready is c deeds more = emptied_ties old new s l m out asks_marks ready is (λ s f. cc) (λ f. cc) c deeds more
+
+-- a later collection that is finished
+pub finished_ties : (old new : Book) (s : Share) (l : Books) (m : Ledger) (out : List (ℕ × Row)) → IsReady old s l → need old ≡ asks_late_marks → Finishes old out new → AreDeedsOf old.number (map (λ t. Spent t.1.serial) out) l.history → m ≡ spent out l.history
+    → IsSettled new m
+finished_ties old new s l m out ready is c deeds more = emptied_ties old new s l m out asks_late_marks ready is (λ s f. cc) (λ f. cc) c deeds more
 
 -- a closing
 pub closed_ties : (old new : Book) (s : Share) (l : Books) (m : Ledger) (out : List (ℕ × Row)) → IsReady old s l → need old ≡ asks_closing → Records old Closed new → out ≡ tickets old → AreDeedsOf old.number (map (λ t. Spent t.1.serial) out) l.history

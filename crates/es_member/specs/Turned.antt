@@ -1,5 +1,5 @@
 -- To believe: what a turn of an agent asks of those who call it, and what it leaves of the agent and of the ledger.
-use Rattle.std.specs.Prelude.{ℕ, ◌≡◌, ◌≢◌, ◌<◌, ⊤, List, Option, map, ◌++◌}
+use Rattle.std.specs.Prelude.{ℕ, ◌≡◌, ◌≢◌, ◌<◌, ⊤, ◌⊎◌, Bool, List, Option, map, ◌++◌}
 use Rattle.es_event.specs.declared.event.Event.{Event}
 use Rattle.es_event.specs.declared.ledger_event.LedgerEvent.TheVariants.{Spent}
 use Rattle.es_event.specs.declared.row.Row.{Row}
@@ -11,7 +11,8 @@ use Rattle.es_ledger.specs.declared.turn.Turn.{Turn}
 use Rattle.es_ledger.specs.declared.turn.Turn.TheVariants.{Stay}
 use Rattle.es_ticket.specs.Shares.{Share}
 use Rattle.es_record.specs.Book.{Book, IsNext, Records, with_row}
-use Rattle.es_rules.specs.Needs.{for_block, for_post, for_buffer_post, for_load, for_store, for_add, Need, asks_nobody, asks_marks, asks_ledger, asks_message, asks_closing, asks_nothing, need}
+use Rattle.es_record.specs.Graph.{AreMarksOf, AreLateMarks}
+use Rattle.es_rules.specs.Needs.{for_block, for_post, for_buffer_post, for_load, for_store, for_add, Need, asks_nobody, asks_marks, asks_copy, asks_late_marks, asks_ledger, asks_message, asks_closing, asks_nothing, need}
 use Rattle.es_agent.specs.Tickets.{is_ended}
 use Rattle.es_member.specs.Seats.{Seat, Holds}
 use Rattle.es_member.specs.Tied.{GrowsBy, IsSettled, IsTied}
@@ -22,6 +23,8 @@ use Rattle.es_member.specs.declared.member.Progress.TheVariants.{Moved, Waiting,
 abbrev pub NamesOthers : Need → ℕ → ℕ → Type 0
 NamesOthers asks_nobody n agents = ⊤
 NamesOthers asks_marks n agents = ⊤
+NamesOthers asks_copy n agents = ⊤
+NamesOthers asks_late_marks n agents = ⊤
 NamesOthers (asks_ledger (for_block w)) n agents = ⊤
 NamesOthers (asks_ledger (for_post a v)) n agents = (a < agents) × (n ≢ a)
 NamesOthers (asks_ledger (for_buffer_post a o)) n agents = (a < agents) × (n ≢ a)
@@ -31,6 +34,22 @@ NamesOthers (asks_ledger (for_add o i w)) n agents = ⊤
 NamesOthers (asks_message s) n agents = (s < agents) × (n ≢ s)
 NamesOthers asks_closing n agents = ⊤
 NamesOthers asks_nothing n agents = ⊤
+
+-- the marks are those that the agent asks for: of what it reaches, or, to finish a later collection, of its copy and what derefs
+-- gave since
+abbrev pub AreAskedFor : Need → Book → List Bool → Type 0
+AreAskedFor asks_nobody b m = ⊥
+AreAskedFor asks_marks b m = AreMarksOf b m
+AreAskedFor asks_copy b m = ⊥
+AreAskedFor asks_late_marks b m = AreLateMarks b m
+AreAskedFor (asks_ledger r) b m = ⊥
+AreAskedFor (asks_message s) b m = ⊥
+AreAskedFor asks_closing b m = ⊥
+AreAskedFor asks_nothing b m = ⊥
+
+-- the agent asks for marks
+abbrev pub AsksMarks : Need → Type 0
+AsksMarks n = (n ≡ asks_marks) ⊎ (n ≡ asks_late_marks)
 
 -- the agent is one of the ledger's, and has ended there where it has closed
 pub record IsSeated (b : Book) (l : Books) : Type 0 where

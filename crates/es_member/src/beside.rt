@@ -1,19 +1,22 @@
 //! An agent beside others, each of which has a thread: it has the ledger only where it asks the ledger,
 //! and does not know what the ledger says of it.
 
-ghost use Rattle.std.specs.Prelude.{◌≡◌, ◌≢◌, ◌↔◌, IsTrue, IfOk, IfSome, IfNone, OnOk, OnErr};
-ghost use Rattle.es_record.specs.Graph.{AreMarksOf};
-ghost use Rattle.es_rules.specs.Needs.{need, asks_nobody, asks_marks, asks_nothing};
+ghost use Rattle.std.specs.Prelude.{◌≡◌, ◌↔◌, IsTrue, IfOk, IfSome, IfNone, OnOk, OnErr};
+ghost use Rattle.std.specs.Arc.{arc_value};
+ghost use Rattle.es_agent.specs.Later.{IsLaterCopy};
+ghost use Rattle.es_rules.specs.Needs.{need, asks_nobody, asks_copy, asks_nothing};
 ghost use Rattle.es_rules.specs.Shown.{shown};
-ghost use Rattle.es_member.specs.Turned.{Heard, IsSeated, Moves, Proceeds, NamesOthers, OthersStay, ProceedsBeside};
+ghost use Rattle.es_member.specs.Turned.{AreAskedFor, AsksMarks, Heard, IsSeated, Moves, Proceeds, NamesOthers, OthersStay, ProceedsBeside};
 
 use crate::member::{Member, Progress};
 use crate::planned::Planned;
-use crate::turns::{empty, turn};
+use crate::turns::{empty_by, turn};
 use es_agent::{Need, Request};
 use es_ledger::LedgerCore;
 use es_mark::Marks;
+use es_parmark::Snapshot;
 use es_value::NoMemory;
+use std::sync::Arc;
 
 impl<L: Planned> Member<L> {
     /// Whether its next event asks nobody else.
@@ -40,19 +43,39 @@ impl<L: Planned> Member<L> {
         self.core.perform()
     }
 
-    /// The marks for its next event, where that is a collection.
+    /// The marks for its next event, where that empties: those of what it reaches, or, to finish a later
+    /// collection, those of its copy and of what derefs gave since.
     pub fn marks(&self) -> Result<Option<Marks>, NoMemory>
-        ensures own { IfOk result (λ o. IfSome o (AreMarksOf self.now.book)) }
-        ensures due { IfOk result (λ o. IfSome o (λ m. need self.now.book ≡ asks_marks)) }
-        ensures none { IfOk result (λ o. IfNone o (need self.now.book ≢ asks_marks)) }
+        ensures own { IfOk result (λ o. IfSome o (AreAskedFor (need self.now.book) self.now.book)) }
+        ensures none { IfOk result (λ o. IfNone o (AsksMarks (need self.now.book) → ⊥)) }
     {
         match self.core.next() {
             Need::Collect => Ok(Some(self.core.marks()?)),
+            Need::Finish => Ok(Some(self.core.late_marks()?)),
             _ => Ok(None),
         }
     }
 
-    /// One turn, beside other agents, by the marks that `marks` gave where it is a collection. Where the
+    /// Whether its next event opens a later collection.
+    pub fn opens_later(&self) -> bool
+        ensures { IsTrue result ↔ (need self.now.book ≡ asks_copy) }
+    {
+        matches!(self.core.next(), Need::Later)
+    }
+
+    /// Opens a later collection; the copy may be marked beside the agent. Where there is no memory nothing has
+    /// changed.
+    pub fn begin_later(&mut self) -> Result<Arc<Snapshot>, NoMemory>
+        requires { need self.old.book ≡ asks_copy }
+        ensures ok { OnOk result (Moves self.old.book self.new.book) }
+        ensures copy { IfOk result (λ copy. IsLaterCopy self.new.book (arc_value copy)) }
+        ensures err { OnErr result (self.new ≡ self.old) }
+        ensures share { self.new.share ≡ self.old.share }
+    {
+        self.core.begin_later()
+    }
+
+    /// One turn, beside other agents, by the marks that `marks` gave where it empties. Where the
     /// agent has its place and names other agents alone, it proceeds as by `step`, and waits where the rule
     /// says so and nowhere else; else it may end, and then nothing has changed.
     pub fn turn_beside(
@@ -60,8 +83,7 @@ impl<L: Planned> Member<L> {
         ledger: &mut LedgerCore<L>,
         marks: Option<Marks>,
     ) -> Result<Progress, NoMemory>
-        requires own { IfSome marks (AreMarksOf self.old.book) }
-        requires due { IfSome marks (λ m. need self.old.book ≡ asks_marks) }
+        requires { IfSome marks (AreAskedFor (need self.old.book) self.old.book) }
         ensures ok { IfOk result (λ p. ProceedsBeside p self.old self.new) }
         ensures placed { IsSeated self.old.book ledger.old → NamesOthers (need self.old.book) self.old.book.number ledger.old.agents → IfOk result (λ p. Proceeds p self.old self.new) }
         ensures heard { IsSeated self.old.book ledger.old → NamesOthers (need self.old.book) self.old.book.number ledger.old.agents → IfOk result (λ p. Heard p self.old.book ledger.old ledger.new) }
@@ -78,7 +100,7 @@ impl<L: Planned> Member<L> {
         }
         ledger.look(&mut self.stake);
         match marks {
-            Some(marks) => empty(&mut self.core, &mut self.stake, ledger, &marks),
+            Some(marks) => empty_by(&mut self.core, &mut self.stake, ledger, &marks),
             None => turn(&mut self.core, &mut self.stake, ledger),
         }
     }

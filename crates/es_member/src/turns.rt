@@ -1,10 +1,10 @@
 //! A turn of an agent: what it asks for is done in the ledger, and it takes the answer.
 
 ghost use Rattle.std.specs.Prelude.{◌≡◌, ◌<◌, OnOk, OnErr, IfOk};
-ghost use Rattle.es_record.specs.Graph.{AreMarksOf};
-ghost use Rattle.es_rules.specs.Needs.{need, asks_nobody, asks_marks, asks_closing};
+ghost use Rattle.es_record.specs.Graph.{AreMarksOf, AreLateMarks};
+ghost use Rattle.es_rules.specs.Needs.{need, asks_nobody, asks_marks, asks_copy, asks_late_marks, asks_closing};
 ghost use Rattle.es_member.specs.Seats.{seat};
-ghost use Rattle.es_member.specs.Turned.{Heard, Keeps, NamesOthers, Proceeds, StaysTied};
+ghost use Rattle.es_member.specs.Turned.{AreAskedFor, Heard, Keeps, NamesOthers, Proceeds, StaysTied};
 ghost use Rattle.es_member.specs.Midway.{IsHeld};
 
 mod asking;
@@ -37,6 +37,8 @@ pub(crate) fn turn<L: Run>(
     match core.next() {
         Need::Local => perform(core, stake, ledger),
         Need::Collect => collect(core, stake, ledger),
+        Need::Later => begin_later(core, stake, ledger),
+        Need::Finish => finish(core, stake, ledger),
         Need::Ledger(request) => match request {
             Request::NewBlock { words } => open(core, stake, ledger, words),
             Request::Post { receiver, value } => {
@@ -101,8 +103,30 @@ fn collect<L: Run>(
     empty(core, stake, ledger, &marks)
 }
 
+/// An emptying by the marks that the agent asks for.
+pub(crate) fn empty_by<L: Run>(
+    core: &mut AgentCore<L>,
+    stake: &mut Stake<L>,
+    ledger: &mut LedgerCore<L>,
+    marks: &Marks,
+) -> Result<Progress, NoMemory>
+    requires marks { AreAskedFor (need core.old) core.old marks.now }
+    requires ready { IsHeld core.old stake.old ledger.old }
+    ensures ok { IfOk result (λ p. Proceeds p (seat core.old stake.old) (seat core.new stake.new)) }
+    ensures told { IfOk result (λ p. Heard p core.old ledger.old ledger.new) }
+    ensures err { OnErr result (core.new ≡ core.old) }
+    ensures tied { IfOk result (λ p. StaysTied p core.old ledger.old core.new ledger.new) }
+    ensures keeps { Keeps core.old ledger.old core.new stake.new ledger.new }
+{
+    match core.next() {
+        Need::Collect => empty(core, stake, ledger, marks),
+        Need::Finish => empty_late(core, stake, ledger, marks),
+        _ => unreachable!(),
+    }
+}
+
 /// A collection by these marks: the tickets of emptied buffer objects are spent.
-pub(crate) fn empty<L: Run>(
+fn empty<L: Run>(
     core: &mut AgentCore<L>,
     stake: &mut Stake<L>,
     ledger: &mut LedgerCore<L>,
@@ -118,6 +142,63 @@ pub(crate) fn empty<L: Run>(
     ensures keeps { Keeps core.old ledger.old core.new stake.new ledger.new }
 {
     let rack = core.collect(marks)?;
+    spend_all(ledger, stake, rack);
+    Ok(Progress::Moved)
+}
+
+// A later collection is opened: the agent keeps the copy of its graph.
+fn begin_later<L: Run>(
+    core: &mut AgentCore<L>,
+    stake: &Stake<L>,
+    ledger: &LedgerCore<L>,
+) -> Result<Progress, NoMemory>
+    requires due { need core.old ≡ asks_copy }
+    requires ready { IsHeld core.old stake.now ledger.now }
+    ensures ok { IfOk result (λ p. Proceeds p (seat core.old stake.now) (seat core.new stake.now)) }
+    ensures told { IfOk result (λ p. Heard p core.old ledger.now ledger.now) }
+    ensures err { OnErr result (core.new ≡ core.old) }
+    ensures tied { IfOk result (λ p. StaysTied p core.old ledger.now core.new ledger.now) }
+    ensures keeps { Keeps core.old ledger.now core.new stake.now ledger.now }
+{
+    let _copy = core.begin_later()?;
+    Ok(Progress::Moved)
+}
+
+// An open later collection is finished, by the agent's own marks.
+fn finish<L: Run>(
+    core: &mut AgentCore<L>,
+    stake: &mut Stake<L>,
+    ledger: &mut LedgerCore<L>,
+) -> Result<Progress, NoMemory>
+    requires due { need core.old ≡ asks_late_marks }
+    requires ready { IsHeld core.old stake.old ledger.old }
+    ensures ok { IfOk result (λ p. Proceeds p (seat core.old stake.old) (seat core.new stake.new)) }
+    ensures told { IfOk result (λ p. Heard p core.old ledger.old ledger.new) }
+    ensures err { OnErr result (core.new ≡ core.old) }
+    ensures tied { IfOk result (λ p. StaysTied p core.old ledger.old core.new ledger.new) }
+    ensures keeps { Keeps core.old ledger.old core.new stake.new ledger.new }
+{
+    let marks = core.late_marks()?;
+    empty_late(core, stake, ledger, &marks)
+}
+
+/// An open later collection is finished by these marks: the tickets of emptied buffer objects are spent.
+fn empty_late<L: Run>(
+    core: &mut AgentCore<L>,
+    stake: &mut Stake<L>,
+    ledger: &mut LedgerCore<L>,
+    marks: &Marks,
+) -> Result<Progress, NoMemory>
+    requires due { need core.old ≡ asks_late_marks }
+    requires marks { AreLateMarks core.old marks.now }
+    requires ready { IsHeld core.old stake.old ledger.old }
+    ensures ok { IfOk result (λ p. Proceeds p (seat core.old stake.old) (seat core.new stake.new)) }
+    ensures told { IfOk result (λ p. Heard p core.old ledger.old ledger.new) }
+    ensures err { OnErr result (core.new ≡ core.old) }
+    ensures tied { IfOk result (λ p. StaysTied p core.old ledger.old core.new ledger.new) }
+    ensures keeps { Keeps core.old ledger.old core.new stake.new ledger.new }
+{
+    let rack = core.finish_later(marks)?;
     spend_all(ledger, stake, rack);
     Ok(Progress::Moved)
 }

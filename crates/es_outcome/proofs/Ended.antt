@@ -4,7 +4,7 @@ use Rattle.std.specs.List.{AllByRecursion}
 use Rattle.es_event.specs.declared.event.Event.{Event}
 use Rattle.es_event.specs.declared.outcome.Outcome.{Outcome}
 use Rattle.es_event.specs.declared.plan.Plan.{Plan}
-use Rattle.es_event.specs.Ledger.{Ledger, port_of, table}
+use Rattle.es_event.specs.Ledger.{Ledger, count, port_of, table}
 use Rattle.es_event.specs.LegalLedger.{LegalLedger, all_ended}
 use Rattle.es_event.specs.Rows.{held}
 use Rattle.es_ledger.proofs.Mailed.{none_counted}
@@ -14,7 +14,7 @@ use Rattle.es_event.specs.Runs.{AreWholeRuns, IsOutcome, IsWholeRun}
 use Rattle.es_match.specs.Cluster.{Account, HaveCome, IsCluster, IsClusterOf}
 use Rattle.es_record.specs.Book.{Book}
 use Rattle.es_registry.specs.declared.slot.Tally.{Tally}
-use Rattle.es_report.specs.Tallies.{AreTallies, end_tally}
+use Rattle.es_count.specs.Tallies.{AreTallies, end_tally}
 use Rattle.es_cluster.proofs.Ended.{there}
 use Rattle.es_cluster.specs.Ends.{AreHistories, HaveNoTicket, IsWhole}
 use Rattle.es_cluster.specs.State.{accounts, plans}
@@ -35,6 +35,10 @@ pub told_plans : (bs : List Book) → map (λ a. a.plan) (accounts bs) ≡ plans
 told_plans [] = refl
 told_plans (b ∷ bs) = ap (λ ps. b.plan ∷ ps) (told_plans bs)
 
+-- no ticket of any block is left, where the agents have none and no message is left
+pub none_left : (bs : List Book) (n : ℕ) (l : Ledger) → length bs ≡ n → AreAtPlaces bs → LegalLedger n l → HaveNoTicket bs l → ((s r : ℕ) → port_of l s r ≡ []) → (b : ℕ) → count l b ≡ 0
+none_left bs n l number placed legal none empty = none_counted n l legal.0 legal.1 (none_held bs l n number placed none) empty
+
 -- an outcome of the plan, where the histories match and what came to each agent is what it says
 pub comes_to : (p : Plan) (bs : List Book) (n : ℕ) (o : Outcome) → length bs ≡ length p.agents → length bs ≡ n → AreAtPlaces bs → ArePlanned p bs → o.names ≡ map (λ a. a.name) p.agents
     → AreHistories bs o.histories → LegalLedger n (reverse o.ledger) → IsTold (map (λ h. reverse h) o.histories) (reverse o.ledger) (map said_by bs) → HaveNoTicket bs (reverse o.ledger)
@@ -49,7 +53,7 @@ comes_to p bs n o size number placed each names histories legal told none empty 
   };
   legal = subst (λ k. LegalLedger k (reverse o.ledger)) (sym number ∙ size) legal;
   cluster = of_told bs (reverse o.ledger) told.came (subst (λ hs. HaveCome hs (reverse o.ledger) told.came) histories.are told.have) told.said;
-  tickets = none_counted n (reverse o.ledger) legal.0 legal.1 (none_held bs (reverse o.ledger) n number placed none) empty;
+  tickets = none_left bs n (reverse o.ledger) number placed legal none empty;
   messages = empty;
 }
 

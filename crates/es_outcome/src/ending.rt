@@ -5,7 +5,7 @@ ghost use Rattle.es_event.specs.Ledger.{port_of};
 ghost use Rattle.es_event.specs.LegalLedger.{LegalLedger};
 ghost use Rattle.es_cluster.specs.Ends.{AreEnded, AreHistories, HaveNoTicket};
 ghost use Rattle.es_cluster.specs.State.{books};
-ghost use Rattle.es_report.specs.Tallies.{AreTallies};
+ghost use Rattle.es_count.specs.Counts.{IsCountsOf};
 ghost use Rattle.es_outcome.specs.Outcomes.{DoNotMatch, IsClusterOutcome, at_last};
 ghost use Rattle.es_outcome.specs.Places.{AreAtPlaces, ArePlanned, SomeGoesOn};
 ghost use Rattle.es_outcome.specs.Said.{IsTold};
@@ -14,18 +14,17 @@ use crate::counting::tallies_of;
 use crate::said::{Said, all_said, are_said};
 use crate::stop::RunStop;
 use es_cluster::{Member, Parts, Planned, end_all, give_up, into_histories};
+use es_count::Counts;
 use es_event::{Outcome, Sequence};
 use es_match::came_of;
-use es_registry::Tally;
 use es_value::NoMemory;
 use std::alloc::Global;
 
-/// What a plan's run came to, and how many registrations of each agent have each fate.
+/// What a plan's run came to, and the totals that its report has.
 #[derive(Drop)]
 pub struct Counted {
     pub outcome: Outcome,
-    /// The totals of each agent, in the plan's order.
-    pub tallies: Vec<Tally>,
+    pub counts: Counts,
 }
 
 /// What agents that ran beside each other came to, if it is an outcome of their plan: each counts as
@@ -35,7 +34,7 @@ pub fn outcome_of<L: Planned>(alloc: Global, parts: Parts<L>) -> Result<Counted,
     requires names { parts.names ≡ map (λ p. p.name) L.plan.agents }
     requires place { (parts.histories.items ≡ []) × (length parts.members.items ≤ vec_capacity parts.histories) }
     ensures outcome { IfOk result (λ r. IsClusterOutcome L.plan r.outcome) }
-    ensures tallies { IfOk result (λ r. AreTallies r.outcome.histories r.tallies.items) }
+    ensures counts { IfOk result (λ r. IsCountsOf r.outcome r.counts) }
     ensures mismatch { IfErr result (λ e. e ≡ RunStop.Mismatch → DoNotMatch (books parts.members.items) parts.ledger) }
     ensures open { SomeGoesOn (books parts.members.items) → IfErr result (λ e. e ≡ RunStop.Mismatch) }
 {
@@ -63,7 +62,8 @@ pub fn outcome_of<L: Planned>(alloc: Global, parts: Parts<L>) -> Result<Counted,
     };
     let outcome = finish(parts);
     if is_told(alloc, &outcome, &said)? {
-        Ok(Counted { outcome, tallies })
+        let counts = Counts::of_ended(&outcome, tallies);
+        Ok(Counted { outcome, counts })
     } else {
         Err(RunStop::Mismatch)
     }

@@ -4,12 +4,12 @@ use Rattle.std.proofs.Math.ListN.{get_or}
 use Rattle.std.specs.List.{AllByRecursion, list_all}
 use Rattle.std.proofs.lemmas.Bool.{cases_lt, and_parts}
 use Rattle.std.proofs.lemmas.List.{get_or_past}
-use Rattle.es_mark.specs.Graph.{IsClosed, IsNumbered}
+use Rattle.es_mark.specs.Graph.{IsClosed, IsNumbered, HasAll}
 use Rattle.es_mark.specs.Made.{is_made}
 use Rattle.es_mark.specs.Marks.{IsLeast, is_marked}
 use Rattle.es_mark.proofs.Following.{made_numbered}
 use Rattle.es_parmark.specs.Pairs.{HasPairs}
-use Rattle.es_parmark.specs.Snapshot.{Copied, IsSound, IsCopyOf, targets_of, pairs_of, row, CopyHasRoots, CopyHasEdges, CopyHasEntries, AreMarksOf}
+use Rattle.es_parmark.specs.Snapshot.{Copied, IsSound, IsCopyOf, targets_of, pairs_of, row, CopyHasRoots, CopyHasEdges, CopyHasEntries, are_made, AreMarksOf, AreMarksWith}
 use Rattle.es_parmark.proofs.Rows.{row_passes}
 use Rattle.es_parmark.proofs.Tests.{list_has}
 
@@ -76,3 +76,24 @@ marks_serve {made} {roots} {edges} {entries} {s} c marks least = record {
   closed = closed_in_source c (is_marked marks) (λ i e. rw (← c.made_same) (marks_made s c.sound marks least i e)) least.closed;
   least = λ t closed. least.least t (closed_in_copy c t closed);
 }
+
+-- the same with these identities as roots besides its own
+
+module _ (s : Copied) (sound : IsSound s) (more : List ℕ) (good : are_made s.made more ≡ true) (marks : List Bool) (least : AreMarksWith s more marks) where
+  -- what is marked was made
+  pub more_made : (i : ℕ) → is_marked marks i ≡ true → IsNumbered s.made i
+  more_made i e =
+      let made = made_closed s sound in
+      made_numbered s.made i (least.least (is_made s.made) (record { has_roots = (made.has_roots, list_has s.made more good); follows = made.follows; enters = made.enters }) i e)
+
+pub more_serve : {made : ℕ} {roots : (ℕ → Bool) → Type 0} {edges entries : ℕ → (ℕ → Bool) → Type 0} {s : Copied} → IsCopyOf made roots edges entries s → (more : List ℕ) → are_made s.made more ≡ true
+    → (marks : List Bool) → AreMarksWith s more marks → IsLeast (λ t. roots t × HasAll more t) edges entries marks
+more_serve {made} {roots} {edges} {entries} {s} c more good marks least =
+    let own = closed_in_source c (is_marked marks) (λ i e. rw (← c.made_same) (more_made s c.sound more good marks least i e))
+    (record { has_roots = least.closed.has_roots.0; follows = least.closed.follows; enters = least.closed.enters }) in
+    record {
+      closed = record { has_roots = (own.has_roots, least.closed.has_roots.1); follows = own.follows; enters = own.enters };
+      least = λ t closed.
+          let here = closed_in_copy c t (record { has_roots = closed.has_roots.0; follows = closed.follows; enters = closed.enters }) in
+          least.least t (record { has_roots = (here.has_roots, closed.has_roots.1); follows = here.follows; enters = here.enters });
+    }

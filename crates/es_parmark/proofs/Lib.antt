@@ -4,3 +4,4 @@ pub mod Gathering
 pub mod PairLists
 pub mod Rows
 pub mod Tests
+mod MoreRoots

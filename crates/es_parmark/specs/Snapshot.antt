@@ -65,3 +65,7 @@ pub record IsCopyOf (made : ℕ) (roots : (ℕ → Bool) → Type 0) (edges entr
 -- the marks are those of the copy: its least closed set
 abbrev pub AreMarksOf : Copied → List Bool → Type 0
 AreMarksOf s marks = IsLeast (CopyHasRoots s) (CopyHasEdges s) (CopyHasEntries s) marks
+
+-- the same with these identities as roots besides its own
+abbrev pub AreMarksWith : Copied → List ℕ → List Bool → Type 0
+AreMarksWith s ids marks = IsLeast (λ t. CopyHasRoots s t × HasAll ids t) (CopyHasEdges s) (CopyHasEntries s) marks

@@ -9,7 +9,9 @@
 mod entering;
 mod expanding;
 mod marking;
+mod more;
 mod snapshot;
 
 pub use marking::{mark_parallel, mark_with};
+pub use more::mark_more;
 pub use snapshot::Snapshot;

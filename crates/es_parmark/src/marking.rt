@@ -119,6 +119,7 @@ fn advance<G: Graph + Sync, R: Threads + Sync>(
 
 /// Follows the identity at this place of the list, and those after it one by one, as long as few are to be
 /// followed. The place up to which the list is followed then.
+#[inline(always)]
 fn follow_few<G: Graph>(
     graph: &G,
     from: usize,
@@ -140,6 +141,7 @@ fn follow_few<G: Graph>(
 }
 
 /// Follows the identity at this place of the list. The place after it.
+#[inline(always)]
 fn follow_next<G: Graph>(
     graph: &G,
     at: usize,

@@ -80,6 +80,37 @@ impl Snapshot {
         })
     }
 
+    /// Whether the other is the same copy: of as many identities, with the same roots, edges and entries in
+    /// the same order.
+    pub fn same(&self, other: &Snapshot) -> bool
+        ensures { IsTrue result ↔ (self.now ≡ other.now) }
+    {
+        if self.made != other.made {
+            return false;
+        }
+        if !same_ids(self.roots.as_slice(), other.roots.as_slice()) {
+            return false;
+        }
+        if !same_places(self.ends.as_slice(), other.ends.as_slice()) {
+            return false;
+        }
+        if !same_ids(self.targets.as_slice(), other.targets.as_slice()) {
+            return false;
+        }
+        if !same_places(self.stops.as_slice(), other.stops.as_slice()) {
+            return false;
+        }
+        same_pairs(self.pairs.as_slice(), other.pairs.as_slice())
+    }
+
+    /// The roots.
+    pub(crate) fn all_roots(&self) -> &[Id]
+        ensures roots { result.now ≡ self.now.roots }
+        ensures sound { IsSound self.now }
+    {
+        self.roots.as_slice()
+    }
+
     /// What the identity leads to.
     fn edges_of(&self, id: Id) -> &[Id]
         ensures row { result.now ≡ targets_of self.now id }
@@ -168,4 +199,25 @@ fn add_values(pairs: &[(Id, Id)], found: &mut Vec<(Id, Value)>) -> Result<(), No
         found.push((pair.0, Value::Object(pair.1)))?;
     }
     Ok(())
+}
+
+/// Whether the identities are the same, in the same order.
+fn same_ids(a: &[Id], b: &[Id]) -> bool
+    ensures { IsTrue result ↔ (a.now ≡ b.now) }
+{
+    a == b
+}
+
+/// Whether the places are the same.
+fn same_places(a: &[usize], b: &[usize]) -> bool
+    ensures { IsTrue result ↔ (a.now ≡ b.now) }
+{
+    a == b
+}
+
+/// Whether the pairs are the same, in the same order.
+fn same_pairs(a: &[(Id, Id)], b: &[(Id, Id)]) -> bool
+    ensures { IsTrue result ↔ (a.now ≡ b.now) }
+{
+    a == b
 }

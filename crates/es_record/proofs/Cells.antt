@@ -14,8 +14,9 @@ use Rattle.es_event.specs.declared.event.Event.{Event}
 use Rattle.es_event.specs.declared.event.Event.TheVariants.{CleanupBegun, Taken}
 use Rattle.es_event.specs.declared.plan.AgentPlan.{AgentPlan}
 use Rattle.es_event.specs.Jobs.{receivers, job, cleaning}
-use Rattle.es_event.specs.Order.{Phase, between, handed, inside, stopped, ended, phase, left, queue, clean, take_cell, end_job, due, due_at, due_after, due_inside, due_between, due_job}
+use Rattle.es_event.specs.Order.{Phase, between, handed, inside, stopped, ended, phase, left, queue, clean, take_cell, end_job, due_end, due, due_at, due_after, due_inside, due_between, due_job}
 use Rattle.es_event.specs.Follows.{Permits}
+use Rattle.es_event.specs.Later.{snapshot}
 use Rattle.es_record.specs.Book.{Book, IsNext}
 use Rattle.es_record.specs.NextCell.{next_taken, IsNextCell, FindsNextCell}
 use Rattle.es_registry.specs.declared.slot.Cell.{Cell as KeptCell}
@@ -123,17 +124,21 @@ pub none_found : (h : History) → cleaning h ≡ None → FindsNextCell h None
 none_found h none = ap (option_and_then (first_awaiting h)) none
 
 -- what is due after the last command of a callback
-pub due_found : (h : History) (o : Option KeptCell) → FindsNextCell h o → option_map_or (λ c. take_cell c.registration) o end_job ≡ due_after (next_taken h)
-due_found h None none = sym (ap due_after none)
-due_found h (Some c) found = sym (ap due_after found.number)
+pub due_found : (h : History) (o : Option KeptCell) → FindsNextCell h o → option_map_or (λ c. take_cell c.registration) o (due_end (snapshot h)) ≡ due_after h (next_taken h)
+due_found h None none = sym (ap (due_after h) none)
+due_found h (Some c) found = sym (ap (due_after h) found.number)
 
 -- a taking that is due is of the next cell
-takes_after : (o : Option ℕ) (n : ℕ) → due_after o ≡ take_cell n → o ≡ Some n
-takes_after None n e = cc
-takes_after (Some m) n e = let same : m ≡ n = cc in ap Some same
+end_takes_none : (o : Option History) (n : ℕ) → due_end o ≡ take_cell n → ⊥
+end_takes_none None n e = cc
+end_takes_none (Some p) n e = cc
+
+takes_after : (h : History) (o : Option ℕ) (n : ℕ) → due_after h o ≡ take_cell n → o ≡ Some n
+takes_after h None n e = absurd (end_takes_none (snapshot h) n e)
+takes_after h (Some m) n e = let same : m ≡ n = cc in ap Some same
 
 takes_inside : (h : History) (cs : List Command) (n : ℕ) → due_inside h cs ≡ take_cell n → next_taken h ≡ Some n
-takes_inside h [] n e = takes_after (next_taken h) n e
+takes_inside h [] n e = takes_after h (next_taken h) n e
 takes_inside h (c ∷ cs) n e = cc
 
 waits_none : (m n : ℕ) (on : Option (ℕ × List ℕ)) → due_job m (Some on) ≡ take_cell n → ⊥
@@ -152,7 +157,7 @@ pub takes_next : (plan : AgentPlan) (h : History) (p : Phase) (n : ℕ) → due_
 takes_next plan h between n e = absurd (takes_between plan h (queue h) n e)
 takes_next plan h handed n e = cc
 takes_next plan h inside n e = takes_inside h (left plan h) n e
-takes_next plan h stopped n e = cc
+takes_next plan h stopped n e = absurd (end_takes_none (snapshot h) n e)
 takes_next plan h ended n e = cc
 
 number_is : (h : History) (c : KeptCell) (n : ℕ) → next_taken h ≡ Some n → IsNextCell h c → n ≡ c.registration
@@ -182,19 +187,23 @@ cleans_between : (plan : AgentPlan) (h : History) (q : List ℕ) (r : ℕ) → d
 cleans_between plan h [] r e = absurd (no_job_cleans (job h) r _ e)
 cleans_between plan h (x ∷ xs) r e = let same : x ≡ r = cc in ap Some same
 
-cleans_after : (o : Option ℕ) (r : ℕ) → due_after o ≡ clean r → ⊥
-cleans_after None r e = cc
-cleans_after (Some n) r e = cc
+end_cleans_none : (o : Option History) (r : ℕ) → due_end o ≡ clean r → ⊥
+end_cleans_none None r e = cc
+end_cleans_none (Some p) r e = cc
+
+cleans_after : (h : History) (o : Option ℕ) (r : ℕ) → due_after h o ≡ clean r → ⊥
+cleans_after h None r e = end_cleans_none (snapshot h) r e
+cleans_after h (Some n) r e = cc
 
 cleans_inside : (h : History) (cs : List Command) (r : ℕ) → due_inside h cs ≡ clean r → ⊥
-cleans_inside h [] r e = cleans_after (next_taken h) r e
+cleans_inside h [] r e = cleans_after h (next_taken h) r e
 cleans_inside h (c ∷ cs) r e = cc
 
 cleans_next : (plan : AgentPlan) (h : History) (p : Phase) (r : ℕ) → due_at plan h p ≡ clean r → slice_get (queue h) 0 ≡ Some r
 cleans_next plan h between r e = cleans_between plan h (queue h) r e
 cleans_next plan h handed r e = cc
 cleans_next plan h inside r e = absurd (cleans_inside h (left plan h) r e)
-cleans_next plan h stopped r e = cc
+cleans_next plan h stopped r e = absurd (end_cleans_none (snapshot h) r e)
 cleans_next plan h ended r e = cc
 
 pub cleaning_next : (b : Book) (q r : ℕ) (kept : List ℕ) → due b.plan b.history ≡ clean r → kept ≡ queue b.history → Some q ≡ slice_get kept 0 → IsNext b (CleanupBegun q)

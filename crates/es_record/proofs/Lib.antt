@@ -4,6 +4,7 @@ pub mod Standing
 pub mod Steps
 pub mod Reached
 pub mod Unmarked
+pub mod Late
 pub mod Found
 pub mod Targets
 pub mod Counted

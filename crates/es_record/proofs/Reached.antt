@@ -32,7 +32,7 @@ pub called_within : (over : Buffers) (into : Receivers) (h : History) → LegalB
 called_within over into h legal r c e = object_within over into h legal r (called_kind (kind h r) c e)
 
 -- a closed set by the definitions is one of the graph
-closed_in_graph : (b : Book) (m : ℕ → Bool) → IsClosed (receivers b.plan.jobs) b.history (λ i. m i ≡ true) → IsClosedIn (HasRoots b) (HasEdges b) (HasEntries b) m
+pub closed_in_graph : (b : Book) (m : ℕ → Bool) → IsClosed (receivers b.plan.jobs) b.history (λ i. m i ≡ true) → IsClosedIn (HasRoots b) (HasEdges b) (HasEntries b) m
 closed_in_graph b m closed = record {
   has_roots = record { variables = closed.variables; kept = closed.kept; registries = closed.registries; cells = closed.cells };
   follows = λ o here there k v i e is. closed.properties o k v i here e is;
@@ -57,7 +57,7 @@ here_of h o there = (both_of (nat_lt 0 o && nat_le o (made h)) (is_gone h o) the
 pub is_within : (h : History) (i : ℕ) → (0 < i) × (i ≤ made h) → is_gone h i ≡ false → is_there h i ≡ true
 is_within h i within here = there_from h i here within.0 within.1
 
-there_closed : (over : Buffers) (b : Book) → LegalBy over (receivers b.plan.jobs) b.history → Stays (receivers b.plan.jobs) b.history → IsClosedIn (HasRoots b) (HasEdges b) (HasEntries b) (is_there b.history)
+pub there_closed : (over : Buffers) (b : Book) → LegalBy over (receivers b.plan.jobs) b.history → Stays (receivers b.plan.jobs) b.history → IsClosedIn (HasRoots b) (HasEdges b) (HasEntries b) (is_there b.history)
 there_closed over b legal stays =
     let into = receivers b.plan.jobs in
     record {

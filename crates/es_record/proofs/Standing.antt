@@ -17,6 +17,7 @@ use Rattle.es_event.proofs.Coming.{comes}
 use Rattle.es_tables.proofs.Slots.{slots_same}
 use Rattle.es_cursor.proofs.Steps.{after_closed}
 use Rattle.es_cursor.specs.Due.{due_of}
+use Rattle.es_event.specs.Later.{snapshot}
 use Rattle.es_cursor.specs.declared.cursor.Cursor.{Cursor}
 use Rattle.es_cursor.specs.declared.cursor.Position.TheVariants.{Ended as EndPosition}
 use Rattle.es_tables.specs.Tags.{tag_of, tag_said}
@@ -43,13 +44,13 @@ pub cleanup_due : (plan : AgentPlan) (h : History) (q : List ℕ) (r : ℕ) → 
 cleanup_due plan h q r is first = cleans_first plan h q r first ∙ ap (due_between plan h) is
 
 -- in a job of the plan nothing is taken
-pub due_plain : (h : History) (cs : List Command) → cleaning h ≡ None → due_of cs ≡ due_inside h cs
-due_plain h [] none = sym (ap (λ o. due_after (option_and_then (first_awaiting h) o)) none)
+pub due_plain : (h : History) (cs : List Command) → cleaning h ≡ None → due_of (snapshot h) cs ≡ due_inside h cs
+due_plain h [] none = sym (ap (λ o. due_after h (option_and_then (first_awaiting h) o)) none)
 due_plain h (c ∷ cs) none = refl
 
 -- in a cleanup job, where no command is left
-pub due_cell : (h : History) (r : ℕ) → cleaning h ≡ Some r → due_after (first_awaiting h r) ≡ due_inside h []
-due_cell h r is = sym (ap (λ o. due_after (option_and_then (first_awaiting h) o)) is)
+pub due_cell : (h : History) (r : ℕ) → cleaning h ≡ Some r → due_after h (first_awaiting h r) ≡ due_inside h []
+due_cell h r is = sym (ap (λ o. due_after h (option_and_then (first_awaiting h) o)) is)
 
 -- the closing leaves the tables as they are
 

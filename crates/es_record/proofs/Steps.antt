@@ -35,7 +35,7 @@ ties_after b s t c d e ties quiet next to assigns steps stands = record {
   legal = (next.lawful, ties.legal);
   follows = (next.permitted, ties.follows);
   there = there_after b.over b.plan (e ∷ b.history) (next.lawful, ties.legal) (next.permitted, ties.follows);
-  honest = honest_along b.over b.plan (e ∷ b.history) (next.permitted, ties.follows);
+  honest = honest_along b.over b.plan (e ∷ b.history) (next.lawful, ties.legal) (next.permitted, ties.follows);
   says = says_advanced b.over (receivers b.plan.jobs) b.history s t e ties.legal next.lawful (stays_along b.over b.plan b.history ties.legal ties.follows) quiet ties.says to assigns steps;
   stands = stands;
 }
@@ -64,7 +64,7 @@ ties_emptied b s t c d ids ties next new stands = record {
   legal = (next.lawful, ties.legal);
   follows = (next.permitted, ties.follows);
   there = there_after b.over b.plan (Emptied ids ∷ b.history) (next.lawful, ties.legal) (next.permitted, ties.follows);
-  honest = honest_along b.over b.plan (Emptied ids ∷ b.history) (next.permitted, ties.follows);
+  honest = honest_along b.over b.plan (Emptied ids ∷ b.history) (next.lawful, ties.legal) (next.permitted, ties.follows);
   says = says_emptied b.over (receivers b.plan.jobs) b.history s t ids ties.legal ties.says new;
   stands = stands;
 }

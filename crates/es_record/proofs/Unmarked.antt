@@ -24,7 +24,7 @@ use Rattle.es_record.proofs.Reached.{marked_reached, reached_marked}
 
 -- Numbers that pass a test
 
-passing_in : (p : ℕ → Bool) (a n i : ℕ) → is_in (passing p a n) i ≡ ((nat_le a i && nat_lt i (a + n)) && p i)
+pub passing_in : (p : ℕ → Bool) (a n i : ℕ) → is_in (passing p a n) i ≡ ((nat_le a i && nat_lt i (a + n)) && p i)
 passing_in p a zero i = grind (arith, nat_tests)
 passing_in p a (suc n) i =
     let rest : is_in (passing p (a + 1) n) i ≡ ((nat_le (a + 1) i && nat_lt i (a + 1 + n)) && p i) = passing_in p (a + 1) n i in
@@ -45,10 +45,10 @@ rising_rest : (j : ℕ) (is : List ℕ) → is_rising (j ∷ is) ≡ true → is
 rising_rest j [] e = refl
 rising_rest j (i ∷ is) e = (and_parts (nat_lt j i) (is_rising (i ∷ is)) e).1
 
-passing_rises : (p : ℕ → Bool) (n : ℕ) → is_rising (passing p 1 n) ≡ true
+pub passing_rises : (p : ℕ → Bool) (n : ℕ) → is_rising (passing p 1 n) ≡ true
 passing_rises p n = rising_rest 0 (passing p 1 n) (rising_past p 1 n 0 (omega arith))
 
-all_from : (q : ℕ → Bool) (ids : List ℕ) → ((i : ℕ) → is_in ids i ≡ true → q i ≡ true) → list_all q ids ≡ true
+pub all_from : (q : ℕ → Bool) (ids : List ℕ) → ((i : ℕ) → is_in ids i ≡ true → q i ≡ true) → list_all q ids ≡ true
 all_from q [] each = refl
 all_from q (i ∷ ids) each =
     and_from (q i) (list_all q ids) (each i (grind (arith, nat_tests))) (all_from q ids (λ j e. each j (or_later (i == j) (is_in ids j) e)))
@@ -66,17 +66,17 @@ shown : (b : Bool) (t : Tag) → is_some (if b then Some t else None) ≡ b
 shown true t = refl
 shown false t = refl
 
-tagged : (h : History) (i : ℕ) → is_some (tag_said h i) ≡ is_there h i
+pub tagged : (h : History) (i : ℕ) → is_some (tag_said h i) ≡ is_there h i
 tagged h i = shown (is_there h i) (tag_of (kind h i))
 
-in_range : (n i : ℕ) (g : Bool) → (nat_le 1 i && nat_lt i (1 + n)) ≡ true → 0 < i
+pub in_range : (n i : ℕ) (g : Bool) → (nat_le 1 i && nat_lt i (1 + n)) ≡ true → 0 < i
 in_range n i g e = let l : 1 ≤ i = leb-true 1 i (and_parts (nat_le 1 i) (nat_lt i (1 + n)) e).0 in omega (arith, l)
 
 pub record AreLeft (h : History) (marks : List Bool) (ids : List ℕ) : Type 0 where
   pub only : (i : ℕ) → is_in ids i ≡ true → (is_there h i ≡ true) × (is_marked marks i ≡ false)
   pub every : (i : ℕ) → is_there h i ≡ true → is_marked marks i ≡ false → is_in ids i ≡ true
 
-within_range : (h : History) (i : ℕ) → is_there h i ≡ true → (nat_le 1 i && nat_lt i (1 + made h)) ≡ true
+pub within_range : (h : History) (i : ℕ) → is_there h i ≡ true → (nat_le 1 i && nat_lt i (1 + made h)) ≡ true
 within_range h i there =
     let parts = and_parts (nat_lt 0 i) (nat_le i (made h)) (and_parts (nat_lt 0 i && nat_le i (made h)) (not (is_gone h i)) there).0 in
     let low : 0 < i = ltb-true 0 i parts.0 in
@@ -122,11 +122,11 @@ pub record Dead (b : Book) (ids : List ℕ) : Type 0 where
   pub rising : is_rising ids ≡ true
 
 pub all_dead : (b : Book) (s : State) (c : Cursor) (marks : List Bool) (ids : List ℕ) → Ties b.over b.plan b.history s c → AreMarksOf b marks
-    → ids ≡ passing (is_left s.tags.all marks) 1 (length s.tags.all) → Dead b ids
-all_dead b s c marks ids ties least is =
-    let left = subst (AreLeft b.history marks) (sym is) (left_are b.history s.tags.all marks (length s.tags.all) ties.says.made ties.says.tags) in
+    → (n : ℕ) → n ≡ made b.history → ids ≡ passing (is_left s.tags.all marks) 1 n → Dead b ids
+all_dead b s c marks ids ties least n all is =
+    let left = subst (AreLeft b.history marks) (sym is) (left_are b.history s.tags.all marks n all ties.says.tags) in
     record {
       dead = left_dead b.over b marks ids ties.legal (stays_along b.over b.plan b.history ties.legal ties.follows) least left;
       there = left_there b.history marks ids left;
-      rising = subst (λ l. is_rising l ≡ true) (sym is) (passing_rises (is_left s.tags.all marks) (length s.tags.all));
+      rising = subst (λ l. is_rising l ≡ true) (sym is) (passing_rises (is_left s.tags.all marks) n);
     }

@@ -1,6 +1,6 @@
 //! The agent's record: what is due, and the recording of events.
 
-ghost use Rattle.std.specs.Prelude.{◌≡◌, ◌≤◌, ◌<◌, ◌+◌, ◌∷◌, ℕ, [], Some, true, codes, reverse, IfOk, OnOk, OnErr};
+ghost use Rattle.std.specs.Prelude.{◌≡◌, ◌≤◌, ◌<◌, ◌+◌, ◌∷◌, ℕ, [], Some, true, codes, reverse, is_some, IfOk, OnOk, OnErr};
 ghost use Rattle.std.specs.Option.{option_map_or};
 ghost use Rattle.es_event.specs.declared.row.Row.{Row as RowSaid};
 ghost use Rattle.es_event.specs.Identities.{gone, is_in, made};
@@ -14,6 +14,7 @@ ghost use Rattle.es_record.specs.Book.{Book, IsNext, Records, with_buffer, with_
 ghost use Rattle.es_record.specs.Newest.{newest};
 ghost use Rattle.es_cursor.specs.Cursor.{IsAt};
 ghost use Rattle.es_cursor.specs.Due.{shown};
+ghost use Rattle.es_event.specs.Later.{snapshot};
 ghost use Rattle.es_tables.specs.Effects.{Advances, IsQuiet};
 ghost use Rattle.es_tables.specs.Ready.{CanAdvance};
 ghost use Rattle.es_tables.specs.Tables.{SameState};
@@ -23,7 +24,7 @@ mod look_up;
 mod reach;
 
 use crate::buffers::BufferTable;
-use crate::counts::{blocks_in, posts_in};
+use crate::counts::{blocks_in, open_after, posts_in};
 use es_cursor::{Cleanup, Cursor, Due, Position, callback_commands, commands, due_command};
 use es_event::{AgentPlan, Event, Log, Row, Sequence};
 use es_tables::Tables;
@@ -49,6 +50,8 @@ pub struct AgentRecord {
     // how many blocks it opened, and how many messages it posted
     opened: usize,
     posted: usize,
+    // whether a later collection is open
+    later: bool,
     // the variable that held values are assigned to
     held: Name,
     // what a variable has to which nothing was assigned
@@ -56,10 +59,11 @@ pub struct AgentRecord {
 }
 
 impl Model for AgentRecord {
-    ghost use Rattle.std.specs.Prelude.{◌≡◌, ◌≢◌, ◌<◌, ◌≤◌, codes};
+    ghost use Rattle.std.specs.Prelude.{◌≡◌, ◌≢◌, ◌<◌, ◌≤◌, codes, is_some};
     ghost use Rattle.es_value.specs.declared.value.Value.TheVariants.{Undefined};
     ghost use Rattle.es_event.specs.Identities.{made};
     ghost use Rattle.es_event.specs.Sharing.{blocks_opened, messages_posted};
+    ghost use Rattle.es_event.specs.Later.{snapshot};
     ghost use Rattle.es_event.specs.Order.{phase, ended};
     ghost use Rattle.es_record.specs.Book.{Book};
     ghost use Rattle.es_record.specs.Newest.{newest};
@@ -70,7 +74,7 @@ impl Model for AgentRecord {
     ghost view = { λ a. record { plan = a.plan; number = a.number; agents = a.agents; over = a.buffers.rows; history = a.events.events } };
 
     // there is room for the closing event, until it stands
-    ghost invariant = { λ a. Ties a.buffers.rows a.plan a.events.events a.tables a.cursor × (a.held ≡ codes "held") × (phase a.events.events ≢ ended → 0 < a.events.room) × (newest a.buffers.rows ≤ made a.events.events) × (a.opened ≡ blocks_opened a.events.events) × (a.posted ≡ messages_posted a.events.events) × (a.unassigned ≡ Undefined) };
+    ghost invariant = { λ a. Ties a.buffers.rows a.plan a.events.events a.tables a.cursor × (a.held ≡ codes "held") × (phase a.events.events ≢ ended → 0 < a.events.room) × (newest a.buffers.rows ≤ made a.events.events) × (a.opened ≡ blocks_opened a.events.events) × (a.posted ≡ messages_posted a.events.events) × (a.unassigned ≡ Undefined) × (a.later ≡ is_some (snapshot a.events.events)) };
 }
 
 impl AgentRecord {
@@ -97,6 +101,7 @@ impl AgentRecord {
                 buffers: BufferTable::new(alloc),
                 opened: 0,
                 posted: 0,
+                later: false,
                 held,
                 unassigned: Value::Undefined,
             }),
@@ -138,9 +143,16 @@ impl AgentRecord {
         self.events.into_sequence()
     }
 
+    /// Whether a later collection is open. Where one is, and the running job is to end, it is finished first.
+    pub fn is_open(&self) -> bool
+        ensures { result ≡ is_some (snapshot self.now.history) }
+    {
+        self.later
+    }
+
     /// What comes next by its plan.
     pub fn due(&self) -> Due<'_>
-        ensures { shown result ≡ due self.now.plan self.now.history }
+        ensures { shown (snapshot self.now.history) result ≡ due self.now.plan self.now.history }
     {
         match self.cursor.position {
             Position::Between => self.due_between(),
@@ -155,7 +167,7 @@ impl AgentRecord {
     /// What comes next between two jobs: the first cleanup job that is queued, or else the next job.
     fn due_between(&self) -> Due<'_>
         requires { IsAt self.now.plan self.now.history Position.Between }
-        ensures { shown result ≡ due self.now.plan self.now.history }
+        ensures { shown (snapshot self.now.history) result ≡ due self.now.plan self.now.history }
     {
         match self.tables.queued() {
             Some(registry) => Due::Clean(registry.number()),
@@ -167,7 +179,7 @@ impl AgentRecord {
     /// awaits it, or else its end.
     fn due_cleaning(&self, cleanup: Cleanup) -> Due<'_>
         requires { IsAt self.now.plan self.now.history (Position.Cleaning cleanup) }
-        ensures { shown result ≡ due self.now.plan self.now.history }
+        ensures { shown (snapshot self.now.history) result ≡ due self.now.plan self.now.history }
     {
         match callback_commands(&self.plan, cleanup.callback).get(cleanup.at) {
             Some(command) => Due::Run(command),
@@ -226,13 +238,14 @@ impl AgentRecord {
         add_buffer(&mut self.buffers, id, row);
         self.opened += blocks_in(&event);
         self.posted += posts_in(&event);
+        self.later = open_after(&event, self.later);
         self.cursor = self.cursor.after(&event, &self.plan, callback);
         self.events.append(event);
         Ok(())
     }
 
-    /// Empties these identities, which are all that is dead, by rising number, and records it as one
-    /// event (ECMA-262, Execution). Where there is no memory nothing has changed.
+    /// Empties these identities, which are all that is dead or, where an open later collection is to be
+    /// finished, all that is late, by rising number, and records it as one event (ECMA-262, Execution). Where there is no memory nothing has changed.
     pub fn empty(&mut self, ids: Vec<Id>) -> Result<(), NoMemory>
         requires { IsNext self.old (Event.Emptied ids.items) }
         ensures ok { OnOk result (Records self.old (Event.Emptied ids.items) self.new) }
@@ -244,6 +257,7 @@ impl AgentRecord {
             ids: Sequence::from_vec(ids),
         };
         self.cursor = self.cursor.after(&event, &self.plan, None);
+        self.later = false;
         self.events.append(event);
         Ok(())
     }

@@ -1,6 +1,9 @@
-//! What an event adds to the numbers of opened blocks and of posted messages.
+//! What an event adds to the numbers of opened blocks and of posted messages, and whether it opens or ends
+//! a later collection.
 
-ghost use Rattle.std.specs.Prelude.{◌≡◌, ◌≤◌};
+ghost use Rattle.std.specs.Prelude.{◌≡◌, ◌≤◌, ◌∷◌, is_some};
+ghost use Rattle.es_event.specs.History.{History};
+ghost use Rattle.es_event.specs.Later.{snapshot};
 ghost use Rattle.es_event.specs.Sharing.{opens_at, posts_at};
 
 use es_event::{Command, Event};
@@ -30,5 +33,19 @@ pub(crate) fn posts_in(event: &Event) -> usize
             ..
         } => 1,
         _ => 0,
+    }
+}
+
+/// Whether a later collection is open after the event, where it tells whether one was before.
+pub(crate) fn open_after(event: &Event, before: bool) -> bool
+    ensures { (h : History) → before ≡ is_some (snapshot h) → result ≡ is_some (snapshot (event.now ∷ h)) }
+{
+    match event {
+        Event::Did {
+            command: Command::CollectLater,
+            ..
+        } => true,
+        Event::Emptied { .. } => false,
+        _ => before,
     }
 }

@@ -1,7 +1,7 @@
 -- What an agent does next is settled by its book, and by what the ledger says.
 use Rattle.std.proofs.Common.{◌≡◌, ℕ, ◌+◌, ◌&&◌, true, false, cond, sym, ◌∙◌, ap, refl, subst, List, [], ◌∷◌, Option, Some, None, Ok, Err}
-use Rattle.std.proofs.lemmas.Bool.{false≢true}
-use Rattle.std.specs.Prelude.{nat_lt}
+use Rattle.std.proofs.lemmas.Bool.{false≢true, and_parts}
+use Rattle.std.specs.Prelude.{nat_lt, is_none}
 use Rattle.es_value.specs.Limits.{most_identities}
 use Rattle.es_value.specs.declared.value.Value.{Value}
 use Rattle.es_value.specs.declared.value.Value.TheVariants.{Object}
@@ -19,8 +19,9 @@ use Rattle.es_event.specs.Follows.{AtCommand, HasRoom, Permits}
 use Rattle.es_event.specs.Identities.{made, object_of}
 use Rattle.es_event.specs.Jobs.{job, receivers}
 use Rattle.es_event.specs.Legal.{values_of, word_in}
+use Rattle.es_event.specs.Later.{snapshot}
 use Rattle.es_event.specs.Ledger.{Ledger}
-use Rattle.es_event.specs.Order.{Due, begin, receive, run, clean, take_cell, end_job, close, due}
+use Rattle.es_event.specs.Order.{Due, begin, receive, run, clean, take_cell, finish, end_job, close, due}
 use Rattle.es_event.specs.Rules.{completion, refusal, refuse_or, result}
 use Rattle.es_event.specs.Runs.{ComesNext, IsRunOver, a_message, heard, heard_by}
 use Rattle.es_event.specs.Sharing.{AgreeSoFar}
@@ -144,11 +145,11 @@ commanded : (n : ℕ) (l : Ledger) (b : Book) → IsRunOver b.over b.plan b.hist
     → AtCommand (with_row r b).over (receivers b.plan.jobs) b.history c e → AtCommand (with_row q b).over (receivers b.plan.jobs) b.history c f → Move n l b e r ds → Move n l b f q es → Agree n l e f r q ds es
 commanded n l b history c at (Did d vs a) (Did k us z) r q ds es p o x y = both_done n l b c d k vs us a z r q ds es p o x y
 commanded n l b history c at (Did d vs a) (Refused code) r q ds es p o x y = absurd (not_refused b history r q c d vs a code p x.next.lawful.0 x.next.lawful.1 o)
-commanded n l b history c at (Did d vs a) (Emptied ids) r q ds es p o x y = absurd (false≢true (sym x.next.lawful.2 ∙ ap collects p ∙ o.0))
+commanded n l b history c at (Did d vs a) (Emptied ids) r q ds es p o x y = absurd (false≢true (sym x.next.lawful.2 ∙ ap collects p ∙ (and_parts (collects c) (is_none (snapshot b.history)) o.0).0))
 commanded n l b history c at (Refused code) (Did k us z) r q ds es p o x y = absurd (not_refused b history q r c k us z code o y.next.lawful.0 y.next.lawful.1 p)
 commanded n l b history c at (Refused code) (Refused other) r q ds es p o x y = both_quiet n l b (Refused code) (Refused other) r q ds es (refused_quiet b c code at) (refused_quiet b c other at) refl x y
 commanded n l b history c at (Refused code) (Emptied ids) r q ds es p o x y = absurd (not_emptied n l b c code ids r q ds es at x y)
-commanded n l b history c at (Emptied ids) (Did k us z) r q ds es p o x y = absurd (false≢true (sym y.next.lawful.2 ∙ ap collects o ∙ p.0))
+commanded n l b history c at (Emptied ids) (Did k us z) r q ds es p o x y = absurd (false≢true (sym y.next.lawful.2 ∙ ap collects o ∙ (and_parts (collects c) (is_none (snapshot b.history)) p.0).0))
 commanded n l b history c at (Emptied ids) (Refused code) r q ds es p o x y = absurd (not_emptied n l b c code ids q r es ds at y x)
 commanded n l b history c at (Emptied ids) (Emptied jds) r q ds es p o x y = both_emptied n l b ids jds r q ds es x y
 commanded n l b history c at (Did d vs a) _ r q ds es p o x y = absurd o
@@ -241,11 +242,13 @@ by_due n l b history (receive j s) at e f r q ds es p o x y = messaged n l b his
 by_due n l b history (begin k) at (JobBegun i) (JobBegun j) r q ds es p o x y = both_quiet n l b (JobBegun i) (JobBegun j) r q ds es refl refl refl x y
 by_due n l b history (clean k) at (CleanupBegun i) (CleanupBegun j) r q ds es p o x y = both_quiet n l b (CleanupBegun i) (CleanupBegun j) r q ds es refl refl refl x y
 by_due n l b history (take_cell k) at (Taken i v) (Taken j z) r q ds es p o x y = both_quiet n l b (Taken i v) (Taken j z) r q ds es refl refl refl x y
+by_due n l b history (finish k) at (Emptied ids) (Emptied jds) r q ds es p o x y = both_emptied n l b ids jds r q ds es x y
 by_due n l b history end_job at JobEnded JobEnded r q ds es p o x y = both_quiet n l b JobEnded JobEnded r q ds es refl refl refl x y
 by_due n l b history close at Closed Closed r q ds es p o x y = both_closed n l b r q ds es x y
 by_due n l b history (begin k) at (JobBegun i) _ r q ds es p o x y = absurd o
 by_due n l b history (clean k) at (CleanupBegun i) _ r q ds es p o x y = absurd o
 by_due n l b history (take_cell k) at (Taken i v) _ r q ds es p o x y = absurd o
+by_due n l b history (finish k) at (Emptied ids) _ r q ds es p o x y = absurd o
 by_due n l b history end_job at JobEnded _ r q ds es p o x y = absurd o
 by_due n l b history close at Closed _ r q ds es p o x y = absurd o
 by_due n l b history _ at _ f r q ds es p o x y = absurd p

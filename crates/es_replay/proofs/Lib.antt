@@ -8,3 +8,5 @@ pub mod Deciding
 pub mod Turning
 pub mod Running
 pub mod Ends
+mod ExampleTurn
+mod ExampleEnds

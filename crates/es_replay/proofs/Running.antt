@@ -19,7 +19,7 @@ use Rattle.es_event.proofs.Extending.{agrees_longer, still_follows, still_legal}
 use Rattle.es_match.specs.Cluster.{Ties}
 use Rattle.es_match.specs.Deeds.{Deed, part}
 use Rattle.es_record.specs.Book.{Book, IsNext, with_row}
-use Rattle.es_rules.specs.Needs.{Need, asks_nobody, asks_marks, asks_ledger, asks_message, asks_closing, asks_nothing, need}
+use Rattle.es_rules.specs.Needs.{Need, asks_nobody, asks_marks, asks_copy, asks_late_marks, asks_ledger, asks_message, asks_closing, asks_nothing, need}
 use Rattle.es_agent.specs.Tickets.{is_ended}
 use Rattle.es_member.specs.Tied.{IsTied, came_to}
 use Rattle.es_member.specs.Turned.{Moves}
@@ -254,6 +254,8 @@ same_goes l m b alike = by_need (need b)
     by_need : (q : Need) → goes_on_by l b.number q ≡ goes_on_by m b.number q
     by_need asks_nobody = refl
     by_need asks_marks = refl
+    by_need asks_copy = refl
+    by_need asks_late_marks = refl
     by_need (asks_ledger r) = refl
     by_need (asks_message s) = ap (λ x. x || has_ended l s) (same_message l m s b.number alike) ∙ ap (λ x. has_message m s b.number || x) (alike.ends s)
     by_need asks_closing = refl

@@ -1,33 +1,34 @@
 -- The events of what is answered come next.
-use Rattle.std.proofs.Common.{◌≡◌, ℕ, ◌+◌, ◌<◌, ◌^◌, Bool, true, false, sym, ◌∙◌, ap, refl, subst, arith, List, [], Option, Some, None, Ok, Err, eq-eqb, cond}
-use Rattle.std.specs.Prelude.{pos, nat_lt, is_some}
+use Rattle.std.proofs.Common.{◌≡◌, ℕ, ◌+◌, ◌<◌, ◌^◌, Bool, true, false, sym, ◌∙◌, ap, refl, subst, arith, List, [], ◌∷◌, Option, Some, None, Ok, Err, eq-eqb, cond}
+use Rattle.std.specs.Prelude.{pos, nat_lt, is_some, is_none}
 use Rattle.std.specs.Option.{option_map}
 use Rattle.es_value.specs.declared.value.Value.{Value}
 use Rattle.es_value.specs.declared.value.Value.TheVariants.{Number, Object, Symbol}
 use Rattle.es_value.specs.Limits.{most_identities}
 use Rattle.es_event.specs.declared.command.Command.{Command}
-use Rattle.es_event.specs.declared.command.Command.TheVariants.{SharedArrayBuffer, Load, Store, Add, Post}
+use Rattle.es_event.specs.declared.command.Command.TheVariants.{SharedArrayBuffer, Load, Store, Add, Post, Collect, CollectLater}
 use Rattle.es_event.specs.declared.event.Answer.{Answer}
 use Rattle.es_event.specs.declared.event.Answer.TheVariants.{Nothing, Gives}
 use Rattle.es_event.specs.declared.event.Event.TheVariants.{Received, Did, Refused, Skipped}
 use Rattle.es_event.specs.declared.event.Refusal.{Refusal}
-use Rattle.es_event.specs.declared.event.Refusal.TheVariants.{TooManyValues}
+use Rattle.es_event.specs.declared.event.Refusal.TheVariants.{TooManyValues, CollectionOpen}
 use Rattle.es_event.specs.declared.row.Row.{Row}
 use Rattle.es_event.specs.Commands.{reads, first, makes, collects, opens_words}
 use Rattle.es_event.specs.History.{History}
 use Rattle.es_event.specs.Identities.{identity, object_of, made}
 use Rattle.es_event.specs.Jobs.{receivers}
 use Rattle.es_event.specs.Sharing.{Buffers, row_at}
-use Rattle.es_event.specs.Rules.{refusal, result, refuse_or, completion, number_of_word}
+use Rattle.es_event.specs.Later.{snapshot, collects_now}
+use Rattle.es_event.specs.Rules.{refusal, first_refusal, result, refuse_or, completion, number_of_word}
 use Rattle.es_event.specs.Legal.{values_of, word_in, HasWords, Arrives}
 use Rattle.es_event.specs.Order.{receive, run, due}
 use Rattle.es_event.specs.Follows.{HasRoom, Permits}
 use Rattle.es_event.proofs.Accepted.{accepted}
 use Rattle.es_event.proofs.Extending.{refuses_so}
 use Rattle.es_record.specs.Book.{Book, IsNext, with_buffer}
-use Rattle.es_rules.specs.Needs.{Request, for_block, for_post, for_buffer_post, for_load, for_store, for_add, posts_to, asked, unless_refused, request, Need, asks_ledger, asks_message, need_of, need, TakesTicket, TakesWord, TakesDone}
+use Rattle.es_rules.specs.Needs.{Request, for_block, for_post, for_buffer_post, for_load, for_store, for_add, posts_to, asked, unless_refused, request, Need, asks_copy, asks_ledger, asks_message, need_of, need, TakesTicket, TakesWord, TakesDone}
 use Rattle.es_rules.specs.Giving.{MayGive}
-use Rattle.es_rules.proofs.Needs.{ledger_due, ledger_command, message_due, not_refused}
+use Rattle.es_rules.proofs.Needs.{ledger_due, ledger_command, copy_due, message_due, not_refused}
 
 -- A command that asks for nothing
 
@@ -49,10 +50,19 @@ no_words : (b : Book) (c : Command) (r : Answer) → request b c ≡ None → co
 no_words b (SharedArrayBuffer to n) r none e = absurd (none_asked (refusal b.over b.history (SharedArrayBuffer to n) []) n (result b.over b.history (SharedArrayBuffer to n) [] 0) r none e)
 no_words b _ r none e = tt
 
-pub local_done : (b : Book) (c : Command) (vs : List Value) (r : Answer) → due b.plan b.history ≡ run c → collects c ≡ false → request b c ≡ None → vs ≡ values_of (receivers b.plan.jobs) b.history (reads c)
-    → completion b.over b.history c vs 0 ≡ Ok r → IsNext b (Did c vs r)
-local_done b c vs r is not_marks none said e = record {
-  lawful = (said, own_word b.over b.history c vs r e, not_marks, no_words b c r none (subst (λ vs. completion b.over b.history c vs 0 ≡ Ok r) said e));
+-- a collection that was done is none: while one is open, another is refused
+none_done : (o : Option History) (a r : Answer) → is_none o ≡ false → refuse_or (first_refusal ((is_none o, CollectionOpen) ∷ [])) a ≡ Ok r → ⊥
+none_done None a r e done = cc
+none_done (Some p) a r e done = cc
+
+no_collection : (over : Buffers) (h : History) (c : Command) (vs : List Value) (r : Answer) → collects_now h c ≡ false → completion over h c vs 0 ≡ Ok r → collects c ≡ false
+no_collection over h Collect vs r e done = absurd (none_done (snapshot h) Nothing r e done)
+no_collection over h _ vs r e done = refl
+
+pub local_done : (b : Book) (c : Command) (vs : List Value) (r : Answer) → due b.plan b.history ≡ run c → collects_now b.history c ≡ false → request b c ≡ None
+    → vs ≡ values_of (receivers b.plan.jobs) b.history (reads c) → completion b.over b.history c vs 0 ≡ Ok r → IsNext b (Did c vs r)
+local_done b c vs r is empties_nothing none said e = record {
+  lawful = (said, own_word b.over b.history c vs r e, no_collection b.over b.history c vs r empties_nothing e, no_words b c r none (subst (λ vs. completion b.over b.history c vs 0 ≡ Ok r) said e));
   permitted = subst (λ d. Permits b.over (receivers b.plan.jobs) b.history d (Did c vs r)) (sym is) refl;
 }
 
@@ -254,3 +264,18 @@ job_skipped b n s is = record {
   lawful = tt;
   permitted = subst (λ d. Permits b.over (receivers b.plan.jobs) b.history d (Skipped n s)) (sym is) (refl, refl);
 }
+
+-- Later collections
+
+-- where a copy is asked for, the command that opens a later collection comes next
+unopened_done : (o : Option History) → o ≡ None → refuse_or (first_refusal ((is_none o, CollectionOpen) ∷ [])) Nothing ≡ Ok Nothing
+unopened_done None e = refl
+unopened_done (Some p) e = cc
+
+pub opening_next : (b : Book) → need b ≡ asks_copy → IsNext b (Did CollectLater [] Nothing)
+opening_next b asks =
+    let at = copy_due b (due b.plan b.history) asks in
+    record {
+      lawful = (refl, unopened_done (snapshot b.history) at.1, refl, tt);
+      permitted = subst (λ d. Permits b.over (receivers b.plan.jobs) b.history d (Did CollectLater [] Nothing)) (sym at.0) refl;
+    }

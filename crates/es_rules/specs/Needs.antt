@@ -1,5 +1,5 @@
 -- To believe: what an agent asks for next, and what the ledger is asked for by a command.
-use Rattle.std.specs.Prelude.{ℕ, ◌≡◌, ⊤, List, [], Option, Some, None, unsigned_abs, if◌then◌else◌}
+use Rattle.std.specs.Prelude.{ℕ, ◌≡◌, ⊤, Bool, ◌&&◌, List, [], Option, Some, None, is_none, unsigned_abs, if◌then◌else◌}
 use Rattle.std.specs.Option.{option_map}
 use Rattle.es_value.specs.declared.value.Value.{Value}
 use Rattle.es_value.specs.declared.value.Value.TheVariants.{Object}
@@ -11,13 +11,15 @@ use Rattle.es_event.specs.declared.event.Event.{Event}
 use Rattle.es_event.specs.declared.event.Event.TheVariants.{Received, Did}
 use Rattle.es_event.specs.declared.event.Refusal.{Refusal}
 use Rattle.es_event.specs.declared.row.Row.{Row}
-use Rattle.es_event.specs.Commands.{reads, first, collects}
+use Rattle.es_event.specs.Commands.{reads, first}
+use Rattle.es_event.specs.History.{History}
 use Rattle.es_event.specs.Identities.{object_of}
 use Rattle.es_event.specs.Jobs.{receivers}
+use Rattle.es_event.specs.Later.{is_later, snapshot, collects_now}
 use Rattle.es_event.specs.Rules.{refusal}
 use Rattle.es_event.specs.Sharing.{to_uint32}
 use Rattle.es_event.specs.Legal.{values_of}
-use Rattle.es_event.specs.Order.{Due, begin, receive, run, clean, take_cell, end_job, close, nothing, due}
+use Rattle.es_event.specs.Order.{Due, begin, receive, run, clean, take_cell, finish, end_job, close, nothing, due}
 use Rattle.es_record.specs.Book.{Book}
 
 -- what the ledger is asked for: a new block of so many words; to post to a receiver a value, or the block of a buffer object;
@@ -52,11 +54,14 @@ unless_refused (Some code) r = None
 abbrev pub request : Book → Command → Option Request
 request b c = unless_refused (refusal b.over b.history c (values_of (receivers b.plan.jobs) b.history (reads c))) (asked c (values_of (receivers b.plan.jobs) b.history (reads c)))
 
--- what an agent asks for: nobody, for a step that it takes alone; the marks of what it reaches, to empty all else; the ledger;
--- a message of a sender, or to skip the job that waits for it; its closing; or nothing, as it has closed
+-- what an agent asks for: nobody, for a step that it takes alone; the marks of what it reaches, to empty all else; a copy of its
+-- graph, to open a later collection; the marks of that copy, to finish it; the ledger; a message of a sender, or to skip the job
+-- that waits for it; its closing; or nothing, as it has closed
 pub data Need : Type 0 where
   asks_nobody : Need
   asks_marks : Need
+  asks_copy : Need
+  asks_late_marks : Need
   asks_ledger : Request → Need
   asks_message : ℕ → Need
   asks_closing : Need
@@ -66,13 +71,18 @@ abbrev pub ledger_or_nobody : Option Request → Need
 ledger_or_nobody None = asks_nobody
 ledger_or_nobody (Some r) = asks_ledger r
 
+-- the command opens a later collection, as none is open
+abbrev pub opens_now : History → Command → Bool
+opens_now h c = is_later c && is_none (snapshot h)
+
 -- what the agent asks for, where this is due
 abbrev pub need_of : Book → Due → Need
 need_of b (begin n) = asks_nobody
 need_of b (receive n s) = asks_message s
-need_of b (run c) = if collects c then asks_marks else ledger_or_nobody (request b c)
+need_of b (run c) = if collects_now b.history c then asks_marks else if opens_now b.history c then asks_copy else ledger_or_nobody (request b c)
 need_of b (clean r) = asks_nobody
 need_of b (take_cell n) = asks_nobody
+need_of b (finish p) = asks_late_marks
 need_of b end_job = asks_nobody
 need_of b close = asks_closing
 need_of b nothing = asks_nothing
@@ -87,6 +97,8 @@ need b = need_of b (due b.plan b.history)
 abbrev pub TakesTicket : Need → Row → Type 0
 TakesTicket asks_nobody r = ⊥
 TakesTicket asks_marks r = ⊥
+TakesTicket asks_copy r = ⊥
+TakesTicket asks_late_marks r = ⊥
 TakesTicket (asks_ledger (for_block n)) r = r.words ≡ n
 TakesTicket (asks_ledger (for_post a v)) r = ⊥
 TakesTicket (asks_ledger (for_buffer_post a o)) r = ⊥
@@ -101,6 +113,8 @@ TakesTicket asks_nothing r = ⊥
 abbrev pub TakesWord : Need → Type 0
 TakesWord asks_nobody = ⊥
 TakesWord asks_marks = ⊥
+TakesWord asks_copy = ⊥
+TakesWord asks_late_marks = ⊥
 TakesWord (asks_ledger (for_block n)) = ⊥
 TakesWord (asks_ledger (for_post a v)) = ⊥
 TakesWord (asks_ledger (for_buffer_post a o)) = ⊥
@@ -115,6 +129,8 @@ TakesWord asks_nothing = ⊥
 abbrev pub TakesDone : Need → Type 0
 TakesDone asks_nobody = ⊥
 TakesDone asks_marks = ⊥
+TakesDone asks_copy = ⊥
+TakesDone asks_late_marks = ⊥
 TakesDone (asks_ledger (for_block n)) = ⊥
 TakesDone (asks_ledger (for_post a v)) = ⊤
 TakesDone (asks_ledger (for_buffer_post a o)) = ⊤
@@ -136,6 +152,7 @@ Brings (receive n s) o e = e ≡ Received s (Object o)
 Brings (run c) o e = e ≡ Did c [] (Gives (Object o))
 Brings (clean r) o e = ⊥
 Brings (take_cell n) o e = ⊥
+Brings (finish p) o e = ⊥
 Brings end_job o e = ⊥
 Brings close o e = ⊥
 Brings nothing o e = ⊥

@@ -1,9 +1,9 @@
 -- To believe: what an answer of the code says that an agent asks for: each variant of its own types is the word of Needs of that meaning.
 use Rattle.es_rules.specs.declared.need.Need.{Need}
-use Rattle.es_rules.specs.declared.need.Need.TheVariants.{Local, Collect, Ledger, Message, Close, Ended}
+use Rattle.es_rules.specs.declared.need.Need.TheVariants.{Local, Collect, Later, Finish, Ledger, Message, Close, Ended}
 use Rattle.es_rules.specs.declared.need.Request.{Request}
 use Rattle.es_rules.specs.declared.need.Request.TheVariants.{NewBlock, Post, PostBuffer, Load, Store, Add}
-use Rattle.es_rules.specs.Needs.{Request as RequestSaid, for_block, for_post, for_buffer_post, for_load, for_store, for_add, Need as NeedSaid, asks_nobody, asks_marks, asks_ledger, asks_message, asks_closing, asks_nothing}
+use Rattle.es_rules.specs.Needs.{Request as RequestSaid, for_block, for_post, for_buffer_post, for_load, for_store, for_add, Need as NeedSaid, asks_nobody, asks_marks, asks_copy, asks_late_marks, asks_ledger, asks_message, asks_closing, asks_nothing}
 
 -- what the ledger is asked for
 abbrev pub requested : Request → RequestSaid
@@ -18,6 +18,8 @@ requested (Add o i n) = for_add o i n
 abbrev pub shown : Need → NeedSaid
 shown Local = asks_nobody
 shown Collect = asks_marks
+shown Later = asks_copy
+shown Finish = asks_late_marks
 shown (Ledger r) = asks_ledger (requested r)
 shown (Message s) = asks_message s
 shown Close = asks_closing

@@ -1,16 +1,16 @@
 //! The events of what came from outside: of the ledger's answers, and of messages.
 
-ghost use Rattle.std.specs.Prelude.{◌≡◌, ◌+◌, ◌∷◌, ℕ, true, false, None, pos, IfOk, nat_lt};
+ghost use Rattle.std.specs.Prelude.{◌≡◌, ◌+◌, ◌∷◌, [], ℕ, true, false, None, pos, IfOk, nat_lt};
 ghost use Rattle.es_value.specs.Limits.{most_identities};
 ghost use Rattle.es_value.specs.Values.{identity};
 ghost use Rattle.es_event.specs.Identities.{made};
 ghost use Rattle.es_event.specs.Order.{due, receive};
 ghost use Rattle.es_record.specs.Book.{IsNext, with_buffer};
-ghost use Rattle.es_rules.specs.Needs.{need, asks_message, TakesTicket, TakesWord, TakesDone, IsDone, Brings};
+ghost use Rattle.es_rules.specs.Needs.{need, asks_message, asks_copy, TakesTicket, TakesWord, TakesDone, IsDone, Brings};
 ghost use Rattle.es_rules.specs.Giving.{MayGive};
 
 use es_cursor::Due;
-use es_event::{Answer, Event, Operands, Refusal, Row};
+use es_event::{Answer, Command, Event, Operands, Refusal, Row};
 use es_record::AgentRecord;
 use es_value::{NoMemory, Value};
 
@@ -115,5 +115,18 @@ pub fn skipped(agent: &AgentRecord) -> Event
     match agent.due() {
         Due::Receive { job, sender } => Event::Skipped { job, sender },
         _ => unreachable!(),
+    }
+}
+
+/// The event by which a later collection is opened.
+pub fn opened(agent: &AgentRecord) -> Event
+    requires { need agent.now ≡ asks_copy }
+    ensures said { result ≡ Event.Did Command.CollectLater [] Answer.Nothing }
+    ensures next { IsNext agent.now result }
+{
+    Event::Did {
+        command: Command::CollectLater,
+        values: Operands::of_none(),
+        answer: Answer::Nothing,
     }
 }

@@ -2,10 +2,11 @@
 
 ghost use Rattle.std.specs.Prelude.{◌≡◌, ◌+◌, ◌∷◌, [], false, None, Ok, Err, nat_lt, IfOk, if◌then◌else◌};
 ghost use Rattle.es_value.specs.Limits.{most_identities};
-ghost use Rattle.es_event.specs.Commands.{reads, collects};
+ghost use Rattle.es_event.specs.Commands.{reads};
+ghost use Rattle.es_event.specs.Later.{collects_now};
 ghost use Rattle.es_event.specs.Identities.{gone, has_identity_in, made};
 ghost use Rattle.es_event.specs.Jobs.{receivers};
-ghost use Rattle.es_event.specs.Rules.{completion, refuse_or, first_refusal, room, of_object, of_weakref, of_held_weakly, or_undefined, prop_of, keys_of, target_of};
+ghost use Rattle.es_event.specs.Rules.{completion, refuse_or, first_refusal, none_open, room, of_object, of_weakref, of_held_weakly, or_undefined, prop_of, keys_of, target_of};
 ghost use Rattle.es_event.specs.Legal.{values_of};
 ghost use Rattle.es_event.specs.Order.{due, run};
 ghost use Rattle.es_record.specs.Book.{IsNext, AreThere};
@@ -39,10 +40,10 @@ pub fn next_event(agent: &AgentRecord) -> Result<Event, NoMemory>
     }
 }
 
-/// The event of a command that is due, is no collection, and asks the ledger for nothing.
+/// The event of a command that is due, empties nothing, and asks the ledger for nothing.
 fn event_of(agent: &AgentRecord, command: &Command) -> Result<Event, NoMemory>
     requires due { due agent.now.plan agent.now.history ≡ run command.now }
-    requires here { collects command.now ≡ false }
+    requires here { collects_now agent.now.history command.now ≡ false }
     requires local { request agent.now command.now ≡ None }
     ensures { IfOk result (IsNext agent.now) }
 {
@@ -78,7 +79,8 @@ fn completion(agent: &AgentRecord, command: &Command, values: &Operands) -> Resu
             let (left, right) = values.two();
             Ok(Answer::Gives(Value::Boolean(same_value(left, right))))
         }
-        Command::Say { .. } | Command::Collect => Ok(Answer::Nothing),
+        Command::Say { .. } => Ok(Answer::Nothing),
+        Command::Collect | Command::CollectLater => collection(agent),
         Command::Set { .. } => {
             let (object, _) = values.two();
             object_in(object)?;
@@ -138,6 +140,16 @@ fn completion(agent: &AgentRecord, command: &Command, values: &Operands) -> Resu
         Command::Store { index, .. } => store(agent, values.one(), *index),
         Command::Post { .. } => post(agent, values.one()),
     }
+}
+
+/// While a later collection is open, another is refused.
+fn collection(agent: &AgentRecord) -> Result<Answer, Stop>
+    ensures { Completes (refuse_or (first_refusal (none_open agent.now.history ∷ [])) Answer.Nothing) result }
+{
+    if agent.is_open() {
+        return Err(Stop::Refused(Refusal::CollectionOpen));
+    }
+    Ok(Answer::Nothing)
 }
 
 /// The next identity, if there is room for one more.

@@ -15,6 +15,8 @@ mod registries;
 mod requests;
 mod stop;
 
-pub use answered::{answered_done, answered_word, brought, received, refused_message, skipped};
+pub use answered::{
+    answered_done, answered_word, brought, opened, received, refused_message, skipped,
+};
 pub use decide::next_event;
 pub use need::{Need, Request, asks};

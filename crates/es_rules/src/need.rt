@@ -2,7 +2,9 @@
 
 ghost use Rattle.std.specs.Prelude.{◌≡◌};
 ghost use Rattle.std.specs.Option.{option_map};
-ghost use Rattle.es_rules.specs.Needs.{need, request};
+ghost use Rattle.es_event.specs.Later.{snapshot};
+ghost use Rattle.es_event.specs.Order.{run, due_end};
+ghost use Rattle.es_rules.specs.Needs.{need, need_of, request};
 ghost use Rattle.es_rules.specs.Shown.{requested, shown};
 
 use crate::requests::{add_request, block_request, load_request, post_request, store_request};
@@ -55,6 +57,11 @@ pub enum Need<'a> {
     Local,
     /// The marks of what it reaches: its next command empties all else.
     Collect,
+    /// A copy of its graph, by which its next command opens a later collection.
+    Later,
+    /// The marks of that copy, with what derefs gave since as roots besides its own: before the running job
+    /// ends, the open later collection is to be finished.
+    Finish,
     /// What the ledger answers to its next command, which no rule refuses.
     Ledger(Request<'a>),
     /// The message of this agent that its next job waits for, or to skip that job.
@@ -70,15 +77,59 @@ pub fn asks(agent: &AgentRecord) -> Need<'_>
     ensures { shown result ≡ need agent.now }
 {
     match agent.due() {
-        Due::Run(Command::Collect) => Need::Collect,
-        Due::Run(command) => match request_of(agent, command) {
+        Due::Run(command) => for_command(agent, command),
+        Due::Receive { sender, .. } => Need::Message(sender),
+        Due::Begin(_) | Due::Clean(_) | Due::Take(_) => Need::Local,
+        Due::EndJob => for_end(agent),
+        Due::Close => Need::Close,
+        Due::Nothing => Need::Ended,
+    }
+}
+
+/// What the agent asks for where this command is due. While a later collection is open, another is refused.
+fn for_command<'a>(agent: &'a AgentRecord, command: &Command) -> Need<'a>
+    ensures { shown result ≡ need_of agent.now (run command.now) }
+{
+    match command {
+        Command::Collect => for_collection(agent),
+        Command::CollectLater => for_opening(agent),
+        _ => match request_of(agent, command) {
             Some(request) => Need::Ledger(request),
             None => Need::Local,
         },
-        Due::Receive { sender, .. } => Need::Message(sender),
-        Due::Begin(_) | Due::Clean(_) | Due::Take(_) | Due::EndJob => Need::Local,
-        Due::Close => Need::Close,
-        Due::Nothing => Need::Ended,
+    }
+}
+
+/// What the agent asks for where it is to collect.
+fn for_collection<'a>(agent: &'a AgentRecord) -> Need<'a>
+    ensures { shown result ≡ need_of agent.now (run Command.Collect) }
+{
+    if agent.is_open() {
+        Need::Local
+    } else {
+        Need::Collect
+    }
+}
+
+/// What the agent asks for where it is to open a later collection.
+fn for_opening<'a>(agent: &'a AgentRecord) -> Need<'a>
+    ensures { shown result ≡ need_of agent.now (run Command.CollectLater) }
+{
+    if agent.is_open() {
+        Need::Local
+    } else {
+        Need::Later
+    }
+}
+
+/// What the agent asks for where its job is to end: an open later collection is finished first.
+fn for_end<'a>(agent: &'a AgentRecord) -> Need<'a>
+    ensures { shown result ≡ need_of agent.now (due_end (snapshot agent.now.history)) }
+{
+    if agent.is_open() {
+        Need::Finish
+    } else {
+        Need::Local
     }
 }
 

@@ -1,16 +1,19 @@
 //! The helpers that mark for a run.
 
 ghost use Rattle.std.specs.Prelude.{◌≡◌, ◌<◌, ◌≤◌, IfOk, IfSome};
-ghost use Rattle.es_record.specs.Graph.{AreMarksOf};
-ghost use Rattle.es_rules.specs.Needs.{need, asks_marks};
+ghost use Rattle.es_record.specs.Graph.{AreMarksOf, AreLateMarks};
+ghost use Rattle.es_rules.specs.Needs.{need, asks_late_marks};
+ghost use Rattle.es_member.specs.Turned.{AreAskedFor};
 
-use es_agent::Need;
+use crate::marked::{Marked, Pending};
+use es_agent::{AgentCore, Need};
 use es_cluster::{Member, Planned};
 use es_mark::Marks;
-use es_parmark::mark_with;
+use es_parmark::{Snapshot, mark_more, mark_parallel, mark_with};
 use es_value::NoMemory;
 use std::alloc::Global;
-use std::thread::Threads;
+use std::sync::Arc;
+use std::thread::{Scope, Threads};
 
 /// How many helpers mark what an agent reaches, 1 to 8, and where their memory comes from.
 #[derive(Clone, Copy)]
@@ -30,20 +33,55 @@ impl Helpers {
         }
     }
 
-    /// The marks for the agent's next event, where that is a collection. The helpers read the agent
-    /// itself, which nobody changes meanwhile, since its lock is held.
+    /// Marks the copy in a thread of its own, with the run's helpers.
+    pub(crate) fn begin<'s, E, R: Threads + Sync>(
+        &self,
+        rt: &'s R,
+        scope: &Scope<'s, E>,
+        copy: Arc<Snapshot>,
+    ) -> Result<Pending, NoMemory> {
+        Pending::begin(rt, self.alloc, scope, copy, self.number)
+    }
+
+    /// The marks for the agent's next event, where that empties. The helpers read the agent itself, which
+    /// nobody changes meanwhile, since its lock is held; or, to finish a later collection, its copy, where
+    /// the marking that is under way is not of this copy.
     pub(crate) fn marks<L: Planned + Sync, R: Threads + Sync>(
         &self,
         rt: &R,
         member: &Member<L>,
+        open: &mut Option<Pending>,
     ) -> Result<Option<Marks>, NoMemory>
-        ensures own { IfOk result (λ o. IfSome o (AreMarksOf member.now.book)) }
-        ensures due { IfOk result (λ o. IfSome o (λ m. need member.now.book ≡ asks_marks)) }
+        ensures { IfOk result (λ o. IfSome o (AreAskedFor (need member.now.book) member.now.book)) }
     {
         match member.core().next() {
             Need::Collect => self.collected(rt, member),
+            Need::Finish => Ok(Some(self.finished(rt, member.core(), open.take())?)),
             _ => Ok(None),
         }
+    }
+
+    /// The marks of the copy of the open later collection, with what derefs gave since: those that a thread
+    /// found, where they are of an equal copy, and else made anew.
+    fn finished<L: Planned + Sync, R: Threads + Sync>(
+        &self,
+        rt: &R,
+        core: &AgentCore<L>,
+        open: Option<Pending>,
+    ) -> Result<Marks, NoMemory>
+        requires { need core.now ≡ asks_late_marks }
+        ensures { IfOk result (AreLateMarks core.now) }
+    {
+        let later = core.later();
+        let derefed = core.derefed();
+        if let Some(pending) = open {
+            let Marked { snapshot, marks } = pending.join(rt)?;
+            if snapshot.same(later) {
+                return mark_more(self.alloc, later, &marks, derefed);
+            }
+        }
+        let marks = mark_parallel(rt, self.alloc, later, self.number)?;
+        mark_more(self.alloc, later, &marks, derefed)
     }
 
     /// The agent's marks. One helper is the agent's own marker.

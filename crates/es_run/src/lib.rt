@@ -2,13 +2,15 @@
 //!
 //! What an agent does alone it does under its own lock; where it asks the ledger, the ledger's lock is
 //! taken inside. Locks are taken in one order: agents by rising number, then the ledger. An agent that
-//! waits for a message holds no lock but the ledger's, which the wait gives up.
+//! waits for a message holds no lock but the ledger's, which the wait gives up. The copy of an open later
+//! collection is marked by a thread that takes no lock, while the agent goes on.
 #![tactic(auto)]
 
 mod auditing;
 mod cluster;
 mod gate;
 mod helpers;
+mod marked;
 mod run;
 mod serving;
 

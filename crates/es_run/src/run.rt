@@ -2,7 +2,7 @@
 
 ghost use Rattle.std.specs.Prelude.{◌≡◌, ◌<◌, ◌≤◌, [], true, length, vec_len, vec_capacity, IfOk, OnErr};
 ghost use Rattle.es_event.specs.Others.{all_name_others};
-ghost use Rattle.es_report.specs.Tallies.{AreTallies};
+ghost use Rattle.es_count.specs.Counts.{IsCountsOf};
 ghost use Rattle.es_outcome.specs.Outcomes.{IsClusterOutcome};
 
 use crate::cluster::Cluster;
@@ -57,7 +57,7 @@ pub fn run_watched<G: Gate + Sync, R: Threads + Wait + Sync>(
     Ok((counted.outcome, audits))
 }
 
-/// The same, with the totals of registrations that a report has.
+/// The same, with the totals that a report has.
 pub fn run_counted<G: Gate + Sync, R: Threads + Wait + Sync>(
     rt: &R,
     alloc: Global,
@@ -69,7 +69,7 @@ pub fn run_counted<G: Gate + Sync, R: Threads + Wait + Sync>(
     requires few { length plan.agents < 9 }
     requires others { all_name_others plan ≡ true }
     ensures outcome { IfOk result (λ r. IsClusterOutcome plan r.0.outcome) }
-    ensures tallies { IfOk result (λ r. AreTallies r.0.outcome.histories r.0.tallies.items) }
+    ensures counts { IfOk result (λ r. IsCountsOf r.0.outcome r.0.counts) }
     ensures audits { IfOk result (λ r. r.1 ≡ watch) }
 {
     let opened = Opened::new(alloc)?;
@@ -92,7 +92,7 @@ fn run_in<L: Planned + Send + Sync, G: Gate + Sync, R: Threads + Wait + Sync>(
     requires few { length plan.agents < 9 }
     requires others { all_name_others plan ≡ true }
     ensures outcome { IfOk result (λ r. IsClusterOutcome L.plan r.0.outcome) }
-    ensures tallies { IfOk result (λ r. AreTallies r.0.outcome.histories r.0.tallies.items) }
+    ensures counts { IfOk result (λ r. IsCountsOf r.0.outcome r.0.counts) }
     ensures audits { IfOk result (λ r. r.1 ≡ watch) }
 {
     let Parts {

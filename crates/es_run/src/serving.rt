@@ -6,6 +6,7 @@ ghost use Rattle.std.specs.Thread.{IsSync};
 use crate::cluster::Cluster;
 use crate::gate::Gate;
 use crate::helpers::Helpers;
+use crate::marked::Pending;
 use es_cluster::{Member, Planned, Progress};
 use es_event::LedgerEvent;
 use es_ledger::LedgerCore;
@@ -14,7 +15,7 @@ use std::alloc::Global;
 use std::sync::Wait;
 use std::sync::atomic::{AtomicBool, AtomicU32, Ordering};
 use std::thread;
-use std::thread::Threads;
+use std::thread::{Scope, Threads};
 
 /// How often who waits lets others run and looks again, before it sleeps: most messages come soon, and to
 /// be woken takes longer than a few looks.
@@ -30,12 +31,34 @@ impl<L: Planned + Sync> Cluster<L> {
         self.arrived.notify_all();
     }
 
-    /// An agent's thread: its turns, until it has ended or the run is stopped.
-    fn serve<G: Gate, R: Threads + Wait + Sync>(
+    /// An agent's thread: its turns, until it has ended or the run is stopped. A marking that is under way
+    /// then is waited for.
+    fn serve<'s, E, G: Gate, R: Threads + Wait + Sync>(
         &self,
-        rt: &R,
+        rt: &'s R,
         agent: usize,
+        scope: &Scope<'s, E>,
         helpers: &Helpers,
+        stopped: &AtomicBool,
+        gate: &G,
+    )
+        requires { agent < vec_len self.now.agents }
+    {
+        let mut open = None;
+        self.take_turns(rt, agent, scope, helpers, &mut open, stopped, gate);
+        if let Some(pending) = open {
+            let _ = pending.join(rt);
+        }
+    }
+
+    /// The turns of an agent.
+    fn take_turns<'s, E, G: Gate, R: Threads + Wait + Sync>(
+        &self,
+        rt: &'s R,
+        agent: usize,
+        scope: &Scope<'s, E>,
+        helpers: &Helpers,
+        open: &mut Option<Pending>,
         stopped: &AtomicBool,
         gate: &G,
     )
@@ -46,7 +69,16 @@ impl<L: Planned + Sync> Cluster<L> {
             if stopped.load(Ordering::SeqCst) {
                 return;
             }
-            match self.turn(rt, agent, helpers, &mut commands, stopped, gate) {
+            match self.turn(
+                rt,
+                agent,
+                scope,
+                helpers,
+                open,
+                &mut commands,
+                stopped,
+                gate,
+            ) {
                 Ok(Progress::Moved | Progress::Waiting) => (),
                 Ok(Progress::Ended) => return,
                 Err(NoMemory) => {
@@ -58,11 +90,13 @@ impl<L: Planned + Sync> Cluster<L> {
     }
 
     /// One turn of an agent; where it waits on for a message, until it is woken.
-    fn turn<G: Gate, R: Threads + Wait + Sync>(
+    fn turn<'s, E, G: Gate, R: Threads + Wait + Sync>(
         &self,
-        rt: &R,
+        rt: &'s R,
         agent: usize,
+        scope: &Scope<'s, E>,
         helpers: &Helpers,
+        open: &mut Option<Pending>,
         commands: &mut u64,
         stopped: &AtomicBool,
         gate: &G,
@@ -79,8 +113,13 @@ impl<L: Planned + Sync> Cluster<L> {
             member.perform()?;
             return Ok(Progress::Moved);
         }
+        if member.opens_later() {
+            let copy = member.begin_later()?;
+            *open = Some(helpers.begin(rt, scope, copy)?);
+            return Ok(Progress::Moved);
+        }
         // before the ledger's lock is taken, so that no other agent waits for the marking
-        let marks = helpers.marks(rt, member)?;
+        let marks = helpers.marks(rt, member, open)?;
         let mut ledger = self.ledger.lock(rt);
         let core: &mut LedgerCore<L> = &mut ledger;
         let before = core.history().len();
@@ -201,7 +240,7 @@ pub(crate) fn run_all<L: Planned + Send + Sync, G: Gate + Sync, R: Threads + Wai
             let served = move ||
                 requires place { agent < vec_len cluster.now.agents }
                 requires shared { IsSync L.row × IsSync R.row }
-            { cluster.serve(rt, agent, helpers, stopped, gate) };
+            { cluster.serve(rt, agent, scope, helpers, stopped, gate) };
             if scope.spawn(served).is_err() {
                 cluster.stop(rt, stopped);
             }
@@ -214,7 +253,7 @@ pub(crate) fn run_all<L: Planned + Send + Sync, G: Gate + Sync, R: Threads + Wai
         }
         // the caller would only wait: a single agent needs no thread more
         if !cluster.agents.is_empty() {
-            cluster.serve(rt, 0, helpers, stopped, gate);
+            cluster.serve(rt, 0, scope, helpers, stopped, gate);
         }
     });
     if flag.load(Ordering::SeqCst) {

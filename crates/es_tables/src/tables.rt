@@ -1,9 +1,8 @@
 //! All that an agent keeps beside its history, as one value.
 
-ghost use Rattle.std.specs.Prelude.{◌≡◌, true, ◌<◌, ◌≤◌, ◌&&◌, ◌++◌, not, is_some, length, IfOk, OnOk, OnErr, codes, slice_get, unwrap_or};
+ghost use Rattle.std.specs.Prelude.{◌≡◌, true, ◌<◌, ◌&&◌, ◌++◌, not, is_some, length, IfOk, OnOk, OnErr, codes, slice_get, unwrap_or};
 ghost use Rattle.std.specs.List.{filter, list_any, range_with_len};
 ghost use Rattle.std.specs.Option.{option_copied, option_map_or};
-ghost use Rattle.es_value.specs.Limits.{most_identities};
 ghost use Rattle.es_value.specs.declared.value.Value.TheVariants.{Undefined};
 ghost use Rattle.es_mark.specs.Marks.{is_marked};
 ghost use Rattle.es_props.specs.Heap.{has, property, keys, HasProperties};
@@ -213,13 +212,11 @@ impl Tables {
         self.tags.of(id)
     }
 
-    /// The identities that have a tag and are not marked, by rising number; at most a million were
-    /// made, so that each is counted.
-    pub fn unmarked(&self, alloc: Global, marks: &Marks) -> Result<Vec<Id>, NoMemory>
-        requires { length self.now.tags.all ≤ most_identities }
-        ensures { IfOk result (λ ids. ids.items ≡ filter (λ i. is_some (tag_at self.now.tags.all i) && not (is_marked marks.now i)) (range_with_len 1 (length self.now.tags.all))) }
+    /// The identities up to this number that have a tag and are not marked, by rising number.
+    pub fn unmarked(&self, alloc: Global, marks: &Marks, made: u32) -> Result<Vec<Id>, NoMemory>
+        ensures { IfOk result (λ ids. ids.items ≡ filter (λ i. is_some (tag_at self.now.tags.all i) && not (is_marked marks.now i)) (range_with_len 1 made)) }
     {
-        self.tags.unmarked(alloc, marks)
+        self.tags.unmarked(alloc, marks, made)
     }
 
     /// Empties these identities: their objects go with all properties, every WeakRef to one of them

@@ -3,7 +3,6 @@
 ghost use Rattle.std.specs.Prelude.{◌≡◌, ◌<◌, ◌≤◌, ◌+◌, ◌++◌, ◌∷◌, ◌&&◌, ℕ, [], None, Some, IfOk, OnOk, not, is_some, length, map, if◌then◌else◌};
 ghost use Rattle.std.specs.List.{filter, range_with_len};
 ghost use Rattle.std.specs.Option.{option_to_list};
-ghost use Rattle.es_value.specs.Limits.{most_identities};
 ghost use Rattle.es_event.specs.Identities.{is_in};
 ghost use Rattle.es_mark.specs.Marks.{is_marked};
 ghost use Rattle.es_tables.specs.Tags.{tag_at};
@@ -106,15 +105,18 @@ impl Tags {
         }
     }
 
-    /// The identities that have a tag and are not marked, by rising number. Up to a million are made,
-    /// so that each has a number.
-    pub(crate) fn unmarked(&self, alloc: Global, marks: &Marks) -> Result<Vec<Id>, NoMemory>
-        requires { length self.now.all ≤ most_identities }
-        ensures { IfOk result (λ ids. ids.items ≡ filter (λ i. is_some (tag_at self.now.all i) && not (is_marked marks.now i)) (range_with_len 1 (length self.now.all))) }
+    /// The identities up to this number that have a tag and are not marked, by rising number.
+    pub(crate) fn unmarked(
+        &self,
+        alloc: Global,
+        marks: &Marks,
+        made: u32,
+    ) -> Result<Vec<Id>, NoMemory>
+        ensures { IfOk result (λ ids. ids.items ≡ filter (λ i. is_some (tag_at self.now.all i) && not (is_marked marks.now i)) (range_with_len 1 made)) }
     {
         let mut ids = Vec::new(alloc);
-        for at in 0..self.all.len() {
-            let id = Id::of(at as u32 + 1);
+        for at in 0..made {
+            let id = Id::of(at + 1);
             add_if(&mut ids, id, self.is_left(id, marks))?;
         }
         Ok(ids)

@@ -10,6 +10,7 @@ ghost use Rattle.es_tables.specs.Registries.{again_at};
 ghost use Rattle.es_event.specs.Order.{due_after, queue, is_cleaning_up};
 ghost use Rattle.es_event.specs.Runs.{IsRunOver};
 ghost use Rattle.es_cursor.specs.Due.{shown};
+ghost use Rattle.es_event.specs.Later.{snapshot};
 ghost use Rattle.es_record.specs.NextCell.{next_taken, FindsNextCell};
 
 use super::AgentRecord;
@@ -42,7 +43,7 @@ impl AgentRecord {
     /// What comes next in a cleanup job whose callback is done: the oldest cell that awaits it, or else
     /// its end.
     pub(super) fn due_cell(&self) -> Due<'_>
-        ensures { shown result ≡ due_after (next_taken self.now.history) }
+        ensures { shown (snapshot self.now.history) result ≡ due_after self.now.history (next_taken self.now.history) }
     {
         match self.next_cell() {
             Some(cell) => Due::Take(cell.registration),

@@ -1,13 +1,16 @@
 //! What an agent reaches, and what is dead.
 
-ghost use Rattle.std.specs.Prelude.{◌≡◌, ℕ, List, true, OnOk, IfOk};
+ghost use Rattle.std.specs.Prelude.{◌≡◌, ℕ, List, Some, true, OnOk, IfOk};
 ghost use Rattle.std.specs.List.{list_all};
 ghost use Rattle.es_event.specs.Identities.{made, is_there};
 ghost use Rattle.es_event.specs.Jobs.{receivers};
 ghost use Rattle.es_event.specs.Legal.{is_rising};
 ghost use Rattle.es_event.specs.Reach.{AreDead};
+ghost use Rattle.es_event.specs.History.{History};
+ghost use Rattle.es_event.specs.Later.{snapshot, derefed_since};
+ghost use Rattle.es_event.specs.Late.{AreLate};
 ghost use Rattle.es_mark.specs.Graph.{Finds, FindsEntries};
-ghost use Rattle.es_record.specs.Graph.{HasRoots, HasEdges, HasEntries, AreMarksOf, AreReached};
+ghost use Rattle.es_record.specs.Graph.{HasRoots, HasEdges, HasEntries, AreMarksOf, AreReached, AreLateMarks};
 
 use super::AgentRecord;
 use es_mark::{Graph, Marks, mark};
@@ -78,6 +81,18 @@ impl AgentRecord {
         ensures there { IfOk result (λ ids. list_all (is_there self.now.history) ids.items ≡ true) }
         ensures rising { IfOk result (λ ids. is_rising ids.items ≡ true) }
     {
-        self.tables.unmarked(self.alloc, marks)
+        self.tables.unmarked(self.alloc, marks, self.identities())
+    }
+
+    /// All that is late, by rising identity: of the identities that were made when the copy of the open later
+    /// collection was taken, so many of them, those that are there and not marked.
+    pub fn late(&self, marks: &Marks, copied: u32) -> Result<Vec<Id>, NoMemory>
+        requires copied { (p : History) → snapshot self.now.history ≡ Some p → copied ≡ made p }
+        requires marks { AreLateMarks self.now marks.now }
+        ensures late { IfOk result (λ ids. (p : History) → snapshot self.now.history ≡ Some p → AreLate (receivers self.now.plan.jobs) p (derefed_since self.now.history) ids.items) }
+        ensures there { IfOk result (λ ids. list_all (is_there self.now.history) ids.items ≡ true) }
+        ensures rising { IfOk result (λ ids. is_rising ids.items ≡ true) }
+    {
+        self.tables.unmarked(self.alloc, marks, copied)
     }
 }

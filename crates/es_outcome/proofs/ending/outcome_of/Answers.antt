@@ -1,10 +1,10 @@
 use Rattle.std.proofs.Common.{◌≡◌, true, false, map, reverse, sym, ap, ◌∙◌, subst}
 use Rattle.es_outcome.specs.Said.{IsTold, said_by}
-use Rattle.es_report.specs.Tallies.{end_tally}
+use Rattle.es_count.specs.Tallies.{end_tally}
 use Rattle.es_cluster.proofs.Standing.{books_length}
 use Rattle.es_cluster.specs.State.{books}
 use Rattle.es_outcome.specs.Places.{AreAtPlaces, ArePlanned, SomeGoesOn}
-use Rattle.es_outcome.proofs.Ended.{comes_to, goes_on_alone, not_told, tallies_are}
+use Rattle.es_outcome.proofs.Ended.{comes_to, goes_on_alone, none_left, not_told, tallies_are}
 use Rattle.es_outcome.proofs.ending.outcome_of.Goals.{then-len-agents-via-then-len-agents, then-len-agents-via-else-len-agents+then-not-are_at_places, then-len-agents-via-else-len-agents+else-not-are_at_places+then-not-have_closed}
 use Rattle.es_outcome.proofs.ending.outcome_of.Goals as goal
 
@@ -43,8 +43,15 @@ returns-else-branch-clause-mismatch g c = λ is placed size cluster.
     (record { names = c.finish-outcome.result.names; histories = c.finish-outcome.result.histories; ledger = c.finish-outcome.result.ledger })
     c.finish-outcome.ensures.histories c.finish-outcome.ensures.ledger never cluster
 
-pub returns-then-branch-clause-tallies : goal.returns-then-branch-clause-tallies
-returns-then-branch-clause-tallies g c =
+pub of_ended-counts-requires-clause-none_left : goal.of_ended-counts-requires-clause-none_left
+of_ended-counts-requires-clause-none_left g c =
+    none_left (books c.args.parts.members.items) c.args.parts.ledger.agents (reverse c.finish-outcome.result.ledger)
+    (books_length c.args.parts.members.items ∙ sym c.args.parts.members.ok.0 ∙ sym c.len.ensures ∙ c.if-len-agents.false ∙ c.agents-agents.ensures)
+    (subst (λ ms. AreAtPlaces (books ms)) c.as_slice.ensures.value (c.are_at_places.ensures.placed.0 c.if-not-are_at_places.false))
+    c.finish-outcome.ensures.legal c.finish-outcome.ensures.tickets c.finish-outcome.ensures.messages
+
+pub of_ended-counts-requires-clause-tallies : goal.of_ended-counts-requires-clause-tallies
+of_ended-counts-requires-clause-tallies g c =
     tallies_are (books c.args.parts.members.items) (record { names = c.finish-outcome.result.names; histories = c.finish-outcome.result.histories; ledger = c.finish-outcome.result.ledger }) c.in-Ok.tallies.items
     c.finish-outcome.ensures.histories
     (c.in-Ok.ensures ∙ ap (λ ms. map (λ b. end_tally b.history) (books ms)) c.as_slice-2.ensures.value)

@@ -1,4 +1,4 @@
-use Rattle.std.proofs.Common.{sym, ◌∙◌, zero-add, arith}
+use Rattle.std.proofs.Common.{refl, sym, ◌∙◌, zero-add, arith}
 use Rattle.es_record.specs.Book.{Book}
 use Rattle.es_record.proofs.Steps.{ties_emptied, ties_same}
 use Rattle.es_record.proofs.agent_record.AgentRecord.empty.Goals as goal
@@ -6,7 +6,7 @@ use Rattle.es_record.proofs.agent_record.AgentRecord.empty.Goals as goal
 pub invariant_of-self-in_err-empty : goal.invariant_of-self-in_err-empty
 invariant_of-self-in_err-empty c =
     rw c.reserve.ensures.same
-    (ties_same _ _ _ _ _ _ c.self.invariant.0 c.in_err-empty.ensures.err, c.self.invariant.1, (λ open'. let room = c.self.invariant.2 open' in omega (arith, room, c.reserve.ensures.kept)), c.self.invariant.3, c.self.invariant.4, c.self.invariant.5, c.self.invariant.6)
+    (ties_same _ _ _ _ _ _ c.self.invariant.0 c.in_err-empty.ensures.err, c.self.invariant.1, (λ open'. let room = c.self.invariant.2 open' in omega (arith, room, c.reserve.ensures.kept)), c.self.invariant.3, c.self.invariant.4, c.self.invariant.5, c.self.invariant.6, c.self.invariant.7)
 
 pub invariant_of-self-2 : goal.invariant_of-self-2
 invariant_of-self-2 c =
@@ -22,4 +22,5 @@ invariant_of-self-2 c =
       c.self.invariant.4 ∙ sym (zero-add _),
       c.self.invariant.5 ∙ sym (zero-add _),
       c.self.invariant.6,
+      refl,
     )

@@ -16,7 +16,7 @@ pub invariant_of-self : goal.invariant_of-self
 invariant_of-self c =
     let same = rw c.in-Err.is at c.advance.ensures.err in
     rw (c.advance.ensures.events, c.advance.ensures.rows)
-    (ties_same _ _ _ _ _ _ c.self.invariant.0 same, c.self.invariant.1, (λ open'. let room = c.self.invariant.2 open' in omega (arith, room, c.advance.ensures.kept)), c.self.invariant.3, c.self.invariant.4, c.self.invariant.5, c.self.invariant.6)
+    (ties_same _ _ _ _ _ _ c.self.invariant.0 same, c.self.invariant.1, (λ open'. let room = c.self.invariant.2 open' in omega (arith, room, c.advance.ensures.kept)), c.self.invariant.3, c.self.invariant.4, c.self.invariant.5, c.self.invariant.6, c.self.invariant.7)
 
 pub overflow_add-self : goal.overflow_add-self
 overflow_add-self c =
@@ -49,4 +49,5 @@ invariant_of-self-2 c =
       (let one = c.blocks_in.ensures.said in let n = c.self.invariant.4 in omega (arith, one, n)),
       (let one = c.posts_in.ensures.said in let n = c.self.invariant.5 in omega (arith, one, n)),
       c.self.invariant.6,
+      c.open_after-self-inside.ensures _ c.self.invariant.7,
     )

@@ -1,0 +1,33 @@
+-- To believe: the event that opens a later collection, the copy of the open one, and what derefs gave since.
+use Rattle.std.specs.Prelude.{ℕ, ◌≡◌, true, List, [], Some, reverse}
+use Rattle.std.specs.List.{filter}
+use Rattle.es_event.specs.declared.event.Answer.TheVariants.{Nothing}
+use Rattle.es_event.specs.declared.event.Event.{Event}
+use Rattle.es_event.specs.declared.event.Event.TheVariants.{Did}
+use Rattle.es_event.specs.declared.command.Command.TheVariants.{CollectLater}
+use Rattle.es_event.specs.History.{History}
+use Rattle.es_event.specs.Identities.{is_made, made}
+use Rattle.es_event.specs.Later.{snapshot, derefed_since}
+use Rattle.es_parmark.specs.Snapshot.{Copied, IsCopyOf, are_made}
+use Rattle.es_record.specs.Book.{Book}
+use Rattle.es_record.specs.Graph.{HasRoots, HasEdges, HasEntries, as_at}
+
+-- the event by which a later collection is opened
+abbrev pub opening : Event
+opening = Did CollectLater [] Nothing
+
+-- the copy is of the agent's graph as it was at p
+abbrev pub IsCopyAt : Book → History → Copied → Type 0
+IsCopyAt b p s = IsCopyOf (made p) (HasRoots (as_at b p)) (HasEdges (as_at b p)) (HasEntries (as_at b p)) s
+
+-- it is the copy of the open later collection
+abbrev pub IsLaterCopy : Book → Copied → Type 0
+IsLaterCopy b s = (p : History) → snapshot b.history ≡ Some p → IsCopyAt b p s
+
+-- these are what derefs gave since, of what was made then, in order
+abbrev pub AreDerefed : Book → List ℕ → Type 0
+AreDerefed b ids = (p : History) → snapshot b.history ≡ Some p → reverse ids ≡ filter (is_made p) (derefed_since b.history)
+
+-- all of these were made when the copy was taken
+abbrev pub AreThen : Book → List ℕ → Type 0
+AreThen b ids = (p : History) → snapshot b.history ≡ Some p → are_made (made p) ids ≡ true
