@@ -1,6 +1,6 @@
 """The rules once more, independently of the program: what a plan's text is refused with, and what its run reports.
 
-Used by random_plans.py and side_by_side.py. It knows the commands that are built so far.
+Used by random_plans.py and by engines/, among others. It knows the commands of both versions.
 """
 
 import collections
@@ -19,10 +19,15 @@ OPERANDS = {
     "weakset": "n", "wsadd": "nn", "wshas": "nnn", "wsdelete": "nnn",
     "registry": "nc", "register": "nnn", "unregister": "nnn",
     "buffer": "nw", "length": "nn", "sameblock": "nnn", "load": "nni", "store": "nii", "add": "nnii", "post": "an",
-    "collect": "",
+    "collect": "", "collectlater": "",
 }
 # an operand that may stand after these
 ONE_MORE = {"register": "n"}
+VERSIONS = [1, 2]
+# what version 1 has not
+SINCE_TWO = ["collectlater"]
+# what no callback may have
+COLLECTING = ["collect", "collectlater"]
 
 
 class Refused(Exception):
@@ -134,7 +139,7 @@ def has_kind(kind, operand):
 
 
 def check_command(command, known, where, number):
-    kinds = OPERANDS.get(command[0])
+    kinds = OPERANDS.get(command[0]) if command[0] in known["words"] else None
     operands = command[1:]
     if kinds is not None and len(operands) > len(kinds):
         kinds += ONE_MORE.get(command[0], "")
@@ -143,7 +148,7 @@ def check_command(command, known, where, number):
     for kind, operand in zip(kinds, operands):
         if not has_kind(kind, operand):
             raise Refused(7, *where, number)
-    if command[0] == "collect" and where[1][0] == "callback":
+    if command[0] in COLLECTING and where[1][0] == "callback":
         raise Refused(9, *where, number)
     for kind, operand in zip(kinds, operands):
         if kind in "nca" and not NAME.match(operand):
@@ -178,8 +183,9 @@ def read_plan(data):
     plan = read_json(data)
     if not is_plan(plan):
         raise Refused(2)
-    if plan["version"].whole() != 1:
+    if plan["version"].whole() not in VERSIONS:
         raise Refused(3)
+    words = [word for word in OPERANDS if plan["version"].whole() == 2 or word not in SINCE_TWO]
     agents = plan["agents"]
     if not 1 <= len(agents) <= 8:
         raise Refused(4)
@@ -191,7 +197,7 @@ def read_plan(data):
     for number, agent in enumerate(agents):
         if len(agent["callbacks"]) > 1000 or len(agent["jobs"]) > 1000:
             raise Refused(10, number)
-        known = {"c": agent["callbacks"], "a": names - {agent["name"]}}
+        known = {"words": words, "c": agent["callbacks"], "a": names - {agent["name"]}}
         for k, name in enumerate(sorted(agent["callbacks"], key=str.encode), 1):
             if not NAME.match(name):
                 raise Refused(5, number, ("callback", k))
@@ -212,6 +218,24 @@ class Cell:
 
     def __init__(self, registry, target, held, token):
         self.registry, self.target, self.held, self.token = registry, target, held, token
+
+
+class Graph:
+    """An agent's graph at one moment, with its roots. Where a collection is open, what a deref gave since is a root too."""
+
+    def __init__(self, agent):
+        self.roots = agent.roots()
+        self.properties = {number: [*held.values()] for number, held in agent.properties.items()}
+        self.entries = {number: [*entries.items()] for number, entries in agent.entries.items()}
+        self.there = set(range(1, agent.made + 1)) - agent.gone
+
+    def reached(self):
+        """The numbers of what is reached."""
+        return reached_from(self.roots, self.properties, self.entries)
+
+    def unreached(self):
+        """The numbers of what was there and not emptied, and is not reached."""
+        return self.there - self.reached()
 
 
 class Ledger:
@@ -281,6 +305,7 @@ class Agent:
         self.registered, self.unregistered, self.taken = 0, 0, 0
         self.queue = []  # the FinalizationRegistries of which cleanup jobs are due
         self.kept, self.gone = [], set()
+        self.open = None  # the graph of the later collection that is not finished
 
     def value(self, name):
         return self.variables.get(name, ("undefined",))
@@ -319,6 +344,8 @@ class Agent:
         if target[1] in self.gone:
             return ("undefined",)
         self.kept.append(target)
+        if self.open:
+            self.open.roots.append(target)
         return target
 
     def new_weakmap(self):
@@ -434,28 +461,36 @@ class Agent:
         cells = self.cells.items()
         return [number for number, cell in cells if cell.registry == registry and cell.target[1] in self.gone]
 
+    def roots(self):
+        """What variables hold, what is kept alive, FinalizationRegistries and the held values of registrations."""
+        registries = [("object", number) for number in self.registries]
+        return [*self.variables.values(), *self.kept, *registries, *(cell.held for cell in self.cells.values())]
+
     def reached(self):
-        """The numbers of all that variables, what is kept alive, FinalizationRegistries and the held values of
-        registrations lead to. A WeakRef does not lead to its target, a WeakMap not to its keys, a WeakSet not to its
-        members, a registration neither to its target nor to its token; an entry's value is reached where its WeakMap
-        and its key both are."""
-        ahead, reached = [*self.variables.values(), *self.kept], set()
-        ahead += [("object", number) for number in self.registries]
-        ahead += [cell.held for cell in self.cells.values()]
-        while ahead:
-            while ahead:
-                value = ahead.pop()
-                if value[0] in ("object", "symbol") and value[1] not in reached:
-                    reached.add(value[1])
-                    ahead += self.properties.get(value[1], {}).values()
-            for number in reached & set(self.entries):
-                for key, value in self.entries[number].items():
-                    if key[1] in reached and value[0] in ("object", "symbol") and value[1] not in reached:
-                        ahead.append(value)
-        return reached
+        """The numbers of what is reached now."""
+        return Graph(self).reached()
 
     def collect(self):
-        dead = set(range(1, self.made + 1)) - self.gone - self.reached()
+        """Empties at once all that the roots do not lead to. How many these are."""
+        self.none_is_open()
+        return self.empty(Graph(self).unreached())
+
+    def collect_later(self):
+        self.none_is_open()
+        self.open = Graph(self)
+
+    def none_is_open(self):
+        if self.open:
+            raise TypeRefused("a collection is open")
+
+    def finish(self):
+        """The line of a later collection, where one is open at a job's end."""
+        if self.open:
+            dead, self.open = self.open.unreached(), None
+            yield f"emptied {self.empty(dead)}"
+
+    def empty(self, dead):
+        """Empties these, and all that refers to them. How many these are."""
         self.gone |= dead
         for tables in (self.entries, self.members):
             for number in dead & set(tables):
@@ -480,13 +515,18 @@ class Agent:
 
     def job(self, job):
         """The lines of a job. It ends with its first refusal, and keeps nothing alive from then on. One that waited
-        takes its message first, and ends before its first command where there is no room for what came."""
+        takes its message first, and ends before its first command where there is no room for what came. A later
+        collection that it began is finished at its end."""
         try:
             if "on" in job:
                 self.receive(*job["on"])
             yield from self.run(job["run"])
         except TypeRefused as refused:
             yield f"error {refused}"
+        yield from self.job_end()
+
+    def job_end(self):
+        yield from self.finish()
         self.kept = []
 
     def cleanup_jobs(self):
@@ -633,7 +673,28 @@ class Agent:
             self.post(args[0], self.value(args[1]))
         elif word == "collect":
             return f"emptied {self.collect()}"
+        elif word == "collectlater":
+            self.collect_later()
         return None
+
+
+def reached_from(roots, properties, entries):
+    """The numbers of all that roots lead to, over values of properties and entries of WeakMaps, by the numbers of what
+    has them. A WeakRef does not lead to its target, a WeakMap not to its keys, a WeakSet not to its members, a
+    registration neither to its target nor to its token; an entry's value is reached where its WeakMap and its key both
+    are."""
+    ahead, reached = [*roots], set()
+    while ahead:
+        while ahead:
+            value = ahead.pop()
+            if value[0] in ("object", "symbol") and value[1] not in reached:
+                reached.add(value[1])
+                ahead += properties.get(value[1], [])
+        for number in reached & set(entries):
+            for key, value in entries[number]:
+                if key[1] in reached and value[0] in ("object", "symbol") and value[1] not in reached:
+                    ahead.append(value)
+    return reached
 
 
 def held_weakly(value):

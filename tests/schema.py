@@ -91,6 +91,10 @@ class Schema:
                 return any(self.accepts(value, one) for one in what)
             case "type":
                 return any(JSON_TYPES[it](value) for it in ([what] if isinstance(what, str) else what))
+            case "not":
+                return not self.accepts(value, what)
+            case "enum":
+                return any(self.holds("const", one, value, schema) for one in what)
             case "const":
                 return value == what and isinstance(value, bool) == isinstance(what, bool)
             case "minimum":
@@ -165,7 +169,7 @@ def wanted(text, answer):
         return True
     if answer.split(" ")[1] not in SHOWN or is_used_before(text.value, answer):
         return None
-    is_fault_of_spelling = answer.startswith("refused S8 ") or answer == "refused S3" and text.value["version"] == 1
+    is_fault_of_spelling = answer.startswith("refused S8 ") or answer == "refused S3" and text.value["version"] in (1, 2)
     return text.is_spelled_oddly and is_fault_of_spelling
 
 
@@ -203,13 +207,16 @@ def commands_of(root):
 
 
 def table():
-    """The program's table of commands: of each word whether it stands in jobs alone, and the lists of operands."""
+    """The program's table of commands: of each word whether it stands in jobs alone, and the lists of operands. Those of
+    version 2 alone are among them."""
     text = read("crates/es_reading/specs/Forms.antt")
     found = {}
     for word, takes in re.findall(r'codes "(\w+)"\) then (.*)', text):
         lines = [takes]
         if takes.startswith("register_form"):
             lines = re.findall(r"(?:then|else) (takes .*)", text.split("register_form n =")[1].split("\n\n")[0])
+        elif takes.startswith("later_form"):
+            lines = re.findall(r"later_form Two = (takes.*)", text)
         for line in lines:
             jobs, kinds = re.match(r"takes(_in_jobs|) (?:\((.*?) ∷ \[\]\)|\[\]) ", line).groups()
             found.setdefault(word, (bool(jobs), []))[1].append(kinds.split(" ∷ ") if kinds else [])
@@ -228,23 +235,23 @@ def limits():
     return {name: int(number.replace("_", "")) for name, number in found}
 
 
-def plan_of(command, in_callback=False):
+def plan_of(command, in_callback=False, version=1):
     """A plan with one command, of agent a, which has the callback c; b is another agent."""
     run = [command]
     agent = {"name": "a", "callbacks": {"c": run if in_callback else []}, "jobs": [] if in_callback else [{"run": run}]}
-    return {"version": 1, "agents": [agent, {"name": "b", "callbacks": {}, "jobs": []}]}
+    return {"version": version, "agents": [agent, {"name": "b", "callbacks": {}, "jobs": []}]}
 
 
 def small_plans(root):
-    """Plans with one command: each whole, in a job and in a callback, with one operand too few and too many, and with
-    each odd operand at each place."""
+    """Plans with one command: each whole, in a job and in a callback, with one operand too few and too many, in both
+    versions; and with each odd operand at each place."""
     for command in itertools.chain(*commands_of(root)):
         word, names, least = operands_of(command)
         whole = [SOME_OPERAND[TYPES[name]] for name in names]
         for count in range(least - 1, len(whole) + 2):
             some = [word, *(whole + ["x"])[: max(count, 0)]]
-            yield plan_of(some)
-            yield plan_of(some, in_callback=True)
+            for version, in_callback in itertools.product((1, 2), (False, True)):
+                yield plan_of(some, in_callback, version)
         for place, odd in itertools.product(range(len(whole)), ODD_OPERANDS):
             yield plan_of([word, *whole[:place], odd, *whole[place + 1 :]])
     for odd in ODD_OPERANDS:

@@ -1,10 +1,11 @@
 #!/usr/bin/env python3
 """Scripts of agents and what they report, worked out by hand from the rules: the rows of tests/scripts. The program runs
-each in threads, by turns, and in threads beside a watcher; those in clusters.txt a hundred times in threads.
+each in threads, by turns, and in threads beside a watcher; those in clusters.txt a hundred times in threads, those in
+later.txt ten times, and with eight helpers besides.
 
 Usage: scripts.py PROGRAM. Prints each run that ends otherwise, and `N passed, M failed` last.
 
-A row is a title and then lines, up to an empty one: `agent NAME`; of it `callback NAME: COMMANDS`, `job: COMMANDS`,
+A row is a title and then lines, up to an empty one: `version NUMBER`, 1 where it is not said; `agent NAME`; of it `callback NAME: COMMANDS`, `job: COMMANDS`,
 `job NUMBER times: COMMANDS`, `job on AGENT VARIABLE: COMMANDS`, `says: LINES` and `fates: LIVE AWAITING UNREGISTERED TAKEN`;
 and `cluster: BLOCKS RELEASED POSTED TAKEN DRAINED`. Commands are words and end with `;`, and lines of the report are
 parted by `; `. What is not said is nothing, or 0.
@@ -18,7 +19,8 @@ import subprocess
 import sys
 
 TOP = os.path.dirname(os.path.abspath(__file__))
-TIMES_IN_THREADS = {"clusters.txt": 100}
+TIMES_IN_THREADS = {"clusters.txt": 100, "later.txt": 10}
+HELPED = ["later.txt"]
 # Of these the operand with this number is a literal. Of the others each whole number is a number.
 LITERAL_AT = {"let": 2, "symbolfor": 2}
 
@@ -40,7 +42,7 @@ class Row:
 
     def __init__(self, title):
         self.title = title
-        self.agents, self.told = [], []
+        self.version, self.agents, self.told = 1, [], []
         self.cluster = "0 0 0 0 0"
 
     def add(self, line):
@@ -48,6 +50,8 @@ class Row:
         head, _, rest = line.partition(":")
         rest = rest.strip()
         match head.split(" "):
+            case ["version", number]:
+                self.version = int(number)
             case ["agent", name]:
                 self.agents.append({"name": name, "callbacks": {}, "jobs": []})
                 self.told.append({"says": [], "fates": "0 0 0 0"})
@@ -70,7 +74,7 @@ class Row:
 
     def plan(self):
         """The plan as the program reads it."""
-        return json.dumps({"version": 1, "agents": self.agents}).encode()
+        return json.dumps({"version": self.version, "agents": self.agents}).encode()
 
     def report(self):
         """The whole report."""
@@ -104,14 +108,20 @@ def rows_of(path, kind=Row):
         yield row
 
 
+def ways_of(name):
+    """How the rows of a file are run: with which options, what stands on standard error, and how often."""
+    times = TIMES_IN_THREADS.get(name, 1)
+    ways = [([], "", times), (["--turns"], "", 1), (["--watch", "1000"], "audits 1000\n", 1)]
+    return ways + [(["--helpers", "8"], "", times)] * (name in HELPED)
+
+
 def main():
     program = os.path.abspath(sys.argv[1])
     passed = failed = 0
     for path in sorted(glob.glob(os.path.join(TOP, "scripts", "*.txt"))):
-        times = TIMES_IN_THREADS.get(os.path.basename(path), 1)
         for row in rows_of(path):
             plan, report = row.plan(), row.report()
-            for words, errors, runs in (([], "", times), (["--turns"], "", 1), (["--watch", "1000"], "audits 1000\n", 1)):
+            for words, errors, runs in ways_of(os.path.basename(path)):
                 for _ in range(runs):
                     run = subprocess.run([program, "run", *words], input=plan, capture_output=True, timeout=60, check=False)
                     if (run.returncode, run.stdout.decode(), run.stderr.decode()) == (0, report, errors):

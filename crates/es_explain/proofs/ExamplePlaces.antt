@@ -27,7 +27,7 @@ abbrev agent : Data
 agent = object (member (codes "callbacks") callbacks (member (codes "jobs") jobs (member (codes "name") (string (codes "a")) no_members)))
 
 abbrev plan : Data
-plan = object (member (codes "agents") (array (item agent no_items)) (member (codes "version") (number (unsigned 2)) no_members))
+plan = object (member (codes "agents") (array (item agent no_items)) (member (codes "version") (number (unsigned 3)) no_members))
 
 -- the fault's place is this pointer, which leads to this part of the plan
 abbrev Leads : ScriptFault → List ℕ → Data → Type 0
@@ -36,7 +36,7 @@ Leads f place part = (pointer (Some plan) f ≡ place) × (points_to place plan 
 whole : Leads (at Whole 0 Shape) [] plan
 whole = (refl, refl)
 
-version : Leads (at Whole 0 Version) (codes "/version") (number (unsigned 2))
+version : Leads (at Whole 0 Version) (codes "/version") (number (unsigned 3))
 unfolding digits serde_json_on_literals
 version = (refl, refl)
 

@@ -21,7 +21,7 @@ use Rattle.es_explain.specs.declared.explanation.Explanation.TheVariants.{Plan a
 abbrev pub sentence : FaultCode → List ℕ
 sentence NotJson = codes "The text is no JSON in UTF-8."
 sentence Shape = codes "The value has not the shape of a plan."
-sentence Version = codes "The version is not 1."
+sentence Version = codes "The version is neither 1 nor 2."
 sentence AgentCount = codes "A plan has 1 to 8 agents."
 sentence Name = codes "A name is not spelled as one, or an earlier agent has it."
 sentence Unknown = codes "No callback, or no other agent, has this name."

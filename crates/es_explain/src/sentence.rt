@@ -15,7 +15,7 @@ pub fn write_sentence<W: Write>(code: FaultCode, writer: &mut W) -> Result<(), i
     match code {
         FaultCode::NotJson => writer.write_all(b"The text is no JSON in UTF-8."),
         FaultCode::Shape => writer.write_all(b"The value has not the shape of a plan."),
-        FaultCode::Version => writer.write_all(b"The version is not 1."),
+        FaultCode::Version => writer.write_all(b"The version is neither 1 nor 2."),
         FaultCode::AgentCount => writer.write_all(b"A plan has 1 to 8 agents."),
         FaultCode::Name => {
             writer.write_all(b"A name is not spelled as one, or an earlier agent has it.")

@@ -4,7 +4,9 @@ use Rattle.std.specs.Str.{bytes_eq}
 use Rattle.serde_json.specs.Data.{Data, number, string, array, object, Items, no_items, item}
 use Rattle.es_event.specs.declared.literal.Literal.{Literal}
 use Rattle.es_event.specs.declared.command.Command.{Command}
-use Rattle.es_event.specs.declared.command.Command.TheVariants.{Let, New, Symbol, SymbolFor, Copy, Same, Say, Set, Get, Delete, Keys, WeakRef, Deref, WeakMap, WeakMapSet, WeakMapGet, WeakMapHas, WeakMapDelete, WeakSet, WeakSetAdd, WeakSetHas, WeakSetDelete, FinalizationRegistry, Register, Unregister, SharedArrayBuffer, Length, SameBlock, Load, Store, Add, Post, Collect}
+use Rattle.es_event.specs.declared.command.Command.TheVariants.{Let, New, Symbol, SymbolFor, Copy, Same, Say, Set, Get, Delete, Keys, WeakRef, Deref, WeakMap, WeakMapSet, WeakMapGet, WeakMapHas, WeakMapDelete, WeakSet, WeakSetAdd, WeakSetHas, WeakSetDelete, FinalizationRegistry, Register, Unregister, SharedArrayBuffer, Length, SameBlock, Load, Store, Add, Post, Collect, CollectLater}
+use Rattle.es_reading.specs.declared.version.Version.{Version}
+use Rattle.es_reading.specs.declared.version.Version.TheVariants.{One, Two}
 
 -- what an operand is: a variable or a property's key, a literal, a text of the profile, the name of a callback or of another
 -- agent, a number of the profile, or a number of words
@@ -91,9 +93,15 @@ weak_form w n =
     (if bytes_eq w (codes "wsdelete") then takes (name ∷ name ∷ name ∷ []) WeakSetDelete else
     shared_form w n))))))))))
 
--- the form of the command with this word and so many operands: of values, variables, objects and collections, and then the others
-abbrev pub form : List ℕ → ℕ → Option Form
-form w n =
+-- of a later collection, which version 1 has not
+abbrev pub later_form : Version → Option Form
+later_form One = None
+later_form Two = takes_in_jobs [] CollectLater
+
+-- the form of a version's command with this word and so many operands: of values, variables, objects and collections, and then
+-- the others
+abbrev pub form : Version → List ℕ → ℕ → Option Form
+form v w n =
     if bytes_eq w (codes "let") then takes (name ∷ literal ∷ []) Let else
     (if bytes_eq w (codes "new") then takes (name ∷ []) New else
     (if bytes_eq w (codes "symbol") then takes (name ∷ []) Symbol else
@@ -106,7 +114,8 @@ form w n =
     (if bytes_eq w (codes "delete") then takes (name ∷ name ∷ name ∷ []) Delete else
     (if bytes_eq w (codes "keys") then takes (name ∷ []) Keys else
     (if bytes_eq w (codes "collect") then takes_in_jobs [] Collect else
-    weak_form w n)))))))))))
+    (if bytes_eq w (codes "collectlater") then later_form v else
+    weak_form w n))))))))))))
 
 -- Operands in a text
 

@@ -1,4 +1,5 @@
 pub mod Numbers
+pub mod Versions
 pub mod Places
 pub mod Parts
 pub mod Part

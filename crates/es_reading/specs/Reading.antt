@@ -21,6 +21,8 @@ use Rattle.es_reading.specs.declared.fault.ReadFault.TheVariants.{Script, NoMemo
 use Rattle.es_reading.specs.declared.fault.Spot.{Spot}
 use Rattle.es_reading.specs.declared.number_table.NumberTable.{NumberTable}
 use Rattle.es_reading.specs.declared.scope.Scope.{Scope as NumberTables}
+use Rattle.es_reading.specs.declared.version.Version.{Version}
+use Rattle.es_reading.specs.declared.version.Version.TheVariants.{One}
 use Rattle.serde_json.specs.Events.{items_len, members_len}
 use Rattle.es_reading.specs.Parts.{items_in, members_in, text_in}
 use Rattle.es_reading.specs.Scope.{Numbers, Scope, number_from, agent_from, other_than, is_used}
@@ -63,20 +65,21 @@ or_else None other = other
 unfoldable pub numbered : NumberTable → Numbers
 numbered table n = get_by_text table.by_name n
 
--- the scope of agent a, by the numbers of its callbacks and those of all agents
-abbrev pub scope_by : Numbers → Numbers → ℕ → Scope
-scope_by callbacks agents a = record {
+-- the scope of agent a in a plan of the version, by the numbers of its callbacks and those of all agents
+abbrev pub scope_by : Version → Numbers → Numbers → ℕ → Scope
+scope_by v callbacks agents a = record {
+  version = v;
   callbacks = callbacks;
   agents = λ n. option_and_then (other_than a) (agents n);
 }
 
 -- the scope that the tables of an agent say, unfoldable for the same reason
 unfoldable pub said : NumberTables → Scope
-said tables = scope_by (numbered tables.callbacks) (numbered tables.agents.now) tables.agent
+said tables = scope_by tables.version (numbered tables.callbacks) (numbered tables.agents.now) tables.agent
 
 -- the scope in which nothing has a name
 abbrev pub nameless : Scope
-nameless = record { callbacks = λ n. None; agents = λ n. None }
+nameless = record { version = One; callbacks = λ n. None; agents = λ n. None }
 
 -- Operands
 
@@ -163,7 +166,7 @@ form_read scope s (Some f) ds =
     (λ xs. Ok (made f.types f.makes xs))
 
 abbrev pub command_read : Scope → Spot → Data → Result Command ScriptFault
-command_read scope s (array (item (string w) ds)) = form_read scope s (form w (items_len ds)) ds
+command_read scope s (array (item (string w) ds)) = form_read scope s (form scope.version w (items_len ds)) ds
 command_read scope s _ = Err (fault_at s Operands)
 
 abbrev pub commands_read : Scope → Place → ℕ → Items → Result (List Command) ScriptFault
@@ -210,22 +213,22 @@ names_read a used (item d ds) =
     then_read (agent_name_read a d)
     (λ n. unless_fault (not (is_used n used)) (at (Agent a) 0 Name) (names_read (a + 1) (used ++ n ∷ []) ds))
 
--- agent a, by the numbers of all agents
-abbrev pub agent_read : Numbers → ℕ → Data → Result AgentPlan ScriptFault
-agent_read agents a d =
+-- agent a of a plan of the version, by the numbers of all agents
+abbrev pub agent_read : Version → Numbers → ℕ → Data → Result AgentPlan ScriptFault
+agent_read v agents a d =
     let callbacks = members_in (get (codes "callbacks") d) in
     let jobs = items_in (get (codes "jobs") d) in
-    let scope = scope_by (number_from 1 callbacks) agents a in
+    let scope = scope_by v (number_from 1 callbacks) agents a in
     then_read (agent_name_read a d)
     (λ n. unless_fault (nat_le (members_len callbacks) most_callbacks) (at (Agent a) 0 Limit)
     (unless_fault (nat_le (items_len jobs) most_jobs) (at (Agent a) 0 Limit)
     (then_read (callbacks_read scope a 1 callbacks)
     (λ cs. then_read (jobs_read scope a 1 jobs) (λ js. Ok (record { name = n; callbacks = cs; jobs = js }))))))
 
-abbrev pub agents_read : Numbers → ℕ → Items → Result (List AgentPlan) ScriptFault
-agents_read agents a no_items = Ok []
-agents_read agents a (item d ds) = and_rest (agent_read agents a d) (agents_read agents (a + 1) ds)
+abbrev pub agents_read : Version → Numbers → ℕ → Items → Result (List AgentPlan) ScriptFault
+agents_read v agents a no_items = Ok []
+agents_read v agents a (item d ds) = and_rest (agent_read v agents a d) (agents_read v agents (a + 1) ds)
 
 -- their names, and then the agents
-abbrev pub all_read : Items → Result (List AgentPlan) ScriptFault
-all_read ds = then_read (names_read 0 [] ds) (λ _. agents_read (agent_from 0 ds) 0 ds)
+abbrev pub all_read : Version → Items → Result (List AgentPlan) ScriptFault
+all_read v ds = then_read (names_read 0 [] ds) (λ _. agents_read v (agent_from 0 ds) 0 ds)

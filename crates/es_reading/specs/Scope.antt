@@ -1,10 +1,12 @@
--- To believe: which callbacks and which agents the commands and the jobs of an agent can name.
+-- To believe: in which version the commands and the jobs of an agent are written, and which callbacks and which agents they can
+-- name.
 use Rattle.std.specs.Prelude.{ℕ, ◌+◌, ◌==◌, ◌&&◌, ◌++◌, not, Bool, true, List, [], ◌∷◌, Option, Some, None, codes, if◌then◌else◌}
 use Rattle.std.specs.List.{list_any}
 use Rattle.std.specs.Str.{bytes_eq}
 use Rattle.std.specs.Option.{option_and_then}
 use Rattle.serde_json.specs.Data.{Data, Items, no_items, item, Members, no_members, member}
 use Rattle.serde_json.specs.Find.{get}
+use Rattle.es_reading.specs.declared.version.Version.{Version}
 use Rattle.es_reading.specs.Parts.{members_in, text_in}
 
 -- the number of each by its name, and none for any other text
@@ -13,6 +15,7 @@ Numbers = List ℕ → Option ℕ
 
 -- callbacks are counted from 1, agents from 0
 pub record Scope : Type 0 where
+  pub version : Version
   pub callbacks : Numbers
   pub agents : Numbers
 
@@ -35,9 +38,10 @@ number_in k (m ∷ ms) n = if bytes_eq m n then Some k else number_in (k + 1) ms
 abbrev pub other_than : ℕ → ℕ → Option ℕ
 other_than a n = if n == a then None else Some n
 
--- of agent a among these: all its callbacks, whatever is wrong in them, and all agents but itself
-abbrev pub scope_of : Items → ℕ → Data → Scope
-scope_of agents a d = record {
+-- in a plan of the version, of agent a among these: all its callbacks, whatever is wrong in them, and all agents but itself
+abbrev pub scope_of : Version → Items → ℕ → Data → Scope
+scope_of v agents a d = record {
+  version = v;
   callbacks = number_from 1 (members_in (get (codes "callbacks") d));
   agents = λ n. option_and_then (other_than a) (agent_from 0 agents n);
 }

@@ -14,6 +14,7 @@ use crate::number_table::{NumberTable, agent_numbers, callback_numbers};
 use crate::parts::{has_at_most, has_at_most_members, items, taken_items, text};
 use crate::scope::Scope;
 use crate::spelled::name_of;
+use crate::version::Version;
 use crate::{Place, ReadFault};
 use es_event::{AgentPlan, Callback, Sequence};
 use es_value::{MOST_CALLBACKS, MOST_JOBS, Name};
@@ -64,27 +65,32 @@ fn is_used(names: &[Name], name: &Name) -> bool
     names.contains(name)
 }
 
-/// The plans of the agents, in order, or the first fault in them: agent by agent the limits, the callbacks
-/// by rising names and the jobs in order, of each job first whose message it waits for, and then its
-/// commands. The values lose their jobs.
-pub fn agents_of(alloc: Global, agents: &mut [Value]) -> Result<Sequence<AgentPlan>, ReadFault>
-    ensures { Gives (λ s. s) result (agents_read (agent_from 0 (items_view agents.old)) 0 (items_view agents.old)) }
+/// The plans of the agents of a plan of this version, in order, or the first fault in them: agent by agent
+/// the limits, the callbacks by rising names and the jobs in order, of each job first whose message it waits
+/// for, and then its commands. The values lose their jobs.
+pub fn agents_of(
+    alloc: Global,
+    version: Version,
+    agents: &mut [Value],
+) -> Result<Sequence<AgentPlan>, ReadFault>
+    ensures { Gives (λ s. s) result (agents_read version (agent_from 0 (items_view agents.old)) 0 (items_view agents.old)) }
 {
     let numbers = agent_numbers(alloc, agents)?;
-    plans_of(alloc, &numbers, agents)
+    plans_of(alloc, version, &numbers, agents)
 }
 
 /// The plans, by the numbers of all agents.
 fn plans_of(
     alloc: Global,
+    version: Version,
     numbers: &NumberTable,
     agents: &mut [Value],
 ) -> Result<Sequence<AgentPlan>, ReadFault>
-    ensures { Gives (λ s. s) result (agents_read (numbered numbers.now) 0 (items_view agents.old)) }
+    ensures { Gives (λ s. s) result (agents_read version (numbered numbers.now) 0 (items_view agents.old)) }
 {
     let mut plans = Sequence::new(alloc);
     for (index, agent) in agents.iter_mut().enumerate() {
-        let plan = agent_of(alloc, numbers, index, agent.take())?;
+        let plan = agent_of(alloc, version, numbers, index, agent.take())?;
         plans.push(plan)?;
     }
     Ok(plans)
@@ -93,22 +99,24 @@ fn plans_of(
 /// The plan of an agent. Its names share their texts with each other, and with no other agent's.
 fn agent_of(
     alloc: Global,
+    version: Version,
     numbers: &NumberTable,
     agent: usize,
     value: Value,
 ) -> Result<AgentPlan, ReadFault>
-    ensures { Gives (λ a. a) result (agent_read (numbered numbers.now) agent (view value)) }
+    ensures { Gives (λ a. a) result (agent_read version (numbered numbers.now) agent (view value)) }
 {
-    agent_with(&mut KnownNames::new(alloc), numbers, agent, value)
+    agent_with(&mut KnownNames::new(alloc), version, numbers, agent, value)
 }
 
 fn agent_with(
     names: &mut KnownNames,
+    version: Version,
     numbers: &NumberTable,
     agent: usize,
     mut value: Value,
 ) -> Result<AgentPlan, ReadFault>
-    ensures { Gives (λ a. a) result (agent_read (numbered numbers.now) agent (view value)) }
+    ensures { Gives (λ a. a) result (agent_read version (numbered numbers.now) agent (view value)) }
 {
     let name = agent_name(names, agent, &value)?;
     if !has_at_most_members(value.get("callbacks"), MOST_CALLBACKS) {
@@ -118,7 +126,7 @@ fn agent_with(
         return Err(fault_in(Place::Agent(agent), FaultCode::Limit));
     }
     let callbacks = callback_numbers(names.allocator(), value.get("callbacks"))?;
-    let scope = Scope::new(callbacks, numbers, agent);
+    let scope = Scope::new(version, callbacks, numbers, agent);
     let callbacks = callbacks_of(names, &scope, agent, value.get("callbacks"))?;
     let mut jobs = taken_items(names.allocator(), value.get_mut("jobs"));
     let jobs = jobs_of(names, &scope, agent, jobs.as_mut_slice())?;

@@ -15,6 +15,7 @@ mod part;
 mod parts;
 mod scope;
 mod spelled;
+mod version;
 
 pub use agent::{agents_of, check_names};
 pub use fault::{FaultCode, Place, ReadFault, ScriptFault, Spot, fault_in};
@@ -25,3 +26,4 @@ pub use number_table::{NumberTable, numbers_of};
 pub use part::{Part, Seen};
 pub use parts::{member_count, taken_items};
 pub use scope::Scope;
+pub use version::Version;

@@ -4,7 +4,7 @@
 ghost use Rattle.std.specs.Prelude.{◌≡◌, map};
 ghost use Rattle.serde_json.specs.View.{items_of};
 ghost use Rattle.serde_json.specs.Events.{items_len};
-ghost use Rattle.es_reading.specs.Forms.{form, weak_form};
+ghost use Rattle.es_reading.specs.Forms.{form, later_form, weak_form};
 ghost use Rattle.es_reading.specs.Reading.{Gives, said, outside_read, form_read};
 
 mod registry;
@@ -15,6 +15,7 @@ use crate::known_names::KnownNames;
 use crate::operands::{none, one, three, two};
 use crate::part::Seen;
 use crate::scope::Scope;
+use crate::version::Version;
 use crate::{Place, ReadFault};
 use es_event::Command;
 use shared::shared_command;
@@ -27,7 +28,7 @@ pub fn command_named<V: Seen>(
     operands: &[V],
     spot: Spot,
 ) -> Result<Command, ReadFault>
-    ensures { Gives (λ c. c) result (form_read (said scope.now) spot (form word.now (items_len (items_of (map V.shown operands.now)))) (items_of (map V.shown operands.now))) }
+    ensures { Gives (λ c. c) result (form_read (said scope.now) spot (form (said scope.now).version word.now (items_len (items_of (map V.shown operands.now)))) (items_of (map V.shown operands.now))) }
 {
     match word {
         "let" => {
@@ -79,7 +80,22 @@ pub fn command_named<V: Seen>(
             outside_callbacks(spot)?;
             Ok(Command::Collect)
         }
+        "collectlater" => later_command(scope, operands, spot),
         _ => weak_command(names, scope, word, operands, spot),
+    }
+}
+
+/// A later collection, which version 1 has not.
+fn later_command<V: Seen>(scope: &Scope, operands: &[V], spot: Spot) -> Result<Command, ReadFault>
+    ensures { Gives (λ c. c) result (form_read (said scope.now) spot (later_form (said scope.now).version) (items_of (map V.shown operands.now))) }
+{
+    match scope.version() {
+        Version::One => Err(spot.fault(FaultCode::Operands)),
+        Version::Two => {
+            none(operands, spot)?;
+            outside_callbacks(spot)?;
+            Ok(Command::CollectLater)
+        }
     }
 }
 

@@ -1,29 +1,46 @@
-//! What the commands and the jobs of an agent can name.
+//! What the commands and the jobs of an agent are read by.
 
 ghost use Rattle.std.specs.Prelude.{◌≡◌};
 ghost use Rattle.es_reading.specs.Reading.{numbered, said, scope_by};
 
 use crate::number_table::NumberTable;
+use crate::version::Version;
 
-/// What the commands and the jobs of an agent can name: its callbacks, and each other agent.
+/// In which version the commands and the jobs of an agent are written, and what they can name: its
+/// callbacks, and each other agent.
 #[derive(Drop)]
 pub struct Scope<'a> {
+    version: Version,
     callbacks: NumberTable,
     agents: &'a NumberTable,
     agent: usize,
 }
 
 impl<'a> Scope<'a> {
-    /// Of the agent with this number.
+    /// Of the agent with this number, in a plan of this version.
     #[tactic(auto, unfolding(crate::specs::Reading::said))]
-    pub fn new(callbacks: NumberTable, agents: &'a NumberTable, agent: usize) -> Scope<'a>
-        ensures { said result ≡ scope_by (numbered callbacks) (numbered agents.now) agent }
+    pub fn new(
+        version: Version,
+        callbacks: NumberTable,
+        agents: &'a NumberTable,
+        agent: usize,
+    ) -> Scope<'a>
+        ensures { said result ≡ scope_by version (numbered callbacks) (numbered agents.now) agent }
     {
         Scope {
+            version,
             callbacks,
             agents,
             agent,
         }
+    }
+
+    /// The version of the plan.
+    #[tactic(auto, unfolding(crate::specs::Reading::said))]
+    pub(crate) fn version(&self) -> Version
+        ensures { result ≡ (said self.now).version }
+    {
+        self.version
     }
 
     /// The number of the callback with this name.

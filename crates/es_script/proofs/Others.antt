@@ -16,6 +16,7 @@ use Rattle.es_reading.specs.Scope.{Scope, agent_from, other_than, scope_of}
 use Rattle.es_script.specs.Grammar.{WaitsFor, AreJobs, HasJobs, AreAgents, HasAgents}
 use Rattle.es_script.proofs.Sound.{both_true, AreAgents-length}
 use Rattle.es_script.proofs.Passing.{AllPass, reference_passes, command_posts, body_passes, callbacks_pass_at}
+use Rattle.es_reading.specs.declared.version.Version.{Version}
 
 -- Numbers of agents
 
@@ -40,8 +41,8 @@ other_found a x (Some n) e = let found = other_by a n x (n == a) refl e in (ap S
 other_found a x None e = cc
 
 -- what the commands and the jobs of agent a can name are other agents
-names_others : (agents : Items) (a : ℕ) (d : Data) (count : ℕ) → count ≡ items_len agents → AllPass (is_other count a) (scope_of agents a d).agents
-names_others agents a d count all n x e =
+names_others : (v : Version) (agents : Items) (a : ℕ) (d : Data) (count : ℕ) → count ≡ items_len agents → AllPass (is_other count a) (scope_of v agents a d).agents
+names_others v agents a d count all n x e =
     let found = other_found a x (agent_from 0 agents n) e in
     let below = agent_below 0 agents n x found.0 in
     let within : x < count = omega (arith, below, all) in
@@ -70,18 +71,18 @@ jobs_pass_at test scope pass _ js h = absurd h
 
 -- Agents
 
-agents_others : (agents : Items) (count : ℕ) → count ≡ items_len agents → (a : ℕ) (ds : Items) (ps : List AgentPlan) → AreAgents agents a ds ps → each_names_others count a ps ≡ true
-agents_others agents count all a no_items [] h = refl
-agents_others agents count all a no_items (p ∷ ps) h = absurd h
-agents_others agents count all a (item d ds) [] h = absurd h
-agents_others agents count all a (item d ds) (p ∷ ps) h =
-    let scope = scope_of agents a d in
+agents_others : (v : Version) (agents : Items) (count : ℕ) → count ≡ items_len agents → (a : ℕ) (ds : Items) (ps : List AgentPlan) → AreAgents v agents a ds ps → each_names_others count a ps ≡ true
+agents_others v agents count all a no_items [] h = refl
+agents_others v agents count all a no_items (p ∷ ps) h = absurd h
+agents_others v agents count all a (item d ds) [] h = absurd h
+agents_others v agents count all a (item d ds) (p ∷ ps) h =
+    let scope = scope_of v agents a d in
     let test = is_other count a in
-    let pass = names_others agents a d count all in
+    let pass = names_others v agents a d count all in
     let jobs = jobs_pass_at test scope pass (get (codes "jobs") d) p.jobs h.0.jobs in
     let callbacks = callbacks_pass_at (λ cs. list_all (posts_where test) cs) scope (body_passes (posts_where test) scope true (command_posts test scope true pass)) (get (codes "callbacks") d) p.callbacks h.0.callbacks in
-    both_true _ _ (both_true _ _ jobs callbacks) (agents_others agents count all (a + 1) ds ps h.1)
+    both_true _ _ (both_true _ _ jobs callbacks) (agents_others v agents count all (a + 1) ds ps h.1)
 
-pub agents_others_at : (o : Option Data) (ps : List AgentPlan) → HasAgents o ps → each_names_others (length ps) 0 ps ≡ true
-agents_others_at (Some (array ds)) ps h = agents_others ds (length ps) (AreAgents-length ds 0 ds ps h.0) 0 ds ps h.0
-agents_others_at _ ps h = absurd h
+pub agents_others_at : (v : Version) (o : Option Data) (ps : List AgentPlan) → HasAgents v o ps → each_names_others (length ps) 0 ps ≡ true
+agents_others_at v (Some (array ds)) ps h = agents_others v ds (length ps) (AreAgents-length v ds 0 ds ps h.0) 0 ds ps h.0
+agents_others_at v _ ps h = absurd h

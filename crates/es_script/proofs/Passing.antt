@@ -7,13 +7,15 @@ use Rattle.serde_json.specs.Data.{Data, string, array, object, Items, no_items, 
 use Rattle.serde_json.specs.Events.{items_len}
 use Rattle.es_event.specs.declared.command.Command.{Command}
 use Rattle.es_event.specs.declared.plan.Callback.{Callback}
-use Rattle.es_event.specs.Commands.{collects}
+use Rattle.es_event.specs.Commands.{opens_or_collects}
 use Rattle.es_event.specs.Others.{posts_where}
 use Rattle.es_reading.specs.Scope.{Numbers, Scope}
-use Rattle.es_reading.specs.Forms.{OperandType, name, literal, text, callback, agent, whole, words, Meaning, Makes, Form, form, weak_form, shared_form, registry_form, is_allowed}
+use Rattle.es_reading.specs.Forms.{OperandType, name, literal, text, callback, agent, whole, words, Meaning, Makes, Form, form, later_form, weak_form, shared_form, registry_form, is_allowed}
 use Rattle.es_script.specs.Grammar.{IsReference, Means, AreOperands, IsCommand, AreCommands, IsBody, AreCallbacks, HasCallbacks}
 use Rattle.es_reading.specs.Reading.{Meanings, made}
 use Rattle.es_script.proofs.Sound.{both_true}
+use Rattle.es_reading.specs.declared.version.Version.{Version}
+use Rattle.es_reading.specs.declared.version.Version.TheVariants.{One, Two}
 
 -- Agents that are named
 
@@ -45,12 +47,12 @@ operand_passes test scope pass words d x h = refl
 
 -- The table of commands
 
--- where a callback may have the form, it makes no command that collects; it posts to agents among its operands alone
+-- where a callback may have the form, it makes no command that collects, at once or later; it posts to agents among its operands alone
 abbrev Harmless : Option Form → Type 0
 Harmless None = Unit {0}
 Harmless (Some f) =
     (xs : Meanings f.types)
-    → (is_allowed true f ≡ true → collects (made f.types f.makes xs) ≡ false)
+    → (is_allowed true f ≡ true → opens_or_collects (made f.types f.makes xs) ≡ false)
     × ((test : ℕ → Bool) → ArePassed test f.types xs → posts_where test (made f.types f.makes xs) ≡ true)
 
 harmless_if : (b : Bool) (o p : Option Form) → Harmless o → Harmless p → Harmless (if b then o else p)
@@ -90,8 +92,12 @@ weak_harmless w n =
     (harmless_if (bytes_eq w (codes "wsdelete")) _ _ (λ xs. (λ a. refl, λ t p. refl))
     (shared_harmless w n)))))))))))
 
-form_harmless : (w : List ℕ) (n : ℕ) → Harmless (form w n)
-form_harmless w n =
+later_harmless : (v : Version) → Harmless (later_form v)
+later_harmless One = tt
+later_harmless Two = λ xs. (λ a. sym a, λ t p. refl)
+
+form_harmless : (v : Version) (w : List ℕ) (n : ℕ) → Harmless (form v w n)
+form_harmless v w n =
     harmless_if (bytes_eq w (codes "let")) _ _ (λ xs. (λ a. refl, λ t p. refl))
     (harmless_if (bytes_eq w (codes "new")) _ _ (λ xs. (λ a. refl, λ t p. refl))
     (harmless_if (bytes_eq w (codes "symbol")) _ _ (λ xs. (λ a. refl, λ t p. refl))
@@ -104,7 +110,8 @@ form_harmless w n =
     (harmless_if (bytes_eq w (codes "delete")) _ _ (λ xs. (λ a. refl, λ t p. refl))
     (harmless_if (bytes_eq w (codes "keys")) _ _ (λ xs. (λ a. refl, λ t p. refl))
     (harmless_if (bytes_eq w (codes "collect")) _ _ (λ xs. (λ a. sym a, λ t p. refl))
-    (weak_harmless w n))))))))))))
+    (harmless_if (bytes_eq w (codes "collectlater")) _ _ (later_harmless v)
+    (weak_harmless w n)))))))))))))
 
 -- Commands
 
@@ -117,16 +124,16 @@ operands_made scope (k ∷ ks) make (item d ds) c h =
     let rest = operands_made scope ks (make h.0) ds c h.2 in
     ((h.0, rest.0), rest.1, λ t p. (operand_passes t scope p k d h.0 h.1, rest.2 t p))
 
-pub command_harmless : (scope : Scope) (d : Data) (c : Command) → IsCommand scope true d c → collects c ≡ false
+pub command_harmless : (scope : Scope) (d : Data) (c : Command) → IsCommand scope true d c → opens_or_collects c ≡ false
 command_harmless scope (array (item (string w) ds)) c h =
     let all = operands_made scope h.0.types h.0.makes ds c h.3 in
-    subst (λ c. collects c ≡ false) all.1 ((subst Harmless h.1 (form_harmless w (items_len ds)) all.0).0 h.2)
+    subst (λ c. opens_or_collects c ≡ false) all.1 ((subst Harmless h.1 (form_harmless scope.version w (items_len ds)) all.0).0 h.2)
 command_harmless scope _ c h = absurd h
 
 pub command_posts : (test : ℕ → Bool) (scope : Scope) (in_callback : Bool) → AllPass test scope.agents → (d : Data) (c : Command) → IsCommand scope in_callback d c → posts_where test c ≡ true
 command_posts test scope in_callback pass (array (item (string w) ds)) c h =
     let all = operands_made scope h.0.types h.0.makes ds c h.3 in
-    subst (λ c. posts_where test c ≡ true) all.1 ((subst Harmless h.1 (form_harmless w (items_len ds)) all.0).1 test (all.2 test pass))
+    subst (λ c. posts_where test c ≡ true) all.1 ((subst Harmless h.1 (form_harmless scope.version w (items_len ds)) all.0).1 test (all.2 test pass))
 command_posts test scope in_callback pass _ c h = absurd h
 
 -- All commands

@@ -129,7 +129,7 @@ module _ (scope : Scope) (s t : Spot) where
       (alike_unless (fit f.types ds) (fault_at s Operands) (fault_at t Operands) _ _ allowed) (λ xs. refl)
 
   command_alike : is_in_callback s.place ≡ is_in_callback t.place → (d : Data) → IsAlike (command_read scope s d) (command_read scope t d)
-  command_alike kind (array (item (string w) ds)) = form_alike kind (form w (items_len ds)) ds
+  command_alike kind (array (item (string w) ds)) = form_alike kind (form scope.version w (items_len ds)) ds
   command_alike kind (array (item null ds)) = tt
   command_alike kind (array (item (boolean b) ds)) = tt
   command_alike kind (array (item (number n) ds)) = tt

@@ -22,6 +22,7 @@ use Rattle.es_reading.specs.Places.{at}
 use Rattle.es_reading.specs.Parts.{text_in, items_in, members_in}
 use Rattle.es_reading.specs.Scope.{Numbers, Scope, number_from, number_in, agent_from, is_used, are_new}
 use Rattle.es_reading.specs.Shape.{is_agent}
+use Rattle.es_reading.specs.declared.version.Version.{Version}
 use Rattle.es_reading.specs.Reading.{then_read, unless_fault, scope_by, callbacks_read, job_read, jobs_read, names_read, agent_read, agents_read}
 use Rattle.es_tokens.specs.declared.agent.AgentDraft.{AgentDraft}
 use Rattle.es_tokens.specs.Taking.{IsRead, Took, TookItems, TookMembers}
@@ -146,24 +147,24 @@ module _ (scope : Scope) (a : ℕ) where
       })
 
 -- where its callbacks have the names that the scope has
-pub agent_is : (agents : Numbers) (a : ℕ) (scope : Scope) (known : List (List ℕ)) (d : Data) (plan : AgentPlan) → IsAgentWithin scope a d plan → map (λ c. c.name) plan.callbacks ≡ known → scope ≡ scope_by (number_in 1 known) agents a
-    → IsRead is_agent (agent_read agents a) d plan
-agent_is agents a scope known d plan within named is =
+pub agent_is : (v : Version) (agents : Numbers) (a : ℕ) (scope : Scope) (known : List (List ℕ)) (d : Data) (plan : AgentPlan) → IsAgentWithin scope a d plan → map (λ c. c.name) plan.callbacks ≡ known → scope ≡ scope_by v (number_in 1 known) agents a
+    → IsRead is_agent (agent_read v agents a) d plan
+agent_is v agents a scope known d plan within named is =
     let callbacks = members_in (get (codes "callbacks") d) in
     let jobs = items_in (get (codes "jobs") d) in
     let numbers : number_in 1 known ≡ number_from 1 callbacks = sym (number_keys 1 callbacks ∙ ap (number_in 1) (keys_read scope a 1 callbacks plan.callbacks within.callbacks ∙ named)) in
-    let scoped : scope ≡ scope_by (number_from 1 callbacks) agents a = is ∙ ap (λ f. scope_by f agents a) numbers in
+    let scoped : scope ≡ scope_by v (number_from 1 callbacks) agents a = is ∙ ap (λ f. scope_by v f agents a) numbers in
     let few_callbacks : nat_le (members_len callbacks) most_callbacks ≡ true = le-leb (members_len callbacks) most_callbacks (rw (callbacks_count scope a 1 callbacks plan.callbacks within.callbacks) within.few_callbacks) in
     let count : items_len jobs ≡ length plan.jobs = items_count (λ k. job_read scope (JobPlace a k)) (jobs_read scope a) (λ k. refl) (λ k e ds. refl) 1 jobs plan.jobs within.jobs in
     let few_jobs : nat_le (items_len jobs) most_jobs ≡ true = le-leb (items_len jobs) most_jobs (rw count within.few_jobs) in
-    let callbacks_are : callbacks_read (scope_by (number_from 1 callbacks) agents a) a 1 callbacks ≡ Ok plan.callbacks = subst (λ s. callbacks_read s a 1 callbacks ≡ Ok plan.callbacks) scoped within.callbacks in
-    let jobs_are : jobs_read (scope_by (number_from 1 callbacks) agents a) a 1 jobs ≡ Ok plan.jobs = subst (λ s. jobs_read s a 1 jobs ≡ Ok plan.jobs) scoped within.jobs in
+    let callbacks_are : callbacks_read (scope_by v (number_from 1 callbacks) agents a) a 1 callbacks ≡ Ok plan.callbacks = subst (λ s. callbacks_read s a 1 callbacks ≡ Ok plan.callbacks) scoped within.callbacks in
+    let jobs_are : jobs_read (scope_by v (number_from 1 callbacks) agents a) a 1 jobs ≡ Ok plan.jobs = subst (λ s. jobs_read s a 1 jobs ≡ Ok plan.jobs) scoped within.jobs in
     (within.shaped, rw (within.named, within.spelled, few_callbacks, few_jobs, callbacks_are, jobs_are) refl)
 
-pub took_agent : (agents : Numbers) (a : ℕ) (scope : Scope) (known : List (List ℕ)) (plan : AgentPlan) (ts r : List Token) → Took 5 (IsAgentWithin scope a) ts plan r → map (λ c. c.name) plan.callbacks ≡ known → scope ≡ scope_by (number_in 1 known) agents a
-    → Took 5 (IsRead is_agent (agent_read agents a)) ts plan r
-took_agent agents a scope known plan ts r took named is =
-    record { value = took.value; taken = took.taken; is = agent_is agents a scope known took.value plan took.is named is; shorter = took.shorter }
+pub took_agent : (v : Version) (agents : Numbers) (a : ℕ) (scope : Scope) (known : List (List ℕ)) (plan : AgentPlan) (ts r : List Token) → Took 5 (IsAgentWithin scope a) ts plan r → map (λ c. c.name) plan.callbacks ≡ known → scope ≡ scope_by v (number_in 1 known) agents a
+    → Took 5 (IsRead is_agent (agent_read v agents a)) ts plan r
+took_agent v agents a scope known plan ts r took named is =
+    record { value = took.value; taken = took.taken; is = agent_is v agents a scope known took.value plan took.is named is; shorter = took.shorter }
 
 -- All agents
 
@@ -189,42 +190,42 @@ agent_so true true false f g h t callbacks jobs p e = cc
 agent_so true false less f g h t callbacks jobs p e = cc
 agent_so false few less f g h t callbacks jobs p e = cc
 
-agent_named : (numbers : Numbers) (a : ℕ) (d : Data) (p : AgentPlan) → agent_read numbers a d ≡ Ok p → (is_name (text_in (get (codes "name") d)) ≡ true) × (text_in (get (codes "name") d) ≡ p.name)
-agent_named numbers a d p e =
+agent_named : (v : Version) (numbers : Numbers) (a : ℕ) (d : Data) (p : AgentPlan) → agent_read v numbers a d ≡ Ok p → (is_name (text_in (get (codes "name") d)) ≡ true) × (text_in (get (codes "name") d) ≡ p.name)
+agent_named v numbers a d p e =
     let callbacks = members_in (get (codes "callbacks") d) in
     let jobs = items_in (get (codes "jobs") d) in
-    let scope = scope_by (number_from 1 callbacks) numbers a in
+    let scope = scope_by v (number_from 1 callbacks) numbers a in
     let n = text_in (get (codes "name") d) in
     agent_so (is_name n) (nat_le (members_len callbacks) most_callbacks) (nat_le (items_len jobs) most_jobs) (at (Agent a) 0 Name) (at (Agent a) 0 Limit) (at (Agent a) 0 Limit) n (callbacks_read scope a 1 callbacks) (jobs_read scope a 1 jobs) p e
 
-texts_read : (numbers : Numbers) (a : ℕ) (ds : Items) (ps : List AgentPlan) → agents_read numbers a ds ≡ Ok ps → texts ds ≡ map (λ p. p.name) ps
-texts_read numbers a no_items ps e = ap (map (λ p. p.name)) (sym (none_left ps e))
-texts_read numbers a (item d ds) ps e =
-    let parts = rest_parts (agent_read numbers a d) (agents_read numbers (a + 1) ds) ps e in
-    ap (λ t. t ∷ texts ds) (agent_named numbers a d parts.0 parts.2).1 ∙ ap (λ ts. parts.0.name ∷ ts) (texts_read numbers (a + 1) ds parts.1 parts.3) ∙ ap (map (λ p. p.name)) parts.4
+texts_read : (v : Version) (numbers : Numbers) (a : ℕ) (ds : Items) (ps : List AgentPlan) → agents_read v numbers a ds ≡ Ok ps → texts ds ≡ map (λ p. p.name) ps
+texts_read v numbers a no_items ps e = ap (map (λ p. p.name)) (sym (none_left ps e))
+texts_read v numbers a (item d ds) ps e =
+    let parts = rest_parts (agent_read v numbers a d) (agents_read v numbers (a + 1) ds) ps e in
+    ap (λ t. t ∷ texts ds) (agent_named v numbers a d parts.0 parts.2).1 ∙ ap (λ ts. parts.0.name ∷ ts) (texts_read v numbers (a + 1) ds parts.1 parts.3) ∙ ap (map (λ p. p.name)) parts.4
 
 names_so : (a : ℕ) (used : List (List ℕ)) (d : Data) (ds : Items) → is_name (text_in (get (codes "name") d)) ≡ true → (fresh : Bool) → fresh ≡ not (is_used (text_in (get (codes "name") d)) used)
     → (later : Bool) → (later ≡ true → names_read (a + 1) (used ++ text_in (get (codes "name") d) ∷ []) ds ≡ Ok tt) → fresh && later ≡ true → names_read a used (item d ds) ≡ Ok tt
 names_so a used d ds named true is later more h = rw (named, ← is) (more h)
 names_so a used d ds named false is later more h = cc
 
-names_unused : (numbers : Numbers) (a : ℕ) (used : List (List ℕ)) (ds : Items) (ps : List AgentPlan) → agents_read numbers a ds ≡ Ok ps → are_new used (texts ds) ≡ true → names_read a used ds ≡ Ok tt
-names_unused numbers a used no_items ps e h = refl
-names_unused numbers a used (item d ds) ps e h =
-    let parts = rest_parts (agent_read numbers a d) (agents_read numbers (a + 1) ds) ps e in
+names_unused : (v : Version) (numbers : Numbers) (a : ℕ) (used : List (List ℕ)) (ds : Items) (ps : List AgentPlan) → agents_read v numbers a ds ≡ Ok ps → are_new used (texts ds) ≡ true → names_read a used ds ≡ Ok tt
+names_unused v numbers a used no_items ps e h = refl
+names_unused v numbers a used (item d ds) ps e h =
+    let parts = rest_parts (agent_read v numbers a d) (agents_read v numbers (a + 1) ds) ps e in
     let t = text_in (get (codes "name") d) in
-    names_so a used d ds (agent_named numbers a d parts.0 parts.2).0 (not (is_used t used)) refl (are_new (used ++ t ∷ []) (texts ds))
-    (λ later. names_unused numbers (a + 1) (used ++ t ∷ []) ds parts.1 parts.3 later) h
+    names_so a used d ds (agent_named v numbers a d parts.0 parts.2).0 (not (is_used t used)) refl (are_new (used ++ t ∷ []) (texts ds))
+    (λ later. names_unused v numbers (a + 1) (used ++ t ∷ []) ds parts.1 parts.3 later) h
 
 -- an array of agents, whose names are those that the numbers have, each once
-pub took_agents : (numbers : Numbers) (known : List (List ℕ)) (ps : List AgentPlan) (ts s r : List Token) → ts ≡ Token.begin_array ∷ s → TookItems 5 is_agent (agents_read numbers 0) s ps r → numbers ≡ number_in 0 known → map (λ p. p.name) ps ≡ known → are_new [] known ≡ true
-    → 1 ≤ length ps → length ps ≤ most_agents → Took 6 AreAgents ts ps r
-took_agents numbers known ps ts s r opened t is named unused some few =
+pub took_agents : (v : Version) (numbers : Numbers) (known : List (List ℕ)) (ps : List AgentPlan) (ts s r : List Token) → ts ≡ Token.begin_array ∷ s → TookItems 5 is_agent (agents_read v numbers 0) s ps r → numbers ≡ number_in 0 known → map (λ p. p.name) ps ≡ known → are_new [] known ≡ true
+    → 1 ≤ length ps → length ps ≤ most_agents → Took 6 (AreAgents v) ts ps r
+took_agents v numbers known ps ts s r opened t is named unused some few =
     let ds = t.values in
-    let all : texts ds ≡ known = texts_read numbers 0 ds ps t.read ∙ named in
+    let all : texts ds ≡ known = texts_read v numbers 0 ds ps t.read ∙ named in
     let numbered : numbers ≡ agent_from 0 ds = is ∙ sym (fun_ext (numbers_at 0 ds) ∙ ap (number_in 0) all) in
-    let names : names_read 0 [] ds ≡ Ok tt = names_unused numbers 0 [] ds ps t.read (rw all unused) in
-    let agents : agents_read (agent_from 0 ds) 0 ds ≡ Ok ps = subst (λ f. agents_read f 0 ds ≡ Ok ps) numbered t.read in
+    let names : names_read 0 [] ds ≡ Ok tt = names_unused v numbers 0 [] ds ps t.read (rw all unused) in
+    let agents : agents_read v (agent_from 0 ds) 0 ds ≡ Ok ps = subst (λ f. agents_read v f 0 ds ≡ Ok ps) numbered t.read in
     record {
       value = array ds;
       taken = λ depth h. rw opened (takes_array depth s r ds (omega (arith, h)) (t.taken (depth - 1) (omega (arith, h))));

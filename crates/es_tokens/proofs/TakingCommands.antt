@@ -20,7 +20,7 @@ use Rattle.es_tokens.proofs.Counted.{items_count}
 use Rattle.es_tokens.proofs.Taking.{takes_array, takes_item, takes_string, took_array}
 
 pub took_command : (scope : Scope) (spot : Spot) (w : List ℕ) (ds : Items) (c : Command) (ts s r : List Token) → ts ≡ Token.begin_array ∷ Token.string w ∷ s → ((depth : ℕ) → TakesItems depth s ds r) → length r < length s
-    → form_read scope spot (form w (items_len ds)) ds ≡ Ok c → Took 1 (IsRead is_command (command_read scope spot)) ts c r
+    → form_read scope spot (form scope.version w (items_len ds)) ds ≡ Ok c → Took 1 (IsRead is_command (command_read scope spot)) ts c r
 took_command scope spot w ds c ts s r is taken less e =
     record {
       value = array (item (string w) ds);

@@ -11,6 +11,8 @@ use Rattle.es_event.specs.declared.plan.AgentPlan.{AgentPlan}
 use Rattle.es_reading.specs.declared.fault.Place.{Place}
 use Rattle.es_reading.specs.declared.fault.Place.TheVariants.{Callback as CallbackPlace}
 use Rattle.es_reading.specs.declared.fault.Spot.{Spot}
+use Rattle.es_reading.specs.declared.version.Version.{Version}
+use Rattle.es_reading.specs.Versions.{number_of_version}
 use Rattle.serde_json.specs.Find.{get}
 use Rattle.es_reading.specs.Parts.{items_in, members_in, text_in}
 use Rattle.es_reading.specs.Scope.{Scope}
@@ -92,15 +94,19 @@ pub record IsAgentWithin (scope : Scope) (a : ℕ) (d : Data) (plan : AgentPlan)
 
 -- Plans
 
-abbrev pub AreAgents : Data → List AgentPlan → Type 0
-AreAgents d ps = (is_array_of is_agent (Some d) ≡ true) × (all_read (items_in (Some d)) ≡ Ok ps) × (1 ≤ length ps) × (length ps ≤ most_agents)
+abbrev pub AreAgents : Version → Data → List AgentPlan → Type 0
+AreAgents v d ps = (is_array_of is_agent (Some d) ≡ true) × (all_read v (items_in (Some d)) ≡ Ok ps) × (1 ≤ length ps) × (length ps ≤ most_agents)
+
+abbrev pub IsVersion : Data → Version → Type 0
+IsVersion d v = d ≡ number (unsigned (number_of_version v))
 
 abbrev pub plan_members : Option Data → Option Data → Members
 plan_members agents version = with_member (codes "agents") agents (with_member (codes "version") version no_members)
 
-pub record IsPlanDraft (old now : List Token) (draft : PlanDraft) : Type 0 where
+-- the agents are read as those of a plan of version v
+pub record IsPlanDraft (v : Version) (old now : List Token) (draft : PlanDraft) : Type 0 where
   pub agents_value : Option Data
   pub version_value : Option Data
   pub members : TookMembers 6 (plan_members agents_value version_value) old now
-  pub agents_kept : IsKept AreAgents agents_value draft.agents
-  pub version_kept : draft.version ≡ true → version_value ≡ Some (number (unsigned 1))
+  pub agents_kept : IsKept (AreAgents v) agents_value draft.agents
+  pub version_kept : IsKept IsVersion version_value draft.version

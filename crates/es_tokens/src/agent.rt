@@ -14,7 +14,7 @@ use crate::job::jobs_in;
 use crate::marks;
 use crate::quit::Quit;
 use es_event::{AgentPlan, Callback, Job, Sequence};
-use es_reading::{KnownNames, NumberTable, Part, Scope, numbers_of};
+use es_reading::{KnownNames, NumberTable, Part, Scope, Version, numbers_of};
 use es_value::Name;
 use json::Reader;
 use std::alloc::Global;
@@ -59,18 +59,19 @@ impl AgentDraft {
 /// The agent that comes next, where its callbacks are those that were found.
 pub(crate) fn agent_in<'a>(
     alloc: Global,
+    version: Version,
     numbers: &NumberTable,
     agent: usize,
     found: &[Name],
     reader: &mut Reader<'a>,
     parts: &mut Vec<Part<'a>>,
 ) -> Result<AgentPlan, Quit>
-    ensures { IfOk result (λ p. Took 5 (IsRead is_agent (agent_read (numbered numbers.now) agent)) reader.old p reader.new) }
+    ensures { IfOk result (λ p. Took 5 (IsRead is_agent (agent_read version (numbered numbers.now) agent)) reader.old p reader.new) }
 {
     let Ok(callbacks) = numbers_of(alloc, found, 1) else {
         return Err(Quit::NoMemory);
     };
-    let scope = Scope::new(callbacks, numbers, agent);
+    let scope = Scope::new(version, callbacks, numbers, agent);
     let mut names = KnownNames::new(alloc);
     let plan = agent_within(&mut names, &scope, agent, reader, parts)?;
     if !are_named(plan.callbacks.as_slice(), found) {

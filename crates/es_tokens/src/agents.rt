@@ -13,7 +13,7 @@ use crate::marks;
 use crate::overview::Overview;
 use crate::quit::Quit;
 use es_event::{AgentPlan, Sequence};
-use es_reading::{NumberTable, numbers_of};
+use es_reading::{NumberTable, Version, numbers_of};
 use es_value::{MOST_AGENTS, Name};
 use json::Reader;
 use std::alloc::Global;
@@ -24,14 +24,20 @@ pub(crate) fn agents_in(
     overview: &Overview,
     reader: &mut Reader<'_>,
 ) -> Result<Sequence<AgentPlan>, Quit>
-    ensures { IfOk result (λ ps. Took 6 AreAgents reader.old ps reader.new) }
+    ensures { IfOk result (λ ps. Took 6 (AreAgents overview.now.version) reader.old ps reader.new) }
 {
     marks::open_array(reader)?;
     let found = overview.agents.as_slice();
     let Ok(numbers) = numbers_of(alloc, found, 0) else {
         return Err(Quit::NoMemory);
     };
-    let agents = agents_after(alloc, &numbers, overview.callbacks.as_slice(), reader)?;
+    let agents = agents_after(
+        alloc,
+        overview.version,
+        &numbers,
+        overview.callbacks.as_slice(),
+        reader,
+    )?;
     if agents.as_slice().is_empty() {
         return Err(Quit::Unusual);
     }
@@ -47,11 +53,12 @@ pub(crate) fn agents_in(
 /// The agents up to the bracket that closes their array.
 fn agents_after<'a>(
     alloc: Global,
+    version: Version,
     numbers: &NumberTable,
     found: &[Vec<Name>],
     reader: &mut Reader<'a>,
 ) -> Result<Sequence<AgentPlan>, Quit>
-    ensures taken { IfOk result (λ ps. TookItems 5 is_agent (agents_read (numbered numbers.now) 0) reader.old ps reader.new) }
+    ensures taken { IfOk result (λ ps. TookItems 5 is_agent (agents_read version (numbered numbers.now) 0) reader.old ps reader.new) }
     ensures few { IfOk result (λ ps. length ps ≤ most_agents) }
 {
     let mut parts = Vec::new(alloc);
@@ -63,6 +70,7 @@ fn agents_after<'a>(
         }
         let agent = agent_in(
             alloc,
+            version,
             numbers,
             number,
             found[number].as_slice(),

@@ -1,8 +1,9 @@
-//! A first look over a plan's text: the names of its agents and of their callbacks. What it finds is
-//! compared with what is read then, so that nothing rests on it, and it promises nothing.
+//! A first look over a plan's text: its version, and the names of its agents and of their callbacks. What it
+//! finds is compared with what is read then, so that nothing rests on it, and it promises nothing.
 
 use crate::marks;
 use crate::quit::Quit;
+use es_reading::Version;
 use es_value::{MOST_AGENTS, MOST_CALLBACKS, Name};
 use json::{Reader, Scratch};
 use memchr::memmem;
@@ -12,9 +13,10 @@ use std::collections::BTreeSet;
 /// How deep what is passed over may nest.
 const DEPTH: usize = 100;
 
-/// The names of the agents, in order, and of the callbacks of each, by rising byte order.
+/// The version, and the names of the agents, in order, and of the callbacks of each, by rising byte order.
 #[derive(Drop)]
 pub(crate) struct Overview {
+    pub(crate) version: Version,
     pub(crate) agents: Vec<Name>,
     pub(crate) callbacks: Vec<Vec<Name>>,
 }
@@ -47,7 +49,25 @@ pub(crate) fn overview_of(
     if agents.len() != callbacks.len() {
         return Err(Quit::Unusual);
     }
-    Ok(Overview { agents, callbacks })
+    let version = version_in(text);
+    Ok(Overview {
+        version,
+        agents,
+        callbacks,
+    })
+}
+
+/// The version that the first such key has. Where it is found nowhere the first is as good as any.
+fn version_in(text: &str) -> Version {
+    for place in memmem::find_iter(text.as_bytes(), b"\"version\"") {
+        if value_of(text, place, "\"version\"", b'1').is_some() {
+            return Version::One;
+        }
+        if value_of(text, place, "\"version\"", b'2').is_some() {
+            return Version::Two;
+        }
+    }
+    Version::One
 }
 
 /// The text from a value on that begins with this byte, where at a place stands a key, and then, with white

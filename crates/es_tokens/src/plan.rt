@@ -1,13 +1,13 @@
 //! Whole plans, from the tokens of their text.
 
-ghost use Rattle.std.specs.Prelude.{◌≡◌, ◌<◌, IfOk, Some, length, List, true};
+ghost use Rattle.std.specs.Prelude.{◌≡◌, ◌<◌, IfOk, IsTrue, Some, length, List};
 ghost use Rattle.std.specs.Str.{IsUtf8};
 ghost use Rattle.json.specs.Token.{Token as SpecToken};
 ghost use Rattle.json.specs.Json.{read_key};
 ghost use Rattle.serde_json.specs.Data.{Data};
 ghost use Rattle.serde_json.specs.Read.{read};
 ghost use Rattle.es_tokens.specs.Taking.{Took};
-ghost use Rattle.es_tokens.specs.Drafts.{IsPlanDraft};
+ghost use Rattle.es_tokens.specs.Drafts.{IsVersion, IsPlanDraft};
 ghost use Rattle.es_tokens.specs.Quick.{IsPlanValue};
 
 use crate::agents::agents_in;
@@ -15,30 +15,45 @@ use crate::marks;
 use crate::overview::{Overview, overview_of};
 use crate::quit::Quit;
 use es_event::{AgentPlan, Sequence};
+use es_reading::Version;
 use json::{Reader, Scratch};
 use std::alloc::Global;
 
-/// What was read of a plan so far: whether its version is 1, and the agents.
+/// What was read of a plan so far.
 #[derive(Drop)]
 pub(crate) struct PlanDraft {
-    version: bool,
+    version: Option<Version>,
     agents: Option<Sequence<AgentPlan>>,
 }
 
 impl PlanDraft {
-    /// The agents, where all of the plan was read.
-    fn into_agents(self) -> Result<Sequence<AgentPlan>, Quit>
-        ensures version { IfOk result (λ ps. self.version ≡ true) }
+    /// The agents, where all of the plan was read, and is of this version.
+    fn into_agents(self, version: Version) -> Result<Sequence<AgentPlan>, Quit>
+        ensures same { IfOk result (λ ps. self.version ≡ Some version) }
         ensures agents { IfOk result (λ ps. self.agents ≡ Some ps) }
     {
-        let PlanDraft { version, agents } = self;
-        if !version {
+        let PlanDraft {
+            version: read,
+            agents,
+        } = self;
+        if !is_version(read, version) {
             return Err(Quit::Unusual);
         }
         match agents {
             Some(agents) => Ok(agents),
             None => Err(Quit::Unusual),
         }
+    }
+}
+
+/// Whether the version that was read, if any, is this one.
+fn is_version(read: Option<Version>, version: Version) -> bool
+    ensures { IsTrue result → read ≡ Some version }
+{
+    match read {
+        Some(Version::One) => matches!(version, Version::One),
+        Some(Version::Two) => matches!(version, Version::Two),
+        None => false,
     }
 }
 
@@ -93,13 +108,13 @@ fn plan_in(
 {
     marks::open_object(reader)?;
     let mut draft = PlanDraft {
-        version: false,
+        version: None,
         agents: None,
     };
     'members: while let Some(key) = reader.next_key()? {
         member_in(alloc, overview, reader, key, &mut draft)?;
     }
-    let agents = draft.into_agents()?;
+    let agents = draft.into_agents(overview.version)?;
     Ok(agents)
 }
 
@@ -112,7 +127,7 @@ fn member_in(
     draft: &mut PlanDraft,
 ) -> Result<(), Quit>
     ensures taken { IfOk result (λ _. (old now : List SpecToken) → read_key now ≡ Some (Some key.now, reader.old)
-        → IsPlanDraft old now draft.old → IsPlanDraft old reader.new draft.new) }
+        → IsPlanDraft overview.now.version old now draft.old → IsPlanDraft overview.now.version old reader.new draft.new) }
     ensures shorter { IfOk result (λ _. length reader.new < length reader.old) }
 {
     match key {
@@ -122,13 +137,24 @@ fn member_in(
             Ok(())
         }
         "version" => {
-            let version = marks::number(reader)?;
-            if version != "1" {
-                return Err(Quit::Unusual);
-            }
-            draft.version = true;
+            let version = version_in(reader)?;
+            draft.version = Some(version);
             Ok(())
         }
         _ => Err(Quit::Unusual),
     }
+}
+
+/// The version that comes next.
+fn version_in(reader: &mut Reader<'_>) -> Result<Version, Quit>
+    ensures { IfOk result (λ v. Took 0 IsVersion reader.old v reader.new) }
+{
+    let number = marks::number(reader)?;
+    if number == "1" {
+        return Ok(Version::One);
+    }
+    if number == "2" {
+        return Ok(Version::Two);
+    }
+    Err(Quit::Unusual)
 }

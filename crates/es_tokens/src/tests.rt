@@ -136,16 +136,29 @@ const COMMANDS: &[&str] = &[
     r#"["collect"] = Collect"#,
 ];
 
+/// The commands that version 2 has besides.
+const LATER_COMMANDS: &[&str] = &[r#"["collectlater"] = CollectLater"#];
+
+/// What is read of a plan of this version, in which this command stands twice.
+fn read_twice(alloc: Global, version: usize, command: &str) -> Result<String, Fail> {
+    let text = format!(in alloc;
+        r#"{{"version":{version},"agents":[{{"name":"main","callbacks":{{"c":[]}},"jobs":[{{"run":[{command},{command}]}}]}},{{"name":"other","callbacks":{{}},"jobs":[]}}]}}"#
+    )?;
+    read(alloc, text.as_str())
+}
+
 #[test]
 fn each_command_is_read(rt: HostRuntime) -> Result<(), Fail> {
     let alloc = rt.alloc();
-    for row in COMMANDS {
-        let (command, shown) = row.split_once(" = ").unwrap_or_default();
-        let text = format!(in alloc;
-            r#"{{"version":1,"agents":[{{"name":"main","callbacks":{{"c":[]}},"jobs":[{{"run":[{command},{command}]}}]}},{{"name":"other","callbacks":{{}},"jobs":[]}}]}}"#
-        )?;
-        let want = format!(in alloc; "main\ncallback c:\njob: {shown} {shown}\nother\n")?;
-        assert_eq!(rt; read(alloc, text.as_str())?.as_str(), want.as_str());
+    for (version, rows) in [(1, COMMANDS), (2, COMMANDS), (2, LATER_COMMANDS)] {
+        for row in rows {
+            let (command, shown) = row.split_once(" = ").unwrap_or_default();
+            let want = format!(in alloc; "main\ncallback c:\njob: {shown} {shown}\nother\n")?;
+            assert_eq!(rt;
+                read_twice(alloc, version, command)?.as_str(),
+                want.as_str()
+            );
+        }
     }
     Ok(())
 }
@@ -160,6 +173,8 @@ const UNUSUAL: &[&str] = &[
     // The key `agents` twice, and other keys whose first value is none that may stand there.
     r#"{"version":1,"agents":[],"agents":[{"name":"a","callbacks":{},"jobs":[]}]}"#,
     r#"{"version":2,"agents":[{"name":"a","callbacks":{},"jobs":[]}],"version":1}"#,
+    r#"{"version":3,"agents":[{"name":"a","callbacks":{},"jobs":[]}],"version":1}"#,
+    r#"{"v\u0065rsion":2,"agents":[{"name":"a","callbacks":{},"jobs":[]}]}"#,
     r#"{"version":1,"agents":[{"name":"a","callbacks":{},"jobs":[{"run":1,"run":[]}]}]}"#,
 ];
 
@@ -167,7 +182,8 @@ const UNUSUAL: &[&str] = &[
 const FAULTY: &[&str] = &[
     "",
     r#"{"version":1,"agents":[]}"#,
-    r#"{"version":2,"agents":[{"name":"a","callbacks":{},"jobs":[]}]}"#,
+    r#"{"version":3,"agents":[{"name":"a","callbacks":{},"jobs":[]}]}"#,
+    r#"{"version":20,"agents":[{"name":"a","callbacks":{},"jobs":[]}]}"#,
     r#"{"version":1.0,"agents":[{"name":"a","callbacks":{},"jobs":[]}]}"#,
     r#"{"agents":[{"name":"a","callbacks":{},"jobs":[]}]}"#,
     r#"{"version":1}"#,
@@ -181,6 +197,9 @@ const FAULTY: &[&str] = &[
     r#"{"version":1,"agents":[{"callbacks":{},"jobs":[]}]}"#,
     r#"{"version":1,"agents":[{"name":"a","callbacks":{},"jobs":[],"more":1}]}"#,
     r#"{"version":1,"agents":[{"name":"a","callbacks":{"c":[["collect"]]},"jobs":[]}]}"#,
+    r#"{"version":1,"agents":[{"name":"a","callbacks":{"c":[["collectlater"]]},"jobs":[]}]}"#,
+    r#"{"version":2,"agents":[{"name":"a","callbacks":{"c":[["collectlater"]]},"jobs":[]}]}"#,
+    r#"{"version":1,"agents":[{"name":"a","callbacks":{},"jobs":[{"run":[["collectlater"]]}]}]}"#,
     r#"{"version":1,"agents":[{"name":"a","callbacks":{},"jobs":[{}]}]}"#,
     r#"{"version":1,"agents":[{"name":"a","callbacks":{},"jobs":[{"run":[],"on":["a","m"]}]}]}"#,
     r#"{"version":1,"agents":[{"name":"a","callbacks":{},"jobs":[{"run":[["post","a","x"]]}]}]}"#,
@@ -199,6 +218,23 @@ fn what_is_left_to_the_reader_of_values(rt: HostRuntime) -> Result<(), Fail> {
     }
     for text in FAULTY {
         assert_eq!(rt; read(alloc, text)?.as_str(), "Unusual", "{text}");
+    }
+    Ok(())
+}
+
+/// A plan of version 2 in other orders, and with what is called like the key before it.
+const LATER: &[&str] = &[
+    r#"{"version":2,"agents":[{"name":"version","callbacks":{},"jobs":[{"run":[["let","version",1],["collectlater"]]}]}]}"#,
+    r#"{"agents":[{"callbacks":{},"jobs":[{"run":[["let","version",1],["collectlater"]]}],"name":"version"}],"version":2}"#,
+    "{ \"agents\" : [ { \"name\" : \"version\" , \"callbacks\" : { } , \"jobs\" : [ { \"run\" : [ [ \"let\" , \"version\" , 1 ] , [ \"collectlater\" ] ] } ] } ] , \"version\" :\n2 }",
+];
+
+#[test]
+fn the_version_comes_anywhere(rt: HostRuntime) -> Result<(), Fail> {
+    let alloc = rt.alloc();
+    for text in LATER {
+        let want = "version\njob: Let { to: version, literal: Number(1) } CollectLater\n";
+        assert_eq!(rt; read(alloc, text)?.as_str(), want, "{text}");
     }
     Ok(())
 }

@@ -12,13 +12,13 @@ agents-preserved c =
     let numbers = numbered c.args.numbers.now in
     let agent = c.in_ok-agent.agent in
     let next = c.agent_in.new.reader in
-    let reading = agent_read numbers l.number in
+    let reading = agent_read c.args.version numbers l.number in
     let unclosed : after_end_array l.reader ≡ None = grind arith in
     let unmoved : c.take_end_array.new.self ≡ l.reader = grind arith in
     let took : Took 5 (IsRead is_agent reading) l.reader agent next = rw (← unmoved) c.in_ok-agent.ensures in
     let pushed : c.push.new.self ≡ l.agents ++ agent ∷ [] = grind arith in
     record {
-      taken = took_more 5 is_agent reading (agents_read numbers 0) (agents_read numbers l.number) (agents_read numbers (l.number + 1)) (λ d ds. refl) c.args.reader.now l.reader next l.agents c.push.new.self agent l.invariant.taken unclosed took pushed;
+      taken = took_more 5 is_agent reading (agents_read c.args.version numbers 0) (agents_read c.args.version numbers l.number) (agents_read c.args.version numbers (l.number + 1)) (λ d ds. refl) c.args.reader.now l.reader next l.agents c.push.new.self agent l.invariant.taken unclosed took pushed;
       counted = rw pushed (omega (arith, length-append l.agents (agent ∷ []), l.invariant.counted));
       few = omega arith;
     }
@@ -29,4 +29,4 @@ returns-clause-taken c =
     let numbers = numbered c.args.numbers.now in
     let r = c.take_end_array.new.self in
     let closed : after_end_array l.reader ≡ Some r = grind arith in
-    took_all 5 is_agent (agents_read numbers 0) (agents_read numbers l.number) c.args.reader.now l.reader r l.agents l.invariant.taken refl closed
+    took_all 5 is_agent (agents_read c.args.version numbers 0) (agents_read c.args.version numbers l.number) c.args.reader.now l.reader r l.agents l.invariant.taken refl closed

@@ -10,7 +10,7 @@ use Rattle.es_tokens.proofs.agents.agents_after.Given as goal
 -- whatever agents are left, those so far come before them
 abbrev pub invariant-agents : goal.invariant-agents
 invariant-agents l = record {
-  taken : (r : List Token) (ps : List AgentPlan) → TookItems 5 is_agent (agents_read (numbered l.numbers) l.number) l.reader ps r → TookItems 5 is_agent (agents_read (numbered l.numbers) 0) l.fn.reader (l.agents ++ ps) r;
+  taken : (r : List Token) (ps : List AgentPlan) → TookItems 5 is_agent (agents_read l.version (numbered l.numbers) l.number) l.reader ps r → TookItems 5 is_agent (agents_read l.version (numbered l.numbers) 0) l.fn.reader (l.agents ++ ps) r;
   counted : length l.agents ≡ l.number;
   few : l.number ≤ most_agents;
 }

@@ -4,7 +4,7 @@ use Rattle.es_tokens.proofs.TakingPlan.{plan_none, took_plan}
 use Rattle.es_tokens.proofs.plan.plan_in.Goals as goal
 
 pub members-init : goal.members-init
-members-init c = plan_none c.args.reader.now c.open_object.new.reader _ c.in_ok-open_object.ensures refl refl
+members-init c = plan_none c.args.overview.now.version c.args.reader.now c.open_object.new.reader _ c.in_ok-open_object.ensures refl refl
 
 pub members-preserved : goal.members-preserved
 members-preserved c =
@@ -16,4 +16,4 @@ pub returns : goal.returns
 returns c =
     let l = c.members in
     let closed : read_key l.reader ≡ Some (None, c.next_key.new.self) = grind arith in
-    took_plan c.args.reader.now l.reader c.next_key.new.self l.draft c.in_ok-agents.agents l.invariant closed c.in_ok-agents.ensures.version c.in_ok-agents.ensures.agents
+    took_plan c.args.overview.now.version c.args.reader.now l.reader c.next_key.new.self l.draft c.in_ok-agents.agents l.invariant closed c.in_ok-agents.ensures.same c.in_ok-agents.ensures.agents

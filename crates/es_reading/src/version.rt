@@ -1,0 +1,10 @@
+//! The versions of the format.
+
+/// A version of the format.
+#[derive(Clone, Copy, Debug)]
+pub enum Version {
+    /// The first.
+    One,
+    /// The second, which has later collections besides.
+    Two,
+}
