@@ -29,7 +29,7 @@ use Rattle.es_event.specs.LegalLedger.{MayCome, ComesNext, LegalSoFar, LegalLedg
 use Rattle.es_event.specs.Totals.{released, posted, taken, drained}
 use Rattle.es_event.specs.Report.{cluster_text}
 use Rattle.es_event.proofs.Alone.{left_alone, due_no_message}
-use Rattle.es_event.proofs.Coming.{Comes, begins_job, begins_handed, receives, skips, refuses_message, begins_cleanup, does, refuses, empties_dead, takes, ends, stops, closes, comes}
+use Rattle.es_event.proofs.Coming.{Comes, begins_job, begins_handed, receives, skips, refuses_message, begins_cleanup, does, refuses, empties_dead, takes, ends, stops, finishes, finishes_stopped, closes, comes}
 use Rattle.es_match.specs.Deeds.{Deed, Opens, Posts, Passes, Ends, is_wait, deed, part_of, part}
 use Rattle.es_match.specs.Asks.{Asking, nothing, to_empty, to_close, between_jobs, asks, asks_did}
 use Rattle.es_match.proofs.Bridge.{mapped}
@@ -98,8 +98,10 @@ calm_asks over plan h at _ alone follows here (does c cs vs r i is) = calm_comma
 calm_asks over plan h at _ alone follows here (refuses c cs code i is) = ap (λ b. is_calm (asks b (Refused code))) (inside_job over plan h follows (here ∙ i))
 calm_asks over plan h at _ alone follows here (empties_dead c cs ids i is co dead) = refl
 calm_asks over plan h at _ alone follows here (takes n v i is next) = refl
-calm_asks over plan h at _ alone follows here (ends i is none) = refl
-calm_asks over plan h at _ alone follows here (stops s) = refl
+calm_asks over plan h at _ alone follows here (ends i is none shut) = refl
+calm_asks over plan h at _ alone follows here (stops s shut) = refl
+calm_asks over plan h at _ alone follows here (finishes ids i is none finish) = refl
+calm_asks over plan h at _ alone follows here (finishes_stopped ids s finish) = refl
 calm_asks over plan h at _ alone follows here (closes b none) = refl
 
 -- an agent that stays alone does nothing in the ledger but end, and has no ticket

@@ -10,7 +10,7 @@ use crate::input::read_all;
 use crate::run_fault::RunFault;
 use es_event::Plan;
 use es_options::Options;
-use es_report::write_report;
+use es_report::write_report_counted;
 use es_script::read_plan;
 use std::alloc::Global;
 use std::io::{Read, Write};
@@ -68,12 +68,6 @@ fn answer<H: AllocGlobal + Threads + Wait + Sync, W: Write>(
         return Ok(0);
     }
     let (ended, audits) = run_plan(rt, rt.alloc(), plan, options)?;
-    write_report(
-        &ended.outcome,
-        ended.tallies.as_slice(),
-        ended.released,
-        writer,
-    )
-    .map_err(|_| RunFault::Write)?;
+    write_report_counted(&ended.outcome, &ended.counts, writer).map_err(|_| RunFault::Write)?;
     Ok(audits)
 }

@@ -9,8 +9,9 @@ use es_value::LONGEST_PLAN;
 use std::alloc::Global;
 use std::io::Read;
 
-/// How many bytes are asked for at a time.
-const PIECE: usize = 65_536;
+/// How many bytes are asked for at a time. They lie on the stack, which so has grown, before the plan takes memory, as
+/// far as a text of many levels needs: where memory ended first, a stack that can't grow would end the program.
+const PIECE: usize = 262_144;
 
 /// The bytes that the reader gives, to its end.
 ///

@@ -1,1 +1,4 @@
-pub mod Tallies
+pub mod Holding
+pub mod Looking
+pub mod Ports
+pub mod Totals

@@ -5,24 +5,25 @@ ghost use Rattle.std.specs.Option.{is_some};
 ghost use Rattle.std.specs.Io.KnownBytes.{Appends};
 ghost use Rattle.es_event.specs.Ledger.{opened, opens};
 ghost use Rattle.es_event.specs.Report.{cluster_text};
-ghost use Rattle.es_event.specs.Totals.{is_drained, is_posted, is_taken, released as released_said};
+ghost use Rattle.es_event.specs.Totals.{is_drained, is_posted, is_taken};
+ghost use Rattle.es_report.specs.Totals.{totals_text};
 
+use crate::holding::released_back;
+use es_count::Counts;
 use es_event::{LedgerEvent, Sequence};
 use std::io;
 use std::io::Write;
 
-/// Writes the cluster's lines from the ledger's events, the oldest first, and from how many blocks
-/// were released.
+/// Writes the cluster's lines from the ledger's events, the oldest first.
 pub(crate) fn write_cluster<W: Write>(
     ledger: &Sequence<LedgerEvent>,
-    released: usize,
     writer: &mut W,
 ) -> Result<(), io::Error>
-    requires { released ≡ released_said (reverse ledger.now) }
     ensures { OnOk result (Appends (W.contents writer.old) (W.contents writer.new) (cluster_text (reverse ledger.now))) }
 {
     let events = ledger.as_slice();
     let opened = count_blocks(events);
+    let released = released_back(events, opened);
     let posted = count_posted(events);
     let taken = count_taken(events);
     let drained = count_drained(events);
@@ -34,8 +35,25 @@ pub(crate) fn write_cluster<W: Write>(
     )
 }
 
+/// Writes the cluster's lines from its totals.
+pub(crate) fn write_totals<W: Write>(counts: &Counts, writer: &mut W) -> Result<(), io::Error>
+    ensures { OnOk result (Appends (W.contents writer.old) (W.contents writer.new) (totals_text counts.now)) }
+{
+    let opened = counts.opened();
+    let released = counts.released();
+    let posted = counts.posted();
+    let taken = counts.taken();
+    let drained = counts.drained();
+    writeln!(
+        writer,
+        "cluster\n\
+         blocks {opened} released {released}\n\
+         messages posted {posted} taken {taken} drained {drained}"
+    )
+}
+
 /// How many blocks were made, by the ledger's events, the oldest first.
-pub fn count_blocks(events: &[LedgerEvent]) -> usize
+fn count_blocks(events: &[LedgerEvent]) -> usize
     ensures { result ≡ opened (reverse events.now) }
 {
     count_opened(events)

@@ -1,5 +1,5 @@
 use Rattle.std.proofs.Common.{sym, ◌∙◌}
-use Rattle.es_report.proofs.Counts.{opened_reversed}
+use Rattle.es_report.proofs.Reversed.{opened_reversed}
 use Rattle.es_report.proofs.cluster.count_blocks.Goals as goal
 
 pub returns : goal.returns

@@ -1,0 +1,11 @@
+use Rattle.std.proofs.Common.{◌++◌, codes, decimal, append_assoc}
+use Rattle.std.specs.Result.{OnOk}
+use Rattle.std.specs.Io.KnownBytes.{Appends}
+use Rattle.es_report.proofs.cluster.write_totals.Goals as goal
+
+pub returns : goal.returns
+returns g c =
+    let t = c.args.counts.now in
+    let told : OnOk c.writeln.result (Appends (g.W.Write.contents c.args.writer.now) (g.W.Write.contents c.writeln.new.self) (codes "cluster\nblocks " ++ (decimal t.opened ++ (codes " released " ++ (decimal t.released ++ (codes "\nmessages posted " ++ (decimal t.posted ++ (codes " taken " ++ (decimal t.taken ++ (codes " drained " ++ (decimal t.drained ++ codes "\n")))))))))))
+    = rw (c.opened-opened.ensures, c.released-released.ensures, c.posted-posted.ensures, c.taken-taken.ensures, c.drained-drained.ensures) at c.writeln.ensures.bytes in
+    simp append_assoc told
