@@ -6,25 +6,27 @@
 
        cc -o run embed/run.c embed/libclusterrun.a
 
-   There are two ways. clusterrun_run and clusterrun_check write the text of the answer into memory of the caller's, as
-   much of it as there is room for. clusterrun_keep_run and clusterrun_keep_check keep it, however long it is, until the
-   caller has copied it and gives it up; so no plan is run twice.
+   There are two ways to have a plan's answer. clusterrun_run and clusterrun_check write its text into memory of the
+   caller's, as much of it as there is room for. clusterrun_keep_run and clusterrun_keep_check keep it, however long it
+   is, until the caller has copied it and gives it up; so no plan is run twice. And there is a way to move the agents of a
+   plan oneself, one turn after the other, in whatever order: clusterrun_begin and what follows it.
 
    Memory. A plan, and what a function writes to, belongs to the caller before and after the call; the library keeps no
    pointer to it. What a call takes for its own work it takes by malloc and realloc, and has given back by free when
-   it returns, whatever it answers. Only a `struct clusterrun_answer` owns memory between calls.
+   it returns, whatever it answers. Only a `struct clusterrun_answer` and a `struct clusterrun_cluster` own memory
+   between calls.
 
    Threads. The library itself keeps nothing from one call to the next, and a call starts no thread and takes no lock.
-   So calls may be made from several threads at the same time, each with memory of its own to write to. An answer that
-   is kept stays with the thread that made it. No call may be made from a signal handler, nor in a child that was
-   forked from a process with threads.
+   So calls may be made from several threads at the same time, each with memory of its own to write to. An answer or a
+   cluster that is kept stays with the thread that made it. No call may be made from a signal handler, nor in a child
+   that was forked from a process with threads.
 
    What the caller owes, since nothing checks it:
    - No pointer is NULL, not even one to 0 bytes.
    - What a call writes to overlaps nothing else that is passed, and no other thread touches it, or writes to the plan,
      during the call.
    - `*length` has some value before the call, and the `room` bytes at `out` have been written to, as by calloc.
-   - A `struct clusterrun_answer` is handled as is said with it.
+   - A `struct clusterrun_answer` and a `struct clusterrun_cluster` are handled as is said with them.
    - malloc, realloc and free are those of one allocator, and align as C says. */
 #ifndef CLUSTERRUN_H
 #define CLUSTERRUN_H
@@ -108,6 +110,135 @@ static inline void clusterrun_release(struct clusterrun_answer *answer)
         clusterrun_kept_free(*answer);
     answer->filled = false;
     answer->at = NULL;
+}
+
+/* Agents moved one by one
+
+   A cluster is the agents of a plan and what they share. clusterrun_begin makes it, and an agent moves only where
+   clusterrun_step says so: the order of the agents is the caller's, since the standard leaves it to the host. */
+
+/* What a turn of an agent came to. */
+enum {
+    /* The agent has one event more: it began or ended a job, received a message, did a command, or the like. */
+    CLUSTERRUN_MOVED = 0,
+    /* It waits on for a message. Nothing happens before another agent has moved. */
+    CLUSTERRUN_WAITS = 1,
+    /* It has ended. */
+    CLUSTERRUN_ENDED = 2,
+    /* 3 is CLUSTERRUN_NO_MEMORY. */
+    /* There is no agent with this number. */
+    CLUSTERRUN_NO_AGENT = 4
+};
+
+/* A cluster that is kept, where it is filled; else it owns nothing. It begins with zeros:
+
+       struct clusterrun_cluster cluster = {0};
+
+   No more than one copy of a filled one may be used: a function that takes it by value takes the cluster over. A filled
+   one comes from a call of the library and from nothing else, since a call relies on what lies behind `at`. */
+struct clusterrun_cluster {
+    bool filled;
+    uint8_t *at;
+};
+
+/* All tickets of the shared blocks of a cluster, counted at one moment. */
+struct clusterrun_counts {
+    /* How many shared blocks were made, and how many of them are released. */
+    uint64_t blocks;
+    uint64_t released;
+    /* How many tickets agents hold, and how many lie in messages that were not taken. */
+    uint64_t in_agents;
+    uint64_t in_ports;
+};
+
+/* Reads a plan and keeps its cluster in `*cluster`, which is not filled before the call. No agent has moved then.
+
+   CLUSTERRUN_DONE: the cluster is filled, and `*agents` is how many agents it has; they have the numbers from 0 on.
+   CLUSTERRUN_REFUSED: the plan has a fault, and its text is in `out` and `*length` as with clusterrun_run.
+   CLUSTERRUN_NO_MEMORY, CLUSTERRUN_TOO_LONG: as with clusterrun_run.
+   But for CLUSTERRUN_DONE, `*cluster` is unchanged and `*agents` is 0. */
+uint32_t clusterrun_begin(
+    const uint8_t *plan, size_t plan_length, struct clusterrun_cluster *cluster, size_t *agents, uint8_t *out,
+    size_t room, size_t *length);
+
+/* The functions that follow take over `cluster`, which is filled. The first three hand it on to `*next`, which is not
+   filled before the call and is filled then, whatever they answer. Those below them do the same in place. */
+
+/* One turn of the agent: its next event, and what that asks of the other agents. Answers CLUSTERRUN_MOVED, _WAITS or
+   _ENDED. CLUSTERRUN_NO_MEMORY: there was not memory enough; no agent has changed, and none moves any more. The cluster
+   can still be asked and given up. CLUSTERRUN_NO_AGENT: nothing has changed. */
+uint32_t clusterrun_cluster_step(struct clusterrun_cluster cluster, size_t agent, struct clusterrun_cluster *next);
+
+/* What the agent said: the lines that a report has of its events, from the event with the number `from` on; its oldest
+   event has the number 0. Not every event has a line. They go to `out` and `*length` as with clusterrun_run, and how
+   many events the agent has goes to `*events`: where the next call has this as `from`, it gives what is new by then. With
+   `from` of `*events` or more there is no line. CLUSTERRUN_NO_MEMORY, CLUSTERRUN_NO_AGENT: all of `out` is unchanged, and
+   `*length` and `*events` are 0. */
+uint32_t clusterrun_cluster_said(
+    struct clusterrun_cluster cluster, size_t agent, size_t from, uint8_t *out, size_t room, size_t *length,
+    size_t *events, struct clusterrun_cluster *next);
+
+/* Counts all tickets. With CLUSTERRUN_NO_MEMORY, `*counts` is unchanged. */
+uint32_t clusterrun_cluster_audit(
+    struct clusterrun_cluster cluster, struct clusterrun_counts *counts, struct clusterrun_cluster *next);
+
+/* Runs what is left by turns, the lowest-numbered agent that can move first, and keeps the report of the whole in
+   `*answer`, which is not filled before the call. So a cluster of which no agent was moved has the plan's report by turns.
+   The whole length in bytes goes to `*length`. CLUSTERRUN_NO_MEMORY: there was not memory enough, now or in a turn
+   before; there is no text, `*length` is 0 and `*answer` unchanged. The cluster is used up either way. */
+uint32_t clusterrun_cluster_end(struct clusterrun_cluster cluster, struct clusterrun_answer *answer, size_t *length);
+
+/* Gives the cluster up with its memory, however far its agents are. The call cannot fail. */
+void clusterrun_cluster_free(struct clusterrun_cluster cluster);
+
+/* The same in place. `*cluster` is filled, and stays so unless something else is said. */
+static inline uint32_t clusterrun_step(struct clusterrun_cluster *cluster, size_t agent)
+{
+    struct clusterrun_cluster next = {false, NULL};
+    uint32_t answer = clusterrun_cluster_step(*cluster, agent, &next);
+
+    *cluster = next;
+    return answer;
+}
+
+static inline uint32_t clusterrun_said(
+    struct clusterrun_cluster *cluster, size_t agent, size_t from, uint8_t *out, size_t room, size_t *length,
+    size_t *events)
+{
+    struct clusterrun_cluster next = {false, NULL};
+    uint32_t status = clusterrun_cluster_said(*cluster, agent, from, out, room, length, events, &next);
+
+    *cluster = next;
+    return status;
+}
+
+static inline uint32_t clusterrun_audit(struct clusterrun_cluster *cluster, struct clusterrun_counts *counts)
+{
+    struct clusterrun_cluster next = {false, NULL};
+    uint32_t status = clusterrun_cluster_audit(*cluster, counts, &next);
+
+    *cluster = next;
+    return status;
+}
+
+/* The cluster is not filled afterwards. */
+static inline uint32_t clusterrun_end(
+    struct clusterrun_cluster *cluster, struct clusterrun_answer *answer, size_t *length)
+{
+    struct clusterrun_cluster over = *cluster;
+
+    cluster->filled = false;
+    cluster->at = NULL;
+    return clusterrun_cluster_end(over, answer, length);
+}
+
+/* Gives the cluster up, where it is filled, and leaves it unfilled. */
+static inline void clusterrun_give_up(struct clusterrun_cluster *cluster)
+{
+    if (cluster->filled)
+        clusterrun_cluster_free(*cluster);
+    cluster->filled = false;
+    cluster->at = NULL;
 }
 
 #ifdef __cplusplus

@@ -1,9 +1,10 @@
 /* What the calls of the C library promise of the caller's memory, and of their own: each plan of the files that are
    named is run and checked with buffers of each size that matters, with each growth refused in turn, and again and
-   again. The library's malloc, realloc and free come by way of ours (-Wl,--wrap).
+   again.
 
    Usage: library FILE... Prints each test that fails, and 'N passed, M failed' last. */
 #include "../embed/clusterrun.h"
+#include "refusing.h"
 #include <malloc.h>
 #include <stdio.h>
 #include <stdlib.h>
@@ -14,46 +15,6 @@ enum { BEHIND = 0xA5, GUARD = 64, OFTEN = 10000 };
 
 typedef uint32_t call(const uint8_t *plan, size_t plan_length, uint8_t *out, size_t room, size_t *length);
 typedef uint32_t keep_call(const uint8_t *plan, size_t plan_length, struct clusterrun_answer *answer, size_t *length);
-
-void *__real_malloc(size_t size);
-void *__real_realloc(void *old, size_t size);
-void __real_free(void *old);
-
-static long growths, refused, blocks;
-static long passed, failed;
-
-static int is_refused(void)
-{
-    return ++growths == refused;
-}
-
-void *__wrap_malloc(size_t size)
-{
-    void *new = is_refused() ? NULL : __real_malloc(size);
-    blocks += new != NULL;
-    return new;
-}
-
-void *__wrap_realloc(void *old, size_t size)
-{
-    void *new = is_refused() ? NULL : __real_realloc(old, size);
-    blocks += old == NULL && new != NULL;
-    return new;
-}
-
-void __wrap_free(void *old)
-{
-    blocks -= old != NULL;
-    __real_free(old);
-}
-
-static void expect(int holds, const char *what, const char *file, size_t number)
-{
-    passed += holds;
-    failed += !holds;
-    if (!holds)
-        printf("FAILED: %s: %s %zu\n", file, what, number);
-}
 
 struct answer {
     uint32_t status;
@@ -190,20 +151,6 @@ static long pages(void)
         fclose(file);
     }
     return here;
-}
-
-static uint8_t *read_file(const char *name, size_t *length)
-{
-    FILE *file = fopen(name, "rb");
-    uint8_t *bytes = __real_malloc(1 << 20);
-
-    if (file == NULL || bytes == NULL) {
-        printf("FAILED: %s cannot be read\n0 passed, 1 failed\n", name);
-        exit(1);
-    }
-    *length = fread(bytes, 1, 1 << 20, file);
-    fclose(file);
-    return bytes;
 }
 
 int main(int argc, char **argv)

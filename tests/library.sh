@@ -1,9 +1,11 @@
 #!/bin/sh
 # The C library, from C and from Python: it is built over the libraries that the gate built, as `./clusterrun library`
-# builds it, and linked; then tests/library.c and tests/library.py, which say what they try.
+# builds it, and linked; then tests/library.c, tests/library.py, tests/steps.c and tests/steps.py, which say what they
+# try.
 #
-# Usage: library.sh PROGRAM [COUNT SEED [ARCHIVE]]. COUNT is how many random plans there are, 300 without it; ARCHIVE is
-# an archive of es_library that is built already. The last line is 'N passed, M failed'.
+# Usage: library.sh PROGRAM [COUNT SEED [ARCHIVE]]. COUNT is how many random plans there are for each of the two in
+# Python, 300 without it; ARCHIVE is an archive of es_library that is built already. The last line is
+# 'N passed, M failed'.
 set -u
 
 program=$(readlink -f "$1")
@@ -68,8 +70,9 @@ try() {
 
 # It exports its calls and the heap's, and takes nothing but what any C library has.
 nm -g --defined-only "$room/libclusterrun.a" 2>/dev/null | awk '$2 == "T" { print $3 }' | sort >"$room/exported"
-printf '%s\n' clusterrun_check clusterrun_keep_check clusterrun_keep_run clusterrun_kept_free clusterrun_kept_part \
-    clusterrun_run rattle_alloc rattle_dealloc rattle_realloc >"$room/wanted"
+printf '%s\n' clusterrun_begin clusterrun_check clusterrun_cluster_audit clusterrun_cluster_end \
+    clusterrun_cluster_free clusterrun_cluster_said clusterrun_cluster_step clusterrun_keep_check clusterrun_keep_run \
+    clusterrun_kept_free clusterrun_kept_part clusterrun_run rattle_alloc rattle_dealloc rattle_realloc >"$room/wanted"
 nm -u "$room/libclusterrun.a" 2>/dev/null | awk '$1 == "U" { print $2 }' | sort -u >"$room/taken"
 printf '%s\n' free malloc memcpy memmove memset rattle_alloc rattle_dealloc rattle_realloc realloc >"$room/allowed"
 if cmp -s "$room/exported" "$room/wanted" && [ -z "$(comm -23 "$room/taken" "$room/allowed")" ]; then
@@ -81,14 +84,21 @@ fi
 
 flags="-std=c11 -O2 -Wall -Wextra -Werror"
 compiler=${CC:-cc}
-# shellcheck disable=SC2086
-"$compiler" $flags -pedantic -o "$room/run" "$top/embed/run.c" "$room/libclusterrun.a" || give_up "embed/run.c was not compiled"
-# shellcheck disable=SC2086
-"$compiler" $flags -D_GNU_SOURCE -o "$room/library" "$top/tests/library.c" "$room/libclusterrun.a" \
-    -Wl,--wrap=malloc,--wrap=realloc,--wrap=free || give_up "tests/library.c was not compiled"
+for name in run step; do
+    # shellcheck disable=SC2086
+    "$compiler" $flags -pedantic -o "$room/$name" "$top/embed/$name.c" "$room/libclusterrun.a" ||
+        give_up "embed/$name.c was not compiled"
+done
+for name in library steps; do
+    # shellcheck disable=SC2086
+    "$compiler" $flags -D_GNU_SOURCE -o "$room/$name" "$top/tests/$name.c" "$room/libclusterrun.a" \
+        -Wl,--wrap=malloc,--wrap=realloc,--wrap=free || give_up "tests/$name.c was not compiled"
+done
 
 printf '{"version":1,"agents":[{"name":"a","callbacks":{},"jobs":[{"run":[["new","o"],["get","x","o"]]}]}]}' >"$room/faulty.json"
 try library.c "$room/library" "$top"/examples/*.json "$room/faulty.json"
 try library.py "$top/tests/library.py" "$program" "$room" "$count" "$seed"
+try steps.c "$room/steps" "$top"/examples/*.json
+try steps.py "$top/tests/steps.py" "$program" "$room" "$count" "$seed"
 echo "$passed passed, $failed failed"
 [ "$failed" -eq 0 ]

@@ -59,6 +59,9 @@ class Player(rules.Agent):
         except rules.TypeRefused as refused:
             self.lines.append(f"error {refused}")
             yield
+        for line in self.finish():
+            self.lines.append(line)
+            yield
         self.kept = []
         if self.queue:
             yield
@@ -188,7 +191,7 @@ def expected(plan, turns, kinds):
 def a_plan(rng):
     """A plan without a fault, as it is written and as it is read."""
     while True:
-        data = json.dumps(random_plans.shared_plan(rng)).encode()
+        data = json.dumps(random_plans.shared_plan(rng, rng.choice(random_plans.VERSIONS))).encode()
         try:
             return data, rules.read_plan(data)
         except rules.Refused:

@@ -1,2 +1,4 @@
 pub mod Replies
 pub mod Keeps
+pub mod Rows
+pub mod Clusters

@@ -66,7 +66,7 @@ fn put_fault(alloc: Global, fault: ScriptFault, kept: &mut Kept, length: &mut us
 }
 
 /// Keeps a text, or nothing where there is no memory for it. Answers whether there was.
-fn put(alloc: Global, bytes: Vec<u8>, kept: &mut Kept, length: &mut usize) -> bool
+pub(crate) fn put(alloc: Global, bytes: Vec<u8>, kept: &mut Kept, length: &mut usize) -> bool
     requires empty { kept.old.filled ≡ false }
     ensures told { result ≡ true → IsKept bytes.items kept.new length.new }
     ensures nothing { result ≡ false → IsNotKept kept.old kept.new length.new }

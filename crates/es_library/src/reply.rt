@@ -54,7 +54,7 @@ pub(crate) fn reply(
 }
 
 /// Hands the text of a fault over, or nothing where there is no memory for it. Answers whether there was.
-fn tell(alloc: Global, fault: ScriptFault, out: &mut [u8], length: &mut usize) -> bool
+pub(crate) fn tell(alloc: Global, fault: ScriptFault, out: &mut [u8], length: &mut usize) -> bool
     ensures told { result ≡ true → Holds (fault_text fault) out.old out.new length.new }
     ensures nothing { result ≡ false → HoldsNothing out.old out.new length.new }
 {

@@ -9,10 +9,13 @@ use Rattle.es_cluster.specs.State.{Cluster, first_state}
 use Rattle.es_outcome.specs.Outcomes.{IsClusterOutcome}
 use Rattle.es_script.specs.Fault.{IsPlanOf}
 
--- the outcome is that of the plan's run by turns: from its first state by moves, each of the lowest-numbered agent that can move, to
--- the end of all agents
+-- the outcome is what a cluster comes to by turns: by moves, each of the lowest-numbered agent that can move, to the end of all agents
+abbrev pub EndsByTurns : Cluster → Outcome → Type 0
+EndsByTurns from o = (c : Cluster) × RunsToEnd from c × EndsIn c o
+
+-- the outcome is that of the plan's run by turns, from its first state
 abbrev pub IsByTurns : Plan → Outcome → Type 0
-IsByTurns p o = (c : Cluster) × RunsToEnd (first_state p) c × EndsIn c o
+IsByTurns p o = EndsByTurns (first_state p) o
 
 -- how the agents ran: by turns, or in any order
 abbrev pub RanBy : (turns : Bool) → Plan → Outcome → Type 0
@@ -27,3 +30,7 @@ IsAnswer false turns p text = (o : Outcome) × IsClusterOutcome p o × RanBy tur
 -- the answer to the plan that the bytes stand for, by turns
 abbrev pub IsAnswerTo : Bool → List ℕ → List ℕ → Type 0
 IsAnswerTo check bytes text = (p : Plan) × IsPlanOf bytes p × IsAnswer check true p text
+
+-- the report of what a cluster of this plan, however far its agents are, comes to by turns
+abbrev pub IsReportOfRest : Plan → Cluster → List ℕ → Type 0
+IsReportOfRest p from text = (o : Outcome) × IsClusterOutcome p o × EndsByTurns from o × (text ≡ report o)

@@ -1,78 +1,35 @@
 //! The cluster of a plan, run to its end by turns.
 
-ghost use Rattle.std.specs.Prelude.{◌≡◌, ◌<◌, ℕ, false, true, length, map, reverse, IfOk, OnOk};
+ghost use Rattle.std.specs.Prelude.{◌≡◌, ◌<◌, false, true, length, map, IfOk, OnOk};
 ghost use Rattle.es_cluster.specs.Moves.{RunsToEnd, all_over, cleans_quietly};
 ghost use Rattle.es_cluster.specs.State.{plans};
-ghost use Rattle.es_event.specs.Ledger.{count};
 ghost use Rattle.es_event.specs.Others.{all_name_others};
-ghost use Rattle.es_event.specs.Totals.{released as released_said};
-ghost use Rattle.es_report.specs.Tallies.{AreTallies, end_tally};
+ghost use Rattle.es_count.specs.Counts.{IsCountsOf};
+ghost use Rattle.es_count.specs.Tallies.{end_tally};
 ghost use Rattle.es_outcome.specs.Outcomes.{IsClusterOutcome};
 ghost use Rattle.es_script.specs.Grammar.{no_callback_collects};
-ghost use Rattle.es_turns.specs.Answer.{IsByTurns};
+ghost use Rattle.es_turns.specs.Answer.{EndsByTurns, IsByTurns};
 
 use es_cluster::{ClusterCore, Planned};
-use es_event::{Outcome, Plan};
+use es_count::Counts;
+use es_event::Plan;
 use es_outcome::{Counted, tallies_of};
 use es_registry::Tally;
-use es_report::count_blocks;
 use es_ticket::Opened;
 use es_value::NoMemory;
 use std::alloc::Global;
 use std::marker::Brand;
 
-/// What comes of a plan: how its run ended, how many registrations of each agent have each fate, and how
-/// many blocks were released.
-#[derive(Drop)]
-pub struct Ended {
-    /// The names of the agents, their histories and the ledger's.
-    pub outcome: Outcome,
-    /// The registrations of each agent by fate, in the agents' order.
-    pub tallies: Vec<Tally>,
-    /// How many blocks were released.
-    pub released: usize,
-}
-
 /// Runs the agents of a plan to their ends by turns, in this thread: the lowest-numbered agent that can
 /// move moves, by one whole job with its cleanup jobs (ECMA-262, Agents, leaves the order of agents to the
 /// host). Fails where there is no memory.
-pub fn run_by_turns(alloc: Global, plan: Plan) -> Result<Ended, NoMemory>
+pub fn run_by_turns(alloc: Global, plan: Plan) -> Result<Counted, NoMemory>
     requires few { length plan.agents < 9 }
     requires others { all_name_others plan ≡ true }
     requires quiet { no_callback_collects plan ≡ true }
     ensures outcome { IfOk result (λ r. IsClusterOutcome plan r.outcome) }
     ensures turns { IfOk result (λ r. IsByTurns plan r.outcome) }
-    ensures tallies { IfOk result (λ r. AreTallies r.outcome.histories r.tallies.items) }
-    ensures released { IfOk result (λ r. r.released ≡ released_said (reverse r.outcome.ledger)) }
-{
-    let counted = count_by_turns(alloc, plan)?;
-    Ok(with_released(counted))
-}
-
-/// What came of a plan, with the number of released blocks besides: no ticket is left, so each block was
-/// released.
-pub fn with_released(counted: Counted) -> Ended
-    requires none { (b : ℕ) → count (reverse counted.outcome.ledger) b ≡ 0 }
-    ensures same { (result.outcome ≡ counted.outcome) × (result.tallies ≡ counted.tallies) }
-    ensures released { result.released ≡ released_said (reverse result.outcome.ledger) }
-{
-    let Counted { outcome, tallies } = counted;
-    let released = count_blocks(outcome.ledger.as_slice());
-    Ended {
-        outcome,
-        tallies,
-        released,
-    }
-}
-
-/// What comes of a plan by turns, without the number of released blocks.
-fn count_by_turns(alloc: Global, plan: Plan) -> Result<Counted, NoMemory>
-    requires few { length plan.agents < 9 }
-    requires others { all_name_others plan ≡ true }
-    requires quiet { no_callback_collects plan ≡ true }
-    ensures outcome { IfOk result (λ r. IsClusterOutcome plan r.outcome) }
-    ensures turns { IfOk result (λ r. IsByTurns plan r.outcome) }
-    ensures tallies { IfOk result (λ r. AreTallies r.outcome.histories r.tallies.items) }
+    ensures counts { IfOk result (λ r. IsCountsOf r.outcome r.counts) }
 {
     let opened = Opened::new(alloc)?;
     run_cluster::<Brand>(alloc, opened, plan)
@@ -87,15 +44,30 @@ fn run_cluster<L: Planned>(alloc: Global, opened: Opened, plan: Plan) -> Result<
     requires quiet { no_callback_collects plan ≡ true }
     ensures outcome { IfOk result (λ r. IsClusterOutcome plan r.outcome) }
     ensures turns { IfOk result (λ r. IsByTurns plan r.outcome) }
-    ensures tallies { IfOk result (λ r. AreTallies r.outcome.histories r.tallies.items) }
+    ensures counts { IfOk result (λ r. IsCountsOf r.outcome r.counts) }
 {
-    let mut cluster = ClusterCore::<L>::new(alloc, opened, plan)?;
+    let cluster = ClusterCore::<L>::new(alloc, opened, plan)?;
+    end_cluster(alloc, cluster)
+}
+
+/// Runs what is left of a cluster by turns to the ends of all agents, however far they are. It is used up.
+pub(crate) fn end_cluster<L: Planned>(
+    alloc: Global,
+    mut cluster: ClusterCore<L>,
+) -> Result<Counted, NoMemory>
+    requires quiet { cleans_quietly cluster ≡ true }
+    requires plans { plans cluster.agents ≡ L.plan.agents }
+    ensures outcome { IfOk result (λ r. IsClusterOutcome L.plan r.outcome) }
+    ensures turns { IfOk result (λ r. EndsByTurns cluster r.outcome) }
+    ensures counts { IfOk result (λ r. IsCountsOf r.outcome r.counts) }
+{
     match run_to_end(alloc, &mut cluster) {
         Ok(tallies) => {
             let Some(outcome) = cluster.end() else {
                 unreachable!()
             };
-            Ok(Counted { outcome, tallies })
+            let counts = Counts::of_ended(&outcome, tallies);
+            Ok(Counted { outcome, counts })
         }
         Err(error) => {
             cluster.abandon();

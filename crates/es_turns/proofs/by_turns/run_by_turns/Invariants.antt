@@ -1,4 +1,4 @@
-use Rattle.es_turns.proofs.by_turns.count_by_turns.Given as goal
+use Rattle.es_turns.proofs.by_turns.run_by_turns.Given as goal
 
 -- the word that was just opened, and the plan
 abbrev pub ghosts-run_cluster-L-Run : goal.ghosts-run_cluster-L-Run

@@ -1,0 +1,3 @@
+mod Ending
+mod Linking
+mod Stepping
