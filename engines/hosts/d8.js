@@ -1,0 +1,15 @@
+// The host of V8's shell: d8 --expose-gc [SCRIPT ..] plan.js d8.js < plans
+// An error that leaves a callback ends the shell, so it is swallowed.
+(function () {
+  "use strict";
+  const task = () => new Promise((go) => setTimeout(go, 0));
+  const lines = [];
+  for (let line = readline(); line; line = readline()) lines.push(line);
+  Plans.answer(lines, {
+    collect: gc,
+    task,
+    wait: async () => { for (let turns = 0; turns < 4; turns += 1) await task(); },
+    write: print,
+    swallows: true,
+  }).catch((e) => print(e));
+})();

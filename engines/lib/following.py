@@ -1,0 +1,314 @@
+"""A plan by the rules, each choice that the standard leaves open being the one that an engine took.
+
+What an engine said of a plan are the lines of each agent, and among them notes, which begin with `#`: what commands gave,
+where jobs and callbacks end, and whether a canary was emptied in a job. The rules are followed along these lines.
+A deref that gave nothing, and a callback, show that a value was emptied: it must have been one that nothing reaches.
+What was emptied must never be seen again. All else must be as the rules have it.
+"""
+
+import contextlib
+
+import rules
+from verdicts import ANSWERED_IN, Broken, Kind
+
+EMPTIED = "# deref undefined"
+# The words of the rules that assign the first operand, and so settle what a later `say` says.
+ASSIGNING = {
+    "let", "new", "symbol", "symbolfor", "copy", "same", "get", "delete", "weakref", "deref", "weakmap", "wmget", "wmhas",
+    "wmdelete", "weakset", "wshas", "wsdelete", "registry", "unregister", "buffer", "length", "sameblock", "load", "add",
+}
+
+
+# The words of which the engine tells at once what they gave; a deref tells it too, in a note of its own.
+GIVING = {
+    "same", "get", "delete", "wmget", "wmhas", "wmdelete", "wshas", "wsdelete", "unregister", "length", "sameblock", "load",
+    "add",
+}
+
+
+class Contradiction(Exception):
+    """What no execution that the standard allows can show: the rule, its section, and what was wanted and said."""
+
+    def __init__(self, broken, agent, wanted, said, section=None):
+        super().__init__(broken.value[0])
+        self.broken, self.agent, self.wanted, self.said = broken, agent, wanted, said
+        self.section = section or broken.value[1]
+
+
+class Deviation:
+    """A choice of an engine's that is not the program's, and when it was taken: after so many lines of all agents."""
+
+    def __init__(self, kind, at, number=None):
+        self.kind, self.at, self.number = kind, at, number
+
+
+class Clock:
+    """How many lines of all agents were followed, and the deviations so far."""
+
+    def __init__(self):
+        self.now, self.deviations = 0, []
+        self.own_collections = 0  # jobs without `collect` in which the canary was emptied
+
+    def deviates(self, kind, number=None):
+        self.deviations.append(Deviation(kind, self.now, number))
+
+
+class Tagged(rules.Agent):
+    """An agent whose lines each have a tag: the job, the registration in whose callback it stands or 0, the number of
+    the line there, and the time by the clock."""
+
+    def __init__(self, plan, ledger, clock):
+        super().__init__(plan, ledger)
+        self.clock, self.told, self.times = clock, {}, {}
+        self.inside, self.count = 0, 0
+        self.ends = {}  # when each job and the callbacks after it had ended
+
+    def tag(self, line):
+        if line.startswith("cleanup "):
+            self.inside, self.count = int(line.split()[1]), 0
+        self.clock.now += 1
+        self.told[self.done, self.inside, self.count] = line
+        self.times[self.done, self.inside, self.count] = self.clock.now
+        self.count += 1
+
+    def job(self, job):
+        self.inside, self.count = 0, 0
+        yield from self.tagged(super().job(job))
+
+    def tagged(self, lines):
+        for line in lines:
+            self.check(line)
+            self.tag(line)
+            yield line
+
+    def check(self, line):
+        """Looks at a line before it is told."""
+
+    def cleanup_jobs(self):
+        yield from self.tagged(super().cleanup_jobs())
+        self.ends[self.done] = self.clock.now
+
+    def move(self):
+        job = self.next_job()
+        if job is not None and "on" in job and not self.has_message(job):
+            self.done, self.inside, self.count = self.done + 1, 0, 0
+            self.lines += self.tagged([f"skipped {self.done}"])
+            self.ends[self.done] = self.clock.now
+        else:
+            super().move()
+
+    def cleaned(self):
+        """The registrations of which callbacks were called, by the jobs after which they were, in their order."""
+        found = {}
+        for (job, inside, count), line in sorted(self.told.items(), key=lambda told: self.times[told[0]]):
+            if inside and count == 0 and line.startswith("cleanup "):
+                found.setdefault(job, []).append(inside)
+        return found
+
+
+class Following(Tagged):
+    """An agent that follows what an engine said. The program's order of callbacks is `usual`."""
+
+    def __init__(self, plan, ledger, clock, said, usual):
+        super().__init__(plan, ledger, clock)
+        self.ahead, self.usual = said[::-1], usual
+        self.due = set()  # what a complete collection would have emptied, and no deref gave since
+        self.cleaned_up = set()
+        self.answered_by = {}  # the word of the command that assigned each variable last
+        self.word = "on"
+
+    def fail(self, broken, wanted, said, section=None):
+        raise Contradiction(broken, self.name, wanted, said, section)
+
+    def next(self):
+        return self.ahead[-1] if self.ahead else "(nothing)"
+
+    def note(self, note):
+        """Takes the note that must come next."""
+        if self.next() != f"# {note}":
+            self.fail(self.unlooked_for(), f"# {note}", self.next(), self.section_of(self.next()))
+        self.ahead.pop()
+
+    def unlooked_for(self):
+        return Broken.CLEANED_INSIDE if self.next().startswith("cleanup ") else Broken.ANSWERED
+
+    def section_of(self, line):
+        """The section that settles what a line says."""
+        if line.startswith("cleanup "):
+            return None
+        return ANSWERED_IN[self.word]
+
+    def check(self, line):
+        """Compares a line of the rules with the engine's next one; `emptied` lines no engine has."""
+        if line.startswith("emptied "):
+            return
+        if self.next() != line:
+            self.fail(self.unlooked_for(), line, self.next(), self.section_of(self.next()))
+        self.ahead.pop()
+
+    def do(self, word, args):
+        self.word = word
+        line = super().do(word, args)
+        if word in GIVING:
+            self.note(f"gave {rules.printed(self.value(args[0]))}")
+        if word in ASSIGNING:
+            self.answered_by[args[0]] = word
+        if word == "copy":
+            self.answered_by[args[0]] = self.answered_by.get(args[1], word)
+        if word == "say":
+            self.word = self.answered_by.get(args[0], word)
+        return line
+
+    def move(self):
+        self.late()
+        super().move()
+
+    def late(self):
+        """Callbacks that came after all waiting, before the next job began."""
+        while self.next().startswith("cleanup "):
+            self.lines += self.called()
+
+    def job(self, job):
+        self.word = "on"
+        self.note("job")
+        yield from super().job(job)
+        self.note("ended")
+
+    def cleanup_jobs(self):
+        while self.next().startswith("cleanup "):
+            yield from self.called()
+        for number, cell in self.cells.items():
+            if cell.target[1] in self.due:
+                seen = cell.target[1] in self.gone
+                self.clock.deviates(Kind.NOT_OBSERVED if seen else Kind.RETAINED, number)
+        if self.next() == "# collected":
+            self.ahead.pop()
+            collects = any(step[0] == "collect" for step in self.jobs[self.done - 1]["run"])
+            self.clock.own_collections += not collects
+        self.ends[self.done] = self.clock.now
+
+    def called(self):
+        """The lines of one callback that the engine called."""
+        said = self.next()
+        number = int(said.split()[1])
+        self.check_call(number, said)
+        self.word = "held"
+        yield from self.tagged([self.take_cell(number)])
+        self.answered_by["held"] = "held"
+        yield from self.tagged(self.called_back())
+        self.note(f"cleaned {number}")
+        self.kept = []
+
+    def called_back(self):
+        """The lines of the callback of the registration that was taken last."""
+        try:
+            yield from self.run(self.callback)
+        except rules.TypeRefused as refused:
+            yield f"error {refused}"
+
+    def check_call(self, number, said):
+        """Whether the callback may be called now; empties the target."""
+        if number not in self.cells:
+            unknown = number > self.registered
+            broken = Broken.CLEANED_UNKNOWN if unknown else Broken.CLEANED_UNREGISTERED
+            self.fail(Broken.CLEANED_TWICE if number in self.cleaned_up else broken, "(no callback)", said)
+        target = self.cells[number].target
+        if target[1] not in self.gone:
+            self.check_dead(target[1], said, Broken.CLEANED_LIVE, Broken.CLEANED_KEPT)
+        first = next((other for other in self.usual.get(self.done, []) if other in self.cells), number)
+        if number != first:
+            self.clock.deviates(Kind.ORDER, number)
+
+    def check_dead(self, number, said, live, kept):
+        """A value that the engine emptied must be one that nothing reaches."""
+        if number in self.reached():
+            was_kept, self.kept = self.kept, []
+            self.fail(live if number in self.reached() or not was_kept else kept, "(not emptied)", said)
+        if number not in self.due:
+            self.clock.deviates(Kind.EARLIER, number)
+        self.gone.add(number)
+
+    def take_cell(self, number):
+        cell = self.cells.pop(number)
+        self.callback = self.callbacks[self.registries[cell.registry]]
+        self.cleaned_up.add(number)
+        self.taken += 1
+        self.variables["held"] = cell.held
+        return f"cleanup {number} held {rules.printed(cell.held)}"
+
+    def target(self, weakref):
+        if weakref[0] != "object" or weakref[1] not in self.targets:
+            return super().target(weakref)
+        said, target = self.next(), self.targets[weakref[1]]
+        if not said.startswith("# deref "):
+            self.fail(self.unlooked_for(), f"# deref {rules.printed(target)}", said, ANSWERED_IN["deref"])
+        self.ahead.pop()
+        return self.emptied(target, said) if said == EMPTIED else self.given(target, said)
+
+    def given(self, target, said):
+        if target[1] in self.gone:
+            self.fail(Broken.GIVEN_AGAIN, EMPTIED, said)
+        if said != f"# deref {rules.printed(target)}":
+            self.fail(Broken.ANSWERED, f"# deref {rules.printed(target)}", said, ANSWERED_IN["deref"])
+        self.kept.append(target)
+        reached = self.reached()
+        if reached & self.gone:
+            self.fail(Broken.REACHED_EMPTIED, EMPTIED, said)
+        if target[1] in self.due:
+            self.clock.deviates(Kind.RETAINED)
+            self.due -= reached
+        return target
+
+    def emptied(self, target, said):
+        if target[1] not in self.gone:
+            self.check_dead(target[1], said, Broken.EMPTIED_LIVE, Broken.EMPTIED_KEPT)
+        return ("undefined",)
+
+    def collect(self):
+        """A collection may empty anything that is not reached, and need not."""
+        self.due |= set(range(1, self.made + 1)) - self.reached()
+        return 0
+
+
+@contextlib.contextmanager
+def edition(symbols, clock):
+    """The rules of editions before the 14th, where symbols can't be held weakly."""
+    held_weakly = rules.held_weakly
+
+    def older(value):
+        if value[0] == "symbol":
+            clock.deviates(Kind.EDITION)
+            raise rules.TypeRefused("TypeError: cannot be held weakly")
+        return held_weakly(value)
+
+    rules.held_weakly = held_weakly if symbols else older
+    try:
+        yield
+    finally:
+        rules.held_weakly = held_weakly
+
+
+def usually(plan):
+    """The agents of a plan after its run by the rules, by their names."""
+    ledger, clock = rules.Ledger(), Clock()
+    agents = {agent["name"]: Tagged(agent, ledger, clock) for agent in plan["agents"]}
+    rules.run_turns(agents)
+    return agents
+
+
+def follow(plan, answer, usual, symbols=True):
+    """The agents after their run along an engine's lines, by their names, the clock, and the contradiction, if any."""
+    ledger, clock, agents = rules.Ledger(), Clock(), {}
+    for agent, said in zip(plan["agents"], answer, strict=True):
+        order = usual[agent["name"]].cleaned()
+        agents[agent["name"]] = Following(agent, ledger, clock, said, order)
+    with edition(symbols, clock):
+        try:
+            rules.run_turns(agents)
+            for agent in agents.values():
+                agent.late()
+                if agent.ahead:
+                    agent.fail(agent.unlooked_for(), "(nothing)", agent.next(), ANSWERED_IN["say"])
+        except Contradiction as contradiction:
+            return agents, clock, contradiction
+    return agents, clock, None

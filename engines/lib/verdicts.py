@@ -1,0 +1,78 @@
+"""What a line of an engine may be beside the program's, and by which rule of ECMA-262."""
+
+import enum
+
+EXECUTION = "Processing Model of WeakRef and FinalizationRegistry Targets: Execution"
+LIVENESS = "Processing Model of WeakRef and FinalizationRegistry Targets: Liveness"
+CLEANUP = "CleanupFinalizationRegistry ( finalizationRegistry )"
+ENQUEUE = "HostEnqueueFinalizationRegistryCleanupJob ( finalizationRegistry )"
+JOBS = "Jobs and Host Operations to Enqueue Jobs"
+WEAKREF = "WeakRef ( target )"
+DEREF = "WeakRef.prototype.deref ( ), WeakRefDeref"
+KEEP = "AddToKeptObjects"
+CLEAR = "ClearKeptObjects"
+HELD_WEAKLY = "CanBeHeldWeakly"
+WEAKMAP = "WeakMap ( [ iterable ] ), WeakMap.prototype.set, get, has and delete"
+WEAKSET = "WeakSet ( [ iterable ] ), WeakSet.prototype.add, has and delete"
+REGISTER = "FinalizationRegistry.prototype.register ( target, heldValue [ , unregisterToken ] )"
+UNREGISTER = "FinalizationRegistry.prototype.unregister ( unregisterToken )"
+REGISTRY = "FinalizationRegistry ( cleanupCallback )"
+SYMBOLS = "Symbol ( [ description ] ), Symbol.for ( key )"
+TYPES = "ECMAScript Language Types"
+SAME_VALUE = "SameValue"
+PROPERTIES = "Ordinary Object Internal Methods: OrdinaryGet, OrdinarySet, OrdinaryDelete"
+KEYS = "OrdinaryOwnPropertyKeys"
+BLOCKS = "Data Blocks, CreateSharedByteDataBlock"
+BUFFER = "SharedArrayBuffer ( length )"
+ATOMICS = "Atomics.load, store and add, on a Uint32Array over a shared block"
+VALIDATE = "Atomics.load, store and add: ValidateIntegerTypedArray, ValidateAtomicAccess, ToUint32"
+MESSAGES = "Agent Clusters: messages between agents"
+
+# the section of what a command answers, and of what it refuses
+ANSWERED_IN = {
+    "let": TYPES, "new": TYPES, "copy": TYPES, "say": TYPES, "symbol": SYMBOLS, "symbolfor": SYMBOLS, "same": SAME_VALUE,
+    "set": PROPERTIES, "get": PROPERTIES, "delete": PROPERTIES, "keys": KEYS, "weakref": WEAKREF, "deref": DEREF,
+    **dict.fromkeys(["weakmap", "wmset", "wmget", "wmhas", "wmdelete"], WEAKMAP),
+    **dict.fromkeys(["weakset", "wsadd", "wshas", "wsdelete"], WEAKSET),
+    "registry": REGISTRY, "register": REGISTER, "unregister": UNREGISTER, "collect": EXECUTION,
+    "buffer": BUFFER, "length": BUFFER, "sameblock": BLOCKS, "load": ATOMICS, "store": ATOMICS, "add": ATOMICS,
+    "post": MESSAGES, "on": MESSAGES, "held": CLEANUP,
+}
+
+
+class Kind(enum.Enum):
+    SAME = "same"
+    ORDER = "another order"
+    RETAINED = "retained"
+    EARLIER = "earlier"
+    EDITION = "earlier edition"
+    NOT_OBSERVED = "not observed"
+    CONTRADICTION = "contradiction"
+
+
+# why each but a contradiction is allowed, and the section that says so
+ALLOWED = {
+    Kind.SAME: ("the same line", ""),
+    Kind.ORDER: ("which cell of which FinalizationRegistry comes next is the engine's to choose", CLEANUP),
+    Kind.RETAINED: ("an engine may empty less than all that is not live, and later", EXECUTION),
+    Kind.EARLIER: ("an engine may empty what is not live at any time", EXECUTION),
+    Kind.EDITION: ("before the 14th edition no symbol could be held weakly", HELD_WEAKLY),
+    Kind.NOT_OBSERVED: ("what no engine tells, and what a host need not call", ENQUEUE),
+}
+
+
+class Broken(enum.Enum):
+    """The rules that an engine can break, each with its section."""
+
+    EMPTIED_LIVE = ("a value was emptied that is still reached", LIVENESS)
+    EMPTIED_KEPT = ("a value was emptied that is kept alive to the end of the job", KEEP)
+    GIVEN_AGAIN = ("a WeakRef gave a value that was emptied before", DEREF)
+    REACHED_EMPTIED = ("a WeakRef gave a value that leads to one that was emptied before", LIVENESS)
+    CLEANED_LIVE = ("a callback was called for a target that is still reached", LIVENESS)
+    CLEANED_KEPT = ("a callback was called for a target that is kept alive to the end of the job", KEEP)
+    CLEANED_TWICE = ("a callback was called for a registration that was taken before", CLEANUP)
+    CLEANED_UNREGISTERED = ("a callback was called for a registration that was unregistered before", UNREGISTER)
+    CLEANED_UNKNOWN = ("a callback was called for a registration that was never made", REGISTER)
+    CLEANED_INSIDE = ("a callback was called before a job or a callback had ended", JOBS)
+    ANSWERED = ("the engine answers otherwise, where no collection is concerned", None)
+    NO_ANSWER = ("the engine ended, or took too long, before it had answered", JOBS)

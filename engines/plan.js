@@ -1,0 +1,418 @@
+// Runs a plan on an engine's own objects, WeakRefs, WeakMaps, WeakSets, FinalizationRegistries and shared blocks. It is
+// a plain script, without modules, so that each shell takes it, and it defines one name, `Plans`.
+//
+// A host is given, with four things: `collect()`, a forced collection; `task()`, a promise that is kept in a job of its
+// own, so that what the job before kept alive can go; `wait()`, one that is kept when the engine had time to call
+// callbacks; and `write(line)`. It may have `clone(buffer)`, another SharedArrayBuffer over the same block, without which
+// no plan with messages is run, and `swallows`, which is true where an error that leaves a callback would end the engine.
+//
+// What the engine is told beside the plan: each held value goes with the number of its registration, so that `cleanup`
+// lines can be written; and all FinalizationRegistries are held to the end of their agent, since an engine may give up
+// one that nothing holds, and its callbacks with it. A refused command throws out of its callback, as in the standard.
+//
+// What is refused the engine says itself: its own methods are called on whatever the variables hold. Which of the tests
+// it was that failed is looked up afterwards, since an engine's errors have words of its own.
+globalThis.Plans = (function () {
+  "use strict";
+
+  class Refused extends Error {}
+  // Each object knows its number itself, so that no table of numbers holds it or changes how it is marked.
+  class Thing {
+    #number;
+    constructor(number) { this.#number = number; }
+    static numberOf(thing) { return thing.#number; }
+  }
+  class Ref extends WeakRef {
+    #number;
+    constructor(number, target) { super(target); this.#number = number; }
+    static numberOf(ref) { return ref.#number; }
+  }
+  class Entries extends WeakMap {
+    #number;
+    constructor(number) { super(); this.#number = number; }
+    static numberOf(map) { return map.#number; }
+  }
+  class Members extends WeakSet {
+    #number;
+    constructor(number) { super(); this.#number = number; }
+    static numberOf(set) { return set.#number; }
+  }
+  class Registry extends FinalizationRegistry {
+    #number;
+    constructor(number, callback) { super(callback); this.#number = number; }
+    static numberOf(registry) { return registry.#number; }
+  }
+  function given(value) { return value; }
+  // A buffer that another agent made can't be made anew, so each SharedArrayBuffer gets these beside what it has. No
+  // engine tells whether two of them are the same memory, so each block has a number.
+  class Shared extends given {
+    #number;
+    #block;
+    #words;
+    constructor(buffer, number, block) {
+      super(buffer);
+      this.#number = number;
+      this.#block = block;
+      this.#words = new Uint32Array(buffer);
+    }
+    static numberOf(buffer) { return buffer.#number; }
+    static blockOf(buffer) { return buffer.#block; }
+    static wordsOf(buffer) { return buffer.#words; }
+  }
+  const kinds = [
+    [Thing, Thing], [Ref, Ref], [Entries, Entries], [Members, Members], [Registry, Registry], [SharedArrayBuffer, Shared],
+  ];
+  // As the engine has them, since an object may have properties of these names.
+  const { deref } = WeakRef.prototype;
+  const { get: mapGet, set: mapSet, has: mapHas, delete: mapDelete } = WeakMap.prototype;
+  const { add: setAdd, has: setHas, delete: setDelete } = WeakSet.prototype;
+  const { register, unregister } = FinalizationRegistry.prototype;
+  const { hasOwnProperty } = Object.prototype;
+  const mostValues = 1000000, mostBlocks = 256, mostPosts = 10000;
+
+  // What a command is tested for, in order: the test, and the place of the operand. Each test throws where it fails.
+  const heldWeakly = { text: "TypeError: cannot be held weakly", test: (value) => new WeakSet().add(value) };
+  const aWeakRef = { text: "TypeError: not a WeakRef", test: (value) => deref.call(value) };
+  const aWeakMap = { text: "TypeError: not a WeakMap", test: (value) => mapHas.call(value, value) };
+  const aWeakSet = { text: "TypeError: not a WeakSet", test: (value) => setHas.call(value, value) };
+  const aRegistry = { text: "TypeError: not a FinalizationRegistry", test: (value) => unregister.call(value, {}) };
+  const aBuffer = { text: "TypeError: not a SharedArrayBuffer", test: (value) => Shared.wordsOf(value) };
+  const tests = {
+    weakref: [[heldWeakly, 2]], deref: [[aWeakRef, 2]],
+    wmset: [[aWeakMap, 1], [heldWeakly, 2]], wmget: [[aWeakMap, 2]], wmhas: [[aWeakMap, 2]], wmdelete: [[aWeakMap, 2]],
+    wsadd: [[aWeakSet, 1], [heldWeakly, 2]], wshas: [[aWeakSet, 2]], wsdelete: [[aWeakSet, 2]],
+    unregister: [[aRegistry, 2], [heldWeakly, 3]],
+    length: [[aBuffer, 2]], sameblock: [[aBuffer, 2], [aBuffer, 3]],
+    load: [[aBuffer, 2]], store: [[aBuffer, 1]], add: [[aBuffer, 2]],
+  };
+  const indexed = ["load", "store", "add"];
+  // The commands whose answer is told at once, so that a wrong one is seen where it was given.
+  const giving = new Set([
+    "same", "get", "delete", "wmget", "wmhas", "wmdelete", "wshas", "wsdelete", "unregister", "length", "sameblock", "load",
+    "add",
+  ]);
+
+  class Agent {
+    vars = new Map();
+    made = 0;
+    out = [];
+    registries = [];
+    registered = 0;
+    unregistered = 0;
+    taken = 0;
+    opened = 0;
+    posted = 0;
+    received = 0;
+
+    // The place is that among the agents, from 0. Where it tells, lines that begin with `#` stand among those of the
+    // report: what commands gave, and where jobs and callbacks end. `send` posts a message to the agent of a name.
+    constructor({ name, callbacks, jobs }, place, host, { tells = false, send } = {}) {
+      this.name = name;
+      this.callbacks = callbacks;
+      this.jobs = jobs;
+      this.place = place;
+      this.host = host;
+      this.tells = tells;
+      this.send = send;
+    }
+    note(text) {
+      if (this.tells) this.out.push(`# ${text}`);
+    }
+    // A number for a new value.
+    number() {
+      if (this.made >= mostValues) throw new Refused("limit: values");
+      return ++this.made;
+    }
+    show(value) {
+      switch (typeof value) {
+        case "string": return JSON.stringify(value);
+        case "symbol": {
+          const key = Symbol.keyFor(value);
+          return key === undefined ? `symbol ${value.description}` : `symbolfor "${key}"`;
+        }
+        case "object": {
+          const kind = kinds.find(([of]) => value instanceof of);
+          return kind ? `object ${kind[1].numberOf(value)}` : "object that the plan did not make";
+        }
+        default: return String(value);
+      }
+    }
+    object(name) {
+      const value = this.vars.get(name);
+      if (typeof value !== "object") throw new Refused("TypeError: not an object");
+      return value;
+    }
+    // What goes to another agent for a value, which would lose a symbol's key and a buffer's block.
+    message(value) {
+      if (value instanceof SharedArrayBuffer) return { block: Shared.blockOf(value), buffer: value };
+      const key = typeof value === "symbol" ? Symbol.keyFor(value) : undefined;
+      if (key !== undefined) return { key };
+      if (typeof value === "object" || typeof value === "symbol") {
+        throw new Refused("DataCloneError: value cannot be posted");
+      }
+      return value;
+    }
+    // The value that came as this message.
+    value(message) {
+      if (typeof message !== "object") return message;
+      if ("key" in message) return Symbol.for(message.key);
+      return new Shared(message.buffer, this.number(), message.block);
+    }
+    // What the engine calls, with the number of a registration and its held value.
+    clean(callback, [number, held]) {
+      this.taken += 1;
+      this.out.push(`cleanup ${number} held ${this.show(held)}`);
+      this.vars.set("held", held);
+      try {
+        this.performAll(callback);
+      } catch (e) {
+        if (!(e instanceof Refused && this.host.swallows)) throw e;
+      } finally {
+        this.note(`cleaned ${number}`);
+      }
+    }
+    // With the number of its registration each held value is another value than the target. So what is refused for
+    // being the same is asked of the engine with the two as they are.
+    register(registry, target, held, token) {
+      if (!Object.is(target, held)) {
+        register.call(registry, target, [this.registered + 1, held], token);
+        this.registered += 1;
+        return;
+      }
+      register.call(registry, target, held, token);
+      throw new Refused("none, though target and held value are the same");
+    }
+    perform(c) {
+      const { vars } = this;
+      switch (c[0]) {
+        case "let": vars.set(c[1], c[2] === null ? undefined : c[2]); break;
+        case "new": vars.set(c[1], new Thing(this.number())); break;
+        case "symbol": vars.set(c[1], Symbol(String(this.number()))); break;
+        case "symbolfor": vars.set(c[1], Symbol.for(c[2])); break;
+        case "copy": vars.set(c[1], vars.get(c[2])); break;
+        case "same": vars.set(c[1], Object.is(vars.get(c[2]), vars.get(c[3]))); break;
+        case "say": this.out.push(`say ${this.show(vars.get(c[1]))}`); break;
+        case "set": {
+          const at = this.object(c[1]), value = vars.get(c[3]);
+          // A name such as `constructor` or `__proto__`, which the object inherits, must become its own.
+          if (c[2] in at && !hasOwnProperty.call(at, c[2])) {
+            Object.defineProperty(at, c[2], { value, writable: true, enumerable: true, configurable: true });
+          } else {
+            at[c[2]] = value;
+          }
+          break;
+        }
+        case "get": {
+          const at = this.object(c[2]);
+          vars.set(c[1], hasOwnProperty.call(at, c[3]) ? at[c[3]] : undefined);
+          break;
+        }
+        case "delete": vars.set(c[1], Reflect.deleteProperty(this.object(c[2]), c[3])); break;
+        case "keys": this.out.push(["keys", ...Object.keys(this.object(c[1]))].join(" ")); break;
+        case "weakref": {
+          const made = new Ref(this.made + 1, vars.get(c[2]));
+          this.number();
+          vars.set(c[1], made);
+          break;
+        }
+        case "deref": {
+          const target = deref.call(vars.get(c[2]));
+          if (this.tells) this.note(`deref ${this.show(target)}`);
+          vars.set(c[1], target);
+          break;
+        }
+        case "weakmap": vars.set(c[1], new Entries(this.number())); break;
+        case "wmset": mapSet.call(vars.get(c[1]), vars.get(c[2]), vars.get(c[3])); break;
+        case "wmget": vars.set(c[1], mapGet.call(vars.get(c[2]), vars.get(c[3]))); break;
+        case "wmhas": vars.set(c[1], mapHas.call(vars.get(c[2]), vars.get(c[3]))); break;
+        case "wmdelete": vars.set(c[1], mapDelete.call(vars.get(c[2]), vars.get(c[3]))); break;
+        case "weakset": vars.set(c[1], new Members(this.number())); break;
+        case "wsadd": setAdd.call(vars.get(c[1]), vars.get(c[2])); break;
+        case "wshas": vars.set(c[1], setHas.call(vars.get(c[2]), vars.get(c[3]))); break;
+        case "wsdelete": vars.set(c[1], setDelete.call(vars.get(c[2]), vars.get(c[3]))); break;
+        case "registry": {
+          const callback = this.callbacks[c[2]];
+          const made = new Registry(this.number(), (cell) => this.clean(callback, cell));
+          this.registries.push(made);
+          vars.set(c[1], made);
+          break;
+        }
+        case "register": this.register(...c.slice(1).map((name) => vars.get(name))); break;
+        case "unregister": {
+          const found = unregister.call(vars.get(c[2]), vars.get(c[3]));
+          this.unregistered += found;
+          vars.set(c[1], found);
+          break;
+        }
+        case "collect": this.host.collect(); break;
+        case "buffer": {
+          const number = this.number();
+          if (this.opened === mostBlocks) {
+            this.made -= 1;
+            throw new Refused("limit: blocks");
+          }
+          const block = this.place * mostBlocks + this.opened++;
+          vars.set(c[1], new Shared(new SharedArrayBuffer(4 * c[2]), number, block));
+          break;
+        }
+        case "length": vars.set(c[1], Shared.wordsOf(vars.get(c[2])).length); break;
+        case "sameblock": vars.set(c[1], Shared.blockOf(vars.get(c[2])) === Shared.blockOf(vars.get(c[3]))); break;
+        case "load": vars.set(c[1], Atomics.load(Shared.wordsOf(vars.get(c[2])), c[3])); break;
+        case "store": Atomics.store(Shared.wordsOf(vars.get(c[1])), c[2], c[3]); break;
+        case "add": vars.set(c[1], Atomics.add(Shared.wordsOf(vars.get(c[2])), c[3], c[4])); break;
+        case "post": {
+          const message = this.message(vars.get(c[2]));
+          if (this.posted === mostPosts) throw new Refused("limit: posts");
+          this.posted += 1;
+          this.send(c[1], message);
+          break;
+        }
+      }
+    }
+    // The report's words for the engine's error.
+    named(e, c) {
+      if (e instanceof Refused) return e.message;
+      if (e instanceof RangeError && indexed.includes(c[0])) return "RangeError: index";
+      if (e instanceof TypeError && c !== undefined) {
+        const failed = this.failed(c);
+        if (failed !== undefined) return failed;
+      }
+      return `${e} (as the engine has it)`;
+    }
+    // The words of the first test of a command that fails.
+    failed(c) {
+      const values = c.map((name) => this.vars.get(name));
+      if (c[0] === "register") return this.notRegistered(values);
+      const failing = (tests[c[0]] || []).find(([{ test }, at]) => throws(test, values[at]));
+      return failing && failing[0].text;
+    }
+    notRegistered([, registry, target, held, token]) {
+      if (throws(aRegistry.test, registry)) return aRegistry.text;
+      if (throws(heldWeakly.test, target)) return heldWeakly.text;
+      if (Object.is(target, held)) return "TypeError: target and held value are the same";
+      return token !== undefined && throws(heldWeakly.test, token) ? heldWeakly.text : undefined;
+    }
+    // A refusal is told, and thrown on. Where the commands are of a job that waited, the message is assigned to X first.
+    performAll(commands, x, message) {
+      let command;
+      try {
+        if (x !== undefined) this.vars.set(x, this.value(message));
+        for (command of commands) {
+          this.perform(command);
+          if (this.tells && giving.has(command[0])) this.note(`gave ${this.show(this.vars.get(command[1]))}`);
+        }
+      } catch (e) {
+        const text = this.named(e, command);
+        this.out.push(`error ${text}`);
+        throw new Refused(text);
+      }
+    }
+    // Runs a job, in a job of the engine that the caller has begun, and waits as long as the engine calls callbacks.
+    async runNow({ on, run }, message) {
+      this.note("job");
+      try {
+        this.performAll(run, on && on[1], message);
+      } catch (e) {
+        if (!(e instanceof Refused)) throw e;
+      }
+      this.note("ended");
+      for (let before = -1; this.registries.length > 0 && before !== this.taken;) {
+        before = this.taken;
+        await this.host.wait();
+      }
+    }
+    // Runs a job in one of the engine's own. A canary, which nothing holds, shows that the engine collected in it.
+    async run(job, message) {
+      const canary = await this.canary();
+      await this.host.task();
+      await this.runNow(job, message);
+      if (await this.isGone(canary)) this.note("collected");
+    }
+    async canary() {
+      await this.host.task();
+      return new WeakRef({});
+    }
+    async isGone(canary) {
+      await this.host.task();
+      return deref.call(canary) === undefined;
+    }
+    end() {
+      const live = this.registered - this.unregistered - this.taken;
+      return `end live ${live} awaiting 0 unregistered ${this.unregistered} taken ${this.taken}`;
+    }
+  }
+  function throws(test, value) {
+    try { test(value); } catch { return true; }
+    return false;
+  }
+
+  // The agents of a plan in one thread, by turns: each time the first that can move moves, by one whole job, a skip, or
+  // its end; an agent can't move whose next job waits for a message of one that has not ended. Where no agent can move,
+  // the first skips its job.
+  class Cluster {
+    constructor(agents, host, tells) {
+      this.agents = agents.map((agent, place) => new Agent(agent, place, host, {
+        tells, send: (receiver, message) => this.port(agent.name, receiver).push(message),
+      }));
+      this.host = host;
+      this.ports = new Map();
+      this.done = agents.map(() => 0);
+      this.ended = new Set();
+    }
+    port(sender, receiver) {
+      const key = `${sender} ${receiver}`;
+      if (!this.ports.has(key)) this.ports.set(key, []);
+      return this.ports.get(key);
+    }
+    next(agent) { return agent.jobs[this.done[agent.place]]; }
+    lacks(agent) {
+      const job = this.next(agent);
+      return job !== undefined && job.on !== undefined && this.port(job.on[0], agent.name).length === 0;
+    }
+    stays(agent) { return this.lacks(agent) && !this.ended.has(this.next(agent).on[0]); }
+    async run() {
+      for (;;) {
+        const going = this.agents.filter(({ name }) => !this.ended.has(name));
+        if (going.length === 0) return;
+        await this.move(going.find((agent) => !this.stays(agent)) || going[0]);
+      }
+    }
+    async move(agent) {
+      const job = this.next(agent);
+      if (job === undefined) {
+        this.ended.add(agent.name);
+        return;
+      }
+      const skips = this.lacks(agent);
+      this.done[agent.place] += 1;
+      if (skips) agent.out.push(`skipped ${this.done[agent.place]}`);
+      else await agent.run(job, job.on && this.take(job.on[0], agent));
+    }
+    take(sender, agent) {
+      agent.received += 1;
+      const message = this.port(sender, agent.name).shift();
+      const isBlock = typeof message === "object" && "block" in message;
+      return isBlock ? { ...message, buffer: this.host.clone(message.buffer) } : message;
+    }
+  }
+  const runsOf = (agent) => [...agent.jobs.map((job) => job.run), ...Object.values(agent.callbacks)];
+  const posts = (run) => run.some(([word]) => word === "post");
+  // Whether agents post or wait. One agent has nobody to post to, so that its plan need not be looked through.
+  function hasMessages(agents) {
+    return agents.length > 1 && agents.some((agent) => agent.jobs.some((job) => job.on) || runsOf(agent).some(posts));
+  }
+  // Answers lines of JSON, each a plan, with lines of JSON: the lines of each agent, with what it tells beside them.
+  async function answer(lines, host) {
+    for (const line of lines) {
+      const { agents } = JSON.parse(line);
+      if (hasMessages(agents) && !host.clone) {
+        host.write(JSON.stringify({ skipped: "this host has no messages" }));
+        continue;
+      }
+      const cluster = new Cluster(agents, host, true);
+      await cluster.run();
+      host.write(JSON.stringify({ agents: cluster.agents.map(({ out }) => out) }));
+    }
+  }
+  return { Agent, Cluster, Refused, answer, hasMessages, runsOf };
+})();
