@@ -122,6 +122,7 @@ each_growth 0 run "$examples/worker.json" --turns
 each_growth 0 run "$examples/skipped.json" --turns
 each_growth 0 run "$examples/two_buffers.json" --turns
 each_growth 0 run "$examples/nobody_takes.json" --turns
+each_growth 0 run "$examples/later.json" --turns
 each_growth 0 check "$examples/refusals.json"
 each_growth 0 explain "$examples/refusals.json"
 
@@ -171,6 +172,22 @@ of_agent() {
     echo ']}'
 } >"$room/blocks.json"
 each_growth 0 run "$room/blocks.json" --turns
+
+# later collections while a WeakMap, a WeakSet, registrations and a buffer are there: one that derefs give parts back
+# from, one in a job that is refused, one after it, and one with nothing left to empty
+made='["new","k"],["new","v"],["wmset","m","k","v"],["wsadd","s","k"],["weakref","w","k"],["weakref","u","v"]'
+made=$made',["register","r","v","n","k"],["buffer","b",2],["set","v","b","b"],["set","k","w","w"]'
+gone='["let","k",null],["let","v",null],["let","b",null],["let","w",null],["let","u",null]'
+{
+    printf '{"version":2,"agents":[{"name":"a","callbacks":{"cb":[["new","y"],["register","r","y","held"]]},"jobs":[{"run":['
+    printf '["let","n",1],["registry","r","cb"],["weakmap","m"],["weakset","s"],'
+    yes "$made" | head -n 5 | paste -s -d ,
+    printf ',["copy","f","w"],["copy","g","u"],%s]},{"run":[["collectlater"],["deref","k","f"],["new","x"],' "$gone"
+    printf '["wmget","v","m","k"],["say","v"],["set","x","k","k"]]},{"run":[%s,["collectlater"],["keys","n"]]},' "$gone"
+    printf '{"run":[["let","x",null],["collectlater"],["deref","v","g"]]},{"run":[["let","v",null],["collectlater"]]},'
+    printf '{"run":[["collectlater"]]}]}]}\n'
+} >"$room/later.json"
+each_growth 0 run "$room/later.json" --turns
 
 # a fault in the last command of the last agent, so that all before it is read
 sed 's/\["keys", "x"\]/["keys", "1x"]/' "$examples/agents.json" >"$room/faulty.json"
@@ -227,6 +244,9 @@ makes_threads 8 "$room/eight.json" --watch 3
 makes_threads 0 "$room/eight.json" --turns
 makes_threads 0 "$examples/kept.json"
 makes_threads 1 "$examples/kept.json" --watch 2
+# A later collection is marked in a thread of its own.
+makes_threads 1 "$examples/later.json"
+makes_threads 0 "$examples/later.json" --turns
 
 # A watcher makes its audits: each makes three growths, a list of locks, one of agents and one of counts. What else a
 # run grows is not the same from run to run, so the most of five runs with many audits stands beside the least of five with
@@ -302,6 +322,8 @@ each_growth_in_threads "$examples/worker.json" 0
 each_growth_in_threads "$examples/nobody_takes.json" 0
 each_growth_in_threads "$examples/two_buffers.json" 0
 each_growth_in_threads "$examples/worker.json" 4
+# later collections, each marked by a helper
+each_growth_in_threads "$room/later.json" 0
 
 echo "$passed passed, $failed failed"
 [ "$failed" -eq 0 ]

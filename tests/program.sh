@@ -232,7 +232,7 @@ name_fault="A name is not spelled as one, or an earlier agent has it."
 operand_fault="The command is unknown, or its operands are of a wrong number or JSON kind."
 explained '{"version":1' 'S1 ""' "The text is no JSON in UTF-8."
 explained '{"version":1}' 'S2 ""' "The value has not the shape of a plan." 'found {"version":1}'
-explained '{"version":2,"agents":[]}' 'S3 "/version"' "The version is not 1." "found 2"
+explained '{"version":3,"agents":[]}' 'S3 "/version"' "The version is neither 1 nor 2." "found 3"
 explained '{"version":1,"agents":[]}' 'S4 "/agents"' "A plan has 1 to 8 agents." "found []"
 explained '{"version":1,"agents":[{"name":"1","callbacks":{},"jobs":[]}]}' 'S5 "/agents/0/name"' "$name_fault" 'found "1"'
 explained_agent '"callbacks":{"b/c":[]},"jobs":[]' 'S5 "/agents/0/callbacks/b~1c"' "$name_fault" 'found "b/c"'

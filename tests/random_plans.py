@@ -11,7 +11,9 @@ WeakMaps and WeakSets before all (`tables`), or FinalizationRegistries before al
 written by hand, mixed (`talks`); of suited commands, where each agent's next job and command is chosen where the others
 have come to (`grown`); of little but waiting (`waits`); and of any commands (`any_shared`). The others have faults
 (`doubtful_plan`). The callbacks of all but these were written by hand as well, and have any command among them here and
-there.
+there. A third of the plans are of version 2: of lives with later collections as well (`later_lives`), of suited commands
+with many of them (`laters`), or of the others, in whose jobs later collections stand beside `collect` or in its place
+(`with_laters`).
 
 In a third of all plans the members of the objects stand in any order, and a quarter is written over several lines.
 """
@@ -32,6 +34,8 @@ PLACES = {"weakmap": ["m", "n"], "weakset": ["s"], "weakref": ["u", "v"], "regis
 # where `registrations` has most of its tokens
 TOKENS = ["t", "k"]
 KEYS = ["p", "q", "r"]
+# how often plans are of which version
+VERSIONS = [1, 1, 2]
 CALLBACKS = ["cb", "B", "_x"]
 AGENTS = ["a", "main", "w", "B", "_", "x", "worker", "c8"]
 # what the operands of each command are for: x is assigned, k a property's key, l a literal, t a text, z a number of
@@ -45,13 +49,14 @@ USES = {
     "weakset": "x", "wsadd": "sh", "wshas": "xsh", "wsdelete": "xsh",
     "registry": "xc", "register": "rhv", "unregister": "xrh",
     "buffer": "xz", "length": "xb", "sameblock": "xbb", "load": "xbi", "store": "bin", "add": "xbin", "post": "av",
-    "collect": "",
+    "collect": "", "collectlater": "",
 }
 # an operand that may stand after these
 ONE_MORE = {"register": "h"}
 assert USES.keys() == rules.OPERANDS.keys() and ONE_MORE.keys() == rules.ONE_MORE.keys()
 SHARING = ["buffer", "length", "sameblock", "load", "store", "add", "post"]
-ALONE = [word for word in USES if word not in SHARING]
+ALONE = [word for word in USES if word not in [*SHARING, "collectlater"]]
+COLLECTING = [["collect"], ["collectlater"]]
 ASKING = ["wmhas", "wmdelete", "wshas", "wsdelete"]
 ANSWERING = ["same", "delete", "unregister", *ASKING]  # what assigns true or false
 WEAK_TABLES = ["weakmap", "wmset", "wmget", "wmhas", "wmdelete", "weakset", "wsadd", "wshas", "wsdelete"]
@@ -236,6 +241,66 @@ LIVES = [
     "/ let held null; collect; / let held null; collect; / let held null; collect",
 ]
 
+# Lives of version 2
+LATER_LIVES = [
+    # a target that goes though the job is refused, one that a deref gives meanwhile, and what hangs on it
+    "new A; weakref W A; let A null; / collectlater; let B 1; set B p B; / deref A W; say A",
+    "new A; new B; set A p B; weakref W A; new C; let A null; let B null; let C null; / collectlater; deref A W; let A null; "
+    "/ collect",
+    "new A; new B; set A p B; weakref W A; weakref V B; let A null; let B null; / collectlater; deref A W; delete X A p; "
+    "let A null; / deref B V; say B; let B null; / collect; deref B V; say B",
+    "new A; weakref W A; let A null; / collectlater; deref A W; deref A W; new B; set B p A; let A null; / get A B p; say A; "
+    "deref C W; same X A C; say X",
+    "new A; new B; set A p B; weakref V A; weakref W B; let A null; let B null; / collectlater; deref B W; let B null; "
+    "/ deref A V; deref B W; say A; say B",
+    "symbol A; weakref W A; let A null; / collectlater; deref A W; say A; let A null; / collectlater; / deref A W; say A",
+    # a WeakRef that a deref gives does not lead to its target; asked for meanwhile it does
+    "new A; weakref W A; weakref V W; let A null; let W null; / collectlater; deref W V; / deref A W; say A; say W",
+    "new A; weakref W A; weakref V W; let A null; let W null; / collectlater; deref W V; deref A W; / say A; deref B W; say B",
+    # what a deref gave before, and what is kept alive, is a root; and what is let go of meanwhile was one
+    "new A; weakref W A; / deref A W; let A null; collectlater; / deref A W; say A; let A null; / collect; deref A W; say A",
+    "new A; weakref W A; let A null; collectlater; / deref A W; say A; let A null; / collectlater; / deref A W; say A",
+    "new A; weakref W A; / collectlater; let A null; / deref A W; say A; let A null; / collectlater; / deref A W; say A",
+    "new A; new B; set A p B; weakref W B; let B null; / collectlater; delete X A p; / deref B W; say B; let B null; "
+    "/ collect; deref B W; say B; say A",
+    # what is made meanwhile stays, to the next collection
+    "collectlater; new A; let A null; / collect", "collectlater; new A; / collect; say A; let A null; / collectlater; / collect",
+    "collectlater; new A; weakref W A; let A null; / deref A W; say A; let A null; / collect; deref A W; say A",
+    "new A; weakref W A; let A null; / collectlater; weakmap M; deref A W; wmset M A M; let A null; / deref A W; wmget B M A; "
+    "say B",
+    # nothing collects while one is open
+    "collectlater; collect", "collectlater; collectlater", "new A; let A null; collectlater; collect; say A; / collect",
+    "collect; collectlater; / collectlater; / collect", "new A; let A null; collect; new A; let A null; collectlater; / say A",
+    # entries: one whose key a deref gives, one that is set meanwhile, one whose key is let go of, and a map that goes
+    "weakmap M; new A; new B; wmset M A B; weakref W A; weakref V B; let A null; let B null; / collectlater; deref A W; "
+    "let B null; / wmget B M A; say B; deref W V; same A B W; say A",
+    "weakmap M; new A; new B; wmset M A B; weakref W A; let A null; let B null; / collectlater; deref A W; wmdelete X M A; "
+    "say X; wmset M A A; / wmget B M A; say B",
+    "weakmap M; new A; new B; wmset M A B; weakref W B; let B null; / collectlater; let A null; / deref B W; say B; "
+    "let B null; / collect; deref B W; say B",
+    "weakmap M; new A; new B; wmset M A B; weakref W M; weakref V B; let M null; let B null; / collectlater; deref B V; "
+    "/ deref M W; say M; say B; let B null; / collect",
+    "weakmap M; weakmap N; new A; new B; wmset M A N; wmset N A B; weakref W A; weakref V B; let A null; let B null; "
+    "let N null; / collectlater; deref A W; / wmget N M A; wmget B N A; say B; deref W V; same A B W; say A",
+    # members
+    "weakset S; new A; wsadd S A; weakref W A; let A null; / collectlater; wsadd S W; wshas X S W; say X; / deref A W; say A; "
+    "wshas X S W; say X",
+    "weakset S; new A; wsadd S A; weakref W A; let A null; / collectlater; deref A W; wsdelete X S A; say X; / wshas X S A; "
+    "say X; say A",
+    # registrations: a target that goes, one that a deref gives, one that is unregistered or registered meanwhile, and a
+    # held value that nothing else holds
+    "registry f cb; new A; let B 5; register f A B; let A null; collectlater; say B; / say held",
+    "registry f cb; new A; weakref W A; let B 5; register f A B; let A null; / collectlater; deref A W; let A null; / collect",
+    "registry f cb; new A; new C; let B 5; register f A B C; let A null; collectlater; unregister X f C; say X; / collect",
+    "registry f cb; new A; weakref W A; let B 5; let A null; / collectlater; deref A W; register f A B; let A null; "
+    "/ collectlater; / say held",
+    "registry f cb; new A; new B; new C; register f A B C; weakref W B; let B null; / collectlater; unregister X f C; "
+    "/ deref B W; say B; let B null; / collect; deref B W; say B",
+    "registry f cb; new A; new B; register f A B; weakref W B; let A null; let B null; / collectlater; / let held null; "
+    "deref B W; say B; let B null; / collectlater; / deref B W; say B",
+    "registry f cb; registry g _x; new A; let B 1; let C 2; register g A B; register f A C; let A null; collectlater; keys A",
+]
+
 # Talks of two agents or more, in words as lives are; at a bar the next agent begins. `@0` is the first agent's name. `on`
 # is no command: it begins a job that waits for a message of an agent, for a variable.
 TALKS = [
@@ -322,6 +387,9 @@ TALKS = [
     "| on @0 M; load X M 0; say X; / on @0 M; say M",
     "on @1 M; registry f cb; new A; register f A M; let A null; let M null; collect "
     "| buffer A 1; post @0 A; / on @0 M; sameblock X A M; say X; load X A 0; say X",
+    # a buffer that a message brings, and one that goes at the end of the job in which its block is used
+    "buffer A 2; store A 1 3; post @1 A; let A null; collect; / on @1 M; load X M 1; say X "
+    "| on @0 M; weakref W M; post @0 M; let M null; collect; deref M W; load X M 1; say X; let M null; / collect",
     # what a message's variable holds lasts, and a skip leaves it as it is
     "buffer A 1; store A 0 8; post @1 A; / post @1 A "
     "| on @0 M; / collect; load X M 0; say X; / on @0 M; / on @0 M; load X M 0; say X; collect",
@@ -362,7 +430,7 @@ SHARED_CALLS = [
 # Commands for spoiled plans: `collect`, written rightly and wrongly, and other faults
 COLLECTS = [
     ["collect"], ["collect", "x"], ["collect", None], ["collect", []], ["collect", "1x"],
-    ["collects"], ["Collect"], ["collect "], ["collectlater"],
+    ["collects"], ["Collect"], ["collect "], ["collectlater"], ["collectlater", "x"], ["collectlater", None], ["collectLater"],
 ]
 FAULTS = [
     ["new"], ["new", 1], ["new", "1x"], ["let", "x", 1.5], ["let", "x", "\u00e9"], ["let", "1x", 1.5], ["let", "1x", []],
@@ -444,7 +512,7 @@ def named(runs):
     return {step[2] for run in runs for step in run if step[0] == "registry"}
 
 
-def plan_of(rng, jobs_of):
+def plan_of(rng, jobs_of, version=1):
     """A plan of one to three agents, each with what `jobs_of` gives for its callbacks."""
     agents = []
     for name in rng.sample(["a", "main", "w", "B", "_"], rng.randint(1, 3)):
@@ -454,7 +522,28 @@ def plan_of(rng, jobs_of):
         kept = named([*jobs, *calls.values()])
         calls = {call: run for call, run in calls.items() if rng.random() < (0.998 if call in kept else 0.5)}
         agents.append({"name": name, "callbacks": calls, "jobs": [{"run": run} for run in jobs]})
-    return {"version": 1, "agents": agents}
+    plan = {"version": version, "agents": agents}
+    return with_laters(rng, plan) if version == 2 and jobs_of is not laters else plan
+
+
+def with_laters(rng, plan):
+    """The plan with later collections in some jobs, in the place of collections and elsewhere."""
+    for agent in plan["agents"]:
+        agent["jobs"] = [part for job in agent["jobs"] for part in later_job(rng, job)]
+    return plan
+
+
+def later_job(rng, job):
+    """A job with later collections, and mostly the next jobs, each from where it would be refused to collect."""
+    run = [["collectlater"] if step == ["collect"] and rng.random() < 0.4 else step for step in job["run"]]
+    if rng.random() < 0.3:
+        run.insert(rng.randint(0, len(run)), ["collectlater"])
+    parts = [[]]
+    for step in run:
+        if step[:1] in COLLECTING and ["collectlater"] in parts[-1] and rng.random() < 0.95:
+            parts.append([])
+        parts[-1].append(step)
+    return [{**job, "run": parts[0]}, *({"run": part} for part in parts[1:])]
 
 
 def any_jobs(rng, _calls):
@@ -476,9 +565,9 @@ def written(rng, text, agents=()):
         yield [None if word == "null" else int(word) if word.removeprefix("-").isdigit() else word for word in words]
 
 
-def life(rng):
+def life(rng, drawn_from=LIVES):
     """One of the lives; with a callback that was not written into it, where it has one."""
-    for step in written(rng, rng.choice(LIVES)):
+    for step in written(rng, rng.choice(drawn_from)):
         yield [*step[:2], rng.choice(CALLBACKS)] if step and step[0] == "registry" else step
 
 
@@ -536,11 +625,15 @@ OFTEN_REGISTRATIONS = dict.fromkeys(ALONE, 1) | {
     "let": 10, "new": 15, "symbol": 6, "set": 4, "get": 3, "copy": 3, "weakref": 4, "deref": 3, "collect": 9, "wmset": 3,
     "registry": 3, "register": 45, "unregister": 12,
 }
-OFTEN_SHARED = dict.fromkeys(USES, 1) | {
+OFTEN_LATER = OFTEN_TABLES | {
+    "collect": 3, "collectlater": 10, "weakref": 16, "deref": 20, "let": 14, "registry": 3, "register": 12, "unregister": 3,
+}
+OFTEN_SHARED = dict.fromkeys([*ALONE, *SHARING], 1) | {
     "let": 8, "new": 6, "copy": 5, "set": 3, "get": 3, "weakref": 4, "deref": 4, "collect": 6, "weakmap": 2, "wmset": 5,
     "wmget": 4, "registry": 2, "register": 6, "buffer": 14, "length": 4, "sameblock": 8, "load": 14, "store": 14, "add": 16,
     "post": 34,
 }
+OFTEN_SHARED_LATER = OFTEN_SHARED | {"collect": 3, "collectlater": 8, "weakref": 10, "deref": 12}
 
 
 def variables(often):
@@ -641,7 +734,14 @@ def batch(rng):
 def without_collections(calls):
     """A plan with a callback that collects is refused. Where commands are tried none does: it might never come to its
     end."""
-    return {call: [step for step in run if step != ["collect"]] for call, run in calls.items()}
+    return {call: [step for step in run if step[:1] not in COLLECTING] for call, run in calls.items()}
+
+
+def ends_before(agent, step):
+    """How often a job ends before this command; mostly where it could not collect there."""
+    if step not in COLLECTING:
+        return 0.03
+    return 0.95 if agent.open else 0.6 if step == ["collect"] else 0.2
 
 
 def suited_jobs(rng, calls, often):
@@ -659,8 +759,7 @@ def suited_jobs(rng, calls, often):
             end()
 
     def end():
-        agent.kept = []
-        for _ in agent.cleanup_jobs():
+        for _ in [*agent.job_end(), *agent.cleanup_jobs()]:
             pass
         jobs.append([])
 
@@ -672,7 +771,7 @@ def suited_jobs(rng, calls, often):
     for _ in range(rng.randint(20, 120)):
         batched = often is OFTEN_REGISTRATIONS and rng.random() < 0.04
         for step in batch(rng) if batched else suited(rng, agent, often):
-            if rng.random() < (0.6 if step == ["collect"] else 0.03):
+            if rng.random() < ends_before(agent, step):
                 end()
             do(step)
     end()
@@ -704,11 +803,15 @@ def registrations(rng, calls):
     return suited_jobs(rng, calls, OFTEN_REGISTRATIONS)
 
 
-def lives(rng, _calls):
+def laters(rng, calls):
+    return suited_jobs(rng, calls, OFTEN_LATER)
+
+
+def lives(rng, _calls, drawn_from=LIVES):
     """Jobs of lives, one after the other, in which jobs end, and other commands stand, here and there."""
     jobs = [[]]
     for _ in range(rng.randint(1, 8)):
-        steps, odd = (chain(rng), 0.003) if rng.random() < 0.1 else (life(rng), 0.05)
+        steps, odd = (chain(rng), 0.003) if rng.random() < 0.1 else (life(rng, drawn_from), 0.05)
         for step in steps:
             if step is None or rng.random() < 0.1:
                 jobs.append([])
@@ -719,13 +822,18 @@ def lives(rng, _calls):
     return jobs + [[["collect"], *(["say", name] for name in NAMES), ["collect"]]]
 
 
+def later_lives(rng, calls):
+    return lives(rng, calls, LATER_LIVES * 2 + LIVES)
+
+
 class Growing(rules.Agent):
     """An agent of which each job, and each command of it, is chosen when the agent comes to it."""
 
-    def __init__(self, rng, plan, ledger, agents):
+    def __init__(self, rng, plan, ledger, agents, often):
         calls = {call: [*map(as_read, run)] for call, run in without_collections(plan["callbacks"]).items()}
         super().__init__({**plan, "callbacks": calls}, ledger)
         self.rng, self.agents, self.left = rng, agents, rng.choice([0, 1, 2, 3, 4, 5, 6, 8])
+        self.often = often
 
     def others(self):
         return [name for name in self.agents if name != self.name]
@@ -768,7 +876,7 @@ class Growing(rules.Agent):
                 yield as_read(step)
 
     def chosen(self):
-        often = OFTEN_SHARED if self.others() else OFTEN_SHARED | {"post": 0}
+        often = self.often if self.others() else self.often | {"post": 0}
         if self.done == 1 and self.rng.random() < 0.7:
             yield [["registry", name, self.rng.choice(CALLBACKS)] for name in PLACES["registry"]]
             yield [["buffer", name, self.rng.choice(SIZES)] for name in PLACES["buffer"]]
@@ -790,11 +898,15 @@ def as_read(step):
     return json.loads(json.dumps(step), parse_int=rules.Number)
 
 
-def grown(rng, agents):
+def grown(rng, agents, often=OFTEN_SHARED):
     ledger, growing = rules.Ledger(), {}
     for agent in agents:
-        growing[agent["name"]] = Growing(rng, agent, ledger, growing)
+        growing[agent["name"]] = Growing(rng, agent, ledger, growing, often)
     rules.run_turns(growing)
+
+
+def later_grown(rng, agents):
+    grown(rng, agents, OFTEN_SHARED_LATER)
 
 
 def others_of(agent, agents):
@@ -871,9 +983,9 @@ def any_shared(rng, agents):
             agent["jobs"].append(job)
 
 
-def shared_plan(rng):
+def shared_plan(rng, version=1):
     """A plan of agents that share blocks and post messages."""
-    jobs_of = rng.choices([talks, grown, waits, any_shared], [8, 9, 3, 3])[0]
+    jobs_of = rng.choices([talks, grown if version == 1 else later_grown, waits, any_shared], [8, 9, 3, 3])[0]
     fewest = 2 if jobs_of is talks else 1
     names = rng.sample(AGENTS, max(fewest, rng.choice([1, 2, 2, 2, 3, 3, 4, 5, 6, 7, 8])))
     agents = []
@@ -881,7 +993,8 @@ def shared_plan(rng):
         others = [other for other in names if other != name]
         agents.append({"name": name, "callbacks": {call: callback(rng, others) for call in CALLBACKS}, "jobs": []})
     jobs_of(rng, agents)
-    return {"version": 1, "agents": agents}
+    plan = {"version": version, "agents": agents}
+    return with_laters(rng, plan) if version == 2 and jobs_of is not later_grown else plan
 
 
 def doubtful_run(rng):
@@ -935,7 +1048,7 @@ def doubtful_plan(rng):
     names = rng.sample(["a", "main", "w", "B"], rng.randint(1, 3))
     if rng.random() < 0.1:
         names.append(rng.choice(["1x", "a"]))
-    return {"version": rng.choice([1] * 19 + [2]), "agents": [doubtful_agent(rng, name) for name in names]}
+    return {"version": rng.choice([1, 1, 2] * 6 + [3]), "agents": [doubtful_agent(rng, name) for name in names]}
 
 
 def spoil(rng, value):
@@ -960,7 +1073,7 @@ def spoil(rng, value):
         holder[rng.choice(["x", "on", "1x", "run", "name"])] = rng.choice([[], {}, None, holder[key]])
     else:
         holder[key] = rng.choice(
-            [None, True, 2, 1.0, 9007199254740992, -0.0, "1x", "é", "a" * 33, "a" * 257, "", [], {}, ["say", "a"], [["say", "a"]]]
+            [None, True, 2, 3, 1.0, 9007199254740992, -0.0, "1x", "é", "a" * 33, "a" * 257, "", [], {}, ["say", "a"], [["say", "a"]]]
         )
     return value
 
@@ -977,9 +1090,11 @@ def reordered(rng, value):
 
 
 def text(rng):
-    kind = rng.random()
+    kind, version = rng.random(), rng.choice(VERSIONS)
     jobs_of = lives if kind < 0.27 else tables if kind < 0.35 else registrations if kind < 0.46 else any_jobs
-    value = doubtful_plan(rng) if kind < 0.14 else plan_of(rng, jobs_of) if kind < 0.53 else shared_plan(rng)
+    if version == 2 and kind < 0.4:
+        jobs_of = later_lives if kind < 0.3 else laters
+    value = doubtful_plan(rng) if kind < 0.14 else plan_of(rng, jobs_of, version) if kind < 0.53 else shared_plan(rng, version)
     if kind > 0.93:
         put_fault(rng, value)
     for _ in range(rng.choice([0, 0, 1, 1, 2] if 0.46 <= kind < 0.57 else [0, 0, 0, 0, 1])):
@@ -1004,7 +1119,7 @@ PARTS = {
     "cleanups": r"^cleanup ", "blocks or messages": r"^(blocks|messages posted) [1-9]", "blocks": r"^blocks [1-9]",
     "messages": r"^messages posted [1-9]",
     "taken messages": r"^messages .* taken [1-9]", "drained messages": r"^messages .* drained [1-9]",
-    "skipped jobs": r"^skipped ",
+    "skipped jobs": r"^skipped ", "refused collections": r"^error a collection is open",
 }
 
 

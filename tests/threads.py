@@ -124,11 +124,15 @@ def handed_on(rng):
 
 
 def random_plan(rng):
-    kind = rng.random()
+    kind, version = rng.random(), rng.choice(random_plans.VERSIONS)
     if kind < 0.1:
         jobs_of = rng.choice([random_plans.lives, random_plans.tables, random_plans.registrations])
-        return random_plans.plan_of(rng, jobs_of)
-    return handed_on(rng) if kind < 0.25 else apart(random_plans.shared_plan(rng))
+        if version == 2:
+            jobs_of = rng.choice([random_plans.later_lives, random_plans.laters])
+        return random_plans.plan_of(rng, jobs_of, version)
+    if kind < 0.25:
+        return random_plans.with_laters(rng, {**handed_on(rng), "version": 2}) if version == 2 else handed_on(rng)
+    return apart(random_plans.shared_plan(rng, version))
 
 
 def answer(program, data, *options):
