@@ -3,6 +3,7 @@
 
 mod agents;
 mod clusters;
+mod counts;
 mod fakes;
 mod ledger;
 mod marks;

@@ -1,13 +1,15 @@
-//! Random graphs, on which the marker and the plain one give the same marks.
+//! Random graphs, on which the marker, alone and with helpers, and the plain one give the same marks.
 
 ghost use Rattle.std.specs.Prelude.{◌<◌};
 
 use super::drawn::Drawn;
 use super::rounds::{is_set, mark_in_rounds};
-use es_mark::mark;
+use es_mark::{Marks, mark};
+use es_parmark::mark_with;
 use es_value::{Id, NoMemory};
 use std::alloc::Global;
 use std::test::Fail;
+use std::thread::Threads;
 
 /// Random numbers: a linear congruential generator, of whose state the high bits are taken.
 #[derive(Drop)]
@@ -118,17 +120,28 @@ impl Lists {
     }
 }
 
-/// The first number at which the marker and the plain one differ.
-fn first_difference(alloc: Global, graph: &Drawn<'_>) -> Result<Option<u32>, NoMemory> {
-    let marks = mark(alloc, graph)?;
+/// The first number at which a marker and the plain one differ: that of one thread, or one with helpers.
+fn first_difference<R: Threads + Sync>(
+    rt: &R,
+    alloc: Global,
+    graph: &Drawn<'_>,
+) -> Result<Option<u32>, NoMemory> {
     let flags = mark_in_rounds(alloc, graph)?;
-    for number in 1..70 {
-        let id = Id::of(number);
-        if marks.has(id) != is_set(flags.as_slice(), id) {
-            return Ok(Some(number));
-        }
+    let alone = mark(alloc, graph)?;
+    let mut difference = difference_between(&alone, flags.as_slice());
+    for helpers in 1..9 {
+        let marks = mark_with(rt, alloc, graph, helpers)?;
+        difference = difference.or(difference_between(&marks, flags.as_slice()));
     }
-    Ok(None)
+    Ok(difference)
+}
+
+/// The first number that is marked and has no flag, or is not marked and has one.
+fn difference_between(marks: &Marks, flags: &[bool]) -> Option<u32> {
+    (1..70).find(|number| {
+        let id = Id::of(*number);
+        marks.has(id) != is_set(flags, id)
+    })
 }
 
 /// How many identities are reached.
@@ -144,7 +157,7 @@ fn marks_as_in_rounds(rt: HostRuntime) -> Result<(), Fail> {
     let mut by_entries: usize = 0;
     for seed in 0..400 {
         let lists = Lists::of(alloc, seed)?;
-        let difference = first_difference(alloc, &lists.whole())?;
+        let difference = first_difference(&rt, alloc, &lists.whole())?;
         assert_eq!(rt; difference, None, "graph {seed}");
         let count = reached(alloc, &lists.whole())?;
         let count_linked = reached(alloc, &lists.linked())?;
