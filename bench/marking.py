@@ -56,15 +56,24 @@ def heap_entries(count):
 HEAPS = {"random": heap_random, "wide": heap_wide, "chain": heap_chain, "entries": heap_entries}
 
 
-def plan(name, objects, collections):
+def jobs_of(name, objects):
+    """The commands of the jobs that make the heap."""
     jobs = [[]]
     for piece in HEAPS[name](objects):
         if len(jobs[-1]) + len(piece) > LONGEST:
             jobs.append([])
         jobs[-1] += piece
-    jobs.append([["collect"]] * collections)
+    return jobs
+
+
+def plan_of(jobs, version=1):
+    """A plan of one agent with these jobs."""
     agent = {"name": "a", "callbacks": {}, "jobs": [{"run": job} for job in jobs]}
-    return json.dumps({"version": 1, "agents": [agent]}, separators=(",", ":"))
+    return json.dumps({"version": version, "agents": [agent]}, separators=(",", ":"))
+
+
+def plan(name, objects, collections):
+    return plan_of(jobs_of(name, objects) + [[["collect"]] * collections])
 
 
 def seconds(words):

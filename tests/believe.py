@@ -1,11 +1,16 @@
 #!/usr/bin/env python3
-"""README.md lists exactly the files of definitions that a reader has to believe, and no promise rests on another.
+"""docs/BELIEVE.md lists exactly the files of definitions that a reader has to believe, with their sizes, and no promise
+rests on another.
 
-Usage: believe.py. Each file of crates/*/specs, but for Lib.antt, says in its first line whether it is `To believe` or
-`Internal`. The section of README.md that is named SECTION has one line a crate, as `- **crate**: `File`, `File``, and
-in these lines each file to believe once, and no other. A file to believe takes no word from an internal one. Nor do the
-contracts of the calls that a crate exports, and the models of its types, but for those of INSIDE. Prints each fault,
-and `N passed, M failed` last.
+Usage: believe.py          prints each fault, and `N passed, M failed` last
+       believe.py --sizes  writes the sizes anew
+
+Each file of crates/*/specs, but for Lib.antt, says in its first line whether it is `To believe` or `Internal`. The
+section SECTION has one line a crate, as `- **crate**: [File](path) size, ..`, and in these lines each file to believe
+once, and no other. A size is the number of lines that are neither empty nor a `use`. The section FEW has twelve files
+and five of which only a few words are needed: the file that says what is live takes words from these alone. A file to
+believe takes no word from an internal one. Nor do the contracts of the calls that a crate exports, and the models of
+its types, but for those of INSIDE.
 """
 
 import glob
@@ -14,8 +19,14 @@ import re
 import sys
 
 TOP = os.path.dirname(os.path.dirname(os.path.abspath(__file__)))
-SECTION = "## What a reader has to believe"
-LINE = re.compile(r"- \*\*(\w+)\*\*: (`\w+`(?:, `\w+`)*)")
+PAGE = os.path.join(TOP, "docs", "BELIEVE.md")
+SECTION = "## All, in reading order"
+FEW = "## Weak references alone"
+LIVE = ("es_event", "Live")
+ONE = r"\[\w+\]\(\.\./crates/\w+/specs/\w+\.antt\)"
+LINE = re.compile(rf"- \*\*(\w+)\*\*: ({ONE} \d+(?:, {ONE} \d+)*)")
+FILE = re.compile(r"\[(\w+)\]\(\.\./crates/(\w+)/specs/(\w+)\.antt\)(?: (\d+))?")
+TOGETHER = re.compile(r"Together they have (\d+) lines")
 # the steps of marking, an agent's inside, and what is told part by part; and of es_event what is no promise of its own
 INSIDE = {
     ("es_mark", "Listed"),
@@ -49,22 +60,64 @@ def kinds():
     return found
 
 
+def section(heading):
+    """The lines of the page below this heading, up to the next."""
+    lines = read(PAGE).split("\n")
+    start = lines.index(heading) + 1
+    ends = [at for at, line in enumerate(lines) if at >= start and line.startswith("## ")]
+    return lines[start : ends[0] if ends else len(lines)]
+
+
 def listed():
-    """The files that README.md lists, in its order, and the lines of its list that are none."""
-    with open(os.path.join(TOP, "README.md"), encoding="utf-8") as text:
-        lines = text.read().split("\n")
-    if lines.count(SECTION) != 1:
-        return [], [f"README.md has the line '{SECTION}' {lines.count(SECTION)} times"]
+    """The files that the page lists with their sizes, in its order, and the lines of its list that are none."""
     files, wrong = [], []
-    for line in lines[lines.index(SECTION) + 1 :]:
-        if line.startswith("## "):
-            break
+    for line in section(SECTION):
         parts = LINE.fullmatch(line)
         if parts:
-            files += [(parts[1], name) for name in re.findall(r"\w+", parts[2])]
+            found = FILE.findall(parts[2])
+            files += [((crate, file), int(size)) for _, crate, file, size in found]
+            wrong += [f"{name} of {parts[1]} leads elsewhere" for name, crate, file, _ in found if (crate, file) != (parts[1], name)]
         elif line.startswith("- "):
             wrong.append(f"no line of the list: {line}")
     return files, wrong
+
+
+def size_of(file):
+    """How many lines of a file of definitions are neither empty nor a `use`."""
+    lines = read(path_of(file)).split("\n")
+    return sum(1 for line in lines if line.strip() and not line.startswith("use "))
+
+
+def path_of(file):
+    return os.path.join(TOP, "crates", file[0], "specs", f"{file[1]}.antt")
+
+
+def needed(file, files):
+    """The files of definitions from which this one takes words, and from which those do, and so on."""
+    seen, ahead = set(), [file]
+    while ahead:
+        it = ahead.pop()
+        if it not in seen:
+            seen.add(it)
+            ahead += [other for other in words_of(read(path_of(it))).values() if other in files]
+    return seen
+
+
+def few(files):
+    """What is wrong with the short list; None where all is well."""
+    named = [(crate, file) for _, crate, file, _ in FILE.findall("\n".join(section(FEW)))]
+    if set(named) != needed(LIVE, files) or len(named) != 19:
+        odd = sorted(set(named) ^ needed(LIVE, files))
+        return f"the short list is not what {LIVE[1]} takes words from: {odd}"
+    return None
+
+
+def write_sizes(files):
+    """Writes the page with the sizes as they are."""
+    total = sum(size_of(file) for file, kind in files.items() if kind == "To believe")
+    text = re.sub(rf"({ONE}) \d+", lambda it: f"{it[1]} {size_of(FILE.match(it[1]).group(2, 3))}", read(PAGE))
+    with open(PAGE, "w", encoding="utf-8") as page:
+        page.write(TOGETHER.sub(f"Together they have {total} lines", text))
 
 
 def words_of(text):
@@ -127,10 +180,10 @@ def rests(files):
     for (crate, name), kind in files.items():
         if kind == "To believe":
             looked += 1
-            words = words_of(read(os.path.join(TOP, "crates", crate, "specs", f"{name}.antt")))
+            words = words_of(read(path_of((crate, name))))
             inside = sorted((word, *file) for word, file in words.items() if files.get(file) == "Internal")
             wrong += [f"{crate}: {name} takes {word} of {of}'s {file}, which is internal" for word, of, file in inside]
-    for crate in sorted(os.listdir(os.path.join(TOP, "crates"))):
+    for crate in sorted(os.path.basename(os.path.dirname(folder)) for folder in glob.glob(os.path.join(TOP, "crates", "*", ""))):
         looked += 1
         inside = {(call, word, *file) for file, call, word in spoken(crate) if silent(crate, file, files)}
         for call, word, of, file in sorted(inside):
@@ -138,29 +191,41 @@ def rests(files):
     return wrong, looked
 
 
-def fault(file, kind, times):
-    """What is wrong with a file of this kind that README.md lists so many times; None where all is well."""
+def fault(file, kind, sizes):
+    """What is wrong with a file of this kind that the page lists with these sizes; None where all is well."""
     if kind is None:
         return "its first line begins neither with `-- To believe: ` nor with `-- Internal: `"
-    if kind == "To believe" and times != 1:
-        return f"it is to believe, and README.md lists it {times} times"
-    if kind == "Internal" and times != 0:
-        return "it is internal, and README.md lists it"
+    if kind == "To believe" and len(sizes) != 1:
+        return f"it is to believe, and docs/BELIEVE.md lists it {len(sizes)} times"
+    if kind == "Internal" and sizes:
+        return "it is internal, and docs/BELIEVE.md lists it"
+    if sizes and sizes[0] != size_of(file):
+        return f"it has {size_of(file)} lines, and docs/BELIEVE.md says {sizes[0]}: tests/believe.py --sizes"
     return None
 
 
 def main():
     files = kinds()
+    if sys.argv[1:] == ["--sizes"]:
+        write_sizes(files)
+        return
     lines, failures = listed()
     passed = 0
     for file, kind in files.items():
-        why = fault(file, kind, lines.count(file))
+        why = fault(file, kind, [size for it, size in lines if it == file])
         if why is None:
             passed += 1
         else:
             failures.append(f"crates/{file[0]}/specs/{file[1]}.antt: {why}")
-    for crate, name in sorted(set(lines) - set(files)):
-        failures.append(f"README.md lists {name} of {crate}, and there is no such file")
+    for crate, name in sorted({it for it, _ in lines} - set(files)):
+        failures.append(f"docs/BELIEVE.md lists {name} of {crate}, and there is no such file")
+    together = TOGETHER.search(read(PAGE))
+    total = sum(size for _, size in lines)
+    for why in (few(files), None if together and int(together[1]) == total else f"the sizes are {total} lines together"):
+        if why is None:
+            passed += 1
+        else:
+            failures.append(why)
     wrong, looked = rests(files)
     failures += wrong
     passed += looked - min(looked, len(wrong))

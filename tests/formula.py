@@ -1,5 +1,5 @@
 #!/usr/bin/env python3
-"""README.md quotes its theorem from the definitions.
+"""docs/PROVED.md quotes its theorem from the definitions.
 
 Usage: formula.py. Each line of the code block below the heading HEADING stands, letter for letter, in a file of
 crates/*/specs. Prints each line that does not, and `N passed, M failed` last.
@@ -20,7 +20,7 @@ def lines_of(path):
 
 def quoted():
     """The lines of the first code block below the heading."""
-    lines = lines_of(os.path.join(TOP, "README.md"))
+    lines = lines_of(os.path.join(TOP, "docs", "PROVED.md"))
     below = lines[lines.index(HEADING):]
     start = below.index("```")
     return below[start + 1:below.index("```", start + 1)]

@@ -1,10 +1,10 @@
 #!/usr/bin/env python3
-"""README.md's picture of the crates says what crates.txt says.
+"""README.md's picture of boxes and the list in crates/README.md say what crates.txt says.
 
-Usage: picture.py. The picture is the code block that begins with the line FIRST. Each further line has a crate, what it
-is, and after the word `on` all that it stands on, parted by two spaces or more. A crate stands above all that it stands
-on. The crates NAME_tests, on which none stands, have tests of those below them and are not drawn. Prints each
-difference, and `N passed, M failed` last.
+Usage: picture.py. The list has a heading for each box and below it a line for each crate, as `- **crate**: what it is`.
+A crate stands on crates below it in the list; on those of the last part, TESTS, none stands. The boxes of the picture
+are the other parts, in their order. What README.md trusts of the kit is what the crates stand on. Prints each difference,
+and `N passed, M failed` last.
 """
 
 import os
@@ -12,9 +12,12 @@ import re
 import sys
 
 TOP = os.path.dirname(os.path.dirname(os.path.abspath(__file__)))
-FIRST = "Each crate, what it is, and what it stands on:"
-TESTS = "_tests"
-LINE = re.compile(r"(\w+) {2,}(\S.*?) {2,}on (\S.*)")
+LIST = "crates/README.md"
+TESTS = "tests"
+CRATE = re.compile(r"- \*\*(\w+)\*\*: \S.*")
+BOX = re.compile(r"\| (\w[\w ]*?) {2,}\S.* \|")
+# parts of the toolchain's standard library
+STANDARD = {"core", "std_alloc", "std_heap"}
 
 
 def lines_of(name):
@@ -22,60 +25,68 @@ def lines_of(name):
         return file.read().split("\n")
 
 
-def listed():
+def built():
     """Each crate of crates.txt, with what it stands on."""
     edges = {}
     for line in lines_of("crates.txt"):
         names, colon, below = line.partition("#")[0].partition(":")
         if colon:
             edges[names.split()[0]] = set(below.split())
-    below_others = set().union(*edges.values())
-    return {name: below for name, below in edges.items() if not name.endswith(TESTS) or name in below_others}
+    return edges
+
+
+def listed():
+    """The parts of the list, each with its crates, and the lines that are none."""
+    parts, wrong = {}, []
+    for line in lines_of(LIST):
+        if line.startswith("## "):
+            parts[line[3:]] = []
+        elif line.startswith("- "):
+            crate = CRATE.fullmatch(line)
+            if crate and parts:
+                [*parts.values()][-1].append(crate[1])
+            else:
+                wrong.append(f"no line of a crate: {line}")
+    return parts, wrong
 
 
 def drawn():
-    """The lines of the picture as crates with what they stand on, and the lines that are none."""
-    lines = lines_of("README.md")
-    if lines.count(FIRST) != 1:
-        return [], [f"README.md has the line '{FIRST}' {lines.count(FIRST)} times"]
-    at = lines.index(FIRST)
-    crates, wrong = [], []
-    if not lines[at - 1].startswith("```"):
-        wrong.append("the picture is not at the beginning of a code block")
-    for line in lines[at + 1 :]:
-        if line.startswith("```"):
-            break
-        parts = LINE.fullmatch(line.strip())
-        if parts:
-            below = parts[3].split()
-            crates.append((parts[1], [] if below == ["nothing"] else below))
-        elif line.strip():
-            wrong.append(f"no line of a picture: {line}")
-    return crates, wrong
+    """The boxes of README.md's picture, from the top."""
+    return [box[1] for box in map(BOX.fullmatch, lines_of("README.md")) if box]
 
 
-def difference(name, edges, lines):
-    """What is wrong with the picture of one crate; None where all is well."""
-    at = [number for number, (crate, _) in enumerate(lines) if crate == name]
-    if len(at) != 1:
-        return f"the picture has it {len(at)} times"
+def difference(name, edges, order, tests):
+    """What is wrong with the line of one crate; None where all is well."""
+    if order.count(name) != 1:
+        return f"{LIST} has it {order.count(name)} times"
     if name not in edges:
         return "crates.txt does not have it"
-    below = lines[at[0]][1]
-    found = [f"crates.txt alone has {it}" for it in sorted(edges[name] - set(below))]
-    found += [f"the picture alone has {it}" for it in sorted(set(below) - edges[name])]
-    found += [f"the picture has {it} twice" for it in sorted(set(below)) if below.count(it) > 1]
-    higher = [crate for crate, _ in lines[: at[0]]]
-    found += [f"it stands below {it}" for it in below if it in higher]
-    return "; ".join(found) or None
+    if name in tests:
+        above = sorted(other for other, below in edges.items() if name in below)
+        return f"it is one of the tests, and {', '.join(above)} stands on it" if above else None
+    higher = sorted(it for it in edges[name] if it in order[: order.index(name)])
+    return f"it stands below {', '.join(higher)}" if higher else None
+
+
+def trusted(edges):
+    """What is wrong with the kit's crates that README.md says are trusted; None where all is well."""
+    line = next((line for line in lines_of("README.md") if "Rattle kit whose logic" in line), "")
+    named = set(re.findall(r"`(\w+)`", line.partition("its crates")[2]))
+    of_kit = set().union(*edges.values()) - set(edges) - STANDARD
+    return None if named == of_kit else f"README.md trusts {sorted(named)} of the kit, and crates.txt has {sorted(of_kit)}"
 
 
 def main():
-    edges = listed()
-    lines, failures = drawn()
+    edges = built()
+    parts, failures = listed()
+    tests = parts.get(TESTS, [])
+    order = [name for crates in parts.values() for name in crates]
     passed = 0
-    for name in [*edges, *sorted({crate for crate, _ in lines} - set(edges))]:
-        why = difference(name, edges, lines)
+    faults = {name: difference(name, edges, order, tests) for name in [*edges, *sorted(set(order) - set(edges))]}
+    boxes = [part for part in parts if part != TESTS]
+    faults["the boxes"] = None if drawn() == boxes else f"README.md draws {drawn()}, and {LIST} has {boxes}"
+    faults["what is trusted"] = trusted(edges)
+    for name, why in faults.items():
         if why is None:
             passed += 1
         else:
