@@ -9,5 +9,6 @@ pub mod Mover
 pub mod Rounds
 pub mod Finishing
 pub mod Turning
+pub mod Watching
 pub mod Histories
 pub mod Ended

@@ -1,12 +1,14 @@
 //! Agents move in order, each until it rests.
 
 ghost use Rattle.std.specs.Prelude.{◌≡◌, ◌≤◌, ◌<◌, false, true, length, reverse, IfOk, IfSome, OnOk, OnErr, is_err};
-ghost use Rattle.es_cluster.specs.Asked.{AskedEach, BeginsMove, GoesOn, Hears, Works, cleans_at, plan_left};
+ghost use Rattle.es_cluster.specs.Asked.{AskedEach, BeginsMove, GoesOn, cleans_at, plan_left};
 ghost use Rattle.es_cluster.specs.Moves.{Rest, RunsToEnd, all_over, cleans_quietly, is_between as is_between_said, rests_at};
 ghost use Rattle.es_cluster.specs.State.{plans};
-ghost use Rattle.es_cluster.specs.Turns.{Turned};
+ghost use Rattle.es_cluster.specs.Watched.{IsWatched};
+ghost use Rattle.es_cluster.specs.Watching.{IsKept};
 
 use crate::cluster::ClusterCore;
+use crate::watcher::{Nobody, Watcher};
 use es_event::Event;
 use es_member::{Planned, Progress};
 use es_value::NoMemory;
@@ -24,11 +26,28 @@ impl<L: Planned> ClusterCore<L> {
         ensures plans { plans self.new.agents ≡ plans self.old.agents }
         ensures agents { length self.new.agents ≡ length self.old.agents }
     {
+        self.run_turns_watched(&mut Nobody)
+    }
+
+    /// The same run, of which a watcher that knows the cluster is told: of each turn that is taken, once, in the
+    /// order of the turns, before it and after it. The messages that nobody took are taken out after the last turn,
+    /// and nothing is told of that. Want of memory that the watcher has ends the run as any other does.
+    pub fn run_turns_watched<W: Watcher>(&mut self, watcher: &mut W) -> Result<(), NoMemory>
+        requires quiet { cleans_quietly self.old ≡ true }
+        requires knows { W.knows self.old watcher.old }
+        ensures runs { OnOk result (RunsToEnd self.old self.new) }
+        ensures watched { OnOk result (IsWatched W.knows W.tells self.old self.new watcher.old watcher.new) }
+        ensures over { OnOk result ((all_over self.new ≡ true) × (self.new.failed ≡ false)) }
+        ensures err { OnErr result (self.new.failed ≡ true) }
+        ensures failed { self.old.failed ≡ true → is_err result ≡ true }
+        ensures plans { plans self.new.agents ≡ plans self.old.agents }
+        ensures agents { length self.new.agents ≡ length self.old.agents }
+    {
         if self.failed {
             return Err(NoMemory);
         }
-        while let Some(agent) = self.begin_move()? {
-            self.finish_move(agent)?;
+        while let Some(agent) = self.begin_move(watcher)? {
+            self.finish_move(agent, watcher)?;
         }
         let _ = self.ledger.history();
         self.ledger.drain();
@@ -37,33 +56,37 @@ impl<L: Planned> ClusterCore<L> {
 
     // The first turn of the next move: its agent, or none where all have ended. Where none moves when
     // it is asked, all wait; then the lowest is told to skip its job when it is asked again.
-    fn begin_move(&mut self) -> Result<Option<usize>, NoMemory>
+    fn begin_move<W: Watcher>(&mut self, watcher: &mut W) -> Result<Option<usize>, NoMemory>
         requires quiet { cleans_quietly self.old ≡ true }
         requires whole { self.old.failed ≡ false }
+        requires knows { W.knows self.old watcher.old }
         ensures begins { IfOk result (λ r. BeginsMove r self.old self.new) }
+        ensures watched { OnOk result (IsKept W.knows W.tells self.old self.new watcher.old watcher.new) }
         ensures known { IfOk result (λ r. IfSome r (λ n. n < length self.new.agents)) }
         ensures err { OnErr result (self.new.failed ≡ true) }
         ensures plans { plans self.new.agents ≡ plans self.old.agents }
         ensures agents { length self.new.agents ≡ length self.old.agents }
     {
-        match self.ask_each()? {
+        match self.ask_each(watcher)? {
             Some(agent) => Ok(Some(agent)),
-            None => self.ask_each(),
+            None => self.ask_each(watcher),
         }
     }
 
     // Asks each agent for a turn, by rising number, until one moves.
-    fn ask_each(&mut self) -> Result<Option<usize>, NoMemory>
+    fn ask_each<W: Watcher>(&mut self, watcher: &mut W) -> Result<Option<usize>, NoMemory>
         requires quiet { cleans_quietly self.old ≡ true }
         requires whole { self.old.failed ≡ false }
+        requires knows { W.knows self.old watcher.old }
         ensures asked { IfOk result (λ r. AskedEach r self.old self.new) }
+        ensures watched { OnOk result (IsKept W.knows W.tells self.old self.new watcher.old watcher.new) }
         ensures known { IfOk result (λ r. IfSome r (λ n. n < length self.new.agents)) }
         ensures err { OnErr result (self.new.failed ≡ true) }
         ensures plans { plans self.new.agents ≡ plans self.old.agents }
         ensures agents { length self.new.agents ≡ length self.old.agents }
     {
         for agent in 0..self.agents() {
-            match self.advance(agent)? {
+            match self.advance(agent, watcher)? {
                 Progress::Moved => return Ok(Some(agent)),
                 Progress::Waiting | Progress::Ended => (),
             }
@@ -72,30 +95,34 @@ impl<L: Planned> ClusterCore<L> {
     }
 
     // The rest of a move.
-    fn finish_move(&mut self, agent: usize) -> Result<(), NoMemory>
+    fn finish_move<W: Watcher>(&mut self, agent: usize, watcher: &mut W) -> Result<(), NoMemory>
         requires known { agent < length self.old.agents }
         requires quiet { cleans_quietly self.old ≡ true }
         requires whole { self.old.failed ≡ false }
+        requires knows { W.knows self.old watcher.old }
         ensures rests { OnOk result (Rest agent self.old self.new) }
+        ensures watched { OnOk result (IsKept W.knows W.tells self.old self.new watcher.old watcher.new) }
         ensures less { OnOk result ((plan_left agent self.new ≤ plan_left agent self.old) × (self.new.failed ≡ false)) }
         ensures err { OnErr result (self.new.failed ≡ true) }
         ensures plans { plans self.new.agents ≡ plans self.old.agents }
         ensures agents { length self.new.agents ≡ length self.old.agents }
     {
-        self.clean_up(agent)?;
+        self.clean_up(agent, watcher)?;
         while !self.is_at_rest(agent) {
-            let _ = self.advance(agent)?;
-            self.clean_up(agent)?;
+            let _ = self.advance(agent, watcher)?;
+            self.clean_up(agent, watcher)?;
         }
         Ok(())
     }
 
     // Works the agent's cleanup queue off.
-    fn clean_up(&mut self, agent: usize) -> Result<(), NoMemory>
+    fn clean_up<W: Watcher>(&mut self, agent: usize, watcher: &mut W) -> Result<(), NoMemory>
         requires known { agent < length self.old.agents }
         requires quiet { cleans_quietly self.old ≡ true }
         requires whole { self.old.failed ≡ false }
+        requires knows { W.knows self.old watcher.old }
         ensures goes { OnOk result (GoesOn agent self.old self.new) }
+        ensures watched { OnOk result (IsKept W.knows W.tells self.old self.new watcher.old watcher.new) }
         ensures done { OnOk result (cleans_at agent self.new ≡ false) }
         ensures less { OnOk result ((plan_left agent self.new ≡ plan_left agent self.old) × (self.new.failed ≡ false)) }
         ensures err { OnErr result (self.new.failed ≡ true) }
@@ -103,25 +130,9 @@ impl<L: Planned> ClusterCore<L> {
         ensures agents { length self.new.agents ≡ length self.old.agents }
     {
         while self.is_cleaning(agent) {
-            let _ = self.advance(agent)?;
+            let _ = self.advance(agent, watcher)?;
         }
         Ok(())
-    }
-
-    // A turn, with what it leaves of the agent's work.
-    fn advance(&mut self, agent: usize) -> Result<Progress, NoMemory>
-        requires known { agent < length self.old.agents }
-        requires quiet { cleans_quietly self.old ≡ true }
-        requires whole { self.old.failed ≡ false }
-        ensures turned { IfOk result (λ p. Turned p agent self.old self.new) }
-        ensures works { IfOk result (λ p. Works p agent self.old self.new) }
-        ensures hears { IfOk result (λ p. Hears p agent self.old self.new) }
-        ensures err { OnErr result (self.new.failed ≡ true) }
-        ensures plans { plans self.new.agents ≡ plans self.old.agents }
-        ensures agents { length self.new.agents ≡ length self.old.agents }
-    {
-        let _ = self.members[agent].core().history();
-        self.step(agent)
     }
 
     // Whether the agent's cleanup queue is worked off.

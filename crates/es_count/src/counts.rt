@@ -18,7 +18,7 @@ use std::marker::Model;
 
 /// The totals of one outcome's report: how many registrations of each agent have each fate, and how many
 /// blocks and messages there were.
-#[derive(Debug, Drop)]
+#[derive(Drop)]
 pub struct Counts {
     tallies: Vec<Tally>,
     released: usize,

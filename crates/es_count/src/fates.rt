@@ -70,7 +70,7 @@ impl Fates {
                 command,
                 values,
                 ..
-            } => self.note_done(command, values.as_slice()),
+            } => self.note_done(command.get(), values.as_slice()),
             Event::Emptied { ids } => self.note_emptied(ids.as_slice()),
             Event::Taken { registration, .. } => self.note_taken(*registration),
             Event::JobBegun { .. }

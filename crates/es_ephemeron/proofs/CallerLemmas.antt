@@ -1,8 +1,10 @@
--- What a caller cites: the records under a key that are listed are those that their holders have, where no holder stands twice.
-use Rattle.std.proofs.Common.{◌≡◌, ℕ, zero, suc, ◌<◌, Bool, true, false, cond, nat_eq, List, [], ◌∷◌, length, slice_index_or, Option, Some, None, refl, ◌∙◌, ap, sym, subst, arith}
+-- What a caller cites: the records under a key that are listed are those that their holders have, where no holder stands twice; and who the holders are.
+use Rattle.std.proofs.Common.{◌≡◌, ℕ, zero, suc, ◌<◌, ◌==◌, ◌||◌, Bool, true, false, cond, nat_eq, List, [], ◌∷◌, length, slice_index_or, Option, Some, None, refl, ◌∙◌, ap, sym, subst, arith}
 use Rattle.std.proofs.lemmas.Bool.{eq-eqb, eqb-true}
 use Rattle.std.proofs.lemmas.Bool.Decides.{nat_tests}
 use Rattle.std.specs.List.{AllByRecursion, Contains, IsDistinct}
+use Rattle.std.specs.Prelude.{is_some}
+use Rattle.es_value.specs.Ids.{is_in}
 use Rattle.es_ephemeron.specs.Ephemerons.{Records, holders, held_by, records_at, record_at}
 
 distinct_parts : {V : Type 0} (r : ℕ × V) (rs : Records V) → IsDistinct nat_eq (holders (r ∷ rs)) → AllByRecursion (λ m. nat_eq r.0 m ≡ false) (holders rs) × IsDistinct nat_eq (holders rs)
@@ -74,3 +76,16 @@ module _ {V : Type 0} (all : List (Records V)) (k m : ℕ) (v : V) where
 
   pub record-from_listed : IsDistinct nat_eq (holders (records_at all k)) → Contains (records_at all k) (m, v) → record_at all m k ≡ Some v
   record-from_listed distinct (i, within, is) = held_listed (records_at all k) distinct m v i within is
+
+-- what has a record is one of the holders
+
+some_chosen : {V : Type 0} (b : Bool) (v : V) (o : Option V) (c : Bool) → is_some o ≡ c → is_some (cond b (Some v) o) ≡ (b || c)
+some_chosen true v o c e = refl
+some_chosen false v o c e = e
+
+holding : {V : Type 0} (rs : Records V) (m : ℕ) → is_some (held_by rs m) ≡ is_in (holders rs) m
+holding [] m = refl
+holding (r ∷ rs) m = some_chosen (r.0 == m) r.1 (held_by rs m) (is_in (holders rs) m) (holding rs m)
+
+pub recorded_is_holder : {V : Type 0} (all : List (Records V)) (m k : ℕ) → is_some (record_at all m k) ≡ is_in (holders (records_at all k)) m
+recorded_is_holder all m k = holding (records_at all k) m

@@ -88,6 +88,17 @@ impl<V: Drop> Keyed<V> {
         slot.remove(holder)
     }
 
+    /// Adds each holder that has something under this key to `found`.
+    #[tactic(auto, using(crate::proofs::Places::records_of))]
+    pub(crate) fn add_holders(&self, key: Id, found: &mut Vec<Id>) -> Result<(), NoMemory>
+        ensures { OnOk result (found.new.items ≡ found.old.items ++ holders (records_at self.now.all key)) }
+    {
+        match self.slots.get(key.number() as usize - 1) {
+            Some(slot) => slot.add_holders(found),
+            None => Ok(()),
+        }
+    }
+
     /// Drops the records under these keys, and those of these holders; it takes no memory.
     #[tactic(auto, using(crate::proofs::Places::records_of, crate::proofs::Places::room_of))]
     pub(crate) fn empty(&mut self, ids: &[Id])

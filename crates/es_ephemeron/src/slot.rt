@@ -121,6 +121,17 @@ impl<V: Drop> Slot<V> {
         }
     }
 
+    /// Adds each holder to `found`.
+    pub(crate) fn add_holders(&self, found: &mut Vec<Id>) -> Result<(), NoMemory>
+        ensures { OnOk result (found.new.items ≡ found.old.items ++ holders self.now.records) }
+    {
+        match &self.held {
+            Held::Nothing => Ok(()),
+            Held::One(holder, _) => table::add_holder(*holder, found),
+            Held::Many(table) => table::add_holders(table, found),
+        }
+    }
+
     /// Drops the records of these holders, and the memory of a table that is left without records.
     pub(crate) fn release(&mut self, holders: &IdSet<'_>)
         ensures { (n : ℕ) → held_by self.new.records n ≡ (if is_in holders.now n then None else held_by self.old.records n) }

@@ -54,6 +54,28 @@ pub(crate) fn add_copies(
     Ok(())
 }
 
+/// Adds each holder to `found`.
+pub(crate) fn add_holders<V: Drop>(
+    table: &HashMap<Id, V>,
+    found: &mut Vec<Id>,
+) -> Result<(), NoMemory>
+    ensures { OnOk result (found.new.items ≡ found.old.items ++ holders table.now.entries) }
+{
+    found.reserve(table.len())?;
+    for (holder, _) in table {
+        found.push(*holder)?;
+    }
+    Ok(())
+}
+
+/// Adds one holder to `found`.
+pub(crate) fn add_holder(holder: Id, found: &mut Vec<Id>) -> Result<(), NoMemory>
+    ensures { OnOk result (found.new.items ≡ found.old.items ++ holder ∷ []) }
+{
+    found.push(holder)?;
+    Ok(())
+}
+
 /// Adds a copy of one record to `found`.
 pub(crate) fn add_copy(
     holder: Id,

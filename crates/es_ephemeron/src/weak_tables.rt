@@ -139,6 +139,17 @@ impl WeakTables {
         self.entries.add_copies(key, found)
     }
 
+    /// Adds each WeakSet that has this member to `found`.
+    ///
+    /// # Errors
+    ///
+    /// `NoMemory` where there is none; nothing is said of `found` then.
+    pub fn sets_of_member(&self, member: Id, found: &mut Vec<Id>) -> Result<(), NoMemory>
+        ensures { OnOk result (found.new.items ≡ found.old.items ++ holders (records_at self.now.members.all member)) }
+    {
+        self.members.add_holders(member, found)
+    }
+
     /// Drops each entry and each member whose key, WeakMap or WeakSet is named (Execution); it takes
     /// no memory. The identities stand in any order, and may be strangers or stand twice.
     pub fn empty(&mut self, ids: &[Id])

@@ -9,7 +9,7 @@ use es_ticket::Run;
 use es_value::NoMemory;
 
 /// All tickets of a cluster, counted at one moment.
-#[derive(Drop, Debug)]
+#[derive(Drop)]
 pub struct Audit {
     /// How many Shared Data Blocks were made.
     pub blocks: u64,

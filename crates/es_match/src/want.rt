@@ -91,7 +91,7 @@ pub(crate) fn want_at<'a>(between: bool, event: &'a Event) -> Want<'a>
             command,
             values,
             answer,
-        } => want_of(command, values.as_slice(), given(answer)),
+        } => want_of(command.get(), values.as_slice(), given(answer)),
         Event::Refused { code } => {
             if between && wants_room(*code) {
                 Want::Refusal

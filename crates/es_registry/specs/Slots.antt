@@ -5,6 +5,7 @@ use Rattle.std.specs.Option.{option_and_then, option_map_or}
 use Rattle.es_value.specs.Ids.{is_in}
 use Rattle.es_value.specs.Values.{identity}
 use Rattle.es_registry.specs.declared.slot.Cell.{Cell}
+use Rattle.es_registry.specs.declared.slot.Registration.{Registration}
 use Rattle.es_registry.specs.declared.slot.Tally.{Tally}
 use Rattle.es_registry.specs.declared.slot.Slot.{Slot}
 use Rattle.es_registry.specs.declared.slot.Slot.TheVariants.{Present, Unregistered, Taken}
@@ -92,6 +93,12 @@ abbrev pub cell_of : Slot → Option Cell
 cell_of (Present c) = Some c.cell
 cell_of Unregistered = None
 cell_of Taken = None
+
+-- what is kept of the registration, if its cell is there
+abbrev pub registration_of : Slot → Option Registration
+registration_of (Present c) = Some c
+registration_of Unregistered = None
+registration_of Taken = None
 
 -- the registry of a cell that is there
 abbrev pub registry_of : Slot → Option ℕ

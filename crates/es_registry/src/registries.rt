@@ -5,7 +5,7 @@ ghost use Rattle.std.specs.List.{list_any, position_or_len};
 ghost use Rattle.std.specs.Option.{option_copied, option_and_then};
 ghost use Rattle.es_value.specs.Ids.{is_in};
 ghost use Rattle.es_registry.specs.Places.{listed, CanList};
-ghost use Rattle.es_registry.specs.Slots.{passes_at, is_awaiting, awaits, has_token, unregistered_by, emptied, cell_of, tally_of};
+ghost use Rattle.es_registry.specs.Slots.{held_identity, passes_at, is_awaiting, awaits, has_token, unregistered_by, emptied, cell_of, registration_of, tally_of};
 ghost use Rattle.es_registry.specs.Registries.{callback as callback_of, registered, oldest, AddsRegistry, SameCallbacks, Joins, is_root, CanRegister, KeepsCellRoom};
 
 use crate::cells::Cells;
@@ -331,6 +331,29 @@ impl Registries {
         roots::add_held(self.cells.all(), self.cells.present(), found)
     }
 
+    /// How many registrations were made.
+    pub fn registered(&self) -> usize
+        ensures { result ≡ length self.now.cells }
+    {
+        self.cells.all().len()
+    }
+
+    /// The identity that the cell at this place holds, if the cell is there; the first place is that of
+    /// registration 1.
+    pub fn held_at(&self, place: usize) -> Option<Id>
+        ensures { result ≡ option_and_then held_identity (slice_get self.now.cells place) }
+    {
+        roots::held_at(self.cells.all(), place)
+    }
+
+    /// What is kept of the registration at this place, if its cell is in its registry; the first place
+    /// is that of registration 1.
+    pub fn registration_at(&self, place: usize) -> Option<&Registration>
+        ensures { option_copied result ≡ option_and_then registration_of (slice_get self.now.cells place) }
+    {
+        registration_at(self.cells.all(), place)
+    }
+
     /// How many registrations there are of each fate; all of them together are every registration.
     pub fn tally(&self) -> Tally
         ensures each { result ≡ tally_of self.now.cells }
@@ -387,6 +410,16 @@ fn cell_at(slots: &[Slot], place: usize) -> Option<&Cell>
 {
     match slots.get(place) {
         Some(slot) => slot.cell(),
+        None => None,
+    }
+}
+
+/// What is kept of the registration at a place, if a cell is there.
+fn registration_at(slots: &[Slot], place: usize) -> Option<&Registration>
+    ensures { option_copied result ≡ option_and_then registration_of (slice_get slots.now place) }
+{
+    match slots.get(place) {
+        Some(slot) => slot.registration(),
         None => None,
     }
 }

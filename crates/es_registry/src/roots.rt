@@ -37,7 +37,7 @@ pub(crate) fn add_held(
 }
 
 /// The identity that the cell at a place holds.
-fn held_at(slots: &[Slot], place: usize) -> Option<Id>
+pub(crate) fn held_at(slots: &[Slot], place: usize) -> Option<Id>
     ensures { result ≡ option_and_then held_identity (slice_get slots.now place) }
 {
     match slots.get(place) {

@@ -2,7 +2,7 @@
 
 ghost use Rattle.std.specs.Prelude.{◌≡◌, is_some};
 ghost use Rattle.std.specs.Option.{option_copied, option_and_then};
-ghost use Rattle.es_registry.specs.Slots.{unless_among, is_present, is_awaiting, awaits, has_token, losing, emptied, cell_of, registry_of, held_identity};
+ghost use Rattle.es_registry.specs.Slots.{unless_among, is_present, is_awaiting, awaits, has_token, losing, emptied, cell_of, registration_of, registry_of, held_identity};
 
 use es_value::{Id, IdSet, Value};
 
@@ -138,6 +138,16 @@ impl Slot {
     {
         match self {
             Slot::Present(registration) => Some(registration.registry),
+            Slot::Unregistered | Slot::Taken => None,
+        }
+    }
+
+    /// What is kept of the registration, if its cell is there.
+    pub(crate) fn registration(&self) -> Option<&Registration>
+        ensures { option_copied result ≡ registration_of self.now }
+    {
+        match self {
+            Slot::Present(registration) => Some(registration),
             Slot::Unregistered | Slot::Taken => None,
         }
     }

@@ -1,23 +1,8 @@
-use Rattle.std.proofs.Common.{sym, ◌∙◌, ap, Some}
-use Rattle.es_member.specs.Seats.{Seat}
-use Rattle.es_cluster.proofs.Standing.{found_at}
-use Rattle.es_cluster.proofs.Turning.{stepped}
+use Rattle.es_cluster.proofs.Watching.{kept_one}
 use Rattle.es_cluster.proofs.cluster.ClusterCore.advance.Goals as goal
 
-pub returns-clause-works : goal.returns-clause-works
-returns-clause-works g c =
-    let within = rw (← c.self.view_is) at c.requires.known in
-    let here = found_at c.self.inside.members.items c.args.agent _ within ∙ ap (λ (m : Seat). Some m.book) (sym c.index.ensures) ∙ ap Some (sym c.core.ensures) in
-    let whole = rw (← c.self.view_is) at c.requires.whole in
-    let quiet = rw (← c.self.view_is) at c.requires.quiet in
-    let turned = rw (← c.self.view_is) at c.step.ensures.turned in
-    rw (← c.self.view_is) (stepped c.step.result c.args.agent _ c.step.new.self c.core.result.now c.self.invariant.0 (c.self.invariant.1 whole) here c.history.ensures.run quiet turned).0
-
-pub returns-clause-hears : goal.returns-clause-hears
-returns-clause-hears g c =
-    let within = rw (← c.self.view_is) at c.requires.known in
-    let here = found_at c.self.inside.members.items c.args.agent _ within ∙ ap (λ (m : Seat). Some m.book) (sym c.index.ensures) ∙ ap Some (sym c.core.ensures) in
-    let whole = rw (← c.self.view_is) at c.requires.whole in
-    let quiet = rw (← c.self.view_is) at c.requires.quiet in
-    let turned = rw (← c.self.view_is) at c.step.ensures.turned in
-    rw (← c.self.view_is) (stepped c.step.result c.args.agent _ c.step.new.self c.core.result.now c.self.invariant.0 (c.self.invariant.1 whole) here c.history.ensures.run quiet turned).1
+pub returns-clause-watched : goal.returns-clause-watched
+returns-clause-watched g c =
+    let turned = c.in_ok-progress.ensures.turned in
+    let says = c.in-Ok-turned.ensures.tells c.args.self.now c.args.watcher.now c.in-Ok.ensures turned in
+    kept_one _ _ c.in_ok-progress.progress c.args.agent c.args.self.now c.take_turn.new.self c.args.watcher.now c.turned.new.self turned says c.in-Ok-turned.ensures.knows

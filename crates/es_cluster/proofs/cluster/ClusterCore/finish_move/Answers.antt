@@ -1,6 +1,7 @@
 use Rattle.std.proofs.Common.{◌<◌, sym, ◌∙◌, subst, false, arith}
 use Rattle.es_cluster.specs.Moves.{rested}
 use Rattle.es_cluster.proofs.Finishing.{goes_more, unrested_moves, works_moved}
+use Rattle.es_cluster.proofs.Watching.{kept_then}
 use Rattle.es_cluster.proofs.cluster.ClusterCore.finish_move.Goals as goal
 
 pub loop-self-preserved : goal.loop-self-preserved
@@ -17,6 +18,7 @@ loop-self-preserved g c =
       whole = c.in_ok-clean_up-2.ensures.less.1;
       plans = c.in_ok-clean_up-2.ensures.plans ∙ c.in_ok-advance.ensures.plans ∙ c.loop-self.invariant.plans;
       clean = c.in_ok-clean_up-2.ensures.done;
+      watched = kept_then _ _ _ _ _ _ _ _ c.loop-self.invariant.watched (kept_then _ _ _ _ _ _ _ _ c.in_ok-advance.ensures.watched c.in_ok-clean_up-2.ensures.watched);
       goes = λ end rest. goes_more p c.args.agent c.args.self.now c.loop-self.self c.advance.new.self c.loop-self.invariant.goes busy moved turned end (c.in_ok-clean_up-2.ensures.goes end rest);
       less = omega (arith, first, then, before);
     }

@@ -4,7 +4,8 @@ use Rattle.es_cluster.specs.Moves.{all_over, with_drained}
 use Rattle.es_cluster.specs.State.{books, plans}
 use Rattle.es_cluster.proofs.Draining.{as_drained, drained_stands}
 use Rattle.es_cluster.proofs.Finishing.{move_on, moved_less, runs_out}
-use Rattle.es_cluster.proofs.cluster.ClusterCore.run_turns.Goals as goal
+use Rattle.es_cluster.proofs.Watching.{kept_then}
+use Rattle.es_cluster.proofs.cluster.ClusterCore.run_turns_watched.Goals as goal
 
 pub loop-agent-preserved : goal.loop-agent-preserved
 loop-agent-preserved g c =
@@ -12,6 +13,7 @@ loop-agent-preserved g c =
     record {
       whole = c.in_ok-finish_move.ensures.less.1;
       plans = c.in_ok-finish_move.ensures.plans ∙ c.in_ok-agent.ensures.plans ∙ c.loop-agent.invariant.plans;
+      watched = kept_then _ _ _ _ _ _ _ _ c.loop-agent.invariant.watched (kept_then _ _ _ _ _ _ _ _ c.in_ok-agent.ensures.watched c.in_ok-finish_move.ensures.watched);
       runs = move_on c.in-Some.agent c.args.self.now c.loop-agent.self c.begin_move.new.self c.finish_move.new.self c.loop-agent.invariant.runs begins c.in_ok-finish_move.ensures.rests;
     }
 
@@ -51,3 +53,15 @@ returns-clause-runs g c =
       runs_out c.args.self.now c.loop-agent.self c.begin_move.new.self c.loop-agent.invariant.runs begins,
       as_drained (record { agents = books c.self-2.inside.members.items; ledger = c.self-2.inside.ledger; failed = c.self-2.inside.failed }) c.drain.new.self c.drain.ensures.history.0 c.drain.ensures.history.1 ∙ ap with_drained c.self-2.view_is,
     )
+
+pub returns-clause-watched : goal.returns-clause-watched
+returns-clause-watched g c =
+    let begins = subst (λ o. BeginsMove o c.loop-agent.self c.begin_move.new.self) c.in_default.is c.in_ok-agent.ensures.begins in
+    let kept = kept_then _ _ _ _ _ _ _ _ c.loop-agent.invariant.watched c.in_ok-agent.ensures.watched in
+    record {
+      end = c.begin_move.new.self;
+      runs = runs_out c.args.self.now c.loop-agent.self c.begin_move.new.self c.loop-agent.invariant.runs begins;
+      told = kept.told;
+      known = kept.known;
+      drained = as_drained (record { agents = books c.self-2.inside.members.items; ledger = c.self-2.inside.ledger; failed = c.self-2.inside.failed }) c.drain.new.self c.drain.ensures.history.0 c.drain.ensures.history.1 ∙ ap with_drained c.self-2.view_is;
+    }

@@ -1,0 +1,14 @@
+pub mod Adding
+pub mod Beginning
+pub mod Covering
+pub mod Drawing
+pub mod Ending
+pub mod Entering
+pub mod ExampleWays
+pub mod Finding
+pub mod Following
+pub mod Lists
+pub mod Pairs
+pub mod Placing
+pub mod Queues
+pub mod Sorted
