@@ -120,6 +120,13 @@ impl<L: Run> AgentCore<L> {
         self.record.read().plan()
     }
 
+    /// All that it has but its tickets, to look things up in.
+    pub fn record(&self) -> &AgentRecord
+        ensures { result.now ≡ self.now }
+    {
+        self.record.read()
+    }
+
     /// KeptAlive, in order of keeping (ECMA-262, AddToKeptObjects). Nothing in it is emptied.
     pub fn kept(&self) -> &[Id]
         ensures said { reverse result.now ≡ kept self.now.history }

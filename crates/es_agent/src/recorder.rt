@@ -148,7 +148,7 @@ impl Recorder {
     {
         let copy = Arc::new(self.alloc, Snapshot::of(self.alloc, &self.record)?)?;
         let own = Arc::try_clone(&copy)?;
-        let event = opened(&self.record);
+        let event = opened(&self.record)?;
         self.record.record(event)?;
         self.kept = Some(LaterCopy {
             copy: own,
@@ -228,10 +228,13 @@ fn given_by(event: &Event) -> Option<Id>
 {
     match event {
         Event::Did {
-            command: Command::Deref { .. },
+            command,
             answer: Answer::Gives(value),
             ..
-        } => value.identity(),
+        } => match command.get() {
+            Command::Deref { .. } => value.identity(),
+            _ => None,
+        },
         _ => None,
     }
 }

@@ -1,6 +1,6 @@
 //! Where an agent is in its plan.
 
-ghost use Rattle.std.specs.Prelude.{◌≡◌, ◌∷◌, ◌<◌, ℕ, true, length, []};
+ghost use Rattle.std.specs.Prelude.{◌≡◌, ◌∷◌, ◌<◌, ℕ, true, length, [], slice_get, IfOk};
 ghost use Rattle.es_event.specs.History.{History};
 ghost use Rattle.std.specs.Option.{option_and_then};
 ghost use Rattle.es_value.specs.declared.value.Value.{Value as HeldValue};
@@ -15,8 +15,8 @@ ghost use Rattle.es_cursor.specs.Cursor.{IsCursorOf, commands_of};
 ghost use Rattle.es_cursor.specs.After.{at_after, job_passed, position_after, position_stopped, position_taken};
 
 use crate::due::Due;
-use es_event::{AgentPlan, Command, Event};
-use es_value::Id;
+use es_event::{AgentPlan, Command, Event, PlanCommand, SharedList};
+use es_value::{Id, NoMemory};
 
 /// Where an agent is in its plan.
 #[derive(Clone, Copy, Debug)]
@@ -161,6 +161,55 @@ pub fn callback_commands(plan: &AgentPlan, callback: Option<usize>) -> &[Command
     match callback {
         Some(n) => commands_of_callback(plan, n),
         None => &[],
+    }
+}
+
+/// The command at this place of the nth job, counted from 1, as an event has it; none where none stands there. It
+/// fails for want of memory alone.
+pub fn job_command(plan: &AgentPlan, n: usize, at: usize) -> Result<Option<PlanCommand>, NoMemory>
+    requires { 0 < n }
+    ensures { IfOk result (λ c. c ≡ slice_get (job_commands plan.now n) at) }
+{
+    match plan.jobs.as_slice().get(n - 1) {
+        Some(job) => command_at(&job.run, at),
+        None => Ok(None),
+    }
+}
+
+/// The same of the callback of this number, counted from 1.
+pub fn callback_command(
+    plan: &AgentPlan,
+    callback: Option<usize>,
+    at: usize,
+) -> Result<Option<PlanCommand>, NoMemory>
+    ensures { IfOk result (λ c. c ≡ slice_get (commands_of plan.now callback) at) }
+{
+    match callback {
+        Some(n) => command_of_callback(plan, n, at),
+        None => Ok(None),
+    }
+}
+
+fn command_of_callback(
+    plan: &AgentPlan,
+    n: usize,
+    at: usize,
+) -> Result<Option<PlanCommand>, NoMemory>
+    ensures { IfOk result (λ c. c ≡ slice_get (callback_commands plan.now n) at) }
+{
+    match plan.callbacks.as_slice().get(n.saturating_sub(1)) {
+        Some(callback) => command_at(&callback.run, at),
+        None => Ok(None),
+    }
+}
+
+fn command_at(commands: &SharedList<Command>, at: usize) -> Result<Option<PlanCommand>, NoMemory>
+    ensures { IfOk result (λ c. c ≡ slice_get commands.now at) }
+{
+    if at < commands.as_slice().len() {
+        Ok(Some(PlanCommand::at(commands, at)?))
+    } else {
+        Ok(None)
     }
 }
 

@@ -7,7 +7,7 @@ ghost use Rattle.es_cursor.specs.Due.{shown, due_of};
 use es_event::Command;
 
 /// What comes next by the plan.
-#[derive(Clone, Copy, Debug)]
+#[derive(Clone, Copy)]
 pub enum Due<'a> {
     /// The job of this number, counted from 1, begins.
     Begin(usize),

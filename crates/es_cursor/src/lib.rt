@@ -7,5 +7,7 @@
 mod cursor;
 mod due;
 
-pub use cursor::{Cleanup, Cursor, Position, callback_commands, commands};
+pub use cursor::{
+    Cleanup, Cursor, Position, callback_command, callback_commands, commands, job_command,
+};
 pub use due::{Due, due_command};

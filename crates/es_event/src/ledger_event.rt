@@ -3,7 +3,7 @@
 use es_value::Value;
 
 /// What a message carries.
-#[derive(Debug, Drop)]
+#[derive(Drop)]
 pub enum Body {
     /// A value without an identity: undefined, a boolean, a number, a text or a registered symbol.
     Plain(Value),
@@ -13,7 +13,7 @@ pub enum Body {
 
 /// What happened in the ledger (ECMA-262, Agent Clusters, Data Blocks; that blocks are counted by
 /// tickets is this host's).
-#[derive(Debug, Drop)]
+#[derive(Drop)]
 pub enum LedgerEvent {
     /// An agent made a block of so many words, and its first ticket.
     Opened {

@@ -10,8 +10,10 @@ mod log;
 mod operands;
 mod outcome;
 mod plan;
+mod plan_command;
 mod row;
 mod sequence;
+mod shared_list;
 
 pub use command::{Command, OperandNames};
 pub use event::{Answer, Event, Refusal};
@@ -31,5 +33,7 @@ pub use log::Log;
 pub use operands::Operands;
 pub use outcome::Outcome;
 pub use plan::{AgentPlan, Callback, Job, Plan};
+pub use plan_command::PlanCommand;
 pub use row::{Entry, Holder, Row};
 pub use sequence::Sequence;
+pub use shared_list::SharedList;

@@ -9,7 +9,7 @@ use std::marker::Model;
 
 /// Events in order of happening, with room for more. Contracts see the events, the newest first, and
 /// for how many more there is room.
-#[derive(Debug, Drop)]
+#[derive(Drop)]
 pub struct Log<E> {
     all: Vec<E>,
 }

@@ -8,12 +8,12 @@ use std::marker::Model;
 
 /// The values that a command read, in order, which contracts see as their list. Up to two lie in
 /// place.
-#[derive(Debug, Drop)]
+#[derive(Drop)]
 pub struct Operands {
     held: Held,
 }
 
-#[derive(Debug, Drop)]
+#[derive(Drop)]
 enum Held {
     Nothing,
     One([Value; 1]),

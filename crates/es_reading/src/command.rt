@@ -10,7 +10,7 @@ use crate::named::command_named;
 use crate::parts::has_at_most;
 use crate::scope::Scope;
 use crate::{Place, ReadFault};
-use es_event::{Command, Sequence};
+use es_event::{Command, Sequence, SharedList};
 use es_value::MOST_COMMANDS;
 use serde_json::Value;
 
@@ -21,13 +21,14 @@ pub(crate) fn callback_run(
     scope: &Scope,
     list: &[Value],
     place: Place,
-) -> Result<Sequence<Command>, ReadFault>
+) -> Result<SharedList<Command>, ReadFault>
     ensures { Gives (λ cs. cs) result (body_read (said scope.now) place (items_view list.now)) }
 {
     if !has_at_most(list, MOST_COMMANDS) {
         return Err(fault_in(place, FaultCode::Limit));
     }
-    commands_of(names, scope, list, place)
+    let commands = commands_of(names, scope, list, place)?;
+    Ok(SharedList::of(commands)?)
 }
 
 fn commands_of(
@@ -56,13 +57,14 @@ pub(crate) fn job_run(
     scope: &Scope,
     mut list: Vec<Value>,
     place: Place,
-) -> Result<Sequence<Command>, ReadFault>
+) -> Result<SharedList<Command>, ReadFault>
     ensures { Gives (λ cs. cs) result (body_read (said scope.now) place (items_view list.items)) }
 {
     if !has_at_most(list.as_slice(), MOST_COMMANDS) {
         return Err(fault_in(place, FaultCode::Limit));
     }
-    commands_taken(names, scope, list.as_mut_slice(), place)
+    let commands = commands_taken(names, scope, list.as_mut_slice(), place)?;
+    Ok(SharedList::of(commands)?)
 }
 
 fn commands_taken(

@@ -8,3 +8,5 @@ pub mod Late
 pub mod Found
 pub mod Targets
 pub mod Counted
+pub mod Leading
+pub mod DueCommand

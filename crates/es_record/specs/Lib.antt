@@ -4,3 +4,4 @@ pub mod NextCell
 pub mod Tagged
 pub mod Ties
 pub mod Graph
+pub mod Leading

@@ -2,13 +2,14 @@
 
 ghost use Rattle.std.specs.Prelude.{◌≡◌, ◌≤◌, ◌<◌, ◌+◌, ◌∷◌, ℕ, [], Some, true, codes, reverse, is_some, IfOk, OnOk, OnErr};
 ghost use Rattle.std.specs.Option.{option_map_or};
+ghost use Rattle.es_event.specs.declared.command.Command.{Command as CommandSaid};
 ghost use Rattle.es_event.specs.declared.row.Row.{Row as RowSaid};
 ghost use Rattle.es_event.specs.Identities.{gone, is_in, made};
 ghost use Rattle.es_event.specs.Jobs.{receivers, on_of, job as job_said};
 ghost use Rattle.es_event.specs.WeakRefs.{kept};
 ghost use Rattle.es_event.specs.Sharing.{blocks_opened, messages_posted};
 ghost use Rattle.es_event.specs.Live.{Honest};
-ghost use Rattle.es_event.specs.Order.{due, close};
+ghost use Rattle.es_event.specs.Order.{due, close, run};
 ghost use Rattle.es_event.specs.Runs.{IsRunOver};
 ghost use Rattle.es_record.specs.Book.{Book, IsNext, Records, with_buffer, with_row, emptied_last};
 ghost use Rattle.es_record.specs.Newest.{newest};
@@ -20,13 +21,17 @@ ghost use Rattle.es_tables.specs.Ready.{CanAdvance};
 ghost use Rattle.es_tables.specs.Tables.{SameState};
 
 mod cells;
+mod leading;
 mod look_up;
 mod reach;
 
 use crate::buffers::BufferTable;
 use crate::counts::{blocks_in, open_after, posts_in};
-use es_cursor::{Cleanup, Cursor, Due, Position, callback_commands, commands, due_command};
-use es_event::{AgentPlan, Event, Log, Row, Sequence};
+use es_cursor::{
+    Cleanup, Cursor, Due, Position, callback_command, callback_commands, commands, due_command,
+    job_command,
+};
+use es_event::{AgentPlan, Event, Log, PlanCommand, Row, Sequence};
 use es_tables::Tables;
 use es_value::{Id, Name, NameFault, NoMemory, Value};
 use std::alloc::Global;
@@ -161,6 +166,24 @@ impl AgentRecord {
             Position::Cleaning(cleanup) => self.due_cleaning(cleanup),
             Position::Stopped | Position::CleanupStopped(_) => Due::EndJob,
             Position::Ended => Due::Nothing,
+        }
+    }
+
+    /// The due command, as the event that does it has it; none where no command is due. It fails for want of
+    /// memory alone.
+    pub fn due_command(&self) -> Result<Option<PlanCommand>, NoMemory>
+        ensures { IfOk result (λ o. (c : CommandSaid) → due self.now.plan self.now.history ≡ run c → o ≡ Some c) }
+    {
+        match self.cursor.position {
+            Position::Inside(at) => job_command(&self.plan, self.cursor.job, at),
+            Position::Cleaning(cleanup) => {
+                callback_command(&self.plan, cleanup.callback, cleanup.at)
+            }
+            Position::Between
+            | Position::Handed
+            | Position::Stopped
+            | Position::CleanupStopped(_)
+            | Position::Ended => Ok(None),
         }
     }
 

@@ -14,10 +14,10 @@ pub(crate) fn blocks_in(event: &Event) -> usize
     ensures few { result ≤ 1 }
 {
     match event {
-        Event::Did {
-            command: Command::SharedArrayBuffer { .. },
-            ..
-        } => 1,
+        Event::Did { command, .. } => match command.get() {
+            Command::SharedArrayBuffer { .. } => 1,
+            _ => 0,
+        },
         _ => 0,
     }
 }
@@ -28,10 +28,10 @@ pub(crate) fn posts_in(event: &Event) -> usize
     ensures few { result ≤ 1 }
 {
     match event {
-        Event::Did {
-            command: Command::Post { .. },
-            ..
-        } => 1,
+        Event::Did { command, .. } => match command.get() {
+            Command::Post { .. } => 1,
+            _ => 0,
+        },
         _ => 0,
     }
 }
@@ -41,10 +41,7 @@ pub(crate) fn open_after(event: &Event, before: bool) -> bool
     ensures { (h : History) → before ≡ is_some (snapshot h) → result ≡ is_some (snapshot (event.now ∷ h)) }
 {
     match event {
-        Event::Did {
-            command: Command::CollectLater,
-            ..
-        } => true,
+        Event::Did { command, .. } => before || matches!(command.get(), Command::CollectLater),
         Event::Emptied { .. } => false,
         _ => before,
     }

@@ -97,7 +97,7 @@ fn next(looked: Look, event: &Event, number: usize) -> Look
             command,
             values,
             ..
-        } => next_done(looked, command, values.as_slice(), number),
+        } => next_done(looked, command.get(), values.as_slice(), number),
         Event::Taken { registration, .. } => {
             removed_if(looked, *registration == number, Fate::Taken)
         }

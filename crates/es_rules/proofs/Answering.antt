@@ -272,6 +272,12 @@ unopened_done : (o : Option History) → o ≡ None → refuse_or (first_refusal
 unopened_done None e = refl
 unopened_done (Some p) e = cc
 
+pub opening_is : (b : Book) (c : Command) → need b ≡ asks_copy → due b.plan b.history ≡ run c → c ≡ CollectLater
+opening_is b c asks is =
+    let at = copy_due b (due b.plan b.history) asks in
+    let same : run c ≡ run CollectLater = sym is ∙ at.0 in
+    cc
+
 pub opening_next : (b : Book) → need b ≡ asks_copy → IsNext b (Did CollectLater [] Nothing)
 opening_next b asks =
     let at = copy_due b (due b.plan b.history) asks in

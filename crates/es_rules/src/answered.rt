@@ -4,13 +4,13 @@ ghost use Rattle.std.specs.Prelude.{◌≡◌, ◌+◌, ◌∷◌, [], ℕ, true
 ghost use Rattle.es_value.specs.Limits.{most_identities};
 ghost use Rattle.es_value.specs.Values.{identity};
 ghost use Rattle.es_event.specs.Identities.{made};
-ghost use Rattle.es_event.specs.Order.{due, receive};
+ghost use Rattle.es_event.specs.Order.{due, receive, run};
 ghost use Rattle.es_record.specs.Book.{IsNext, with_buffer};
 ghost use Rattle.es_rules.specs.Needs.{need, asks_message, asks_copy, TakesTicket, TakesWord, TakesDone, IsDone, Brings};
 ghost use Rattle.es_rules.specs.Giving.{MayGive};
 
 use es_cursor::Due;
-use es_event::{Answer, Command, Event, Operands, Refusal, Row};
+use es_event::{Answer, Command, Event, Operands, PlanCommand, Refusal, Row};
 use es_record::AgentRecord;
 use es_value::{NoMemory, Value};
 
@@ -42,7 +42,7 @@ fn done(agent: &AgentRecord, answer: Answer) -> Result<Event, NoMemory>
     match agent.due() {
         Due::Run(command) => {
             let values = agent.values(command)?;
-            let command = command.copy()?;
+            let command = planned(agent, command)?;
             Ok(Event::Did {
                 command,
                 values,
@@ -66,7 +66,7 @@ pub fn brought(agent: &AgentRecord, row: Row) -> Result<Event, NoMemory>
     let object = Value::Object(agent.next_identity());
     match agent.due() {
         Due::Run(command) => {
-            let command = command.copy()?;
+            let command = planned(agent, command)?;
             Ok(Event::Did {
                 command,
                 values: Operands::of_none(),
@@ -118,15 +118,32 @@ pub fn skipped(agent: &AgentRecord) -> Event
     }
 }
 
-/// The event by which a later collection is opened.
-pub fn opened(agent: &AgentRecord) -> Event
+/// The event by which a later collection is opened. It fails for want of memory alone.
+pub fn opened(agent: &AgentRecord) -> Result<Event, NoMemory>
     requires { need agent.now ≡ asks_copy }
-    ensures said { result ≡ Event.Did Command.CollectLater [] Answer.Nothing }
-    ensures next { IsNext agent.now result }
+    ensures said { IfOk result (λ e. e ≡ Event.Did Command.CollectLater [] Answer.Nothing) }
+    ensures next { IfOk result (IsNext agent.now) }
 {
-    Event::Did {
-        command: Command::CollectLater,
-        values: Operands::of_none(),
-        answer: Answer::Nothing,
+    match agent.due() {
+        Due::Run(command) => {
+            let command = planned(agent, command)?;
+            Ok(Event::Did {
+                command,
+                values: Operands::of_none(),
+                answer: Answer::Nothing,
+            })
+        }
+        _ => unreachable!(),
+    }
+}
+
+/// The due command, as its event has it. It fails for want of memory alone.
+pub(crate) fn planned(agent: &AgentRecord, command: &Command) -> Result<PlanCommand, NoMemory>
+    requires { due agent.now.plan agent.now.history ≡ run command.now }
+    ensures { IfOk result (λ c. c ≡ command.now) }
+{
+    match agent.due_command()? {
+        Some(command) => Ok(command),
+        None => unreachable!(),
     }
 }

@@ -13,13 +13,14 @@ ghost use Rattle.es_record.specs.Book.{IsNext, AreThere};
 ghost use Rattle.es_rules.specs.Completion.{Completes};
 ghost use Rattle.es_rules.specs.Needs.{asks_nobody, need, request};
 
+use crate::answered::planned;
 use crate::buffers::{length, new_buffer, post, same_block, store, word};
 use crate::ephemerons::{weakmap_get, weakmap_has, weakmap_set, weakset_add, weakset_has};
 use crate::operand::{held_weakly, object_in};
 use crate::registries::{cleaning, register, taking, unregister};
 use crate::stop::Stop;
 use es_cursor::Due;
-use es_event::{Answer, Command, Event, Operands, Refusal, Sequence};
+use es_event::{Answer, Command, Event, Operands, Refusal, Sequence, SharedList};
 use es_record::AgentRecord;
 use es_tables::Tag;
 use es_value::{Id, MOST_IDENTITIES, Name, NoMemory, Value, same_value};
@@ -50,7 +51,7 @@ fn event_of(agent: &AgentRecord, command: &Command) -> Result<Event, NoMemory>
     let values = agent.values(command)?;
     match completion(agent, command, &values) {
         Ok(answer) => {
-            let command = command.copy()?;
+            let command = planned(agent, command)?;
             Ok(Event::Did {
                 command,
                 values,
@@ -184,7 +185,7 @@ fn keys(agent: &AgentRecord, object: &Value) -> Result<Answer, Stop>
     ensures { Completes (refuse_or (first_refusal (of_object object.now ∷ [])) (Answer.Listed (keys_of agent.now.history object.now))) result }
 {
     let keys = agent.keys_of_object(object_in(object)?)?;
-    Ok(Answer::Listed(Sequence::from_vec(keys)))
+    Ok(Answer::Listed(SharedList::of(Sequence::from_vec(keys))?))
 }
 
 fn weakref(agent: &AgentRecord, target: &Value) -> Result<Answer, Stop>

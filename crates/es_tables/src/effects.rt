@@ -54,7 +54,7 @@ fn assigned_at(
             command,
             answer,
             ..
-        } => given_by(command, answer),
+        } => given_by(command.get(), answer),
         Event::Refused { .. } => Ok(None),
         Event::Emptied { .. } => Ok(None),
         Event::Taken { held, .. } => named(held_name, held),

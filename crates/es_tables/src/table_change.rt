@@ -67,7 +67,7 @@ pub(crate) fn table_change(event: &Event, again: Option<Id>) -> Result<TableChan
             command,
             values,
             answer,
-        } => table_change_by(command, values.as_slice(), answer),
+        } => table_change_by(command.get(), values.as_slice(), answer),
         Event::Refused { .. } => Ok(TableChange::NoChange),
         Event::Emptied { .. } => Ok(TableChange::NoChange),
         Event::Taken { registration, .. } => Ok(TableChange::Registry(RegistryChange::Takes {

@@ -1,16 +1,16 @@
 //! All that an agent keeps beside its history, as one value.
 
-ghost use Rattle.std.specs.Prelude.{◌≡◌, true, ◌<◌, ◌&&◌, ◌++◌, not, is_some, length, IfOk, OnOk, OnErr, codes, slice_get, unwrap_or};
-ghost use Rattle.std.specs.List.{filter, list_any, range_with_len};
-ghost use Rattle.std.specs.Option.{option_copied, option_map_or};
+ghost use Rattle.std.specs.Prelude.{◌≡◌, true, ◌<◌, ◌&&◌, ◌++◌, not, is_some, length, map, nat_eq, IfOk, OnOk, OnErr, codes, slice_get, unwrap_or};
+ghost use Rattle.std.specs.List.{filter, list_any, range_with_len, IsDistinct};
+ghost use Rattle.std.specs.Option.{option_copied, option_map_or, option_and_then};
 ghost use Rattle.es_value.specs.declared.value.Value.TheVariants.{Undefined};
 ghost use Rattle.es_mark.specs.Marks.{is_marked};
 ghost use Rattle.es_props.specs.Heap.{has, property, keys, HasProperties};
 ghost use Rattle.es_weakref.specs.WeakRefs.{target as target_of};
 ghost use Rattle.es_tables.specs.Changes.{put_of};
 ghost use Rattle.es_tables.specs.Effects.{Advances, Applied};
-ghost use Rattle.es_ephemeron.specs.Ephemerons.{record_at};
-ghost use Rattle.es_registry.specs.Slots.{has_token, tally_of};
+ghost use Rattle.es_ephemeron.specs.Ephemerons.{holders, record_at, records_at};
+ghost use Rattle.es_registry.specs.Slots.{has_token, held_identity, registration_of, tally_of};
 ghost use Rattle.es_registry.specs.Registries.{callback as callback_of, oldest};
 ghost use Rattle.es_tables.specs.Found.{Adds, HasHeld, AddsEntries};
 ghost use Rattle.es_tables.specs.Ready.{CanAdvance, CanApply, HasRoom, IsReady};
@@ -28,7 +28,7 @@ use es_ephemeron::WeakTables;
 use es_event::Event;
 use es_mark::Marks;
 use es_props::Heap;
-use es_registry::{Cell, Registries, Tally};
+use es_registry::{Cell, Registration, Registries, Tally};
 use es_value::{Id, Name, NoMemory, Value};
 use es_weakref::WeakRefs;
 use std::alloc::Global;
@@ -107,6 +107,13 @@ impl Tables {
         self.heap.keys(object)
     }
 
+    /// The names of all variables that were assigned, in no order.
+    pub fn assigned(&self, alloc: Global) -> Result<Vec<Name>, NoMemory>
+        ensures { IfOk result (λ ns. ns.items ≡ map (λ e. e.0) self.now.variables.entries) }
+    {
+        self.variables.names(alloc)
+    }
+
     /// Adds the identities of what variables hold, of what is kept, of all registries and of what cells
     /// in their registries hold to `found`; where there is no memory, nothing is said of `found`.
     pub fn add_roots(&self, found: &mut Vec<Id>) -> Result<(), NoMemory>
@@ -175,6 +182,29 @@ impl Tables {
         self.registries.queued()
     }
 
+    /// How many registrations were made.
+    pub fn registered(&self) -> usize
+        ensures { result ≡ length self.now.registries.cells }
+    {
+        self.registries.registered()
+    }
+
+    /// The identity that the cell at this place holds, if the cell is in its registry; the first place is
+    /// that of registration 1.
+    pub fn held_at(&self, place: usize) -> Option<Id>
+        ensures { result ≡ option_and_then held_identity (slice_get self.now.registries.cells place) }
+    {
+        self.registries.held_at(place)
+    }
+
+    /// What is kept of the registration at this place, if its cell is in its registry; the first place is
+    /// that of registration 1.
+    pub fn registration_at(&self, place: usize) -> Option<&Registration>
+        ensures { option_copied result ≡ option_and_then registration_of (slice_get self.now.registries.cells place) }
+    {
+        self.registries.registration_at(place)
+    }
+
     /// How many registrations have each fate.
     pub fn tally(&self) -> Tally
         ensures { result ≡ tally_of self.now.registries.cells }
@@ -188,6 +218,23 @@ impl Tables {
         ensures { OnOk result (AddsEntries self.now.weak.entries.all key found.old.items found.new.items) }
     {
         self.weak.entries_of_key(key, found)
+    }
+
+    /// Adds each WeakMap that has an entry with this key to `found`, with the entry's value; where there is
+    /// no memory, nothing is said of `found`.
+    pub fn entries_under(&self, key: Id, found: &mut Vec<(Id, Value)>) -> Result<(), NoMemory>
+        ensures added { OnOk result (found.new.items ≡ found.old.items ++ records_at self.now.weak.entries.all key) }
+        ensures distinct { OnOk result (IsDistinct nat_eq (holders (records_at self.now.weak.entries.all key))) }
+    {
+        self.weak.entries_of_key(key, found)
+    }
+
+    /// Adds each WeakSet that has this member to `found`; where there is no memory, nothing is said of
+    /// `found`.
+    pub fn sets_with(&self, member: Id, found: &mut Vec<Id>) -> Result<(), NoMemory>
+        ensures { OnOk result (found.new.items ≡ found.old.items ++ holders (records_at self.now.weak.members.all member)) }
+    {
+        self.weak.sets_of_member(member, found)
     }
 
     /// KeptAlive, in order of keeping (ECMA-262, AddToKeptObjects).

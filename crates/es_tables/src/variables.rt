@@ -1,6 +1,6 @@
 //! The variables of an agent.
 
-ghost use Rattle.std.specs.Prelude.{◌≡◌, ◌<◌, List, ℕ, [], Some, IfOk, OnOk, unwrap_or, if◌then◌else◌};
+ghost use Rattle.std.specs.Prelude.{◌≡◌, ◌<◌, List, ℕ, [], Some, IfOk, OnOk, map, unwrap_or, if◌then◌else◌};
 ghost use Rattle.std.specs.HashMap.{Updates, spare};
 ghost use Rattle.std.specs.Option.{option_copied};
 ghost use Rattle.std.specs.Str.{bytes_eq};
@@ -55,6 +55,17 @@ impl Variables {
         ensures { unwrap_or (option_copied result) Undefined ≡ bound self.now name.now }
     {
         self.values.get(name)
+    }
+
+    /// The names of all that were assigned, in no order.
+    pub(crate) fn names(&self, alloc: Global) -> Result<Vec<Name>, NoMemory>
+        ensures { IfOk result (λ ns. ns.items ≡ map (λ e. e.0) self.now.entries) }
+    {
+        let mut names = Vec::new(alloc);
+        for (name, _) in &self.values {
+            names.push(name.copy()?)?;
+        }
+        Ok(names)
     }
 
     /// Adds the identities of what variables hold to `found`.

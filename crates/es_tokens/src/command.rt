@@ -12,7 +12,7 @@ ghost use Rattle.es_tokens.specs.Drafts.{IsRun};
 use crate::marks;
 use crate::number::whole_number;
 use crate::quit::Quit;
-use es_event::{Command, Sequence};
+use es_event::{Command, Sequence, SharedList};
 use es_reading::{KnownNames, Part, Place, Scope, Spot, command_named};
 use es_value::MOST_COMMANDS;
 use json::{Reader, Token};
@@ -104,10 +104,10 @@ pub(crate) fn run_in<'a>(
     reader: &mut Reader<'a>,
     parts: &mut Vec<Part<'a>>,
     place: Place,
-) -> Result<Sequence<Command>, Quit>
+) -> Result<SharedList<Command>, Quit>
     ensures { IfOk result (λ cs. Took 2 (IsRun (said scope.now) place) reader.old cs reader.new) }
 {
     marks::open_array(reader)?;
     let commands = commands_in(names, scope, reader, parts, place)?;
-    Ok(commands)
+    Ok(SharedList::of(commands)?)
 }

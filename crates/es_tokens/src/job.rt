@@ -12,7 +12,7 @@ ghost use Rattle.es_tokens.specs.Drafts.{IsAwaited, IsJobDraft, AreJobs};
 use crate::command::{parts_in, run_in};
 use crate::marks;
 use crate::quit::Quit;
-use es_event::{Command, Job, Sequence};
+use es_event::{Command, Job, Sequence, SharedList};
 use es_reading::{KnownNames, Part, Place, Scope, Spot, awaited_of};
 use es_value::{MOST_JOBS, Name};
 use json::Reader;
@@ -21,7 +21,7 @@ use json::Reader;
 #[derive(Drop)]
 pub(crate) struct JobDraft {
     on: Option<(usize, Name)>,
-    run: Option<Sequence<Command>>,
+    run: Option<SharedList<Command>>,
 }
 
 impl JobDraft {

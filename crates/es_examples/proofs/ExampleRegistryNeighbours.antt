@@ -16,9 +16,9 @@ use Rattle.es_event.specs.Live.{Oblivious, observes, Honest}
 use Rattle.es_event.specs.Report.{line, end_line}
 use Rattle.es_event.proofs.Examples.{plan_with, IsUnlawful, IsOutOfPlace}
 use Rattle.es_event.proofs.Deciding.{other_set}
-use Rattle.es_event.proofs.ExampleRegistries as Registries
-use Rattle.es_event.proofs.ExampleRegistries.{r, q, x, t, b, n, p, held, a}
-use Rattle.es_event.proofs.ExampleCleanups as Cleanups
+use Rattle.es_examples.proofs.ExampleRegistries as Registries
+use Rattle.es_examples.proofs.ExampleRegistries.{r, q, x, t, b, n, p, held, a}
+use Rattle.es_examples.proofs.ExampleCleanups as Cleanups
 
 -- Cells
 

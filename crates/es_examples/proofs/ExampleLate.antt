@@ -20,7 +20,7 @@ use Rattle.es_event.specs.Follows.{Follows, FollowsWhole}
 use Rattle.es_event.specs.Runs.{IsWholeRun}
 use Rattle.es_event.specs.Report.{agent_text}
 use Rattle.es_event.proofs.Examples.{plan_of, plan_with, IsUnlawful, IsOutOfPlace}
-use Rattle.es_event.proofs.ExampleCollect.{new, forget}
+use Rattle.es_examples.proofs.ExampleCollect.{new, forget}
 use Rattle.es_event.proofs.Deciding.{dead_by, by_variable, by_registry, by_cell}
 use Rattle.es_event.proofs.DecidingLate.{late_by, other_late, by_root, by_deref, on_by_property, on_by_entry}
 

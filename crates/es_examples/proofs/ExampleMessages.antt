@@ -29,7 +29,7 @@ use Rattle.es_event.specs.Report.{agent_text}
 use Rattle.es_event.proofs.Examples.{job_of, job_on, plan_of, plan_waiting, callback_of}
 use Rattle.es_event.proofs.Deciding.{dead_by, other_set, by_variable}
 use Rattle.es_event.proofs.Dead.{not_live}
-use Rattle.es_event.proofs.ExampleBuffers.{one_word, b, m, n, o, r, s, u, w, x, said, made_buffer, made_new}
+use Rattle.es_examples.proofs.ExampleBuffers.{one_word, b, m, n, o, r, s, u, w, x, said, made_buffer, made_new}
 
 abbrev pub f : List ℕ
 f = codes "f"

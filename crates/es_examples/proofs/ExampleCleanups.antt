@@ -19,7 +19,7 @@ use Rattle.es_event.specs.Report.{agent_text}
 use Rattle.es_event.proofs.Examples.{job_of, callback_of, plan_with}
 use Rattle.es_event.proofs.Deciding.{dead_by, by_variable, by_registry, by_cell}
 use Rattle.es_event.proofs.Dead.{not_live}
-use Rattle.es_event.proofs.ExampleRegistries.{r, q, x, y, h, i, t, b, n, registry, number, forget, made_registry, made_new, let_number, forgot}
+use Rattle.es_examples.proofs.ExampleRegistries.{r, q, x, y, h, i, t, b, n, registry, number, forget, made_registry, made_new, let_number, forgot}
 
 -- A registry that no variable holds stays, and cleans up; its cleanup job comes before the plan's next job
 

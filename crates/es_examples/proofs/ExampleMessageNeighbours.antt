@@ -23,11 +23,11 @@ use Rattle.es_event.specs.Live.{Oblivious, observes, Honest}
 use Rattle.es_event.specs.Order.{phase, between, handed, receive, close, due, left, queue, is_cleaning_up}
 use Rattle.es_event.specs.Runs.{ComesNext, a_word, silence, heard}
 use Rattle.es_event.proofs.Examples.{plan_with, IsUnlawful, IsOutOfPlace, IsUnlawfulOver, IsOutOfPlaceOver}
-use Rattle.es_event.proofs.ExampleDeref as Deref
-use Rattle.es_event.proofs.ExampleBuffers as Buffers
-use Rattle.es_event.proofs.ExampleBuffers.{b, m, n, o, p, s, u, w, x, y, said, made_buffer, made_new, loaded}
-use Rattle.es_event.proofs.ExampleMessages as Messages
-use Rattle.es_event.proofs.ExampleMessages.{posted}
+use Rattle.es_examples.proofs.ExampleDeref as Deref
+use Rattle.es_examples.proofs.ExampleBuffers as Buffers
+use Rattle.es_examples.proofs.ExampleBuffers.{b, m, n, o, p, s, u, w, x, y, said, made_buffer, made_new, loaded}
+use Rattle.es_examples.proofs.ExampleMessages as Messages
+use Rattle.es_examples.proofs.ExampleMessages.{posted}
 
 -- Words
 
