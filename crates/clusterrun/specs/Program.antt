@@ -9,7 +9,11 @@ use Rattle.es_explain.specs.Explaining.{Explains, explanation_text}
 use Rattle.es_engine.specs.declared.run_fault.RunFault.{RunFault}
 use Rattle.es_engine.specs.declared.run_fault.RunFault.TheVariants.{Script, NoMemory, Mismatch, Read, Write}
 use Rattle.es_options.specs.declared.options.Options.{Options}
+use Rattle.es_options.specs.declared.view.View.{View}
 use Rattle.es_engine.specs.Engine.{GaveAll, GaveSomePlan, audits_of}
+use Rattle.es_turns.specs.declared.fault.TurnsFault.{TurnsFault}
+use Rattle.es_turns.specs.declared.fault.TurnsFault.TheVariants.{Script as TurnsScript, NoMemory as TurnsNoMemory, TooLong}
+use Rattle.es_tracing.specs.Tracing.{IsTraceOf}
 
 -- it gave a plan, and the number is that of the audits that were asked for; or it gave what has the fault; else nothing is known
 abbrev pub ReadsTo : Options → Option (List ℕ) → Option (List ℕ) → Result ℕ RunFault → Type 0
@@ -38,3 +42,33 @@ ExplainsRead old new (Err fault) = ⊤
 abbrev pub ExplainsTo : (old new : Option (List ℕ)) (before after : Option (List ℕ)) → Result (Option ScriptFault) RunFault → Type 0
 ExplainsTo old new before after (Ok f) = (e : Explanation) × ExplainsAll old new f e × Appends before after (explanation_text e)
 ExplainsTo old new before after (Err fault) = ⊤
+
+-- why there is no trace: a longer text than a plan has at most counts as one that could not be read
+abbrev pub trace_fault : TurnsFault → RunFault
+trace_fault (TurnsScript f) = Script f
+trace_fault TurnsNoMemory = NoMemory
+trace_fault TooLong = Read
+
+-- these bytes have the fault, or there was no memory
+abbrev pub IsTraceFault : List ℕ → RunFault → Type 0
+IsTraceFault bytes (Script f) = fault_of bytes ≡ Some f
+IsTraceFault bytes NoMemory = ⊤
+IsTraceFault bytes Mismatch = ⊥
+IsTraceFault bytes Read = ⊤
+IsTraceFault bytes Write = ⊥
+
+-- the reader gave bytes that stand for a plan with this trace, as the view shows it
+abbrev pub TracesAll : View → (old new : Option (List ℕ)) → List ℕ → Type 0
+TracesAll v old new text = (bytes : List ℕ) × GaveAll old new bytes × IsTraceOf v bytes text
+
+-- the same of some trace; or it gave what has the fault; else nothing is known
+abbrev pub TracesRead : {A : Type 0} → View → (old new : Option (List ℕ)) → Result A RunFault → Type 0
+TracesRead v old new (Ok done) = (text : List ℕ) × TracesAll v old new text
+TracesRead v old new (Err (Script f)) = (bytes : List ℕ) × GaveAll old new bytes × (fault_of bytes ≡ Some f)
+TracesRead v old new (Err fault) = ⊤
+
+-- of one that was added to what the writer holds
+abbrev pub TracesTo : {A : Type 0} → View → (old new : Option (List ℕ)) (before after : Option (List ℕ)) → Result A RunFault → Type 0
+TracesTo v old new before after (Ok done) = (text : List ℕ) × TracesAll v old new text × Appends before after text
+TracesTo v old new before after (Err (Script f)) = (bytes : List ℕ) × GaveAll old new bytes × (fault_of bytes ≡ Some f)
+TracesTo v old new before after (Err fault) = ⊤

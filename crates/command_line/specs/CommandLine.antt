@@ -9,16 +9,24 @@ use Rattle.clap.specs.declared.builder.command.Command.TheViews.{out-Command}
 use Rattle.clap.specs.declared.builder.action.ArgAction.TheVariants.{Set, SetTrue}
 use Rattle.clap.specs.declared.builder.value_parser.ValueParser.TheVariants.{Signed}
 use Rattle.es_options.specs.declared.options.Options.{Options}
+use Rattle.es_options.specs.declared.view.Form.{Form}
+use Rattle.es_options.specs.declared.view.Form.TheVariants.{Rows, Lines, Pictures}
+use Rattle.es_options.specs.declared.view.View.{View}
 use Rattle.command_line.specs.declared.request.Request.{Request}
-use Rattle.command_line.specs.declared.request.Request.TheVariants.{Run, Explain}
+use Rattle.command_line.specs.declared.request.Request.TheVariants.{Run, Explain, Trace}
 
 -- Its arguments
 
 abbrev pub file_rule : Rule
 file_rule = record (new_rule (codes "FILE")) { action = Some Set }
 
-abbrev pub turns_rule : Rule
-turns_rule = record (new_rule (codes "turns")) { long = Some (codes "turns"); action = Some SetTrue }
+-- an option without a value
+abbrev pub flag_rule : List ℕ → Rule
+flag_rule id = record (new_rule id) { long = Some id; action = Some SetTrue }
+
+-- one that may not stand beside another
+abbrev pub lone_flag_rule : List ℕ → Rule
+lone_flag_rule id = record (flag_rule id) { is_free = false }
 
 -- an option with a number in these bounds
 abbrev pub number_rule : List ℕ → ℕ → ℕ → Rule
@@ -31,7 +39,7 @@ number_rule id least most = record (new_rule id) {
 
 abbrev pub run_line : App
 run_line =
-    with_rule (with_rule (with_rule (with_rule (new_app (codes "run")) file_rule) turns_rule) (number_rule (codes "helpers") 1 8)) (number_rule (codes "watch") 0 1000)
+    with_rule (with_rule (with_rule (with_rule (new_app (codes "run")) file_rule) (flag_rule (codes "turns"))) (number_rule (codes "helpers") 1 8)) (number_rule (codes "watch") 0 1000)
 
 abbrev pub check_line : App
 check_line = with_rule (new_app (codes "check")) file_rule
@@ -39,12 +47,16 @@ check_line = with_rule (new_app (codes "check")) file_rule
 abbrev pub explain_line : App
 explain_line = with_rule (new_app (codes "explain")) file_rule
 
+abbrev pub trace_line : App
+trace_line =
+    with_rule (with_rule (with_rule (with_rule (new_app (codes "trace")) file_rule) (flag_rule (codes "all"))) (lone_flag_rule (codes "json"))) (flag_rule (codes "dot"))
+
 abbrev pub top_line : App
 top_line = on_top (λ s. record s { disable_help_subcommand = true; subcommand_required = true; has_version = true }) (new_app (codes "clusterrun"))
 
--- `clusterrun run`, `clusterrun check` and `clusterrun explain`
+-- `clusterrun run`, `clusterrun check`, `clusterrun explain` and `clusterrun trace`
 abbrev pub command_line : App
-command_line = with_subcommand (with_subcommand (with_subcommand top_line run_line.top) check_line.top) explain_line.top
+command_line = with_subcommand (with_subcommand (with_subcommand (with_subcommand top_line run_line.top) check_line.top) explain_line.top) trace_line.top
 
 -- it has no argument that its subcommands have too
 abbrev pub IsLocal : Command → Type 0
@@ -75,15 +87,34 @@ abbrev pub AsksOptions : Bool → List Row → Options → Type 0
 AsksOptions true rows o = o ≡ record { check = true; turns = false; helpers = 1; watch = 0 }
 AsksOptions false rows o = AsksRun (λ id. one_of id rows) o
 
--- the words explain, or else a run's or a check's options
-abbrev pub AsksRequest : Bool → Text → List Row → Request → Type 0
-AsksRequest true name rows r = r ≡ Explain
-AsksRequest false name rows Explain = ⊥
-AsksRequest false name rows (Run o) = AsksOptions (bytes_eq name (codes "check")) rows o
+-- pictures, where --dot is there; else lines, where --json is; else rows. That not both are there is clap's to see to
+abbrev pub form_asked : (dot json : Bool) → Form
+form_asked true json = Pictures
+form_asked false true = Lines
+form_asked false false = Rows
+
+-- what a trace is to show, by the text that is found under each name
+pub record AsksTrace (text : Text → Option Text) (v : View) : Type 0 where
+  pub dot : Bool
+  pub json : Bool
+  pub is_dot : IsFlag (text (codes "dot")) dot
+  pub is_json : IsFlag (text (codes "json")) json
+  pub form : v.form ≡ form_asked dot json
+  pub all : IsFlag (text (codes "all")) v.all
+
+-- the word explain, the word trace with its view, or else a run's or a check's options
+abbrev pub AsksRequest : (explain trace : Bool) → Text → List Row → Request → Type 0
+AsksRequest true trace name rows r = r ≡ Explain
+AsksRequest false true name rows (Run o) = ⊥
+AsksRequest false true name rows Explain = ⊥
+AsksRequest false true name rows (Trace v) = AsksTrace (λ id. one_of id rows) v
+AsksRequest false false name rows Explain = ⊥
+AsksRequest false false name rows (Trace v) = ⊥
+AsksRequest false false name rows (Run o) = AsksOptions (bytes_eq name (codes "check")) rows o
 
 -- the command of this name, with what was found for its arguments, asks for this and this file
 pub record Asks (name : Text) (rows : List Row) (r : Request) (file : Option Text) : Type 0 where
-  pub request : AsksRequest (bytes_eq name (codes "explain")) name rows r
+  pub request : AsksRequest (bytes_eq name (codes "explain")) (bytes_eq name (codes "trace")) name rows r
   pub file_is : file ≡ first_of (codes "FILE") rows
 
 -- no command asks for a plain run
@@ -101,3 +132,4 @@ pub record IsBound (o : Options) : Type 0 where
 abbrev pub KeepsBounds : Request → Type 0
 KeepsBounds (Run o) = IsBound o
 KeepsBounds Explain = Unit {0}
+KeepsBounds (Trace v) = Unit {0}

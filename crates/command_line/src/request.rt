@@ -1,6 +1,6 @@
 //! What the words of the command line ask for.
 
-use es_options::Options;
+use es_options::{Options, View};
 
 /// What the words of the command line ask for.
 #[derive(Clone, Copy, Debug, PartialEq, Eq)]
@@ -9,4 +9,6 @@ pub enum Request {
     Run(Options),
     /// What the first fault of a plan is.
     Explain,
+    /// What happened in a run of a plan, by turns, and what of it is shown.
+    Trace(View),
 }

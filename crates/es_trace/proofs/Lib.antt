@@ -1,0 +1,4 @@
+mod Led
+mod Releasing
+mod Widening
+mod Written

@@ -1,0 +1,83 @@
+-- To believe: the rows of a ledger, under the name `-`.
+use Rattle.std.specs.Prelude.{ℕ, Bool, true, false, List, [], ◌++◌, codes, decimal}
+use Rattle.std.specs.List.{flat_map}
+use Rattle.es_value.specs.Printed.{value_text}
+use Rattle.es_event.specs.declared.ledger_event.Body.{Body}
+use Rattle.es_event.specs.declared.ledger_event.Body.TheVariants.{Plain, Block}
+use Rattle.es_event.specs.declared.ledger_event.LedgerEvent.{LedgerEvent}
+use Rattle.es_event.specs.declared.ledger_event.LedgerEvent.TheVariants.{Opened, Posted, Taken, Spent, Loaded, Stored, Added, Waiting, Passed, Ended, Drained}
+use Rattle.es_trace.specs.Columns.{label, row, widest}
+use Rattle.es_trace.specs.Commands.{name_at}
+
+-- Events
+
+-- what became of a message from agent s to agent r
+abbrev pub message_text : List (List ℕ) → ℕ → ℕ → List ℕ → List ℕ
+message_text names s r what = codes "message " ++ (name_at names s ++ (codes " to " ++ (name_at names r ++ what)))
+
+-- what was done to the word at an index through the ticket of a serial
+abbrev pub word_text : ℕ → ℕ → List ℕ → List ℕ
+word_text i s what = codes "word " ++ (decimal i ++ (what ++ (codes " by ticket " ++ decimal s)))
+
+abbrev pub ledger_text : List (List ℕ) → LedgerEvent → List ℕ
+ledger_text names (Opened b w s a) = codes "block " ++ (decimal b ++ codes " opened")
+ledger_text names (Posted a r m) = message_text names a r (codes " posted")
+ledger_text names (Taken r a) = message_text names a r (codes " taken")
+ledger_text names (Spent s) = codes "ticket " ++ (decimal s ++ codes " spent")
+ledger_text names (Loaded s i w) = word_text i s (codes " loaded")
+ledger_text names (Stored s i w) = word_text i s (codes " stored")
+ledger_text names (Added s i old n) = word_text i s (codes " added to")
+ledger_text names (Waiting a s) = name_at names a ++ (codes " waits for " ++ name_at names s)
+ledger_text names (Passed a s) = name_at names a ++ (codes " waits no more for " ++ name_at names s)
+ledger_text names (Ended a) = name_at names a ++ codes " ended"
+ledger_text names (Drained r a) = message_text names a r (codes " drained")
+
+-- Answers
+
+abbrev pub tells : LedgerEvent → Bool
+tells (Opened b w s a) = true
+tells (Posted a r m) = true
+tells (Taken r a) = false
+tells (Spent s) = false
+tells (Loaded s i w) = true
+tells (Stored s i w) = true
+tells (Added s i old n) = true
+tells (Waiting a s) = false
+tells (Passed a s) = false
+tells (Ended a) = false
+tells (Drained r a) = false
+
+abbrev pub body_text : Body → List ℕ
+body_text (Plain v) = value_text v ++ codes "\n"
+body_text (Block b s) = codes "block " ++ (decimal b ++ (codes ", ticket " ++ (decimal s ++ codes "\n")))
+
+-- the ticket that was made and the block's number of words, what a message carries, or the word; of an added number, what was there before
+abbrev pub told_text : List (List ℕ) → LedgerEvent → List ℕ
+told_text names (Opened b w s a) = codes "ticket " ++ (decimal s ++ (codes " of " ++ (name_at names a ++ (codes ", words " ++ (decimal w ++ codes "\n")))))
+told_text names (Posted a r m) = body_text m
+told_text names (Taken r a) = []
+told_text names (Spent s) = []
+told_text names (Loaded s i w) = decimal w ++ codes "\n"
+told_text names (Stored s i w) = decimal w ++ codes "\n"
+told_text names (Added s i old n) = decimal old ++ (codes " + " ++ (decimal n ++ codes "\n"))
+told_text names (Waiting a s) = []
+told_text names (Passed a s) = []
+told_text names (Ended a) = []
+told_text names (Drained r a) = []
+
+-- Rows
+
+abbrev pub ledger_row : List (List ℕ) → List ℕ → LedgerEvent → List ℕ
+ledger_row names l e = row l (ledger_text names e) (tells e) ++ told_text names e
+
+-- that of a block of which nobody holds a ticket any more
+abbrev pub released_row : List ℕ → ℕ → List ℕ
+released_row l b = row l (codes "block " ++ (decimal b ++ codes " released")) false
+
+-- the name of the ledger in the column of these names
+abbrev pub ledger_label : List (List ℕ) → List ℕ
+ledger_label names = label (widest 1 names) (codes "-")
+
+-- those of a ledger of agents of these names, of its events, the oldest first, and of the blocks that were released by them
+abbrev pub ledger_rows : List (List ℕ) → List LedgerEvent → List ℕ → List ℕ
+ledger_rows names events blocks = flat_map (ledger_row names (ledger_label names)) events ++ flat_map (released_row (ledger_label names)) blocks

@@ -1,0 +1,90 @@
+//! What an event of the ledger tells besides.
+
+ghost use Rattle.std.specs.Prelude.{◌≡◌, ◌++◌, codes, decimal, OnOk};
+ghost use Rattle.std.specs.Io.KnownBytes.{Appends};
+ghost use Rattle.es_value.specs.Printed.{value_text};
+ghost use Rattle.es_trace.specs.Commands.{name_at as name_said};
+ghost use Rattle.es_trace.specs.Ledger.{body_text, tells as tells_said, told_text};
+
+use crate::names::name_at;
+use es_event::{Body, LedgerEvent};
+use es_value::{Name, Value, write_value};
+use std::io;
+use std::io::Write;
+
+/// Whether the event tells something besides.
+pub(crate) fn tells(event: &LedgerEvent) -> bool
+    ensures { result ≡ tells_said event.now }
+{
+    match event {
+        LedgerEvent::Opened { .. }
+        | LedgerEvent::Posted { .. }
+        | LedgerEvent::Loaded { .. }
+        | LedgerEvent::Stored { .. }
+        | LedgerEvent::Added { .. } => true,
+        LedgerEvent::Taken { .. }
+        | LedgerEvent::Spent { .. }
+        | LedgerEvent::Waiting { .. }
+        | LedgerEvent::Passed { .. }
+        | LedgerEvent::Ended { .. }
+        | LedgerEvent::Drained { .. } => false,
+    }
+}
+
+/// Writes what the event tells besides, with its line end, if it tells something.
+pub(crate) fn write_told<W: Write>(
+    names: &[Name],
+    event: &LedgerEvent,
+    writer: &mut W,
+) -> Result<(), io::Error>
+    ensures { OnOk result (Appends (W.contents writer.old) (W.contents writer.new) (told_text names.now event.now)) }
+{
+    match event {
+        LedgerEvent::Opened {
+            words,
+            serial,
+            agent,
+            ..
+        } => write_ticket(names, *serial, *agent, *words, writer),
+        LedgerEvent::Posted { body, .. } => write_body(body, writer),
+        LedgerEvent::Loaded { word, .. } | LedgerEvent::Stored { word, .. } => {
+            writeln!(writer, "{word}")
+        }
+        LedgerEvent::Added { old, addend, .. } => writeln!(writer, "{old} + {addend}"),
+        LedgerEvent::Taken { .. }
+        | LedgerEvent::Spent { .. }
+        | LedgerEvent::Waiting { .. }
+        | LedgerEvent::Passed { .. }
+        | LedgerEvent::Ended { .. }
+        | LedgerEvent::Drained { .. } => Ok(()),
+    }
+}
+
+fn write_ticket<W: Write>(
+    names: &[Name],
+    serial: u64,
+    agent: usize,
+    words: u32,
+    writer: &mut W,
+) -> Result<(), io::Error>
+    ensures { OnOk result (Appends (W.contents writer.old) (W.contents writer.new) (codes "ticket " ++ (decimal serial ++ (codes " of " ++ (name_said names.now agent ++ (codes ", words " ++ (decimal words ++ codes "\n"))))))) }
+{
+    let agent = name_at(names, agent);
+    writeln!(writer, "ticket {serial} of {agent}, words {words}")
+}
+
+fn write_body<W: Write>(body: &Body, writer: &mut W) -> Result<(), io::Error>
+    ensures { OnOk result (Appends (W.contents writer.old) (W.contents writer.new) (body_text body.now)) }
+{
+    match body {
+        Body::Plain(value) => write_plain(value, writer),
+        Body::Block { block, serial } => writeln!(writer, "block {block}, ticket {serial}"),
+    }
+}
+
+fn write_plain<W: Write>(value: &Value, writer: &mut W) -> Result<(), io::Error>
+    ensures { OnOk result (Appends (W.contents writer.old) (W.contents writer.new) (value_text value.now ++ codes "\n")) }
+{
+    write_value(value, writer)?;
+    writer.write_all(b"\n")
+}

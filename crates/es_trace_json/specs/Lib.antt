@@ -1,0 +1,4 @@
+pub mod Values
+pub mod Events
+pub mod Kept
+pub mod Ledger
