@@ -1,4 +1,4 @@
-/* The engine of clusterrun as a C library: the bytes of a plan in, the bytes of its report out.
+/* The engine of clusterrun as a C library: the bytes of a plan in, the bytes of its report or of its trace out.
 
    A plan is JSON, and a report is text; docs/PLANS.md says how both are written. The agents of a plan run by turns in
    the thread that calls, and each plan has one report by turns. `./clusterrun library` makes libclusterrun.a, which
@@ -6,9 +6,10 @@
 
        cc -o run embed/run.c embed/libclusterrun.a
 
-   There are two ways to have a plan's answer. clusterrun_run and clusterrun_check write its text into memory of the
-   caller's, as much of it as there is room for. clusterrun_keep_run and clusterrun_keep_check keep it, however long it
-   is, until the caller has copied it and gives it up; so no plan is run twice. And there is a way to move the agents of a
+   There are two ways to have a plan's answer. clusterrun_run, clusterrun_check and clusterrun_trace write its text into
+   memory of the caller's, as much of it as there is room for. clusterrun_keep_run, clusterrun_keep_check and
+   clusterrun_keep_trace keep it, however long it is, until the caller has copied it and gives it up; so no plan is run
+   twice. And there is a way to move the agents of a
    plan oneself, one turn after the other, in whatever order: clusterrun_begin and what follows it.
 
    Memory. A plan, and what a function writes to, belongs to the caller before and after the call; the library keeps no
@@ -41,7 +42,7 @@ extern "C" {
 
 /* What a call answers: its status, which is the program's. */
 enum {
-    /* All went well. The text is the report, or "ok" and a line end where the plan was only checked. */
+    /* All went well. The text is the report or the trace, or "ok" and a line end where the plan was only checked. */
     CLUSTERRUN_DONE = 0,
     /* The plan has a fault. The text names the first one, as "refused S7 agent 0 job 1 command 1", without a line end. */
     CLUSTERRUN_REFUSED = 1,
@@ -64,6 +65,12 @@ uint32_t clusterrun_run(const uint8_t *plan, size_t plan_length, uint8_t *out, s
 /* Checks a plan and does not run it. All else is as with clusterrun_run. */
 uint32_t clusterrun_check(const uint8_t *plan, size_t plan_length, uint8_t *out, size_t room, size_t *length);
 
+/* Runs a plan and gives its trace: what happened, as JSON Lines, which docs/TRACES.md describes. With `all` it tells of
+   each value that stays after a collection what keeps it; else only of values that something holds weakly, and of those
+   that lie on the way to them. All else is as with clusterrun_run. */
+uint32_t clusterrun_trace(
+    const uint8_t *plan, size_t plan_length, bool all, uint8_t *out, size_t room, size_t *length);
+
 /* The text of an answer that is kept, where it is filled; else it owns nothing. It begins with zeros:
 
        struct clusterrun_answer answer = {0};
@@ -82,6 +89,10 @@ uint32_t clusterrun_keep_run(const uint8_t *plan, size_t plan_length, struct clu
 
 /* Checks a plan and does not run it. All else is as with clusterrun_keep_run. */
 uint32_t clusterrun_keep_check(const uint8_t *plan, size_t plan_length, struct clusterrun_answer *answer, size_t *length);
+
+/* Runs a plan, and keeps its trace, as clusterrun_trace gives it. All else is as with clusterrun_keep_run. */
+uint32_t clusterrun_keep_trace(
+    const uint8_t *plan, size_t plan_length, bool all, struct clusterrun_answer *answer, size_t *length);
 
 /* Puts what the text of `answer`, which is filled, has from the byte `place` on, counted from 0, to the front of `out`, as
    much of it as there is room for. Gives how many bytes the text has from there on: 0 where it ends before. What lies

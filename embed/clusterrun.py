@@ -1,4 +1,4 @@
-"""The engine of clusterrun as a Python module: the bytes of a plan in, the bytes of its report out.
+"""The engine of clusterrun as a Python module: the bytes of a plan in, the bytes of its report or of its trace out.
 
     import clusterrun
     print(clusterrun.run(open("examples/first.json", "rb").read()).decode())
@@ -20,7 +20,7 @@ import enum
 import os
 import typing
 
-__all__ = ["Cluster", "Counts", "Refused", "TooLong", "Turn", "check", "run"]
+__all__ = ["Cluster", "Counts", "Refused", "TooLong", "Turn", "check", "run", "trace"]
 
 DONE, REFUSED, NO_MEMORY, TOO_LONG, NO_AGENT = 0, 1, 3, 4, 4
 
@@ -76,6 +76,8 @@ def _load():
     for call in (library.clusterrun_keep_run, library.clusterrun_keep_check):
         call.restype = ctypes.c_uint32
         call.argtypes = [bytes_of, size, kept, number]
+    library.clusterrun_keep_trace.restype = ctypes.c_uint32
+    library.clusterrun_keep_trace.argtypes = [bytes_of, size, ctypes.c_bool, kept, number]
     library.clusterrun_kept_part.restype = size
     library.clusterrun_kept_part.argtypes = [_Answer, size, bytes_of, size, kept]
     library.clusterrun_kept_free.restype = None
@@ -105,10 +107,10 @@ def _name_clusters(library):
 _LIBRARY = _load()
 
 
-def _answer(call, plan):
+def _answer(call, plan, *words):
     plan = bytes(plan)
     answer, length = _Answer(), ctypes.c_size_t(0)
-    status = call(plan, len(plan), ctypes.byref(answer), ctypes.byref(length))
+    status = call(plan, len(plan), *words, ctypes.byref(answer), ctypes.byref(length))
     _raise_for(status)
     text = _text(answer, length)
     if status == REFUSED:
@@ -145,6 +147,13 @@ def check(plan):
 def run(plan):
     """Runs a plan, given as bytes, and gives its report as bytes. A plan with a fault is the exception Refused."""
     return _answer(_LIBRARY.clusterrun_keep_run, plan)
+
+
+def trace(plan, every=False):
+    """Runs a plan, given as bytes, and gives its trace as bytes: JSON Lines, an object for each event. With `every` it
+    tells of each value that stays after a collection what keeps it; else only of values that something holds weakly, and
+    of those on the way to them. A plan with a fault is the exception Refused."""
+    return _answer(_LIBRARY.clusterrun_keep_trace, plan, every)
 
 
 class Cluster:

@@ -5,25 +5,26 @@ ghost use Rattle.es_library.specs.Keeps.{IsKept, IsNotKept, Keeps};
 ghost use Rattle.es_library.specs.Replies.{Holds};
 ghost use Rattle.es_script.specs.FaultText.{fault_text};
 
+use crate::asked::{Asked, text_for};
 use crate::kept::{Kept, Text};
 use crate::pointer::Pointer;
 use crate::reply::{DONE, NO_MEMORY, REFUSED, TOO_LONG, hand_over};
 use es_script::{ScriptFault, write_fault};
-use es_turns::{TurnsFault, answer_to};
+use es_turns::TurnsFault;
 use std::alloc::Global;
 
-/// Runs a plan, or only checks it, and keeps what there is to say of it. Answers the status.
+/// Does what is asked of a plan, and keeps what there is to say of it. Answers the status.
 pub(crate) fn keep(
     alloc: Global,
     plan: &[u8],
-    check: bool,
+    asked: Asked,
     kept: &mut Kept,
     length: &mut usize,
 ) -> u32
     requires empty { kept.old.filled ≡ false }
-    ensures { Keeps check plan.now kept.old kept.new length.new result }
+    ensures { Keeps asked plan.now kept.old kept.new length.new result }
 {
-    match answer_to(alloc, plan, check) {
+    match text_for(alloc, plan, asked) {
         Ok(text) => {
             if put(alloc, text, kept, length) {
                 DONE

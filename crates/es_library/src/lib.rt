@@ -1,8 +1,9 @@
-//! The engine as a C library: the bytes of a plan in, and the bytes of its report out; or a cluster whose
-//! agents C moves, turn by turn. The agents run in the calling thread; between calls nothing is kept but the
+//! The engine as a C library: the bytes of a plan in, and the bytes of its report or of its trace out; or a
+//! cluster whose agents C moves, turn by turn. The agents run in the calling thread; between calls nothing is kept but the
 //! answers and the clusters that C keeps.
 #![tactic(auto)]
 
+mod asked;
 mod asking;
 mod held;
 mod keeping;
@@ -17,6 +18,7 @@ ghost use Rattle.es_library.specs.Clusters.{Begins, CountsAll, IsHeld, Reports, 
 ghost use Rattle.es_library.specs.Keeps.{Keeps};
 ghost use Rattle.es_library.specs.Replies.{Holds, Replies};
 
+pub use asked::Asked;
 pub use asking::Counts;
 use asking::{count_named, end_named, say_named};
 pub use held::Held;
@@ -39,9 +41,9 @@ pub extern "C" fn clusterrun_run(
     out: &mut [u8],
     length: &mut usize,
 ) -> u32
-    ensures { Replies false plan.now out.old out.new length.new result }
+    ensures { Replies Asked.Report plan.now out.old out.new length.new result }
 {
-    reply(alloc, plan, false, out, length)
+    reply(alloc, plan, Asked::Report, out, length)
 }
 
 /// Checks a plan, and does not run it: the text is `ok` and a line end where it has no fault. All else is as
@@ -53,9 +55,25 @@ pub extern "C" fn clusterrun_check(
     out: &mut [u8],
     length: &mut usize,
 ) -> u32
-    ensures { Replies true plan.now out.old out.new length.new result }
+    ensures { Replies Asked.Check plan.now out.old out.new length.new result }
 {
-    reply(alloc, plan, true, out, length)
+    reply(alloc, plan, Asked::Check, out, length)
+}
+
+/// Runs a plan and gives its trace: what happened, a line of JSON for each event. With `all` it tells of each value
+/// that stays after a collection what keeps it; else only of what is held weakly, and of what keeps that. All else
+/// is as with `clusterrun_run`.
+#[unsafe(no_mangle)]
+pub extern "C" fn clusterrun_trace(
+    alloc: Global,
+    plan: &[u8],
+    all: bool,
+    out: &mut [u8],
+    length: &mut usize,
+) -> u32
+    ensures { Replies (Asked.Trace all) plan.now out.old out.new length.new result }
+{
+    reply(alloc, plan, Asked::Trace { all }, out, length)
 }
 
 /// Runs a plan and keeps what there is to say of it, in `answer`, which keeps nothing yet. Answers the status,
@@ -68,9 +86,9 @@ pub extern "C" fn clusterrun_keep_run(
     length: &mut usize,
 ) -> u32
     requires empty { answer.old.filled ≡ false }
-    ensures { Keeps false plan.now answer.old answer.new length.new result }
+    ensures { Keeps Asked.Report plan.now answer.old answer.new length.new result }
 {
-    keep(alloc, plan, false, answer, length)
+    keep(alloc, plan, Asked::Report, answer, length)
 }
 
 /// Checks a plan, and does not run it. All else is as with `clusterrun_keep_run`.
@@ -82,9 +100,24 @@ pub extern "C" fn clusterrun_keep_check(
     length: &mut usize,
 ) -> u32
     requires empty { answer.old.filled ≡ false }
-    ensures { Keeps true plan.now answer.old answer.new length.new result }
+    ensures { Keeps Asked.Check plan.now answer.old answer.new length.new result }
 {
-    keep(alloc, plan, true, answer, length)
+    keep(alloc, plan, Asked::Check, answer, length)
+}
+
+/// Runs a plan and keeps its trace, as `clusterrun_trace` gives it. All else is as with `clusterrun_keep_run`.
+#[unsafe(no_mangle)]
+pub extern "C" fn clusterrun_keep_trace(
+    alloc: Global,
+    plan: &[u8],
+    all: bool,
+    answer: &mut Kept,
+    length: &mut usize,
+) -> u32
+    requires empty { answer.old.filled ≡ false }
+    ensures { Keeps (Asked.Trace all) plan.now answer.old answer.new length.new result }
+{
+    keep(alloc, plan, Asked::Trace { all }, answer, length)
 }
 
 /// Puts what a kept text has from this place on to the front of `out`, as much of it as there is room for, and

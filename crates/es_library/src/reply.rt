@@ -4,8 +4,9 @@ ghost use Rattle.std.specs.Prelude.{◌≡◌, true, false};
 ghost use Rattle.es_library.specs.Replies.{Replies, Holds, HoldsNothing};
 ghost use Rattle.es_script.specs.FaultText.{fault_text};
 
+use crate::asked::{Asked, text_for};
 use es_script::{ScriptFault, write_fault};
-use es_turns::{TurnsFault, answer_to};
+use es_turns::TurnsFault;
 use std::alloc::Global;
 
 /// The status where all went well.
@@ -20,17 +21,17 @@ pub(crate) const NO_MEMORY: u32 = 3;
 /// The status where there are more bytes than a plan has at most.
 pub(crate) const TOO_LONG: u32 = 4;
 
-/// Runs a plan, or only checks it, and hands over what there is to say of it. Answers the status.
+/// Does what is asked of a plan, and hands over what there is to say of it. Answers the status.
 pub(crate) fn reply(
     alloc: Global,
     plan: &[u8],
-    check: bool,
+    asked: Asked,
     out: &mut [u8],
     length: &mut usize,
 ) -> u32
-    ensures { Replies check plan.now out.old out.new length.new result }
+    ensures { Replies asked plan.now out.old out.new length.new result }
 {
-    match answer_to(alloc, plan, check) {
+    match text_for(alloc, plan, asked) {
         Ok(text) => {
             hand_over(text.as_slice(), out, length);
             DONE
