@@ -13,7 +13,7 @@ use std::process::Abort;
 use std::test::Fail;
 
 /// The plan of an agent with these jobs, beside which there is an agent `b`.
-fn plan_of<R: Abort + AllocGlobal>(rt: &R, jobs: &str) -> Result<AgentPlan, Fail> {
+pub(super) fn plan_of<R: Abort + AllocGlobal>(rt: &R, jobs: &str) -> Result<AgentPlan, Fail> {
     let alloc = rt.alloc();
     let text = format!(in alloc;
         "{{\"version\":1,\"agents\":[{{\"name\":\"b\",\"callbacks\":{{}},\"jobs\":[]}},{{\"name\":\"a\",\"callbacks\":{{}},\"jobs\":[{jobs}]}}]}}"
@@ -23,7 +23,7 @@ fn plan_of<R: Abort + AllocGlobal>(rt: &R, jobs: &str) -> Result<AgentPlan, Fail
 }
 
 /// Takes a step that asks nobody, and tells whether there was one.
-fn step<L: Run>(core: &mut AgentCore<L>) -> Result<bool, NoMemory>
+pub(super) fn step<L: Run>(core: &mut AgentCore<L>) -> Result<bool, NoMemory>
     requires { core.old.over ≡ [] }
     ensures { core.new.over ≡ [] }
 {
@@ -35,7 +35,7 @@ fn step<L: Run>(core: &mut AgentCore<L>) -> Result<bool, NoMemory>
 }
 
 /// Ends an agent without buffers.
-fn end<L: Run>(core: AgentCore<L>)
+pub(super) fn end<L: Run>(core: AgentCore<L>)
     requires { core.over ≡ [] }
 {
     core.abandon().end();

@@ -1,7 +1,9 @@
 //! The totals of an outcome, counted from its histories: reports of plans, whose totals each way of counting
 //! gives, and histories that no plan has.
 
-use es_event::{Answer, Body, Command, Event, LedgerEvent, Operands, Outcome, Sequence};
+use es_event::{
+    Answer, Body, Command, Event, LedgerEvent, Operands, Outcome, PlanCommand, Sequence, SharedList,
+};
 use es_report::{Counts, write_report, write_report_counted};
 use es_script::read_plan;
 use es_turns::run_by_turns;
@@ -100,16 +102,23 @@ fn name(alloc: Global) -> Result<Name, Fail> {
     Ok(Name::read(alloc, "x")?)
 }
 
+/// The command as a plan of one command has it.
+fn planned(alloc: Global, command: Command) -> Result<PlanCommand, Fail> {
+    let commands = SharedList::of(Sequence::from_vec(Vec::from_array(alloc, [command])?))?;
+    Ok(PlanCommand::at(&commands, 0)?)
+}
+
 /// A registration of object 2 in registry 1, with object 3 as its token.
 fn registered(alloc: Global) -> Result<Event, Fail> {
     let values = Vec::from_array(alloc, [object(1), object(2), Value::Undefined, object(3)])?;
+    let command = Command::Register {
+        registry: name(alloc)?,
+        target: name(alloc)?,
+        held: name(alloc)?,
+        token: Some(name(alloc)?),
+    };
     Ok(Event::Did {
-        command: Command::Register {
-            registry: name(alloc)?,
-            target: name(alloc)?,
-            held: name(alloc)?,
-            token: Some(name(alloc)?),
-        },
+        command: planned(alloc, command)?,
         values: Operands::of_sequence(Sequence::from_vec(values)),
         answer: Answer::Nothing,
     })
@@ -117,12 +126,13 @@ fn registered(alloc: Global) -> Result<Event, Fail> {
 
 /// What is registered in registry 1 with object 3 as its token is taken out.
 fn unregistered(alloc: Global) -> Result<Event, Fail> {
+    let command = Command::Unregister {
+        to: name(alloc)?,
+        registry: name(alloc)?,
+        token: name(alloc)?,
+    };
     Ok(Event::Did {
-        command: Command::Unregister {
-            to: name(alloc)?,
-            registry: name(alloc)?,
-            token: name(alloc)?,
-        },
+        command: planned(alloc, command)?,
         values: Operands::of_two(object(1), object(3)),
         answer: Answer::Nothing,
     })

@@ -1,0 +1,229 @@
+//! What an agent is handed for its next event. Each of these makes one call of the ledger that may find no
+//! memory; then nothing has changed.
+
+ghost use Rattle.std.specs.Prelude.{◌≡◌, ◌<◌, false, IfOk, OnErr};
+ghost use Rattle.es_event.specs.Ledger.{ended};
+ghost use Rattle.es_rules.specs.Needs.{need, asks_ledger, asks_message, for_block, for_post, for_buffer_post, for_load, for_store, for_add};
+ghost use Rattle.es_member.specs.Seats.{Holds};
+ghost use Rattle.calls.specs.Suiting.{Suits};
+
+use crate::given::Given;
+use es_agent::{AgentCore, Need, Request};
+use es_ledger::{LedgerCore, Letter, Message, Turn};
+use es_ticket::{Run, Stake};
+use es_value::{Id, NoMemory, Value};
+
+/// What the agent is handed for its next event.
+pub(crate) fn ask<L: Run>(
+    core: &AgentCore<L>,
+    stake: &mut Stake<L>,
+    ledger: &mut LedgerCore<L>,
+) -> Result<Given<L>, NoMemory>
+    requires { Holds core.now stake.old }
+    ensures ok { IfOk result (λ g. Suits g core.now stake.new) }
+    ensures err { OnErr result (Holds core.now stake.new) }
+    ensures agents { ledger.new.agents ≡ ledger.old.agents }
+{
+    let number = core.number();
+    if number >= ledger.agents() || ledger.has_ended(number) {
+        return Ok(Given::End);
+    }
+    match core.next() {
+        Need::Ledger(request) => match request {
+            Request::NewBlock { words } => open(core, stake, ledger, words),
+            Request::Post { receiver, value } => {
+                let copy = value.copy()?;
+                post(core, stake, ledger, receiver, copy)
+            }
+            Request::PostBuffer { receiver, buffer } => {
+                post_buffer(core, stake, ledger, receiver, buffer)
+            }
+            Request::Load { buffer, index } => load(core, stake, ledger, buffer, index),
+            Request::Store {
+                buffer,
+                index,
+                word,
+            } => store(core, stake, ledger, buffer, index, word),
+            Request::Add {
+                buffer,
+                index,
+                addend,
+            } => add(core, stake, ledger, buffer, index, addend),
+        },
+        Need::Message(sender) => hear(core, stake, ledger, sender),
+        Need::Local | Need::Collect | Need::Later | Need::Finish | Need::Close => Ok(Given::Alone),
+        Need::Ended => Ok(Given::End),
+    }
+}
+
+/// The first ticket of a new block.
+fn open<L: Run>(
+    core: &AgentCore<L>,
+    stake: &mut Stake<L>,
+    ledger: &mut LedgerCore<L>,
+    words: u32,
+) -> Result<Given<L>, NoMemory>
+    requires due { need core.now ≡ asks_ledger (for_block words) }
+    requires held { Holds core.now stake.old }
+    requires known { core.now.number < ledger.old.agents }
+    ensures ok { IfOk result (λ g. Suits g core.now stake.new) }
+    ensures err { OnErr result (Holds core.now stake.new) }
+    ensures agents { ledger.new.agents ≡ ledger.old.agents }
+{
+    let ticket = ledger.open_block(stake, words)?;
+    Ok(Given::Block(ticket))
+}
+
+/// That a value was posted.
+fn post<L: Run>(
+    core: &AgentCore<L>,
+    stake: &Stake<L>,
+    ledger: &mut LedgerCore<L>,
+    receiver: usize,
+    value: Value,
+) -> Result<Given<L>, NoMemory>
+    requires due { need core.now ≡ asks_ledger (for_post receiver value) }
+    requires held { Holds core.now stake.now }
+    requires known { core.now.number < ledger.old.agents }
+    ensures ok { IfOk result (λ g. Suits g core.now stake.now) }
+    ensures err { OnErr result (Holds core.now stake.now) }
+    ensures agents { ledger.new.agents ≡ ledger.old.agents }
+{
+    let number = core.number();
+    if receiver >= ledger.agents() || receiver == number {
+        return Ok(Given::End);
+    }
+    ledger.post(number, receiver, value)?;
+    Ok(Given::Done)
+}
+
+/// That a buffer object's block was posted.
+fn post_buffer<L: Run>(
+    core: &AgentCore<L>,
+    stake: &mut Stake<L>,
+    ledger: &mut LedgerCore<L>,
+    receiver: usize,
+    buffer: Id,
+) -> Result<Given<L>, NoMemory>
+    requires due { need core.now ≡ asks_ledger (for_buffer_post receiver buffer) }
+    requires held { Holds core.now stake.old }
+    requires known { core.now.number < ledger.old.agents }
+    ensures ok { IfOk result (λ g. Suits g core.now stake.new) }
+    ensures err { OnErr result (Holds core.now stake.new) }
+    ensures agents { ledger.new.agents ≡ ledger.old.agents }
+{
+    let number = core.number();
+    if receiver >= ledger.agents() || receiver == number {
+        return Ok(Given::End);
+    }
+    let _ = core.history();
+    ledger.post_buffer(stake, receiver, core.ticket(buffer))?;
+    Ok(Given::Done)
+}
+
+/// A word of a buffer object's block.
+fn load<L: Run>(
+    core: &AgentCore<L>,
+    stake: &mut Stake<L>,
+    ledger: &mut LedgerCore<L>,
+    buffer: Id,
+    index: usize,
+) -> Result<Given<L>, NoMemory>
+    requires due { need core.now ≡ asks_ledger (for_load buffer index) }
+    requires held { Holds core.now stake.old }
+    ensures ok { IfOk result (λ g. Suits g core.now stake.new) }
+    ensures err { OnErr result (Holds core.now stake.new) }
+    ensures agents { ledger.new.agents ≡ ledger.old.agents }
+{
+    let _ = core.history();
+    let word = ledger.load(stake, core.ticket(buffer), index)?;
+    Ok(Given::Word(word))
+}
+
+/// That a word was written.
+fn store<L: Run>(
+    core: &AgentCore<L>,
+    stake: &mut Stake<L>,
+    ledger: &mut LedgerCore<L>,
+    buffer: Id,
+    index: usize,
+    word: u32,
+) -> Result<Given<L>, NoMemory>
+    requires due { need core.now ≡ asks_ledger (for_store buffer index word) }
+    requires held { Holds core.now stake.old }
+    ensures ok { IfOk result (λ g. Suits g core.now stake.new) }
+    ensures err { OnErr result (Holds core.now stake.new) }
+    ensures agents { ledger.new.agents ≡ ledger.old.agents }
+{
+    let _ = core.history();
+    ledger.store(stake, core.ticket(buffer), index, word)?;
+    Ok(Given::Done)
+}
+
+/// The word that was there, to which one was added.
+fn add<L: Run>(
+    core: &AgentCore<L>,
+    stake: &mut Stake<L>,
+    ledger: &mut LedgerCore<L>,
+    buffer: Id,
+    index: usize,
+    addend: u32,
+) -> Result<Given<L>, NoMemory>
+    requires due { need core.now ≡ asks_ledger (for_add buffer index addend) }
+    requires held { Holds core.now stake.old }
+    ensures ok { IfOk result (λ g. Suits g core.now stake.new) }
+    ensures err { OnErr result (Holds core.now stake.new) }
+    ensures agents { ledger.new.agents ≡ ledger.old.agents }
+{
+    let _ = core.history();
+    let old = ledger.add(stake, core.ticket(buffer), index, addend)?;
+    Ok(Given::Word(old))
+}
+
+/// What came in a message, that none comes any more, or nothing.
+fn hear<L: Run>(
+    core: &AgentCore<L>,
+    stake: &mut Stake<L>,
+    ledger: &mut LedgerCore<L>,
+    sender: usize,
+) -> Result<Given<L>, NoMemory>
+    requires due { need core.now ≡ asks_message sender }
+    requires held { Holds core.now stake.old }
+    requires known { core.now.number < ledger.old.agents }
+    requires going { ended ledger.old.history core.now.number ≡ false }
+    ensures ok { IfOk result (λ g. Suits g core.now stake.new) }
+    ensures err { OnErr result (Holds core.now stake.new) }
+    ensures agents { ledger.new.agents ≡ ledger.old.agents }
+{
+    let number = core.number();
+    if sender >= ledger.agents() || sender == number {
+        return Ok(Given::End);
+    }
+    match ledger.await_message(number, sender)? {
+        Turn::Ready => Ok(take(core, stake, ledger, sender)),
+        Turn::Stay => Ok(Given::Wait),
+        Turn::Skip => Ok(Given::Skip),
+    }
+}
+
+/// What came in the message of a sender. It takes no memory.
+fn take<L: Run>(
+    core: &AgentCore<L>,
+    stake: &mut Stake<L>,
+    ledger: &mut LedgerCore<L>,
+    sender: usize,
+) -> Given<L>
+    requires due { need core.now ≡ asks_message sender }
+    requires held { Holds core.now stake.old }
+    requires known { (sender < ledger.old.agents) × (core.now.number < ledger.old.agents) }
+    ensures given { Suits result core.now stake.new }
+    ensures agents { ledger.new.agents ≡ ledger.old.agents }
+{
+    let Some(Message { sender: _, body }) = ledger.take(stake, sender) else {
+        return Given::Wait;
+    };
+    match body {
+        Letter::Plain(value) => Given::Plain(value),
+        Letter::Block(ticket) => Given::Block(ticket),
+    }
+}

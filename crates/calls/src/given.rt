@@ -1,0 +1,24 @@
+//! What an agent is handed for its next event.
+
+use es_ticket::{Run, Ticket};
+use es_value::Value;
+
+/// What an agent is handed for its next event, by the ledger where the agent asks that.
+pub enum Given<L: Run> {
+    /// Nothing: it goes on alone.
+    Alone,
+    /// A ticket: of a block that it asked for, or of one that came in a message.
+    Block(Ticket<L>),
+    /// A value that came in a message.
+    Plain(Value),
+    /// A word of shared memory.
+    Word(u32),
+    /// That what it asked for was done.
+    Done,
+    /// That no message comes any more.
+    Skip,
+    /// Nothing: it waits on for a message.
+    Wait,
+    /// Nothing: it has ended.
+    End,
+}
