@@ -25,7 +25,7 @@ FOR_WHOM = re.compile(r"\b[Ff]or (those|anyone|people)\b")
 LONGEST = 3000
 LENGTHS = {"README.md": 1500, "docs/DECISIONS.md": None, "docs/TOOLCHAIN.md": None}
 LINK = re.compile(r"\]\(([^)#\s]*)(?:#([^)\s]*))?\)")
-FILE = re.compile(r"`((?:docs|tests|crates|examples|bench|embed|engines)/[\w./*-]+)`")
+FILE = re.compile(r"`((?:docs|tests|crates|examples|bench|embed|engines|play)/[\w./*-]+)`")
 
 
 def read(path):
@@ -91,7 +91,7 @@ def files(path):
 
 def quotes():
     """What README.md quotes of an example and does not have."""
-    for kind in ("json", "report"):
+    for kind in ("json", "report", "trace"):
         if f"\n{read(f'examples/gone.{kind}')}```\n" not in read("README.md"):
             return f"it does not quote examples/gone.{kind}"
     return None
@@ -132,7 +132,8 @@ def numbers():
 def called():
     """What is wrong with the rows of tests/README.md beside the calls in `check`."""
     gate = read("check").split('rm -f "$program" "$turns"')[1]
-    gate = gate.replace('"$program"', "PROGRAM").replace('"$turns"', "TURNS")
+    for name in ("program", "turns", "calls"):
+        gate = gate.replace(f'"${name}"', name.upper())
     calls = re.findall(r"try \w+ tests/(.*)", gate)
     page = read("tests/README.md")
     rows = re.findall(r"^\| `([^`]*)` \|", page.split("## By hand")[0], re.M)

@@ -125,6 +125,12 @@ each_growth 0 run "$examples/nobody_takes.json" --turns
 each_growth 0 run "$examples/later.json" --turns
 each_growth 0 check "$examples/refusals.json"
 each_growth 0 explain "$examples/refusals.json"
+each_growth 0 trace "$examples/queue.json"
+each_growth 0 trace "$examples/later.json"
+each_growth 0 trace "$examples/nobody_takes.json"
+each_growth 0 trace --all "$examples/queue.json"
+each_growth 0 trace --json --all "$examples/later.json"
+each_growth 0 trace --dot "$examples/queue.json"
 
 # a chain of entries, a key of several WeakMaps that is a member of several WeakSets, and each of the nine
 # commands on them; a collection while only the chain's first key leads to the rest, and one after
@@ -193,6 +199,7 @@ each_growth 0 run "$room/later.json" --turns
 sed 's/\["keys", "x"\]/["keys", "1x"]/' "$examples/agents.json" >"$room/faulty.json"
 each_growth 1 run "$room/faulty.json" --turns
 each_growth 1 explain "$room/faulty.json"
+each_growth 1 trace "$room/faulty.json"
 
 # `check` takes no step of the plan: it makes as many growths for a plan that ends its job at once, by a
 # command that is refused, as for one that goes on with 50 objects. A run makes fewer for the former.

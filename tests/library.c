@@ -153,6 +153,22 @@ static long pages(void)
     return here;
 }
 
+/* the traces, as calls of the same form */
+static uint32_t trace_some(const uint8_t *plan, size_t plan_length, uint8_t *out, size_t room, size_t *length)
+{
+    return clusterrun_trace(plan, plan_length, false, out, room, length);
+}
+
+static uint32_t trace_all(const uint8_t *plan, size_t plan_length, uint8_t *out, size_t room, size_t *length)
+{
+    return clusterrun_trace(plan, plan_length, true, out, room, length);
+}
+
+static uint32_t keep_trace(const uint8_t *plan, size_t plan_length, struct clusterrun_answer *answer, size_t *length)
+{
+    return clusterrun_keep_trace(plan, plan_length, false, answer, length);
+}
+
 int main(int argc, char **argv)
 {
     size_t too_long = ((size_t)1 << 32), length = 77, plan_length;
@@ -166,7 +182,10 @@ int main(int argc, char **argv)
         plan = read_file(argv[at], &plan_length);
         try_plan(clusterrun_run, "run", argv[at], plan, plan_length);
         try_plan(clusterrun_check, "check", argv[at], plan, plan_length);
+        try_plan(trace_some, "trace", argv[at], plan, plan_length);
+        try_plan(trace_all, "trace of all", argv[at], plan, plan_length);
         try_kept(clusterrun_keep_run, clusterrun_run, argv[at], plan, plan_length);
+        try_kept(keep_trace, trace_some, argv[at], plan, plan_length);
         try_kept(clusterrun_keep_check, clusterrun_check, argv[at], plan, plan_length);
         __real_free(plan);
     }

@@ -1,7 +1,7 @@
 #!/usr/bin/env python3
 """The C library beside the program, by turns: the same statuses and the same bytes, from the C program embed/run.c and
 from the Python module embed/clusterrun.py, which keep the answer, and from a call with a buffer. All examples; texts with faults; buffers that are too small; random plans;
-several threads at once; and how long a plan of 60,000 commands takes.
+traces; several threads at once; and how long a plan of 60,000 commands takes.
 
 Usage: library.py PROGRAM FOLDER COUNT SEED. FOLDER has libclusterrun.so and `run`, which is embed/run.c; COUNT is how
 many random plans there are. Prints each answer that differs, and `N passed, M failed` last.
@@ -122,6 +122,29 @@ def random_texts(count, seed):
             yield wanted, by_c(False, plan), f"C, plan {number} of seed {seed}: {plan!r}"
 
 
+def by_module(every, plan):
+    """The trace that the Python module gives, as the program would."""
+    try:
+        return 0, clusterrun.trace(plan, every), b""
+    except clusterrun.Refused as refused:
+        return 1, b"", f"{refused}\n".encode()
+
+
+def traces(count, seed):
+    """The traces of all examples and of some random plans: what the program writes."""
+    rng = random.Random(seed)
+    plans = [(f"plan {number} of seed {seed}", random_plans.text(rng)) for number in range(count // 4)]
+    for path in EXAMPLES:
+        with open(path, "rb") as file:
+            plans.append((path, file.read()))
+    for name, plan in plans:
+        for every in (False, True):
+            words = [PROGRAM, "trace", "--json"] + ["--all"] * every
+            ran = subprocess.run(words, input=plan, capture_output=True, timeout=60, check=False)
+            wanted = ran.returncode, ran.stdout, ran.stderr
+            yield wanted, by_module(every, plan), f"the trace, every {every}, {name}: {plan[:200]!r}"
+
+
 def at_once():
     """Four threads, each with all examples, thirty times."""
     wrong = []
@@ -169,7 +192,7 @@ def long_plan():
 def main():
     count, seed = int(sys.argv[3]), int(sys.argv[4])
     passed = failed = 0
-    for answers in (example_plans(), refused_plans(), random_texts(count, seed), at_once(), long_plan()):
+    for answers in (example_plans(), refused_plans(), random_texts(count, seed), traces(count, seed), at_once(), long_plan()):
         for wanted, got, name in answers:
             if wanted == got:
                 passed += 1

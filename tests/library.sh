@@ -72,7 +72,7 @@ try() {
 nm -g --defined-only "$room/libclusterrun.a" 2>/dev/null | awk '$2 == "T" { print $3 }' | sort >"$room/exported"
 printf '%s\n' clusterrun_begin clusterrun_check clusterrun_cluster_audit clusterrun_cluster_end \
     clusterrun_cluster_free clusterrun_cluster_said clusterrun_cluster_step clusterrun_keep_check clusterrun_keep_run \
-    clusterrun_kept_free clusterrun_kept_part clusterrun_run rattle_alloc rattle_dealloc rattle_realloc >"$room/wanted"
+    clusterrun_keep_trace clusterrun_kept_free clusterrun_kept_part clusterrun_run clusterrun_trace rattle_alloc rattle_dealloc rattle_realloc >"$room/wanted"
 nm -u "$room/libclusterrun.a" 2>/dev/null | awk '$1 == "U" { print $2 }' | sort -u >"$room/taken"
 printf '%s\n' free malloc memcpy memmove memset rattle_alloc rattle_dealloc rattle_realloc realloc >"$room/allowed"
 if cmp -s "$room/exported" "$room/wanted" && [ -z "$(comm -23 "$room/taken" "$room/allowed")" ]; then

@@ -8,7 +8,9 @@ fit and plans that do not are run by turns, in threads, in threads with helpers,
 Then the bound is moved in small steps from where a run can just begin to where it fits, so that memory ends at each place
 in turn: while the plan is read, while threads are made, in the midst of events, in a collection. For texts of deep nesting,
 which take the most of the stack, the steps are single pages. With --long the steps are
-smaller, and the plans more. `--show` prints how many runs of each plan were out of memory.
+smaller, and the plans are all of limit_plans.py, at their whole limits. These are too large for rules.py, so their report
+is that of a run by turns in all of the machine's memory. It takes some ten minutes. `--show` prints how many runs of each
+plan were out of memory.
 """
 
 import argparse
@@ -28,7 +30,9 @@ SPACES = [64, 128, 256, 512]
 PAGE = 4096
 PAGES = 40
 STEPS = 40
-MORE_STEPS = 400
+MORE_STEPS = 100
+QUADRATIC = "deletes from the first"  # it takes half a minute at its whole limit
+LIGHT = ["small heaps", "ring", "skips"]  # of which a hundredth takes no more memory than nothing
 ALL_WAYS = [["--turns"], [], ["--helpers", "8"], ["--watch", "20", "--helpers", "3"]]
 
 
@@ -97,6 +101,13 @@ def known(make, number):
     return data, rules.answer(data)[1]
 
 
+def told(program, make, number):
+    """A plan that is too large for rules.py, and the report of its run by turns."""
+    data = make(number)
+    status, report, _ = running.answer([program, "run", "--turns"], data)
+    return data, report if status == 0 else "no report in all memory"
+
+
 def many(jobs):
     """A plan of so many jobs of 10,000 commands, and its report: it is too large for rules.py."""
     job = b'{"run":[' + b",".join([b'["copy","x","y"]'] * limit_plans.LONGEST) + b"]}"
@@ -122,10 +133,14 @@ def main():
     trying.in_spaces("many commands", *many(400 if given.long else 80))
     for name in dict.fromkeys(chosen):
         make, most = plans[name]
-        trying.in_spaces(name, *known(make, most // (1 if given.long else 4)))
+        if given.long and name != QUADRATIC:
+            trying.in_spaces(name, *told(given.program, make, most))
+        else:
+            trying.in_spaces(name, *known(make, most // 4))
     for name in dict.fromkeys(chosen):
         make, most = plans[name]
-        trying.in_steps(name, *known(make, max(most // 100, 8)), MORE_STEPS if given.long else STEPS)
+        part = most if name in LIGHT else max(most // 100, 8)
+        trying.in_steps(name, *known(make, part), MORE_STEPS if given.long else STEPS)
     for opened, closed in (b'{"a":', b"}"), (b"[", b"]"):
         data = b'{"version":1,"agents":["' + b"a" * MB + b'",' + opened * 120 + b"1" + closed * 120 + b"]}"
         for word in ("check", "run"):

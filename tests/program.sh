@@ -59,6 +59,8 @@ faulty() {
     expect "$1" 1 "$room/nothing" "$2"
     run check "$room/script"
     expect "$1, checked" 1 "$room/nothing" "$2"
+    run trace "$room/script"
+    expect "$1, traced" 1 "$room/nothing" "$2"
 }
 
 # commands COMMAND..: each is given in words, in which null and whole numbers are the only literals
@@ -213,6 +215,44 @@ expect "explain of no file" 4 "$room/nothing" "cannot read"
 usage "two files, explained" explain a b
 usage "an option of run beside explain" explain --turns
 help explain explain --help
+printf 'a  agent ends\n-  a ended\n' >"$room/traced"
+run trace
+expect "trace" 0 "$room/traced" ""
+run trace "$room/plan.json"
+expect "trace of a file" 0 "$room/traced" ""
+run trace "$room/missing.json"
+expect "trace of no file" 4 "$room/nothing" "cannot read"
+run trace --all
+expect "trace of all that stays" 0 "$room/traced" ""
+run trace "$room/plan.json" --all
+expect "an option behind the traced file" 0 "$room/traced" ""
+cat >"$room/wanted" <<'END'
+{"agent":"a","event":"agent ends"}
+{"ledger":"ended","agent":"a"}
+END
+run trace --json
+expect "trace in JSON" 0 "$room/wanted" ""
+run trace --json --all "$room/plan.json"
+expect "trace in JSON of all that stays" 0 "$room/wanted" ""
+run trace --dot
+expect "pictures of no collection" 0 "$room/nothing" ""
+run trace --dot --all "$room/plan.json"
+expect "pictures of no collection in a file" 0 "$room/nothing" ""
+run trace -- --dot
+expect "a file that is spelled as an option, traced" 4 "$room/nothing" "cannot read"
+usage "two files, traced" trace a b
+usage "an option of run beside trace" trace --turns
+usage "two forms of a trace" trace --json --dot
+usage "the same two forms" trace --dot --json "$room/plan.json"
+usage "a form twice" trace --json --json
+usage "a value of a form" trace --json=1
+usage "an option of trace beside run" run --all
+usage "a form beside check" check --json
+help trace trace --help
+help --all trace --help
+help --json trace --help
+help --dot trace --help
+help "trace \[FILE\] \[--all\] \[--json | --dot\]" --help
 # explained TEXT LINE..: what explain says of this text
 explained() {
     printf %s "$1" >"$room/script"

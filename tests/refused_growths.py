@@ -6,11 +6,13 @@ Usage: refused_growths.py PROGRAM [TURNS] [--long] [--jobs N]. PROGRAM is cluste
 `turns`. Prints each run that ends otherwise, how many growths were refused, and `N passed, M failed` last. It needs a C
 compiler.
 
-Each row is run by turns, in threads, and in threads with helpers beside a watcher, and the last is checked and explained
-(with --long each row, and there are more helpers and watchers). A plan of which a key has an escape is read by way of its
-JSON value, and so each row is run once more with such a key; that it is another way is told by its growths. In threads
-the growths are not the same from run to run: the numbers go on until twenty in a row refuse nothing. A few growths can
-be done without: where a list is made of an iterator, room for all of it is asked for at first, and then piece by piece.
+Each row is run by turns, in threads, and in threads with helpers beside a watcher (one of version 2 with one helper, with
+three, and with three beside a watcher: a helper marks the copy of its graph while the agent goes on), and that with
+callbacks is checked and explained (with --long each row, and there are more helpers and watchers). A plan of which a key
+has an escape is read by way of its JSON value, and so each row is run once more with such a key; that it is another way is
+told by its growths. In threads the growths are not the same from run to run: the numbers go on until twenty in a row
+refuse nothing. A few growths can be done without: where a list is made of an iterator, room for all of it is asked for at
+first, and then piece by piece.
 
 With TURNS the rows of turns.txt, with an audit after each turn, are played with each growth refused: the audits are those
 that were worked out by hand, up to the end or to where there is no memory, with status 1. growths.sh refuses the growths
@@ -29,7 +31,10 @@ import turns
 from refusing import Refusing
 
 ESCAPED = (b'"name"', b'"n\\u0061me"')
-THREADS = [[], ["--helpers", "2", "--watch", "2"]]
+THREADS = {
+    1: [[], ["--helpers", "2", "--watch", "2"]],
+    2: [[], ["--helpers", "3"], ["--helpers", "3", "--watch", "2"]],  # with later collections
+}
 MORE_THREADS = [["--helpers", "8"], ["--watch", "1"], ["--helpers", "3", "--watch", "20"]]
 
 
@@ -92,7 +97,7 @@ def cases(program, played, is_long):
             if is_long or "callbacks" in row.title:
                 yield try_read, program, way(row)
             yield try_turns, program, way(row)
-            for options in THREADS + (MORE_THREADS if is_long else []):
+            for options in THREADS[row.version] + (MORE_THREADS if is_long else []):
                 yield functools.partial(try_threads, options), program, way(row)
     for row in rows("turns.txt", turns.Played) if played else []:
         yield try_played, played, row

@@ -32,6 +32,7 @@ try tests/refused_marking.py "$program" --long --jobs 2
 try tests/limits.py "$program" --whole --show
 try tests/memory.py "$program" --long
 try tests/threads.py "$program" --waking 100
+try tests/threads.py "$program" 2000 "$seed" --helpers 2,3,8 --jobs 2
 try tests/helpers.py "$program" 60 "$seed" --jobs 2
 try tests/turns.py "$turns" 5000 "$seed"
 try tests/fuzz.py "$program" --minutes "$minutes" --seed "$seed" --jobs 2

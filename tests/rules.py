@@ -495,7 +495,7 @@ class Agent:
         for tables in (self.entries, self.members):
             for number in dead & set(tables):
                 del tables[number]
-        for number in dead & set(self.buffers):
+        for number in sorted(dead & set(self.buffers)):
             self.ledger.spend(self.buffers.pop(number))
         for entries in self.entries.values():
             for key in [key for key in entries if key[1] in dead]:

@@ -11,7 +11,7 @@ Usage: schema.py PROGRAM. Prints what differs, and `N passed, M failed` last.
 - Of small plans with one command, whole and spoiled, the program accepts those that the schema accepts.
 
 A schema sees values and not how they are written, so 1.0 and -0 are whole numbers to it. Texts are judged by `Schema`,
-which knows the few words that this schema uses, and by the library `jsonschema` too where python has it.
+which knows the few words that the schemas of docs/ use, and by the library `jsonschema` too where python has it.
 """
 
 import glob
@@ -71,7 +71,7 @@ def is_number(value):
 
 
 class Schema:
-    """A schema, of the words that this one uses; any other is an error."""
+    """A schema, of the words that those of plans and of traces use; any other is an error."""
 
     def __init__(self, root):
         self.root = root
@@ -89,6 +89,8 @@ class Schema:
                 return self.accepts(value, self.root["$defs"][what.removeprefix("#/$defs/")])
             case "anyOf":
                 return any(self.accepts(value, one) for one in what)
+            case "oneOf":
+                return sum(self.accepts(value, one) for one in what) == 1
             case "type":
                 return any(JSON_TYPES[it](value) for it in ([what] if isinstance(what, str) else what))
             case "not":

@@ -2,8 +2,9 @@
 """Plans without races, whose agents the program runs in threads: each report must be that of the same plan by turns.
 
 Usage: threads.py PROGRAM COUNT SEED [--jobs N]
+       threads.py PROGRAM COUNT SEED --helpers N,N.. [--jobs N]
        threads.py PROGRAM --waking RUNS
-The gate runs 300 of the first; more of them, and the second, are run by hand. Each prints every run that differs, and
+The gate runs 300 of the first; more of them, and the others, are run by hand. Each prints every run that differs, and
 `N passed, M failed` last. A run that has not ended after a minute has failed.
 
 The first tries COUNT random plans, N of them at a time (1), and prints how many had what. Each is run by turns, in
@@ -21,7 +22,9 @@ After the random plans comes one run in which an agent waits while another colle
 take little more of the processors' time for it than by turns, as who waits sleeps. The better of up to PAIRS pairs of
 runs counts, since the same work takes more time on a machine that does much else.
 
-The second runs three plans RUNS times each, in which little is done and threads wake each other: two agents that post
+The second runs the same plans in threads with each of these numbers of helpers; the report must be that of rules.py.
+
+The third runs three plans RUNS times each, in which little is done and threads wake each other: two agents that post
 to and fro, a ring of eight, and eight that wait in vain again and again, until the first skips a job and posts. No run
 may take ten times as long as the plan's median: a thread that is not woken can hang, or show so. Other load on the
 machine shows so too, and so each is followed by a run by turns, whose times are printed, and no more. On a virtual
@@ -45,6 +48,7 @@ import sys
 import time
 
 import random_plans
+import rules
 
 LIMIT = 60  # the seconds of a run
 MOST = 16384  # the most words of a block
@@ -168,11 +172,24 @@ def try_plan(program, seed, number):
     return said.rstrip("\n"), had + ["faults"] * want[0]
 
 
-def try_plans(program, count, seed, jobs):
+def try_helped(program, helpers, seed, number):
+    """The same where the plan runs with each of these numbers of helpers, and its report is by the rules."""
+    data = json.dumps(random_plan(random.Random(f"{seed} {number}"))).encode()
+    want = rules.answer(data)
+    said = ""
+    for few in helpers:
+        got = answer(program, data, "--helpers", few)
+        if got != want:
+            said += f"plan {number} of seed {seed} with {few} helpers: {data!r}\n  wanted {want}\n  got {got}\n"
+    had = [part for part, line in PARTS.items() if re.search(line, want[1], re.MULTILINE)]
+    return said.rstrip("\n"), had + ["faults"] * want[0]
+
+
+def try_plans(trial, count, jobs):
     """How many plans failed."""
     failed, have = 0, collections.Counter(dict.fromkeys([*PARTS, "faults"], 0))
     with multiprocessing.Pool(jobs) as pool:
-        for said, had in pool.imap_unordered(functools.partial(try_plan, program, seed), range(count), 20):
+        for said, had in pool.imap_unordered(trial, range(count), 20):
             have.update(had)
             if said:
                 failed += 1
@@ -301,13 +318,19 @@ def main():
     words.add_argument("count", nargs="?", type=int, metavar="COUNT")
     words.add_argument("seed", nargs="?", type=int, metavar="SEED")
     words.add_argument("--jobs", type=int, default=1, metavar="N")
+    words.add_argument("--helpers", type=lambda word: word.split(","), metavar="N,N..")
     words.add_argument("--waking", type=int, metavar="RUNS")
     given = words.parse_args()
     if (given.seed is None) != (given.waking is not None) or (given.waking is not None and given.count is not None):
         words.error("either COUNT and SEED, or --waking RUNS")
-    if given.waking is None:
-        tried, failed = given.count + 1, try_plans(given.program, given.count, given.seed, given.jobs)
-        failed += try_sleeping(given.program)
+    if given.helpers is not None and given.waking is not None:
+        words.error("--helpers goes with COUNT and SEED")
+    if given.helpers is not None and given.waking is None:
+        trial = functools.partial(try_helped, given.program, given.helpers, given.seed)
+        tried, failed = given.count, try_plans(trial, given.count, given.jobs)
+    elif given.waking is None:
+        trial = functools.partial(try_plan, given.program, given.seed)
+        tried, failed = given.count + 1, try_plans(trial, given.count, given.jobs) + try_sleeping(given.program)
     else:
         plans = {"ping-pong": ring(2, 400), "ring": ring(8, 200), "skips": skips(8, 25)}
         tried = given.waking * len(plans)

@@ -35,13 +35,14 @@ def about(path):
 
 
 def sections():
-    """The sections of ECMA-262 that the work rests on, one for each row of docs/STANDARD.md. A row that begins with
-    `the same` is of the section before it."""
+    """The sections of ECMA-262 that the work rests on, each once, in the order of the rows of docs/STANDARD.md. A row
+    that begins with `the same` is of the section before it."""
     found = []
     with open(STANDARD, encoding="utf-8") as file:
         for line in file:
             row = re.match(r"\| (?!Section \|)([^|]*) \|", line)
             if row:
                 title = row[1].replace("the same", found[-1].rsplit(":", 1)[0]) if found else row[1]
-                found.append(title)
+                if title not in found:
+                    found.append(title)
     return found
