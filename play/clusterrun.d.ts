@@ -1,0 +1,70 @@
+/**
+ * clusterrun as a module: weak references and shared memory of ECMA-262, executable. A plan is JSON and a report is text;
+ * docs/PLANS.md of the repository says how both are written. The agents of a plan run by turns, and each plan has one
+ * report. The module opens no file and no connection, and keeps nothing of a plan after its call.
+ *
+ * It needs 64-bit WebAssembly memory: node 24 or later, an older one with --experimental-wasm-memory64, or a page in a
+ * browser that has it. Where it is missing, the import fails with an Error that says so.
+ */
+
+/** The bytes of a plan, or its text, which stands for its bytes in UTF-8. */
+export type Plan = string | ArrayBuffer | ArrayBufferView;
+
+/** How a call may go. */
+export interface Options {
+  /**
+   * The bytes that the call may take, the plan and the answer among them: a whole number, 4 GiB without it. A call that
+   * needs more, or more than the host has, answers with status 3.
+   */
+  memory?: number;
+}
+
+/** How a trace may go. */
+export interface TraceOptions extends Options {
+  /**
+   * Whether it tells of each value that stays after a collection what keeps it, and not only of what is held weakly and of
+   * what keeps that: `false` without it.
+   */
+  all?: boolean;
+}
+
+/** What there is to say of a plan. */
+export interface Answer {
+  /**
+   * The program's status.
+   * - 0: all went well.
+   * - 1: the plan has a fault.
+   * - 3: memory ran out. The next call begins anew.
+   * - 4: the plan has more than 4,294,967,295 bytes.
+   */
+  status: 0 | 1 | 3 | 4;
+  /**
+   * With status 0 the report, the lines of the trace, or "ok" and a line end where the plan was only checked. With status 1 the first fault, as
+   * "refused S7 agent 0 job 1 command 1", without a line end; docs/ERRORS.md has them all. Else it is empty.
+   */
+  text: string;
+}
+
+/**
+ * Runs a plan.
+ *
+ * @throws TypeError where the plan is neither text nor bytes, RangeError where `memory` is no number of bytes.
+ */
+export function run(plan: Plan, options?: Options): Answer;
+
+/**
+ * Checks a plan and does not run it.
+ *
+ * @throws TypeError where the plan is neither text nor bytes, RangeError where `memory` is no number of bytes.
+ */
+export function check(plan: Plan, options?: Options): Answer;
+
+/**
+ * Runs a plan, and tells what happened, event by event: a JSON object on each line, as docs/TRACES.md of the repository says.
+ *
+ * @throws TypeError where the plan is neither text nor bytes, RangeError where `memory` is no number of bytes.
+ */
+export function trace(plan: Plan, options?: TraceOptions): Answer;
+
+/** Which version this is, the commit of its sources, and the Rattle kit that proved them. */
+export const built: Readonly<{ version: string; commit: string; kit: string }>;

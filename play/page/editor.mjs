@@ -1,0 +1,79 @@
+// The editor: a text area, with the lines' numbers beside it and the marked letters behind it. Both are drawn for the lines
+// that can be seen alone, as plans may have very many.
+
+/** The pixels before the first line, and the height of a line; page.css has the same. */
+const PADDING = 8;
+const HEIGHT = 20;
+
+export class Editor {
+  constructor(area, numbers, marks) {
+    Object.assign(this, { area, numbers, marks, starts: [0], place: null, kind: "" });
+    area.addEventListener("scroll", () => this.draw());
+    new ResizeObserver(() => this.draw()).observe(area);
+  }
+
+  get text() {
+    return this.area.value;
+  }
+
+  set text(text) {
+    this.area.value = text;
+    this.area.setSelectionRange(0, 0);
+    this.area.scrollTo(0, 0);
+    this.mark(null);
+  }
+
+  /** Takes the text as it is now, and marks the letters of a place in it, or none. The kind is a class of the mark. */
+  mark(place, kind = "fault") {
+    this.place = place;
+    this.kind = kind;
+    this.starts = [0, ...Array.from(this.text.matchAll(/\n/g), ({ index }) => index + 1)];
+    this.draw();
+  }
+
+  /** The line of a letter, from 1. */
+  line(at) {
+    const after = this.starts.findIndex((start) => start > at);
+    return after < 0 ? this.starts.length : after;
+  }
+
+  /** Selects the marked place and shows it. */
+  visit() {
+    if (this.place === null) return;
+    const { start, end } = this.place;
+    this.area.focus();
+    this.area.setSelectionRange(start, end);
+    this.area.scrollTop = Math.max(0, (this.line(start) - 1) * HEIGHT - this.area.clientHeight / 3);
+  }
+
+  /** Scrolls so far that the marked place can be seen. */
+  reveal() {
+    const top = PADDING + (this.line(this.place.start) - 1) * HEIGHT, { scrollTop, clientHeight } = this.area;
+    if (top < scrollTop || top > scrollTop + clientHeight - 2 * HEIGHT) this.area.scrollTop = top - clientHeight / 3;
+  }
+
+  draw() {
+    const { scrollTop, scrollLeft, clientHeight } = this.area;
+    const first = Math.max(0, Math.floor((scrollTop - PADDING) / HEIGHT));
+    const last = Math.min(this.starts.length, first + Math.ceil(clientHeight / HEIGHT) + 2);
+    const top = PADDING + first * HEIGHT - scrollTop;
+    const numbers = Array.from({ length: Math.max(0, last - first) }, (_, at) => first + at + 1);
+    this.numbers.textContent = numbers.join("\n");
+    this.numbers.style.transform = `translateY(${top}px)`;
+    this.numbers.style.minWidth = `${String(this.starts.length).length}ch`;
+    this.marks.replaceChildren(...this.marked(this.starts[first], this.starts[last] ?? this.text.length));
+    this.marks.style.transform = `translate(${-scrollLeft}px, ${top}px)`;
+  }
+
+  /** The letters from `from` up to `to`, with what is marked among them; nothing where nothing is. */
+  marked(from, to) {
+    if (this.place === null) return [];
+    const start = Math.max(this.place.start, from), end = Math.min(this.place.end, to);
+    if (start > end) return [];
+    const text = this.text, marked = document.createElement("mark");
+    // A place past the last letter still shows.
+    marked.textContent = text.slice(start, end) || " ";
+    marked.className = this.kind;
+    return [text.slice(from, start), marked, text.slice(end, to)];
+  }
+}

@@ -1,0 +1,97 @@
+// A line of a trace in words, as docs/TRACES.md has them, and what keeps a value.
+
+import { plain } from "./graph.mjs";
+
+const valued = (value) => {
+  if (value === null) return "undefined";
+  const [kind] = Object.keys(Object(value));
+  return kind === "object" || kind === "symbol" ? `${kind} ${value[kind]}` : plain(value);
+};
+
+/** The operands that plans write as names, by the place from which on they do not; the others are literals, texts and numbers. */
+const PLAIN = { let: 1, symbolfor: 1, buffer: 1, load: 2, store: 1, add: 2 };
+
+function command(words) {
+  const from = 1 + (PLAIN[words[0]] ?? words.length);
+  return words.map((word, place) => (place < from ? word : JSON.stringify(word))).join(" ");
+}
+
+/** The event of a line, and its answer, which is empty where there is none. */
+export function wordsOf(line) {
+  const [event, answer = ""] = line.event ? AGENT[line.event](line) : LEDGER[line.ledger](line);
+  return { event, answer };
+}
+
+const AGENT = {
+  "job": ({ job }) => [`job ${job}`],
+  "cleanup job": ({ registry }) => [`cleanup job of object ${registry}`],
+  "message": ({ sender, value }) => [`message of ${sender}`, valued(value)],
+  "did": (line) => [command(line.command), answered(line)],
+  "refused": (line) => [line.command ? command(line.command) : "message", `error ${line.error}`],
+  "emptied": (line) => [line.command ? command(line.command) : "later collection ends", `emptied ${line.identities.length}`],
+  "taken": ({ registration, held }) => [`registration ${registration} taken`, `cleanup ${registration} held ${valued(held)}`],
+  "job ends": () => ["job ends"],
+  "skipped": ({ job, sender }) => [`no message of ${sender}`, `skipped ${job}`],
+  "agent ends": () => ["agent ends"],
+};
+
+function answered({ command: [word], values, answer }) {
+  if (word === "say") return `say ${valued(values[0])}`;
+  if (answer === null) return "";
+  return answer.keys ? ["keys", ...answer.keys].join(" ") : valued(answer.gives);
+}
+
+const message = (what) => ({ sender, receiver }) => [`message ${sender} to ${receiver} ${what}`];
+const word = (what) => (line) => [`word ${line.index} ${what} by ticket ${line.ticket}`, String(line.word)];
+
+const LEDGER = {
+  opened: ({ block, words, ticket, agent }) => [`block ${block} opened`, `ticket ${ticket} of ${agent}, words ${words}`],
+  posted: (line) => [...message("posted")(line), carried(line.carries)],
+  taken: message("taken"),
+  drained: message("drained"),
+  spent: ({ ticket }) => [`ticket ${ticket} spent`],
+  loaded: word("loaded"),
+  stored: word("stored"),
+  added: ({ index, ticket, old, addend }) => [`word ${index} added to by ticket ${ticket}`, `${old} + ${addend}`],
+  waiting: ({ agent, sender }) => [`${agent} waits for ${sender}`],
+  passed: ({ agent, sender }) => [`${agent} waits no more for ${sender}`],
+  ended: ({ agent }) => [`${agent} ended`],
+  released: ({ block }) => [`block ${block} released`],
+};
+
+function carried(value) {
+  return value?.block === undefined ? valued(value) : `block ${value.block}, ticket ${value.ticket}`;
+}
+
+// What keeps a value
+
+/** The values that a reason comes from. */
+export function sourcesOf(by) {
+  if (by.object !== undefined) return [by.object];
+  return by.weakmap === undefined ? [] : [by.weakmap, by.key];
+}
+
+/** The values on the way to this one, by what keeps each: what a value comes from stands before it. */
+export function wayTo(kept, identity) {
+  const found = new Set();
+  const visit = (one) => {
+    if (found.has(one) || !kept.has(one)) return;
+    sourcesOf(kept.get(one)).forEach(visit);
+    found.add(one);
+  };
+  visit(identity);
+  return [...found];
+}
+
+/** A sentence on what keeps a value; `name` names values. */
+export function reason(by, identity, name) {
+  const it = name(identity);
+  if (by.variable !== undefined) return `The variable ${by.variable} holds ${it}.`;
+  if (by.keptalive) return `KeptAlive has ${it} until the job ends.`;
+  if (by.registry) return `${capital(it)} is kept as a FinalizationRegistry.`;
+  if (by.registration !== undefined) return `Registration ${by.registration} holds ${it} for its callback.`;
+  if (by.object !== undefined) return `The property ${by.property} of ${name(by.object)} holds ${it}.`;
+  return `${capital(name(by.weakmap))} has ${it} under ${name(by.key)}: both are kept.`;
+}
+
+const capital = (text) => text[0].toUpperCase() + text.slice(1);
