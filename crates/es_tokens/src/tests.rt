@@ -1,6 +1,9 @@
 //! Which plans are read quickly. That what is read is right is proved; that anything is read no clause says.
 
+mod commands;
+
 use crate::quick_agents;
+use crate::tests::commands::write_command;
 use es_event::{AgentPlan, Command};
 use std::alloc::Global;
 use std::io::Write;
@@ -8,7 +11,7 @@ use std::test::Fail;
 
 fn write_commands(commands: &[Command], told: &mut Vec<u8>) -> Result<(), Fail> {
     for command in commands {
-        write!(told, " {command:?}")?;
+        write_command(command, told)?;
     }
     Ok(write!(told, "\n")?)
 }
@@ -58,12 +61,12 @@ const PLAN: &str =
 
 const READ: &str = "\
 main
-callback a: Say { from: held }
+callback a: say held
 callback b:
-job: Let { to: x, literal: Text('A) } Post { receiver: 1, from: x }
-on 1 m: FinalizationRegistry { to: r, callback: 2 }
+job: let x Text('A) post 1 x
+on 1 m: registry r 2
 other
-on 0 m: Post { receiver: 0, from: m }
+on 0 m: post 0 m
 ";
 
 /// The same plan in other orders.
@@ -93,51 +96,51 @@ fn the_members_come_in_any_order(rt: HostRuntime) -> Result<(), Fail> {
 
 /// Each command, and what is read of it.
 const COMMANDS: &[&str] = &[
-    r#"["let","x",null] = Let { to: x, literal: Undefined }"#,
-    r#"["let","x",true] = Let { to: x, literal: Boolean(true) }"#,
-    r#"["let","x",false] = Let { to: x, literal: Boolean(false) }"#,
-    r#"["let","x",0] = Let { to: x, literal: Number(0) }"#,
-    r#"["let","x",9007199254740991] = Let { to: x, literal: Number(9007199254740991) }"#,
-    r#"["let","x",-9007199254740991] = Let { to: x, literal: Number(-9007199254740991) }"#,
-    r#"["let","x",""] = Let { to: x, literal: Text(') }"#,
-    r#"["let","x"," ~!#[]"] = Let { to: x, literal: Text(' ~!#[]) }"#,
-    r#"["new","x"] = New { to: x }"#,
-    r#"["symbol","x"] = Symbol { to: x }"#,
-    r#"["symbolfor","x","k"] = SymbolFor { to: x, text: 'k }"#,
-    r#"["copy","x","y"] = Copy { to: x, from: y }"#,
-    r#"["same","x","y","z"] = Same { to: x, left: y, right: z }"#,
-    r#"["say","x"] = Say { from: x }"#,
-    r#"["set","o","k","y"] = Set { object: o, key: k, from: y }"#,
-    r#"["get","x","o","k"] = Get { to: x, object: o, key: k }"#,
-    r#"["delete","x","o","k"] = Delete { to: x, object: o, key: k }"#,
-    r#"["keys","o"] = Keys { object: o }"#,
-    r#"["weakref","x","y"] = WeakRef { to: x, target: y }"#,
-    r#"["deref","x","w"] = Deref { to: x, weakref: w }"#,
-    r#"["weakmap","m"] = WeakMap { to: m }"#,
-    r#"["wmset","m","k","y"] = WeakMapSet { map: m, key: k, from: y }"#,
-    r#"["wmget","x","m","k"] = WeakMapGet { to: x, map: m, key: k }"#,
-    r#"["wmhas","x","m","k"] = WeakMapHas { to: x, map: m, key: k }"#,
-    r#"["wmdelete","x","m","k"] = WeakMapDelete { to: x, map: m, key: k }"#,
-    r#"["weakset","s"] = WeakSet { to: s }"#,
-    r#"["wsadd","s","y"] = WeakSetAdd { set: s, member: y }"#,
-    r#"["wshas","x","s","y"] = WeakSetHas { to: x, set: s, member: y }"#,
-    r#"["wsdelete","x","s","y"] = WeakSetDelete { to: x, set: s, member: y }"#,
-    r#"["registry","r","c"] = FinalizationRegistry { to: r, callback: 1 }"#,
-    r#"["register","r","y","h"] = Register { registry: r, target: y, held: h, token: None }"#,
-    r#"["register","r","y","h","t"] = Register { registry: r, target: y, held: h, token: Some(t) }"#,
-    r#"["unregister","x","r","t"] = Unregister { to: x, registry: r, token: t }"#,
-    r#"["buffer","b",16384] = SharedArrayBuffer { to: b, words: 16384 }"#,
-    r#"["length","x","b"] = Length { to: x, buffer: b }"#,
-    r#"["sameblock","x","a","b"] = SameBlock { to: x, left: a, right: b }"#,
-    r#"["load","x","b",1] = Load { to: x, buffer: b, index: 1 }"#,
-    r#"["store","b",1,-2] = Store { buffer: b, index: 1, number: -2 }"#,
-    r#"["add","x","b",0,3] = Add { to: x, buffer: b, index: 0, number: 3 }"#,
-    r#"["post","other","x"] = Post { receiver: 1, from: x }"#,
-    r#"["collect"] = Collect"#,
+    r#"["let","x",null] = let x Undefined"#,
+    r#"["let","x",true] = let x Boolean(true)"#,
+    r#"["let","x",false] = let x Boolean(false)"#,
+    r#"["let","x",0] = let x Number(0)"#,
+    r#"["let","x",9007199254740991] = let x Number(9007199254740991)"#,
+    r#"["let","x",-9007199254740991] = let x Number(-9007199254740991)"#,
+    r#"["let","x",""] = let x Text(')"#,
+    r#"["let","x"," ~!#[]"] = let x Text(' ~!#[])"#,
+    r#"["new","x"] = new x"#,
+    r#"["symbol","x"] = symbol x"#,
+    r#"["symbolfor","x","k"] = symbolfor x 'k"#,
+    r#"["copy","x","y"] = copy x y"#,
+    r#"["same","x","y","z"] = same x y z"#,
+    r#"["say","x"] = say x"#,
+    r#"["set","o","k","y"] = set o k y"#,
+    r#"["get","x","o","k"] = get x o k"#,
+    r#"["delete","x","o","k"] = delete x o k"#,
+    r#"["keys","o"] = keys o"#,
+    r#"["weakref","x","y"] = weakref x y"#,
+    r#"["deref","x","w"] = deref x w"#,
+    r#"["weakmap","m"] = weakmap m"#,
+    r#"["wmset","m","k","y"] = wmset m k y"#,
+    r#"["wmget","x","m","k"] = wmget x m k"#,
+    r#"["wmhas","x","m","k"] = wmhas x m k"#,
+    r#"["wmdelete","x","m","k"] = wmdelete x m k"#,
+    r#"["weakset","s"] = weakset s"#,
+    r#"["wsadd","s","y"] = wsadd s y"#,
+    r#"["wshas","x","s","y"] = wshas x s y"#,
+    r#"["wsdelete","x","s","y"] = wsdelete x s y"#,
+    r#"["registry","r","c"] = registry r 1"#,
+    r#"["register","r","y","h"] = register r y h"#,
+    r#"["register","r","y","h","t"] = register r y h t"#,
+    r#"["unregister","x","r","t"] = unregister x r t"#,
+    r#"["buffer","b",16384] = buffer b 16384"#,
+    r#"["length","x","b"] = length x b"#,
+    r#"["sameblock","x","a","b"] = sameblock x a b"#,
+    r#"["load","x","b",1] = load x b 1"#,
+    r#"["store","b",1,-2] = store b 1 -2"#,
+    r#"["add","x","b",0,3] = add x b 0 3"#,
+    r#"["post","other","x"] = post 1 x"#,
+    r#"["collect"] = collect"#,
 ];
 
 /// The commands that version 2 has besides.
-const LATER_COMMANDS: &[&str] = &[r#"["collectlater"] = CollectLater"#];
+const LATER_COMMANDS: &[&str] = &[r#"["collectlater"] = collectlater"#];
 
 /// What is read of a plan of this version, in which this command stands twice.
 fn read_twice(alloc: Global, version: usize, command: &str) -> Result<String, Fail> {
@@ -233,7 +236,7 @@ const LATER: &[&str] = &[
 fn the_version_comes_anywhere(rt: HostRuntime) -> Result<(), Fail> {
     let alloc = rt.alloc();
     for text in LATER {
-        let want = "version\njob: Let { to: version, literal: Number(1) } CollectLater\n";
+        let want = "version\njob: let version Number(1) collectlater\n";
         assert_eq!(rt; read(alloc, text)?.as_str(), want, "{text}");
     }
     Ok(())
@@ -251,8 +254,8 @@ fn names_may_be_those_of_keys(rt: HostRuntime) -> Result<(), Fail> {
         "\
 callbacks
 callback callbacks:
-callback name: Keys { object: name }
-on 1 on: Get { to: name, object: callbacks, key: name } FinalizationRegistry { to: r, callback: 2 }
+callback name: keys name
+on 1 on: get name callbacks name registry r 2
 name
 "
     );
