@@ -15,6 +15,8 @@ OTHERS = [
     "play/build.py", "play/*.c", "play/lib/*.py", "play/module/*", "play/page/*", "examples/*.json",
     "examples/README.md", "engines/corpus/*/*.json", "docs/ERRORS.md", "crates/command_line/src/options.rt",
 ]
+# What only tests of a crate read.
+TESTS = re.compile(r"crates/\w+/src/tests(\.rt|/)")
 
 
 def needs():
@@ -40,10 +42,10 @@ def crates():
 
 
 def sources():
-    """The files that a built page is made of, below the top: of the crates what the compiler lowers, and no proof."""
+    """The files that a built page is made of, below the top: of the crates what the compiler lowers, no proof and no test."""
     patterns = [f"crates/{crate}/src/**/*.rt" for crate in crates()] + OTHERS
     found = {path for pattern in patterns for path in glob.glob(pattern, root_dir=TOP, recursive=True)}
-    return sorted(path for path in found if os.path.isfile(os.path.join(TOP, path)))
+    return sorted(path for path in found if os.path.isfile(os.path.join(TOP, path)) and not TESTS.match(path))
 
 
 def kit():
