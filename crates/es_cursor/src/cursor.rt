@@ -83,6 +83,7 @@ impl Cursor {
 
     /// Where the agent is after the event, if the plan permits it. Where the event takes a cell,
     /// `callback` is the number of its registry's callback.
+    #[inline(always)]
     pub fn after(&self, event: &Event, plan: &AgentPlan, callback: Option<usize>) -> Cursor
         requires { 0 < self.now.job }
         ensures { (h : History) → IsCursorOf plan.now h self.now → (over : Buffers) → Permits over (receivers plan.now.jobs) h (due plan.now h) event.now → ((n : ℕ) (held : HeldValue) → event.now ≡ Event.Taken n held → option_and_then (callback_said h) (cleaning h) ≡ callback) → IsCursorOf plan.now (event.now ∷ h) result }
@@ -144,6 +145,7 @@ impl Cursor {
 }
 
 /// The commands of the nth job, counted from 1.
+#[inline(always)]
 pub fn commands(plan: &AgentPlan, n: usize) -> &[Command]
     requires { 0 < n }
     ensures { result.now ≡ job_commands plan.now n }
@@ -155,6 +157,7 @@ pub fn commands(plan: &AgentPlan, n: usize) -> &[Command]
 }
 
 /// The commands of the callback of this number, counted from 1; none where there is no callback.
+#[inline(always)]
 pub fn callback_commands(plan: &AgentPlan, callback: Option<usize>) -> &[Command]
     ensures { result.now ≡ commands_of plan.now callback }
 {
@@ -166,6 +169,7 @@ pub fn callback_commands(plan: &AgentPlan, callback: Option<usize>) -> &[Command
 
 /// The command at this place of the nth job, counted from 1, as an event has it; none where none stands there. It
 /// fails for want of memory alone.
+#[inline(always)]
 pub fn job_command(plan: &AgentPlan, n: usize, at: usize) -> Result<Option<PlanCommand>, NoMemory>
     requires { 0 < n }
     ensures { IfOk result (λ c. c ≡ slice_get (job_commands plan.now n) at) }
@@ -203,6 +207,7 @@ fn command_of_callback(
     }
 }
 
+#[inline(always)]
 fn command_at(commands: &SharedList<Command>, at: usize) -> Result<Option<PlanCommand>, NoMemory>
     ensures { IfOk result (λ c. c ≡ slice_get commands.now at) }
 {
@@ -224,6 +229,7 @@ fn commands_of_callback(plan: &AgentPlan, n: usize) -> &[Command]
 
 impl Position {
     /// After one more command of job n, or of the running callback.
+    #[inline(always)]
     fn after_command(self, plan: &AgentPlan, n: usize) -> Position
         requires { 0 < n }
         ensures { result ≡ position_after plan.now n self }

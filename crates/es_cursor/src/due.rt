@@ -28,6 +28,7 @@ pub enum Due<'a> {
 }
 
 /// The next of these commands, or the job's end.
+#[inline(always)]
 pub fn due_command<'a>(commands: &'a [Command], at: usize) -> Due<'a>
     ensures { (o : Option History) → shown o result ≡ due_of o (drop at commands.now) }
 {

@@ -156,6 +156,7 @@ impl AgentRecord {
     }
 
     /// What comes next by its plan.
+    #[inline(always)]
     pub fn due(&self) -> Due<'_>
         ensures { shown (snapshot self.now.history) result ≡ due self.now.plan self.now.history }
     {
@@ -212,6 +213,7 @@ impl AgentRecord {
 
     /// Records an event that comes next and is no emptying; where there is no memory nothing has
     /// changed.
+    #[inline(always)]
     pub fn record(&mut self, event: Event) -> Result<(), NoMemory>
         requires next { IsNext self.old event }
         requires quiet { IsQuiet event }
@@ -235,6 +237,7 @@ impl AgentRecord {
     }
 
     /// Makes every growth that the event needs, then records it: nothing after the growths can fail.
+    #[inline(always)]
     fn record_with(&mut self, event: Event, row: Option<Row>) -> Result<(), NoMemory>
         requires next { IsNext (with_row row self.old) event }
         requires quiet { IsQuiet event }

@@ -38,7 +38,7 @@ pub fn effects_of(
     })
 }
 
-fn assigned_at(
+pub(crate) fn assigned_at(
     event: &Event,
     held_name: &Name,
     received: &Name,

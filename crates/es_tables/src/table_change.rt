@@ -1,6 +1,8 @@
 //! What an event does to the tables beside an assignment: one change, read off the event.
 
-ghost use Rattle.std.specs.Prelude.{◌≡◌, IfOk};
+ghost use Rattle.std.specs.Prelude.{◌≡◌, ℕ, List, Option, IsTrue, IfOk};
+ghost use Rattle.es_value.specs.declared.value.Value.{Value as ValueSaid};
+ghost use Rattle.es_event.specs.declared.event.Answer.{Answer as AnswerSaid};
 ghost use Rattle.es_event.specs.Commands.{first};
 ghost use Rattle.es_event.specs.Ephemerons.{entered_by, joined_by};
 ghost use Rattle.es_event.specs.Identities.{identity, object_of, object_given};
@@ -76,6 +78,42 @@ pub(crate) fn table_change(event: &Event, again: Option<Id>) -> Result<TableChan
         Event::JobEnded => Ok(TableChange::JobEnd(queued(again))),
         Event::Skipped { .. } => Ok(TableChange::NoChange),
         Event::Closed => Ok(TableChange::NoChange),
+    }
+}
+
+/// Whether the event is a command that changes no table: at most it assigns a variable.
+#[inline(always)]
+pub(crate) fn changes_no_table(event: &Event) -> bool
+    ensures { IsTrue result → (again : Option ℕ) → TableChange.NoChange ≡ table_change again event.now }
+{
+    match event {
+        Event::Did { command, .. } => assigns_alone(command.get()),
+        _ => false,
+    }
+}
+
+/// Whether the command changes no table, whatever it read and gave.
+fn assigns_alone(command: &Command) -> bool
+    ensures { IsTrue result → (values : List ValueSaid) (answer : AnswerSaid) → TableChange.NoChange ≡ table_change_by command.now values answer }
+{
+    match command {
+        Command::Let { .. }
+        | Command::SymbolFor { .. }
+        | Command::Copy { .. }
+        | Command::Same { .. }
+        | Command::Say { .. }
+        | Command::Get { .. }
+        | Command::Keys { .. }
+        | Command::WeakMapGet { .. }
+        | Command::WeakMapHas { .. }
+        | Command::WeakSetHas { .. }
+        | Command::Length { .. }
+        | Command::SameBlock { .. }
+        | Command::Load { .. }
+        | Command::Store { .. }
+        | Command::Add { .. }
+        | Command::Post { .. } => true,
+        _ => false,
     }
 }
 

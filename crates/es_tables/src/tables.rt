@@ -14,14 +14,14 @@ ghost use Rattle.es_registry.specs.Slots.{has_token, held_identity, registration
 ghost use Rattle.es_registry.specs.Registries.{callback as callback_of, oldest};
 ghost use Rattle.es_tables.specs.Found.{Adds, HasHeld, AddsEntries};
 ghost use Rattle.es_tables.specs.Ready.{CanAdvance, CanApply, HasRoom, IsReady};
-ghost use Rattle.es_tables.specs.Tables.{bound, IsNew, SameState, Emptying};
+ghost use Rattle.es_tables.specs.Tables.{bound, IsNew, SameState, State, Emptying};
 ghost use Rattle.es_tables.specs.Tags.{tag_at};
 
 use crate::changes::{aim, enter, join, keep, make, put};
-use crate::effects::{Effects, effects_of};
+use crate::effects::{Effects, assigned_at, effects_of};
 use crate::growths::{reserve_born, reserve_entered, reserve_joined, reserve_put};
 use crate::registries::{make_change, reserve_change};
-use crate::table_change::TableChange;
+use crate::table_change::{TableChange, changes_no_table};
 use crate::tags::{Tag, Tags};
 use crate::variables::Variables;
 use es_ephemeron::WeakTables;
@@ -299,7 +299,43 @@ impl Tables {
         ensures ok { OnOk result (Advances received.now again event.now self.old self.new) }
         ensures err { OnErr result (SameState self.old self.new) }
     {
+        if changes_no_table(event) {
+            let assigned = assigned_at(event, held, received)?;
+            return self.take_in(Effects {
+                assigned,
+                change: TableChange::NoChange,
+            });
+        }
+        self.advance_tables(event, held, received, again)
+    }
+
+    /// The same, of an event that may change a table. It stands alone so that the others need not make place for
+    /// what it does.
+    #[inline(never)]
+    fn advance_tables(
+        &mut self,
+        event: &Event,
+        held: &Name,
+        received: &Name,
+        again: Option<Id>,
+    ) -> Result<(), NoMemory>
+        requires held { held.now ≡ codes "held" }
+        requires can { CanAdvance received.now again event.now self.old }
+        ensures ok { OnOk result (Advances received.now again event.now self.old self.new) }
+        ensures err { OnErr result (SameState self.old self.new) }
+    {
         let effects = effects_of(event, held, received, again)?;
+        self.take_in(effects)
+    }
+
+    /// Makes every growth that the effects need, and applies them. Where there is no memory the tables say what
+    /// they said.
+    #[inline(always)]
+    fn take_in(&mut self, effects: Effects) -> Result<(), NoMemory>
+        requires { CanApply self.old effects }
+        ensures ok { OnOk result ((g : State) × SameState self.old g × Applied g effects self.new) }
+        ensures err { OnErr result (SameState self.old self.new) }
+    {
         if let Err(error) = self.reserve(&effects) {
             drop(effects);
             return Err(error);
@@ -310,6 +346,7 @@ impl Tables {
 
     /// Makes every growth that the effects need, so that `apply` of them is granted; the tables say
     /// what they said.
+    #[inline(always)]
     pub fn reserve(&mut self, effects: &Effects) -> Result<(), NoMemory>
         requires { CanApply self.old effects.now }
         ensures same { SameState self.old self.new }
@@ -353,6 +390,7 @@ impl Tables {
     }
 
     /// Applies the effects of an event, for which there is room; it takes no memory.
+    #[inline(always)]
     pub fn apply(&mut self, effects: Effects)
         requires can { CanApply self.old effects }
         requires ready { IsReady self.old effects }

@@ -89,6 +89,7 @@ impl AgentRecord {
     }
 
     /// The values that the command reads, none of which is emptied. It fails for want of memory alone.
+    #[inline(always)]
     pub fn values(&self, command: &Command) -> Result<Operands, NoMemory>
         ensures said { IfOk result (λ vs. vs ≡ values_of (receivers self.now.plan.jobs) self.now.history (reads command.now)) }
         ensures there { IfOk result (AreThere self.now) }
@@ -111,6 +112,7 @@ impl AgentRecord {
     }
 
     /// The values of two variables.
+    #[inline(always)]
     fn two(&self, a: &Name, b: &Name) -> Result<Operands, NoMemory>
         ensures said { IfOk result (λ vs. vs ≡ values_of (receivers self.now.plan.jobs) self.now.history (a.now ∷ b.now ∷ [])) }
         ensures there { IfOk result (AreThere self.now) }
