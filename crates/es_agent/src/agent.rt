@@ -1,6 +1,6 @@
 //! The agent: its calls, each of which records one event or shows what stands.
 
-ghost use Rattle.std.specs.Prelude.{◌≡◌, ◌+◌, ℕ, [], true, Some, None, pos, is_some, length, reverse, IfOk, IfErr, OnOk, OnErr};
+ghost use Rattle.std.specs.Prelude.{◌≡◌, ◌+◌, ◌↔◌, ℕ, [], true, false, IsTrue, Some, None, pos, is_some, length, reverse, IfOk, IfErr, OnOk, OnErr};
 ghost use Rattle.es_value.specs.Values.{identity};
 ghost use Rattle.es_event.specs.Identities.{gone, is_in, made};
 ghost use Rattle.es_event.specs.Jobs.{receivers};
@@ -171,6 +171,7 @@ impl<L: Run> AgentCore<L> {
     }
 
     /// What it asks for next. A command that a rule refuses asks for nothing.
+    #[inline(always)]
     pub fn next(&self) -> Need<'_>
         ensures { shown result ≡ need self.now }
     {
@@ -191,8 +192,25 @@ impl<L: Run> AgentCore<L> {
         ensures ok { OnOk result (RecordsNext self.old self.new) }
         ensures err { OnErr result (self.new ≡ self.old) }
     {
-        let event = next_event(self.record.read())?;
-        self.record.record(event)
+        let _ = self.perform_alone()?;
+        Ok(())
+    }
+
+    /// Takes the next step, where it asks nobody else, and records its one event: whether it did. Where it asks
+    /// somebody, or there is no memory, nothing has changed.
+    pub fn perform_alone(&mut self) -> Result<bool, NoMemory>
+        ensures asks { IfOk result (λ done. IsTrue done ↔ (need self.old ≡ asks_nobody)) }
+        ensures done { IfOk result (λ done. IsTrue done → RecordsNext self.old self.new) }
+        ensures left { IfOk result (λ done. done ≡ false → self.new ≡ self.old) }
+        ensures err { OnErr result (self.new ≡ self.old) }
+    {
+        match next_event(self.record.read())? {
+            Some(event) => {
+                self.record.record(event)?;
+                Ok(true)
+            }
+            None => Ok(false),
+        }
     }
 
     /// Empties all that is not marked, and records it as one event (ECMA-262, Execution): with the

@@ -87,6 +87,7 @@ impl Recorder {
 
     /// Records an event that comes next, is no emptying and opens no later collection. Where there is no
     /// memory nothing has changed.
+    #[inline(always)]
     pub(crate) fn record(&mut self, event: Event) -> Result<(), NoMemory>
         requires next { IsNext self.old event }
         requires quiet { IsQuiet event }

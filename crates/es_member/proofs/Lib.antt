@@ -7,6 +7,7 @@ pub mod Local
 pub mod SpentAll
 pub mod Moving
 pub mod Opening
+pub mod Taking
 pub mod Tying
 pub mod Hearing
 pub mod Audited

@@ -1,7 +1,7 @@
 //! An agent beside others, each of which has a thread: it has the ledger only where it asks the ledger,
 //! and does not know what the ledger says of it.
 
-ghost use Rattle.std.specs.Prelude.{◌≡◌, ◌↔◌, IsTrue, IfOk, IfSome, IfNone, OnOk, OnErr};
+ghost use Rattle.std.specs.Prelude.{◌≡◌, ◌↔◌, false, IsTrue, IfOk, IfSome, IfNone, OnOk, OnErr};
 ghost use Rattle.std.specs.Arc.{arc_value};
 ghost use Rattle.es_agent.specs.Later.{IsLaterCopy};
 ghost use Rattle.es_rules.specs.Needs.{need, asks_nobody, asks_copy, asks_nothing};
@@ -19,13 +19,6 @@ use es_value::NoMemory;
 use std::sync::Arc;
 
 impl<L: Planned> Member<L> {
-    /// Whether its next event asks nobody else.
-    pub fn is_alone(&self) -> bool
-        ensures { IsTrue result ↔ (need self.now.book ≡ asks_nobody) }
-    {
-        matches!(self.core.next(), Need::Local)
-    }
-
     /// Whether it has closed, and asks for nothing any more.
     pub fn has_closed(&self) -> bool
         ensures { IsTrue result ↔ (need self.now.book ≡ asks_nothing) }
@@ -33,14 +26,16 @@ impl<L: Planned> Member<L> {
         matches!(self.core.next(), Need::Ended)
     }
 
-    /// Its next event, which asks nobody else. Where there is no memory nothing has changed.
-    pub fn perform(&mut self) -> Result<(), NoMemory>
-        requires { need self.old.book ≡ asks_nobody }
-        ensures ok { OnOk result (Moves self.old.book self.new.book) }
+    /// Its next event, where that asks nobody else: whether it happened. Where it asks somebody, or there is
+    /// no memory, nothing has changed.
+    pub fn perform(&mut self) -> Result<bool, NoMemory>
+        ensures asks { IfOk result (λ done. IsTrue done ↔ (need self.old.book ≡ asks_nobody)) }
+        ensures moves { IfOk result (λ done. IsTrue done → Moves self.old.book self.new.book) }
+        ensures left { IfOk result (λ done. done ≡ false → self.new ≡ self.old) }
         ensures err { OnErr result (self.new ≡ self.old) }
         ensures share { self.new.share ≡ self.old.share }
     {
-        self.core.perform()
+        self.core.perform_alone()
     }
 
     /// The marks for its next event, where that empties: those of what it reaches, or, to finish a later

@@ -1,6 +1,6 @@
 //! A turn of an agent: what it asks for is done in the ledger, and it takes the answer.
 
-ghost use Rattle.std.specs.Prelude.{◌≡◌, ◌<◌, OnOk, OnErr, IfOk};
+ghost use Rattle.std.specs.Prelude.{◌≡◌, ◌≢◌, ◌<◌, ◌↔◌, false, IsTrue, OnErr, IfOk};
 ghost use Rattle.es_record.specs.Graph.{AreMarksOf, AreLateMarks};
 ghost use Rattle.es_rules.specs.Needs.{need, asks_nobody, asks_marks, asks_copy, asks_late_marks, asks_closing};
 ghost use Rattle.es_member.specs.Seats.{seat};
@@ -34,8 +34,29 @@ pub(crate) fn turn<L: Run>(
     ensures tied { IfOk result (λ p. StaysTied p core.old ledger.old core.new ledger.new) }
     ensures keeps { Keeps core.old ledger.old core.new stake.new ledger.new }
 {
+    if perform(core, stake, ledger)? {
+        return Ok(Progress::Moved);
+    }
+    ask(core, stake, ledger)
+}
+
+// One event of an agent that asks somebody, or none where it waits or has ended.
+fn ask<L: Run>(
+    core: &mut AgentCore<L>,
+    stake: &mut Stake<L>,
+    ledger: &mut LedgerCore<L>,
+) -> Result<Progress, NoMemory>
+    requires asks { need core.old ≢ asks_nobody }
+    requires ready { IsHeld core.old stake.old ledger.old }
+    requires others { NamesOthers (need core.old) core.old.number ledger.old.agents }
+    ensures ok { IfOk result (λ p. Proceeds p (seat core.old stake.old) (seat core.new stake.new)) }
+    ensures told { IfOk result (λ p. Heard p core.old ledger.old ledger.new) }
+    ensures err { OnErr result (core.new ≡ core.old) }
+    ensures tied { IfOk result (λ p. StaysTied p core.old ledger.old core.new ledger.new) }
+    ensures keeps { Keeps core.old ledger.old core.new stake.new ledger.new }
+{
     match core.next() {
-        Need::Local => perform(core, stake, ledger),
+        Need::Local => unreachable!(),
         Need::Collect => collect(core, stake, ledger),
         Need::Later => begin_later(core, stake, ledger),
         Need::Finish => finish(core, stake, ledger),
@@ -66,23 +87,23 @@ pub(crate) fn turn<L: Run>(
     }
 }
 
-// A step that asks nobody else.
+// A step that asks nobody else, where one is due: whether it was taken.
 fn perform<L: Run>(
     core: &mut AgentCore<L>,
     stake: &Stake<L>,
     ledger: &LedgerCore<L>,
-) -> Result<Progress, NoMemory>
-    requires due { need core.old ≡ asks_nobody }
+) -> Result<bool, NoMemory>
     requires ready { IsHeld core.old stake.now ledger.now }
-    ensures ok { IfOk result (λ p. Proceeds p (seat core.old stake.now) (seat core.new stake.now)) }
-    ensures told { IfOk result (λ p. Heard p core.old ledger.now ledger.now) }
+    ensures asks { IfOk result (λ done. IsTrue done ↔ (need core.old ≡ asks_nobody)) }
+    ensures ok { IfOk result (λ done. IsTrue done → Proceeds Progress.Moved (seat core.old stake.now) (seat core.new stake.now)) }
+    ensures told { IfOk result (λ done. IsTrue done → Heard Progress.Moved core.old ledger.now ledger.now) }
+    ensures left { IfOk result (λ done. done ≡ false → core.new ≡ core.old) }
     ensures err { OnErr result (core.new ≡ core.old) }
-    ensures tied { IfOk result (λ p. StaysTied p core.old ledger.now core.new ledger.now) }
+    ensures tied { IfOk result (λ done. IsTrue done → StaysTied Progress.Moved core.old ledger.now core.new ledger.now) }
     ensures keeps { Keeps core.old ledger.now core.new stake.now ledger.now }
 {
     let _ = core.history();
-    core.perform()?;
-    Ok(Progress::Moved)
+    core.perform_alone()
 }
 
 // A collection by the agent's own marks.

@@ -138,6 +138,7 @@ pub fn opened(agent: &AgentRecord) -> Result<Event, NoMemory>
 }
 
 /// The due command, as its event has it. It fails for want of memory alone.
+#[inline(always)]
 pub(crate) fn planned(agent: &AgentRecord, command: &Command) -> Result<PlanCommand, NoMemory>
     requires { due agent.now.plan agent.now.history ≡ run command.now }
     ensures { IfOk result (λ c. c ≡ command.now) }

@@ -1,14 +1,14 @@
 //! The next event of an agent, decided from its record alone.
 
-ghost use Rattle.std.specs.Prelude.{◌≡◌, ◌+◌, ◌∷◌, [], false, None, Ok, Err, nat_lt, IfOk, if◌then◌else◌};
+ghost use Rattle.std.specs.Prelude.{◌≡◌, ◌+◌, ◌∷◌, ◌↔◌, [], true, false, None, Ok, Err, is_some, nat_lt, IfOk, IfSome, if◌then◌else◌};
 ghost use Rattle.es_value.specs.Limits.{most_identities};
 ghost use Rattle.es_event.specs.Commands.{reads};
-ghost use Rattle.es_event.specs.Later.{collects_now};
+ghost use Rattle.es_event.specs.Later.{collects_now, snapshot};
 ghost use Rattle.es_event.specs.Identities.{gone, has_identity_in, made};
 ghost use Rattle.es_event.specs.Jobs.{receivers};
 ghost use Rattle.es_event.specs.Rules.{completion, refuse_or, first_refusal, none_open, room, of_object, of_weakref, of_held_weakly, or_undefined, prop_of, keys_of, target_of};
 ghost use Rattle.es_event.specs.Legal.{values_of};
-ghost use Rattle.es_event.specs.Order.{due, run};
+ghost use Rattle.es_event.specs.Order.{due, due_end, run};
 ghost use Rattle.es_record.specs.Book.{IsNext, AreThere};
 ghost use Rattle.es_rules.specs.Completion.{Completes};
 ghost use Rattle.es_rules.specs.Needs.{asks_nobody, need, request};
@@ -16,6 +16,7 @@ ghost use Rattle.es_rules.specs.Needs.{asks_nobody, need, request};
 use crate::answered::planned;
 use crate::buffers::{length, new_buffer, post, same_block, store, word};
 use crate::ephemerons::{weakmap_get, weakmap_has, weakmap_set, weakset_add, weakset_has};
+use crate::need::asks_somebody;
 use crate::operand::{held_weakly, object_in};
 use crate::registries::{cleaning, register, taking, unregister};
 use crate::stop::Stop;
@@ -26,23 +27,48 @@ use es_tables::Tag;
 use es_value::{Id, MOST_IDENTITIES, Name, NoMemory, Value, same_value};
 
 /// The event that comes next, where the agent asks nobody for it (ECMA-262, Jobs and Host Operations
-/// to Enqueue Jobs). It fails for want of memory alone.
-pub fn next_event(agent: &AgentRecord) -> Result<Event, NoMemory>
-    requires { need agent.now ≡ asks_nobody }
-    ensures { IfOk result (IsNext agent.now) }
+/// to Enqueue Jobs); none where it asks somebody, or for nothing. It fails for want of memory alone.
+pub fn next_event(agent: &AgentRecord) -> Result<Option<Event>, NoMemory>
+    ensures next { IfOk result (λ o. IfSome o (IsNext agent.now)) }
+    ensures asks { IfOk result (λ o. (is_some o ≡ true) ↔ (need agent.now ≡ asks_nobody)) }
 {
     match agent.due() {
-        Due::Begin(job) => Ok(Event::JobBegun { job }),
-        Due::Clean(_) => cleaning(agent),
+        Due::Begin(job) => Ok(Some(Event::JobBegun { job })),
+        Due::Clean(_) => Ok(Some(cleaning(agent)?)),
         Due::Run(command) => event_of(agent, command),
-        Due::Take(registration) => taking(agent, registration),
-        Due::EndJob => Ok(Event::JobEnded),
-        Due::Receive { .. } | Due::Close | Due::Nothing => unreachable!(),
+        Due::Take(registration) => Ok(Some(taking(agent, registration)?)),
+        Due::EndJob => Ok(end_of_job(agent)),
+        Due::Receive { .. } | Due::Close | Due::Nothing => Ok(None),
     }
 }
 
+/// The end of the running job, which is due unless an open later collection is to be finished first.
+fn end_of_job(agent: &AgentRecord) -> Option<Event>
+    requires { due agent.now.plan agent.now.history ≡ due_end (snapshot agent.now.history) }
+    ensures next { IfSome result (IsNext agent.now) }
+    ensures asks { (is_some result ≡ true) ↔ (need agent.now ≡ asks_nobody) }
+{
+    if agent.is_open() {
+        None
+    } else {
+        Some(Event::JobEnded)
+    }
+}
+
+/// The event of a command that is due, where it asks nobody.
+fn event_of(agent: &AgentRecord, command: &Command) -> Result<Option<Event>, NoMemory>
+    requires { due agent.now.plan agent.now.history ≡ run command.now }
+    ensures next { IfOk result (λ o. IfSome o (IsNext agent.now)) }
+    ensures asks { IfOk result (λ o. (is_some o ≡ true) ↔ (need agent.now ≡ asks_nobody)) }
+{
+    if asks_somebody(agent, command) {
+        return Ok(None);
+    }
+    Ok(Some(own_event(agent, command)?))
+}
+
 /// The event of a command that is due, empties nothing, and asks the ledger for nothing.
-fn event_of(agent: &AgentRecord, command: &Command) -> Result<Event, NoMemory>
+fn own_event(agent: &AgentRecord, command: &Command) -> Result<Event, NoMemory>
     requires due { due agent.now.plan agent.now.history ≡ run command.now }
     requires here { collects_now agent.now.history command.now ≡ false }
     requires local { request agent.now command.now ≡ None }

@@ -1,10 +1,10 @@
 //! What an agent asks its caller for.
 
-ghost use Rattle.std.specs.Prelude.{◌≡◌};
+ghost use Rattle.std.specs.Prelude.{◌≡◌, ◌↔◌, false, None};
 ghost use Rattle.std.specs.Option.{option_map};
-ghost use Rattle.es_event.specs.Later.{snapshot};
+ghost use Rattle.es_event.specs.Later.{collects_now, snapshot};
 ghost use Rattle.es_event.specs.Order.{run, due_end};
-ghost use Rattle.es_rules.specs.Needs.{need, need_of, request};
+ghost use Rattle.es_rules.specs.Needs.{asks_nobody, need, need_of, request};
 ghost use Rattle.es_rules.specs.Shown.{requested, shown};
 
 use crate::requests::{add_request, block_request, load_request, post_request, store_request};
@@ -73,6 +73,7 @@ pub enum Need<'a> {
 }
 
 /// What the agent asks for next.
+#[inline(always)]
 pub fn asks(agent: &AgentRecord) -> Need<'_>
     ensures { shown result ≡ need agent.now }
 {
@@ -130,6 +131,25 @@ fn for_end<'a>(agent: &'a AgentRecord) -> Need<'a>
         Need::Finish
     } else {
         Need::Local
+    }
+}
+
+/// Whether a command that is due asks somebody: for marks or a copy, where no later collection is open, or the
+/// ledger.
+pub(crate) fn asks_somebody(agent: &AgentRecord, command: &Command) -> bool
+    ensures asks { (result ≡ false) ↔ (need_of agent.now (run command.now) ≡ asks_nobody) }
+    ensures here { result ≡ false → collects_now agent.now.history command.now ≡ false }
+    ensures local { result ≡ false → request agent.now command.now ≡ None }
+{
+    match command {
+        Command::Collect | Command::CollectLater => !agent.is_open(),
+        Command::SharedArrayBuffer { .. }
+        | Command::Load { .. }
+        | Command::Store { .. }
+        | Command::Add { .. }
+        | Command::Post { .. } => request_of(agent, command).is_some(),
+        // no other command asks anybody
+        _ => false,
     }
 }
 

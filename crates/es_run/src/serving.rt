@@ -109,8 +109,7 @@ impl<L: Planned + Sync> Cluster<L> {
             *commands = commands.saturating_add(1);
             gate.at(agent, *commands);
         }
-        if member.is_alone() {
-            member.perform()?;
+        if member.perform()? {
             return Ok(Progress::Moved);
         }
         if member.opens_later() {
