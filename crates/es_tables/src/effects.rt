@@ -38,6 +38,7 @@ pub fn effects_of(
     })
 }
 
+#[inline(always)]
 pub(crate) fn assigned_at(
     event: &Event,
     held_name: &Name,
@@ -65,6 +66,7 @@ pub(crate) fn assigned_at(
 }
 
 /// The variable that a command's answer goes to, with the value.
+#[inline(always)]
 fn given_by(command: &Command, answer: &Answer) -> Result<Option<(Name, Value)>, NoMemory>
     ensures { IfOk result (λ r. r ≡ gives_to (assigns command.now) answer.now) }
 {
@@ -78,6 +80,7 @@ fn given_by(command: &Command, answer: &Answer) -> Result<Option<(Name, Value)>,
     }
 }
 
+#[inline(always)]
 fn named(name: &Name, value: &Value) -> Result<Option<(Name, Value)>, NoMemory>
     ensures { IfOk result (λ r. r ≡ Some (name.now, value.now)) }
 {

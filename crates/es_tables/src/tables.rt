@@ -358,7 +358,22 @@ impl Tables {
     }
 
     /// Makes every growth that the change needs; the tables say what they said.
+    #[inline(always)]
     fn reserve_for(&mut self, change: &TableChange) -> Result<(), NoMemory>
+        requires { option_map_or (λ p. has self.old.heap p.0.0) (put_of change.now) true ≡ true }
+        ensures same { SameState self.old self.new }
+        ensures variables { self.new.variables ≡ self.old.variables }
+        ensures room { OnOk result (HasRoom self.new change.now) }
+    {
+        match change {
+            TableChange::NoChange => Ok(()),
+            _ => self.reserve_tables_for(change),
+        }
+    }
+
+    /// The same, of a change of a table too.
+    #[inline(never)]
+    fn reserve_tables_for(&mut self, change: &TableChange) -> Result<(), NoMemory>
         requires { option_map_or (λ p. has self.old.heap p.0.0) (put_of change.now) true ≡ true }
         ensures same { SameState self.old self.new }
         ensures variables { self.new.variables ≡ self.old.variables }

@@ -2,7 +2,7 @@ use Rattle.std.proofs.Common.{◌≡◌, true, refl}
 use Rattle.serde_json.specs.View.{view}
 use Rattle.serde_json.specs.Errors.{IsMemory}
 use Rattle.es_script.proofs.Whole.{value_at, no_value, reads_value, reads_few, reads_others, reads_harmless}
-use Rattle.es_script.proofs.plan.read_value.Goals as goal
+use Rattle.es_script.proofs.plan.read_plan_by_value.Goals as goal
 
 pub returns-in-Ok-clause-reads : goal.returns-in-Ok-clause-reads
 returns-in-Ok-clause-reads c =
