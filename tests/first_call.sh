@@ -1,11 +1,15 @@
 #!/bin/sh
 # The first calls of ./clusterrun on a fresh clone, with nothing proved: they run the sources as they stand.
-# Usage: first_call.sh [SECONDS]. Each call may take SECONDS, 90 without them. Takes some eight minutes on two
-# cores, so ./check does not run it. The last line is `N passed, M failed`.
+# Usage: first_call.sh [SECONDS]. A plain run, a check and a word that asks for no plan may take SECONDS each, 90
+# without them, and a call for which the whole program is compiled twice as long. Takes some ten minutes on two cores, so
+# ./check does not run it; which crate answers which words is tested by tests/unproved_words.sh. The last line is
+# `N passed, M failed`.
 set -u
 
 top=$(dirname "$(dirname "$(readlink -f "$0")")")
-most=${1:-90}
+plain=${1:-90}
+whole=$((2 * plain))
+most=$plain
 room=$(mktemp -d)
 trap 'rm -rf "$room"' EXIT
 clone="$room/a clone"
@@ -47,14 +51,16 @@ printf '{"version":1,"agents":[]}' >"$room/faulty.json"
 input=/dev/null
 cd "$room" || exit 1
 expect "the first example" 0 "$examples/first.report" "" run "$examples/first.json"
-expect "two agents, watched" 0 "$examples/worker.report" "audits 3" run "$examples/worker.json" --watch 3
 input=$examples/gone.json
 expect "standard input" 0 "$examples/gone.report" "" run --turns
 input=/dev/null
 expect "a faulty plan" 1 "$room/nothing" "refused S4" check faulty.json
-expect "a missing file, explained" 4 "$room/nothing" "cannot read" explain missing.json
-before=$(ls -A "$clone/crates/clusterrun")
+expect "a missing file" 4 "$room/nothing" "cannot read" run missing.json
+before=$(ls -A "$clone/crates/first_run")
 expect "a word that is none" 2 "$room/nothing" "error: unrecognized subcommand 'walk'" walk
-[ "$before" = "$(ls -A "$clone/crates/clusterrun")" ] || failed=$((failed + 1))
+[ "$before" = "$(ls -A "$clone/crates/first_run")" ] || failed=$((failed + 1))
+most=$whole
+expect "two agents, watched" 0 "$examples/worker.report" "audits 3" run "$examples/worker.json" --watch 3
+expect "a missing file, explained" 4 "$room/nothing" "cannot read" explain missing.json
 echo "$passed passed, $failed failed"
 [ "$failed" -eq 0 ]
