@@ -11,3 +11,4 @@ pub mod Taking
 pub mod Tying
 pub mod Hearing
 pub mod Audited
+pub mod Needless

@@ -16,6 +16,8 @@ use Rattle.es_rules.specs.Needs.{for_block, for_post, for_buffer_post, for_load,
 use Rattle.es_agent.specs.Tickets.{is_ended}
 use Rattle.es_member.specs.Seats.{Seat, Holds}
 use Rattle.es_member.specs.Tied.{GrowsBy, IsSettled, IsTied}
+use Rattle.es_member.specs.declared.beside.Beforehand.{Beforehand}
+use Rattle.es_member.specs.declared.beside.Beforehand.TheVariants.{Copy, Marks, Nothing}
 use Rattle.es_member.specs.declared.member.Progress.{Progress}
 use Rattle.es_member.specs.declared.member.Progress.TheVariants.{Moved, Waiting, Ended}
 
@@ -50,6 +52,17 @@ AreAskedFor asks_nothing b m = ⊥
 -- the agent asks for marks
 abbrev pub AsksMarks : Need → Type 0
 AsksMarks n = (n ≡ asks_marks) ⊎ (n ≡ asks_late_marks)
+
+-- what an agent that asks this needs before it has the ledger: a copy to open a later collection, and marks to empty
+abbrev pub beforehand : Need → Beforehand
+beforehand asks_nobody = Nothing
+beforehand asks_marks = Marks
+beforehand asks_copy = Copy
+beforehand asks_late_marks = Marks
+beforehand (asks_ledger r) = Nothing
+beforehand (asks_message s) = Nothing
+beforehand asks_closing = Nothing
+beforehand asks_nothing = Nothing
 
 -- the agent is one of the ledger's, and has ended there where it has closed
 pub record IsSeated (b : Book) (l : Books) : Type 0 where

@@ -1,22 +1,38 @@
 //! An agent beside others, each of which has a thread: it has the ledger only where it asks the ledger,
 //! and does not know what the ledger says of it.
 
-ghost use Rattle.std.specs.Prelude.{◌≡◌, ◌↔◌, false, IsTrue, IfOk, IfSome, IfNone, OnOk, OnErr};
+ghost use Rattle.std.specs.Prelude.{◌≡◌, ◌↔◌, ◌||◌, false, IsTrue, IfOk, IfSome, IfNone, OnOk, OnErr};
 ghost use Rattle.std.specs.Arc.{arc_value};
+ghost use Rattle.es_event.specs.Commands.{collects, posts};
+ghost use Rattle.es_event.specs.Later.{is_later};
 ghost use Rattle.es_agent.specs.Later.{IsLaterCopy};
 ghost use Rattle.es_rules.specs.Needs.{need, asks_nobody, asks_copy, asks_nothing};
 ghost use Rattle.es_rules.specs.Shown.{shown};
-ghost use Rattle.es_member.specs.Turned.{AreAskedFor, AsksMarks, Heard, IsSeated, Moves, Proceeds, NamesOthers, OthersStay, ProceedsBeside};
+ghost use Rattle.es_member.specs.Turned.{AreAskedFor, AsksMarks, beforehand, Heard, IsSeated, Moves, Proceeds, NamesOthers, OthersStay, ProceedsBeside};
 
 use crate::member::{Member, Progress};
 use crate::planned::Planned;
-use crate::turns::{empty_by, turn};
-use es_agent::{Need, Request};
+use crate::turns::{ask, empty_by};
+use es_agent::{AgentCore, Need, Request};
+use es_cursor::Due;
+use es_event::Command;
 use es_ledger::LedgerCore;
 use es_mark::Marks;
 use es_parmark::Snapshot;
+use es_ticket::Run;
 use es_value::NoMemory;
 use std::sync::Arc;
+
+/// What an agent's next event needs before it has the ledger, so that no other agent waits for it.
+#[derive(Clone, Copy, Debug, PartialEq, Eq)]
+pub enum Beforehand {
+    /// A copy of what the agent reaches: it opens a later collection.
+    Copy,
+    /// Marks: it empties.
+    Marks,
+    /// Nothing.
+    Nothing,
+}
 
 impl<L: Planned> Member<L> {
     /// Whether it has closed, and asks for nothing any more.
@@ -51,11 +67,22 @@ impl<L: Planned> Member<L> {
         }
     }
 
-    /// Whether its next event opens a later collection.
-    pub fn opens_later(&self) -> bool
-        ensures { IsTrue result ↔ (need self.now.book ≡ asks_copy) }
+    /// What its next event needs before it has the ledger.
+    pub fn beforehand(&self) -> Beforehand
+        ensures said { result ≡ beforehand (need self.now.book) }
+        ensures copy { result ≡ Beforehand.Copy → need self.now.book ≡ asks_copy }
     {
-        matches!(self.core.next(), Need::Later)
+        match self.core.record().due() {
+            Due::EndJob => asked_beforehand(&self.core.next()),
+            Due::Run(command) => {
+                if is_collection(command) {
+                    asked_beforehand(&self.core.next())
+                } else {
+                    Beforehand::Nothing
+                }
+            }
+            _ => Beforehand::Nothing,
+        }
     }
 
     /// Opens a later collection; the copy may be marked beside the agent. Where there is no memory nothing has
@@ -90,19 +117,57 @@ impl<L: Planned> Member<L> {
         if number >= agents || ledger.has_ended(number) {
             return Ok(Progress::Ended);
         }
-        if !names_others(&self.core.next(), number, agents) {
+        if !names_others(&self.core, agents) {
             return Ok(Progress::Ended);
         }
         ledger.look(&mut self.stake);
         match marks {
             Some(marks) => empty_by(&mut self.core, &mut self.stake, ledger, &marks),
-            None => turn(&mut self.core, &mut self.stake, ledger),
+            None => ask(&mut self.core, &mut self.stake, ledger),
         }
     }
 }
 
-// Whether whom an agent asks to post to, or waits for, is one of so many agents, and not itself.
-fn names_others(asked: &Need<'_>, number: usize, agents: usize) -> bool
+// What an agent that asks this needs before it has the ledger.
+fn asked_beforehand(asked: &Need<'_>) -> Beforehand
+    ensures { result ≡ beforehand (shown asked.now) }
+{
+    match asked {
+        Need::Later => Beforehand::Copy,
+        Need::Collect | Need::Finish => Beforehand::Marks,
+        _ => Beforehand::Nothing,
+    }
+}
+
+// Whether the command collects, at once or later: no other one needs anything before the agent has the ledger.
+fn is_collection(command: &Command) -> bool
+    ensures { result ≡ (collects command.now || is_later command.now) }
+{
+    matches!(command, Command::Collect | Command::CollectLater)
+}
+
+// Whether whom an agent asks to post to, or waits for, is one of so many agents, and not itself. What it asks for is
+// found only where it may name another.
+fn names_others<L: Run>(core: &AgentCore<L>, agents: usize) -> bool
+    ensures only { IsTrue result → NamesOthers (need core.now) core.now.number agents }
+    ensures all { NamesOthers (need core.now) core.now.number agents → IsTrue result }
+{
+    match core.record().due() {
+        Due::Receive { .. } => are_others(&core.next(), core.number(), agents),
+        Due::Run(command) if posts(command) => are_others(&core.next(), core.number(), agents),
+        _ => true,
+    }
+}
+
+// Whether the command posts a message: no other one names an agent.
+fn posts(command: &Command) -> bool
+    ensures { result ≡ posts command.now }
+{
+    matches!(command, Command::Post { .. })
+}
+
+// Whether whom an agent that asks this asks to post to, or waits for, is one of so many agents, and not itself.
+fn are_others(asked: &Need<'_>, number: usize, agents: usize) -> bool
     ensures only { IsTrue result → NamesOthers (shown asked.now) number agents }
     ensures all { NamesOthers (shown asked.now) number agents → IsTrue result }
 {

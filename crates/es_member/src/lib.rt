@@ -8,5 +8,6 @@ mod planned;
 mod spending;
 mod turns;
 
+pub use beside::Beforehand;
 pub use member::{Member, Progress};
 pub use planned::Planned;

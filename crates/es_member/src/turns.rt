@@ -1,6 +1,6 @@
 //! A turn of an agent: what it asks for is done in the ledger, and it takes the answer.
 
-ghost use Rattle.std.specs.Prelude.{◌≡◌, ◌≢◌, ◌<◌, ◌↔◌, false, IsTrue, OnErr, IfOk};
+ghost use Rattle.std.specs.Prelude.{◌≡◌, ◌<◌, ◌↔◌, false, IsTrue, OnErr, IfOk};
 ghost use Rattle.es_record.specs.Graph.{AreMarksOf, AreLateMarks};
 ghost use Rattle.es_rules.specs.Needs.{need, asks_nobody, asks_marks, asks_copy, asks_late_marks, asks_closing};
 ghost use Rattle.es_member.specs.Seats.{seat};
@@ -20,7 +20,8 @@ use es_ticket::{Run, Stake};
 use es_value::NoMemory;
 use hearing::hear;
 
-/// One event of the agent, or none where it waits or has ended.
+/// One event of the agent, or none where it waits or has ended. Most events ask nobody, so one that does not is tried
+/// first.
 pub(crate) fn turn<L: Run>(
     core: &mut AgentCore<L>,
     stake: &mut Stake<L>,
@@ -40,13 +41,12 @@ pub(crate) fn turn<L: Run>(
     ask(core, stake, ledger)
 }
 
-// One event of an agent that asks somebody, or none where it waits or has ended.
-fn ask<L: Run>(
+/// The same, where it is likely that somebody is asked: what the agent asks for is found first.
+pub(crate) fn ask<L: Run>(
     core: &mut AgentCore<L>,
     stake: &mut Stake<L>,
     ledger: &mut LedgerCore<L>,
 ) -> Result<Progress, NoMemory>
-    requires asks { need core.old ≢ asks_nobody }
     requires ready { IsHeld core.old stake.old ledger.old }
     requires others { NamesOthers (need core.old) core.old.number ledger.old.agents }
     ensures ok { IfOk result (λ p. Proceeds p (seat core.old stake.old) (seat core.new stake.new)) }
@@ -56,7 +56,10 @@ fn ask<L: Run>(
     ensures keeps { Keeps core.old ledger.old core.new stake.new ledger.new }
 {
     match core.next() {
-        Need::Local => unreachable!(),
+        Need::Local => {
+            let _ = perform(core, stake, ledger)?;
+            Ok(Progress::Moved)
+        }
         Need::Collect => collect(core, stake, ledger),
         Need::Later => begin_later(core, stake, ledger),
         Need::Finish => finish(core, stake, ledger),

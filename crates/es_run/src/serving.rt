@@ -10,6 +10,7 @@ use crate::marked::Pending;
 use es_cluster::{Member, Planned, Progress};
 use es_event::LedgerEvent;
 use es_ledger::LedgerCore;
+use es_member::Beforehand;
 use es_value::NoMemory;
 use std::alloc::Global;
 use std::sync::Wait;
@@ -21,8 +22,32 @@ use std::thread::{Scope, Threads};
 /// be woken takes longer than a few looks.
 const LOOKS: u32 = 50;
 
+/// How many events an agent has at most under its lock before it looks whether the run is stopped, and lets a
+/// watcher in: a lock costs a tenth of a short step.
+const EVENTS: u32 = 64;
+
+/// Why an agent pauses.
+#[derive(Clone, Copy)]
+struct Pause {
+    /// What its last event came to.
+    progress: Progress,
+    /// Whether it may let others go on.
+    wakes: bool,
+    /// How many events the ledger had then.
+    seen: usize,
+}
+
+impl Pause {
+    /// For no reason of its own.
+    const NONE: Pause = Pause {
+        progress: Progress::Moved,
+        wakes: false,
+        seen: 0,
+    };
+}
+
 impl<L: Planned + Sync> Cluster<L> {
-    /// Stops the run: no thread begins another event.
+    /// Stops the run: no thread begins another turn.
     fn stop<R: Wait>(&self, rt: &R, stopped: &AtomicBool) {
         // under the ledger's lock, so that who is about to wait sees it
         let ledger = self.ledger.lock(rt);
@@ -89,7 +114,8 @@ impl<L: Planned + Sync> Cluster<L> {
         }
     }
 
-    /// One turn of an agent; where it waits on for a message, until it is woken.
+    /// One turn of an agent: some events, up to one after which it waits, has ended, or others are woken. Where it
+    /// waits on for a message, until it is woken.
     fn turn<'s, E, G: Gate, R: Threads + Wait + Sync>(
         &self,
         rt: &'s R,
@@ -105,28 +131,12 @@ impl<L: Planned + Sync> Cluster<L> {
     {
         let mut guard = self.agents[agent].lock(rt);
         let member: &mut Member<L> = &mut guard;
-        if member.core().is_at_command() {
-            *commands = commands.saturating_add(1);
-            gate.at(agent, *commands);
-        }
-        if member.perform()? {
-            return Ok(Progress::Moved);
-        }
-        if member.opens_later() {
-            let copy = member.begin_later()?;
-            *open = Some(helpers.begin(rt, scope, copy)?);
-            return Ok(Progress::Moved);
-        }
-        // before the ledger's lock is taken, so that no other agent waits for the marking
-        let marks = helpers.marks(rt, member, open)?;
-        let mut ledger = self.ledger.lock(rt);
-        let core: &mut LedgerCore<L> = &mut ledger;
-        let before = core.history().len();
-        let progress = member.turn_beside(core, marks)?;
-        let seen = core.history().len();
-        let wakes = wakes(core, before);
+        let Pause {
+            progress,
+            wakes,
+            seen,
+        } = self.take_events(rt, member, agent, scope, helpers, open, commands, gate)?;
         // no lock is held while others are woken, or they would wait for it at once
-        drop(ledger);
         drop(guard);
         if wakes {
             self.arrived.notify_all();
@@ -135,6 +145,62 @@ impl<L: Planned + Sync> Cluster<L> {
             self.wait(rt, agent, seen, stopped);
         }
         Ok(progress)
+    }
+
+    /// Takes an agent's next events, each command of it past the gate.
+    fn take_events<'s, E, G: Gate, R: Threads + Wait + Sync>(
+        &self,
+        rt: &'s R,
+        member: &mut Member<L>,
+        agent: usize,
+        scope: &Scope<'s, E>,
+        helpers: &Helpers,
+        open: &mut Option<Pending>,
+        commands: &mut u64,
+        gate: &G,
+    ) -> Result<Pause, NoMemory> {
+        for _ in 0..EVENTS {
+            if gate.holds() && member.core().is_at_command() {
+                *commands = commands.saturating_add(1);
+                gate.at(agent, *commands);
+            }
+            if !member.perform()? {
+                let pause = self.ask(rt, member, scope, helpers, open)?;
+                if pause.wakes || pause.progress != Progress::Moved {
+                    return Ok(pause);
+                }
+            }
+        }
+        Ok(Pause::NONE)
+    }
+
+    /// The next event of an agent that asks somebody, or none where it waits or has ended.
+    fn ask<'s, E, R: Threads + Wait + Sync>(
+        &self,
+        rt: &'s R,
+        member: &mut Member<L>,
+        scope: &Scope<'s, E>,
+        helpers: &Helpers,
+        open: &mut Option<Pending>,
+    ) -> Result<Pause, NoMemory> {
+        let marks = match member.beforehand() {
+            Beforehand::Copy => {
+                let copy = member.begin_later()?;
+                *open = Some(helpers.begin(rt, scope, copy)?);
+                return Ok(Pause::NONE);
+            }
+            Beforehand::Marks => helpers.marks(rt, member, open)?,
+            Beforehand::Nothing => None,
+        };
+        let mut ledger = self.ledger.lock(rt);
+        let core: &mut LedgerCore<L> = &mut ledger;
+        let before = core.history().len();
+        let progress = member.turn_beside(core, marks)?;
+        Ok(Pause {
+            progress,
+            wakes: wakes(core, before),
+            seen: core.history().len(),
+        })
     }
 
     /// Waits until something happened in the ledger that may let the agent go on, since the ledger had
