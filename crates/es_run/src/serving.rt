@@ -1,6 +1,8 @@
 //! The threads of a run: each agent's, and that of the watcher.
 
-ghost use Rattle.std.specs.Prelude.{◌<◌, vec_len};
+ghost use Rattle.std.specs.Prelude.{◌<◌, vec_len, IfSome};
+ghost use Rattle.es_rules.specs.Needs.{need};
+ghost use Rattle.es_member.specs.Turned.{AreAskedFor};
 ghost use Rattle.std.specs.Thread.{IsSync};
 
 use crate::cluster::Cluster;
@@ -8,8 +10,10 @@ use crate::gate::Gate;
 use crate::helpers::Helpers;
 use crate::marked::Pending;
 use es_cluster::{Member, Planned, Progress};
-use es_event::LedgerEvent;
+use es_cursor::Due;
+use es_event::{Command, LedgerEvent};
 use es_ledger::LedgerCore;
+use es_mark::Marks;
 use es_member::Beforehand;
 use es_value::NoMemory;
 use std::alloc::Global;
@@ -25,6 +29,10 @@ const LOOKS: u32 = 50;
 /// How many events an agent has at most under its lock before it looks whether the run is stopped, and lets a
 /// watcher in: a lock costs a tenth of a short step.
 const EVENTS: u32 = 64;
+
+/// How many commands on words of shared memory follow another at most under the ledger's lock: who waits for the lock
+/// sleeps, and to be woken takes longer than many of them.
+const WORDS: u32 = 32;
 
 /// Why an agent pauses.
 #[derive(Clone, Copy)]
@@ -44,6 +52,11 @@ impl Pause {
         wakes: false,
         seen: 0,
     };
+
+    /// Whether the agent gives its locks up for it.
+    fn ends(&self) -> bool {
+        self.wakes || self.progress != Progress::Moved
+    }
 }
 
 impl<L: Planned + Sync> Cluster<L> {
@@ -165,8 +178,8 @@ impl<L: Planned + Sync> Cluster<L> {
                 gate.at(agent, *commands);
             }
             if !member.perform()? {
-                let pause = self.ask(rt, member, scope, helpers, open)?;
-                if pause.wakes || pause.progress != Progress::Moved {
+                let pause = self.ask(rt, member, scope, helpers, open, gate)?;
+                if pause.ends() {
                     return Ok(pause);
                 }
             }
@@ -174,14 +187,16 @@ impl<L: Planned + Sync> Cluster<L> {
         Ok(Pause::NONE)
     }
 
-    /// The next event of an agent that asks somebody, or none where it waits or has ended.
-    fn ask<'s, E, R: Threads + Wait + Sync>(
+    /// The next event of an agent that asks somebody, or none where it waits or has ended. Commands on words of shared
+    /// memory that follow are done under the same lock.
+    fn ask<'s, E, G: Gate, R: Threads + Wait + Sync>(
         &self,
         rt: &'s R,
         member: &mut Member<L>,
         scope: &Scope<'s, E>,
         helpers: &Helpers,
         open: &mut Option<Pending>,
+        gate: &G,
     ) -> Result<Pause, NoMemory> {
         let marks = match member.beforehand() {
             Beforehand::Copy => {
@@ -194,13 +209,14 @@ impl<L: Planned + Sync> Cluster<L> {
         };
         let mut ledger = self.ledger.lock(rt);
         let core: &mut LedgerCore<L> = &mut ledger;
-        let before = core.history().len();
-        let progress = member.turn_beside(core, marks)?;
-        Ok(Pause {
-            progress,
-            wakes: wakes(core, before),
-            seen: core.history().len(),
-        })
+        let mut pause = turn_with(member, core, marks)?;
+        for _ in 0..WORDS {
+            if pause.ends() || gate.holds() || !is_at_word(member) {
+                break;
+            }
+            pause = turn_with(member, core, None)?;
+        }
+        Ok(pause)
     }
 
     /// Waits until something happened in the ledger that may let the agent go on, since the ledger had
@@ -244,6 +260,34 @@ impl<L: Planned + Sync> Cluster<L> {
             }
             made.fetch_add(1, Ordering::SeqCst);
         }
+    }
+}
+
+// One event of an agent, which has the ledger, by these marks where it empties.
+fn turn_with<L: Planned>(
+    member: &mut Member<L>,
+    ledger: &mut LedgerCore<L>,
+    marks: Option<Marks>,
+) -> Result<Pause, NoMemory>
+    requires { IfSome marks (AreAskedFor (need member.old.book) member.old.book) }
+{
+    let before = ledger.history().len();
+    let progress = member.turn_beside(ledger, marks)?;
+    Ok(Pause {
+        progress,
+        wakes: wakes(ledger, before),
+        seen: ledger.history().len(),
+    })
+}
+
+// Whether the agent's next command is one on a word of shared memory.
+fn is_at_word<L: Planned>(member: &Member<L>) -> bool {
+    match member.core().record().due() {
+        Due::Run(command) => matches!(
+            command,
+            Command::Load { .. } | Command::Store { .. } | Command::Add { .. }
+        ),
+        _ => false,
     }
 }
 
