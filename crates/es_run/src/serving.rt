@@ -26,8 +26,8 @@ use std::thread::{Scope, Threads};
 /// be woken takes longer than a few looks.
 const LOOKS: u32 = 50;
 
-/// How many events an agent has at most under its lock before it looks whether the run is stopped, and lets a
-/// watcher in: a lock costs a tenth of a short step.
+/// How many events an agent has at most under its lock, not counting commands on words that follow another, before it
+/// looks whether the run is stopped, and lets a watcher in: a lock costs a tenth of a short step.
 const EVENTS: u32 = 64;
 
 /// How many commands on words of shared memory follow another at most under the ledger's lock: who waits for the lock
