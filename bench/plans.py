@@ -32,6 +32,7 @@ or of these, whose agents post messages:
             NUMBER commands add of each of eight agents, all on one word: the first makes the block and posts it to the
             others, who wait for it, and at the end says the word (100,000)
   adds-own  the same on a block of its own of each, which says its word (100,000)
+  lets      NUMBER commands let of each of eight agents, which ask nobody (100,000)
 Since an agent has 1,000 jobs at most and a job takes one message at most, the numbers of posts, ping-pong and ring are
 the largest of which each message is taken, with one ring. Of up to 10,000 posts those past 7,000 are drained; ping-pong
 goes up to 7,996.
@@ -281,6 +282,12 @@ PLANS = {
     "check": (mixed, 1000),
 }
 CALLBACKS = {"registrations": {"cb": [["copy", "last", "held"]]}}
+def lets(count):
+    """Eight agents beside each other, none of which asks the ledger for anything before its end."""
+    for agent in "abcdefgh":
+        yield agent, ({"run": run} for run in jobs([[["let", "x", number]] for number in range(count)]))
+
+
 CLUSTERS = {
     "posts": (posts, 7000),
     "ping-pong": (ping_pong, 1999),
@@ -288,6 +295,7 @@ CLUSTERS = {
     "words": (words, 100000),
     "adds-shared": (adds(True), 100000),
     "adds-own": (adds(False), 100000),
+    "lets": (lets, 100000),
 }
 
 

@@ -5,7 +5,7 @@ Usage: run.py [--times N] [--limit SECONDS] [--threads] [NAME[=NUMBER] ..]
        run.py [--times N] [--limit SECONDS] [--threads] --growth NAME ..
        run.py [--times N] [--limit SECONDS] --collections [NAME[=NUMBER] ..]
        run.py [--times N] [--limit SECONDS] --reading [NAME[=NUMBER] ..]
-The program runs each plan by turns, in one thread. Without names all plans but those of eight agents that add are run,
+The program runs each plan by turns, in one thread. Without names all plans but those of eight agents that add or let are run,
 without N three times each, the two in turn, and each run has 60 seconds. Prints a table: the median time by the clock
 and of all processors (which other load changes less), the highest peak memory, and the program's numbers as multiples
 of the interpreter's. With --threads the program runs each plan in threads as well, and the multiples are those of that
@@ -42,7 +42,7 @@ NAMES = [
 COLLECTED = ["wide", "list", "entries-forward", "entries-shuffled", "maps", "nested", "registrations"]
 MORE = 20  # so many collections more are timed
 READ = ["commands", "held", "registrations", "words", "check"]
-THREADED = ["posts", "ping-pong", "ring", "words", "adds-shared", "adds-own"]
+THREADED = ["posts", "ping-pong", "ring", "words", "adds-shared", "adds-own", "lets"]
 FEW_JOBS = ["check", "posts", "ping-pong", "ring"]  # an agent has no room for as many jobs as larger numbers ask for
 SIZES = [10000, 30000, 100000, 300000]
 # what is measured: its name in the table, its first words, and what stands after a plan that is run

@@ -43,10 +43,15 @@ class Padded(turns.Played):
     def plan(self):
         for agent in self.agents:
             for job in agent["jobs"]:
-                job["run"] = [step for command in job["run"] for step in self.padded(command)]
+                job["run"] = self.padded(job["run"])
+            for name, run in agent["callbacks"].items():
+                agent["callbacks"][name] = self.padded(run)
         return super().plan()
 
-    def padded(self, command):
+    def padded(self, commands):
+        return [step for command in commands for step in self.steps(command)]
+
+    def steps(self, command):
         match command:
             case ["pad"]:
                 return [["let", "pad", 1]] * self.count

@@ -34,7 +34,7 @@ not_later CollectLater h e = cc
 not_later _ h e = refl
 
 pub same_snapshot : (e : Event) (h : History) → IsQuiet e → begins_later e ≡ false → snapshot (e ∷ h) ≡ snapshot h
-same_snapshot (Did c vs r) h quiet plain = ap (λ o. unwrap_or o (snapshot h)) (not_later c (Did c vs r ∷ h) plain)
+same_snapshot (Did (c, vs, r)) h quiet plain = ap (λ o. unwrap_or o (snapshot h)) (not_later c (Did (c, vs, r) ∷ h) plain)
 same_snapshot (Emptied ids) h quiet plain = absurd quiet
 same_snapshot _ h quiet plain = refl
 

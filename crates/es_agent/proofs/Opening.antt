@@ -35,17 +35,17 @@ asks_a_copy : (b : Book) (o : Option History) → o ≡ None → cond (is_none o
 asks_a_copy b None is e = cc
 asks_a_copy b (Some p) is e = cc
 
-opens_at : (b : Book) (over : Buffers) (into : Receivers) (d : Due) (vs : List Value) (r : Answer) → snapshot b.history ≡ None → need_of b d ≡ asks_nobody → Permits over into b.history d (Did CollectLater vs r) → ⊥
+opens_at : (b : Book) (over : Buffers) (into : Receivers) (d : Due) (vs : List Value) (r : Answer) → snapshot b.history ≡ None → need_of b d ≡ asks_nobody → Permits over into b.history d (Did (CollectLater, vs, r)) → ⊥
 opens_at b over into (run c) vs r none e p =
     asks_a_copy b (snapshot b.history) none (subst (λ c. need_of b (run c) ≡ asks_nobody) (sym p) e)
 opens_at b over into _ vs r none e p = absurd p
 
 pub local_opens : (b : Book) (e : Event) → need b ≡ asks_nobody → IsNext b e → begins_later e ≡ false
-local_opens b (Did CollectLater vs r) asked next =
+local_opens b (Did (CollectLater, vs, r)) asked next =
     let accepted = is_accepted b.over b.history CollectLater vs (word_in r) r next.lawful.1 in
     let none = none_open (snapshot b.history) (first_holds (is_none (snapshot b.history)) CollectionOpen [] accepted).0 in
     absurd (opens_at b b.over (receivers b.plan.jobs) (due b.plan b.history) vs r none asked next.permitted)
-local_opens b (Did c vs r) asked next = refl
+local_opens b (Did (c, vs, r)) asked next = refl
 local_opens b _ asked next = refl
 
 -- What is answered from outside

@@ -50,7 +50,7 @@ pub open_after : (h : History) (e : Event) → (e ≡ Closed → ⊥) → is_end
 open_after h (JobBegun j) other before = refl
 open_after h (CleanupBegun q) other before = refl
 open_after h (Received t v) other before = refl
-open_after h (Did c vs r) other before = before
+open_after h (Did (c, vs, r)) other before = before
 open_after h (Refused code) other before = refl
 open_after h (Emptied ids) other before = before
 open_after h (Taken n held) other before = before

@@ -14,7 +14,7 @@ use Rattle.es_record.specs.Graph.{HasRoots, HasEdges, HasEntries, as_at}
 
 -- the event by which a later collection is opened
 abbrev pub opening : Event
-opening = Did CollectLater [] Nothing
+opening = Did (CollectLater, [], Nothing)
 
 -- the copy is of the agent's graph as it was at p
 abbrev pub IsCopyAt : Book → History → Copied → Type 0

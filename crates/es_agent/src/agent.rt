@@ -14,7 +14,7 @@ ghost use Rattle.es_event.specs.Runs.{IsRunOver};
 ghost use Rattle.es_ticket.specs.Shares.{at};
 ghost use Rattle.es_record.specs.Book.{Records};
 ghost use Rattle.es_event.specs.Later.{snapshot};
-ghost use Rattle.es_record.specs.Graph.{AreMarksOf, AreReached, AreLateMarks};
+ghost use Rattle.es_record.specs.Graph.{AreMarksOf, AreLateMarks};
 ghost use Rattle.std.specs.Arc.{arc_value};
 ghost use Rattle.es_rules.specs.Needs.{need, asks_nobody, asks_marks, asks_copy, asks_late_marks, asks_message, asks_closing, TakesTicket, TakesWord, TakesDone};
 ghost use Rattle.es_rules.specs.Shown.{shown};
@@ -32,7 +32,10 @@ use es_mark::{Graph, Marks};
 use es_parmark::Snapshot;
 use es_record::AgentRecord;
 use es_registry::Tally;
-use es_rules::{Need, answered_done, answered_word, asks, next_event, received, skipped};
+use es_rules::{
+    Need, answered_done, answered_word, asks, asks_nobody, asks_somebody, next_event, own_event,
+    received, skipped,
+};
 use es_ticket::{Rack, Run, Ticket};
 use es_value::{Id, NoMemory, Value};
 use std::alloc::Global;
@@ -187,13 +190,14 @@ impl<L: Run> AgentCore<L> {
 
     /// Takes the next step that asks nobody else, and records its one event; where there is no
     /// memory nothing has changed.
+    #[inline(always)]
     pub fn perform(&mut self) -> Result<(), NoMemory>
         requires { need self.old ≡ asks_nobody }
         ensures ok { OnOk result (RecordsNext self.old self.new) }
         ensures err { OnErr result (self.new ≡ self.old) }
     {
-        let _ = self.perform_alone()?;
-        Ok(())
+        let event = next_event(self.record.read())?;
+        self.record.record(event)
     }
 
     /// Takes the next step, where it asks nobody else, and records its one event: whether it did. Where it asks
@@ -204,13 +208,31 @@ impl<L: Run> AgentCore<L> {
         ensures left { IfOk result (λ done. done ≡ false → self.new ≡ self.old) }
         ensures err { OnErr result (self.new ≡ self.old) }
     {
-        match next_event(self.record.read())? {
-            Some(event) => {
-                self.record.record(event)?;
-                Ok(true)
+        let record = self.record.read();
+        if let Due::Run(command) = record.due() {
+            if asks_somebody(record, command) {
+                return Ok(false);
             }
-            None => Ok(false),
+            let event = own_event(record, command)?;
+            self.record.record(event)?;
+            return Ok(true);
         }
+        self.perform_between()
+    }
+
+    /// The same, where no command is due.
+    #[inline(never)]
+    fn perform_between(&mut self) -> Result<bool, NoMemory>
+        ensures asks { IfOk result (λ done. IsTrue done ↔ (need self.old ≡ asks_nobody)) }
+        ensures done { IfOk result (λ done. IsTrue done → RecordsNext self.old self.new) }
+        ensures left { IfOk result (λ done. done ≡ false → self.new ≡ self.old) }
+        ensures err { OnErr result (self.new ≡ self.old) }
+    {
+        if !asks_nobody(self.record.read()) {
+            return Ok(false);
+        }
+        self.perform()?;
+        Ok(true)
     }
 
     /// Empties all that is not marked, and records it as one event (ECMA-262, Execution): with the

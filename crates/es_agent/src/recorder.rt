@@ -1,6 +1,6 @@
 //! An agent's record, with what an open later collection needs.
 
-ghost use Rattle.std.specs.Prelude.{◌≡◌, ◌+◌, ◌∷◌, [], ◌<◌, true, false, is_some, reverse, IfOk, OnOk, OnErr};
+ghost use Rattle.std.specs.Prelude.{◌≡◌, ◌+◌, ◌∷◌, [], ◌<◌, true, false, is_some, IfOk, OnOk, OnErr};
 ghost use Rattle.std.specs.Arc.{arc_value};
 ghost use Rattle.std.specs.Option.{option_map, option_to_list};
 ghost use Rattle.es_event.specs.Derefs.{derefs};
@@ -14,7 +14,7 @@ ghost use Rattle.es_tables.specs.Effects.{IsQuiet};
 ghost use Rattle.es_agent.specs.Keeping.{kept_of, HasRoom, noted};
 ghost use Rattle.es_agent.specs.Later.{opening, IsLaterCopy, AreDerefed, AreThen};
 
-use es_event::{Answer, Command, Event, Log, Row};
+use es_event::{AnswerRef, Command, Event, Log, Row};
 use es_mark::Graph;
 use es_parmark::Snapshot;
 use es_record::AgentRecord;
@@ -89,6 +89,21 @@ impl Recorder {
     /// memory nothing has changed.
     #[inline(always)]
     pub(crate) fn record(&mut self, event: Event) -> Result<(), NoMemory>
+        requires next { IsNext self.old event }
+        requires quiet { IsQuiet event }
+        requires opens { begins_later event ≡ false }
+        ensures ok { OnOk result (Records self.old event self.new) }
+        ensures err { OnErr result (self.new ≡ self.old) }
+    {
+        if self.kept.is_none() {
+            return self.record.record(event);
+        }
+        self.record_noting(event)
+    }
+
+    /// The same, where a copy is kept: what a deref gives is noted.
+    #[inline(never)]
+    fn record_noting(&mut self, event: Event) -> Result<(), NoMemory>
         requires next { IsNext self.old event }
         requires quiet { IsQuiet event }
         requires opens { begins_later event ≡ false }
@@ -228,12 +243,8 @@ fn given_by(event: &Event) -> Option<Id>
     ensures { option_to_list result ≡ derefs event.now }
 {
     match event {
-        Event::Did {
-            command,
-            answer: Answer::Gives(value),
-            ..
-        } => match command.get() {
-            Command::Deref { .. } => value.identity(),
+        Event::Did(done) => match (done.command(), done.answer()) {
+            (Command::Deref { .. }, AnswerRef::Gives(value)) => value.identity(),
             _ => None,
         },
         _ => None,

@@ -52,7 +52,7 @@ module _ (test : ℕ → Bool) (plan : AgentPlan) (jobs : list_all (speaks_where
   in_left (JobBegun j ∷ h) = in_job j
   in_left (CleanupBegun q ∷ h) = refl
   in_left (Received t v ∷ h) = refl
-  in_left (Did c vs r ∷ h) = all_dropped (posts_where test) (left plan h) (in_left h)
+  in_left (Did (c, vs, r) ∷ h) = all_dropped (posts_where test) (left plan h) (in_left h)
   in_left (Refused code ∷ h) = refl
   in_left (Emptied ids ∷ h) = all_dropped (posts_where test) (left plan h) (in_left h)
   in_left (Taken n held ∷ h) = all_of (posts_where test) (callback_commands plan) (option_and_then (callback h) (cleaning h)) (λ n is. in_callback n)

@@ -243,7 +243,7 @@ unregistering h e r t made old new k g unmade moved full after says = record {
 
 -- Commands
 
-pub unmoved_by : (c : Command) (vs : List Value) (a : Answer) (h : History) → named_by c vs ≡ None → (n : ℕ) → removes n h (Did c vs a) ≡ None
+pub unmoved_by : (c : Command) (vs : List Value) (a : Answer) (h : History) → named_by c vs ≡ None → (n : ℕ) → removes n h (Did (c, vs, a)) ≡ None
 unmoved_by c vs a h none n =
     ap (λ b. cond b (Some unregistered) None) (named_is c vs h n) ∙ ap (λ o. cond (option_map_or (λ (k : ℕ × ℕ). is_under h k.0 k.1 n) o false) (Some unregistered) None) none
 
@@ -253,26 +253,26 @@ none_made c vs (Some q) is none = let never : ◌≡◌ {A = Option Made} (Some 
 
 -- a command that makes a registration
 pub made_said : (h : History) (c : Command) (vs : List Value) (a : Answer) (m : Made) (old new : List Made) (last : Last) (t g : ℕ → Bool) → made_by c vs ≡ Some m → new ≡ old ++ m ∷ []
-    → Says h old last t g → Says (Did c vs a ∷ h) new last t g
+    → Says h old last t g → Says (Did (c, vs, a) ∷ h) new last t g
 made_said h c vs a m old new last t g is more says =
     let at = mapped made_of (registers_by c vs) m (sym (made_is c vs) ∙ is) in
     let all : new ≡ old ++ made_of at.0 ∷ [] = more ∙ ap (λ m. old ++ m ∷ []) (sym at.2) in
-    rw all (registering h (Did c vs a) at.0 old last t g at.1 (unmoved_by c vs a h (makes_alone c vs at.0 at.1)) refl says)
+    rw all (registering h (Did (c, vs, a)) at.0 old last t g at.1 (unmoved_by c vs a h (makes_alone c vs at.0 at.1)) refl says)
 
 -- a command that takes registrations out
 pub named_said : (h : History) (c : Command) (vs : List Value) (a : Answer) (r t : ℕ) (made : List Made) (old new : Last) (k g : ℕ → Bool) → made_by c vs ≡ None → named_by c vs ≡ Some (r, t)
     → (n : ℕ) → n ≡ length made → ((q : ℕ × ℕ) → new q ≡ cond (pair_eq (r, t) q) (Some n) (old q))
-    → Says h made old k g → Says (Did c vs a ∷ h) made new k g
+    → Says h made old k g → Says (Did (c, vs, a) ∷ h) made new k g
 named_said h c vs a r t made old new k g none is n all after says =
-    unregistering h (Did c vs a) r t made old new k g (none_made c vs (registers_by c vs) refl none)
+    unregistering h (Did (c, vs, a)) r t made old new k g (none_made c vs (registers_by c vs) refl none)
     (λ n. ap (λ b. cond b (Some unregistered) None) (named_is c vs h n) ∙ ap (λ o. cond (option_map_or (λ (k : ℕ × ℕ). is_under h k.0 k.1 n) o false) (Some unregistered) None) is)
     refl (λ q. after q ∙ ap (λ n. cond (pair_eq (r, t) q) (Some n) (old q)) all) says
 
 -- any other command
 pub idle_said : (h : History) (c : Command) (vs : List Value) (a : Answer) (made : List Made) (last : Last) (t g : ℕ → Bool) → made_by c vs ≡ None → named_by c vs ≡ None
-    → Says h made last t g → Says (Did c vs a ∷ h) made last t g
+    → Says h made last t g → Says (Did (c, vs, a) ∷ h) made last t g
 idle_said h c vs a made last t g none quiet says =
-    nothing_said h (Did c vs a) made last t g (none_made c vs (registers_by c vs) refl none) (unmoved_by c vs a h quiet) refl says
+    nothing_said h (Did (c, vs, a)) made last t g (none_made c vs (registers_by c vs) refl none) (unmoved_by c vs a h quiet) refl says
 
 -- an emptying
 pub emptied_said : (h : History) (ids : List ℕ) (made : List Made) (last : Last) (t old new : ℕ → Bool) → ((i : ℕ) → new i ≡ (is_in ids i || old i))

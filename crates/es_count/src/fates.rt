@@ -66,11 +66,7 @@ impl Fates {
         ensures { OnOk result (Tells event.now self.old self.new) }
     {
         match event {
-            Event::Did {
-                command,
-                values,
-                ..
-            } => self.note_done(command.get(), values.as_slice()),
+            Event::Did(done) => self.note_done(done.command(), done.values()),
             Event::Emptied { ids } => self.note_emptied(ids.as_slice()),
             Event::Taken { registration, .. } => self.note_taken(*registration),
             Event::JobBegun { .. }
@@ -84,7 +80,7 @@ impl Fates {
     }
 
     fn note_done(&mut self, command: &Command, values: &[Value]) -> Result<(), NoMemory>
-        ensures { OnOk result ((answer : Given) → Tells (Did command.now values.now answer) self.old self.new) }
+        ensures { OnOk result ((answer : Given) → Tells (Did (command.now, values.now, answer)) self.old self.new) }
     {
         if let Some(made) = made_by(command, values) {
             self.made.push(made)?;

@@ -65,8 +65,8 @@ after_command plan h e cursor p of is stands = record {
 }
 
 pub after_did : (plan : AgentPlan) (h : History) (c : Command) (vs : List Value) (r : Answer) (cursor : Cursor) (p : Position)
-    → p ≡ position_after plan cursor.job cursor.position → IsCursorOf plan h cursor → IsCursorOf plan (Did c vs r ∷ h) (record { job = cursor.job; position = p })
-after_did plan h c vs r cursor p is stands = after_command plan h (Did c vs r) cursor p (record { job = omega arith; phase = refl; cleaning = refl; left = refl }) is stands
+    → p ≡ position_after plan cursor.job cursor.position → IsCursorOf plan h cursor → IsCursorOf plan (Did (c, vs, r) ∷ h) (record { job = cursor.job; position = p })
+after_did plan h c vs r cursor p is stands = after_command plan h (Did (c, vs, r)) cursor p (record { job = omega arith; phase = refl; cleaning = refl; left = refl }) is stands
 
 pub after_emptied : (plan : AgentPlan) (h : History) (ids : List ℕ) (cursor : Cursor) (p : Position)
     → p ≡ position_after plan cursor.job cursor.position → IsCursorOf plan h cursor → IsCursorOf plan (Emptied ids ∷ h) (record { job = cursor.job; position = p })

@@ -106,7 +106,7 @@ impl Cursor {
                 job,
                 position: Position::Handed,
             },
-            Event::Did { .. } | Event::Emptied { .. } => Cursor {
+            Event::Did(_) | Event::Emptied { .. } => Cursor {
                 job,
                 position: self.position.after_command(plan, job),
             },

@@ -97,7 +97,7 @@ left_local over plan alone (e ∷ h) f = local_next over plan alone h (phase h) 
 -- So an event that comes next is one of the agent alone
 
 data IsOwn : Event → Type 0 where
-  own_command : (c : Command) (vs : List Value) (r : Answer) → is_shared c ≡ false → IsOwn (Did c vs r)
+  own_command : (c : Command) (vs : List Value) (r : Answer) → is_shared c ≡ false → IsOwn (Did (c, vs, r))
   own_refusal : (code : Refusal) → IsOwn (Refused code)
   own_other : (e : Event) → heard e ≡ silence → ((over other : Buffers) (into : Receivers) (h : History) → Lawful over into h e → Lawful other into h e) → IsOwn e
 

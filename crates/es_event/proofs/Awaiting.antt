@@ -33,7 +33,7 @@ use Rattle.es_event.proofs.Rising.{in_filter, in_numbers}
 -- the target of what is registered is not emptied then, over whatever table the event is lawful
 fresh_alive : (over other : Buffers) (plan : AgentPlan) (e : Event) (h : History) → Lawful other (receivers plan.jobs) h e → LegalBy over (receivers plan.jobs) h → Follows over plan h
     → (d : Cell) → registers e ≡ Some d → is_gone h d.target ≡ false
-fresh_alive over other plan (Did c vs r) h now l f d is =
+fresh_alive over other plan (Did (c, vs, r)) h now l f d is =
     let read : Alive h (second vs) = subst (Alive h) (ap second (sym now.0)) (second_of (Alive h) (receivers plan.jobs) h (reads c) (stays_along over plan h l f).held) in
     alive_at h (second vs) d.target read (made_by c vs r d is).target
 fresh_alive over other plan _ h now l f d is = cc
@@ -51,7 +51,7 @@ between_clean [] e = refl
 between_clean (JobBegun j ∷ h) e = cc
 between_clean (CleanupBegun q ∷ h) e = cc
 between_clean (Received t v ∷ h) e = cc
-between_clean (Did c vs r ∷ h) e = between_clean h e
+between_clean (Did (c, vs, r) ∷ h) e = between_clean h e
 between_clean (Refused code ∷ h) e = cc
 between_clean (Emptied ids ∷ h) e = between_clean h e
 between_clean (Taken n held ∷ h) e = between_clean h e
@@ -196,7 +196,7 @@ served_next over plan h at _ (receives j s v b none is on room) here l f served 
 served_next over plan h at _ (skips k j s b none is on same) here l f served n c a = served n c (awaited_before over over plan (Skipped k s) h l.0 l.1 f refl n c a)
 served_next over plan h at _ (refuses_message j code b none is on same) here l f served n c a = served n c (awaited_before over over plan (Refused code) h l.0 l.1 f refl n c a)
 served_next over plan h at _ (begins_cleanup r rs b is) here l f served n c a = served_begun r rs h c.registry (here ∙ b) is (served n c (awaited_before over over plan (CleanupBegun r) h l.0 l.1 f refl n c a))
-served_next over plan h at _ (does d cs vs r i is) here l f served n c a = served n c (awaited_before over over plan (Did d vs r) h l.0 l.1 f refl n c a)
+served_next over plan h at _ (does d cs vs r i is) here l f served n c a = served n c (awaited_before over over plan (Did (d, vs, r)) h l.0 l.1 f refl n c a)
 served_next over plan h at _ (refuses d cs code i is) here l f served n c a = served n c (awaited_before over over plan (Refused code) h l.0 l.1 f refl n c a)
 served_next over plan h at _ (empties_dead d cs ids i is co dead) here l f served n c a = served_emptied over (receivers plan.jobs) ids h l.1 served n c a
 served_next over plan h at _ (takes m v i is next) here l f served n c a = served n c (awaited_before over over plan (Taken m v) h l.0 l.1 f refl n c a)

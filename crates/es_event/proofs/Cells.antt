@@ -32,7 +32,7 @@ pub record Made (vs : List Value) (c : Cell) : Type 0 where
   pub held : third vs ≡ c.held
   pub token : identity (fourth vs) ≡ c.token
 
-pub made_by : (c : Command) (vs : List Value) (r : Answer) (q : Cell) → registers (Did c vs r) ≡ Some q → Made vs q
+pub made_by : (c : Command) (vs : List Value) (r : Answer) (q : Cell) → registers (Did (c, vs, r)) ≡ Some q → Made vs q
 made_by (Register x y v t) (Object r ∷ w ∷ held ∷ rest) a q e =
     let at = mapped (λ i. record { registry = r; target = i; held = held; token = identity (first rest) }) (identity w) q e in
     record { registry = ap (λ c. Object c.registry) at.2; target = at.1 ∙ ap (λ c. Some c.target) at.2; held = ap (λ c. c.held) at.2; token = ap (λ c. c.token) at.2 }
@@ -116,7 +116,7 @@ removed_cond false g f e = cc
 
 -- what an event took out is no longer in its registry
 removed_absent : (e : Event) (h : History) (n : ℕ) (f : Fate) → removes n h e ≡ Some f → is_present f ≡ false
-removed_absent (Did c vs r) h n f is = ap is_present (sym (removed_cond (unregisters_by c vs h n) unregistered f is))
+removed_absent (Did (c, vs, r)) h n f is = ap is_present (sym (removed_cond (unregisters_by c vs h n) unregistered f is))
 removed_absent (Taken m held) h n f is = ap is_present (sym (removed_cond (m == n) taken f is))
 removed_absent _ h n f is = cc
 
@@ -218,11 +218,11 @@ fate_untaken h m n held other = fate_same (Taken m held) h n refl refl (ap (λ b
 
 -- A command
 
-pub fate_unregistered : (c : Command) (vs : List Value) (r : Answer) (h : History) (n : ℕ) → is_present (fate h n) ≡ true → unregisters_by c vs h n ≡ true → fate (Did c vs r ∷ h) n ≡ unregistered
-fate_unregistered c vs r h n is out = fate_removed (Did c vs r) h n unregistered is (ap (λ b. cond b (Some unregistered) None) out)
+pub fate_unregistered : (c : Command) (vs : List Value) (r : Answer) (h : History) (n : ℕ) → is_present (fate h n) ≡ true → unregisters_by c vs h n ≡ true → fate (Did (c, vs, r) ∷ h) n ≡ unregistered
+fate_unregistered c vs r h n is out = fate_removed (Did (c, vs, r)) h n unregistered is (ap (λ b. cond b (Some unregistered) None) out)
 
-pub fate_left : (c : Command) (vs : List Value) (r : Answer) (h : History) (n : ℕ) → n ≤ registered h → unregisters_by c vs h n ≡ false → fate (Did c vs r ∷ h) n ≡ fate h n
-fate_left c vs r h n within left = fate_stays (Did c vs r) h n within refl (ap (λ b. cond b (Some unregistered) None) left)
+pub fate_left : (c : Command) (vs : List Value) (r : Answer) (h : History) (n : ℕ) → n ≤ registered h → unregisters_by c vs h n ≡ false → fate (Did (c, vs, r) ∷ h) n ≡ fate h n
+fate_left c vs r h n within left = fate_stays (Did (c, vs, r)) h n within refl (ap (λ b. cond b (Some unregistered) None) left)
 
 did_cond : (p u : Bool) (f g : Fate) → (p ≡ false → g ≡ f) → (p ≡ true → u ≡ true → g ≡ unregistered) → (u ≡ false → g ≡ f) → g ≡ cond (p && u) unregistered f
 did_cond false u f g absent out left = absent refl
@@ -230,14 +230,14 @@ did_cond true true f g absent out left = out refl refl
 did_cond true false f g absent out left = left refl
 
 -- what a command unregisters that is present is unregistered, and all else stays
-pub fate_did : (c : Command) (vs : List Value) (r : Answer) (h : History) (n : ℕ) → n ≤ registered h → fate (Did c vs r ∷ h) n ≡ cond (is_present (fate h n) && unregisters_by c vs h n) unregistered (fate h n)
+pub fate_did : (c : Command) (vs : List Value) (r : Answer) (h : History) (n : ℕ) → n ≤ registered h → fate (Did (c, vs, r) ∷ h) n ≡ cond (is_present (fate h n) && unregisters_by c vs h n) unregistered (fate h n)
 fate_did c vs r h n within =
-    did_cond (is_present (fate h n)) (unregisters_by c vs h n) (fate h n) (fate (Did c vs r ∷ h) n)
-    (fate_absent (Did c vs r) h n) (fate_unregistered c vs r h n) (fate_left c vs r h n within)
+    did_cond (is_present (fate h n)) (unregisters_by c vs h n) (fate h n) (fate (Did (c, vs, r) ∷ h) n)
+    (fate_absent (Did (c, vs, r)) h n) (fate_unregistered c vs r h n) (fate_left c vs r h n within)
 
 -- an unregister under the registry o and the token t takes out what is under both
 pub fate_under : (to q x : List ℕ) (o t : ℕ) (w : Value) (r : Answer) (h : History) (n : ℕ) → n ≤ registered h → identity w ≡ Some t
-    → fate (Did (Unregister to q x) (Object o ∷ w ∷ []) r ∷ h) n ≡ cond (is_present (fate h n) && is_under h o t n) unregistered (fate h n)
+    → fate (Did (Unregister to q x, Object o ∷ w ∷ [], r) ∷ h) n ≡ cond (is_present (fate h n) && is_under h o t n) unregistered (fate h n)
 fate_under to q x o t w r h n within token =
     fate_did (Unregister to q x) (Object o ∷ w ∷ []) r h n within
     ∙ ap (λ i. cond (is_present (fate h n) && option_map_or (λ i. is_under h o i n) i false) unregistered (fate h n)) token
@@ -290,7 +290,7 @@ unregisters_none _ vs h n at = refl
 
 -- nothing takes out what is not yet registered
 pub not_removed : (over : Buffers) (into : Receivers) (h : History) (e : Event) (n : ℕ) → Lawful over into h e → registered h < n → removes n h e ≡ None
-not_removed over into h (Did c vs r) n l late = ap (λ b. cond b (Some unregistered) None) (unregisters_none c vs h n (no_cell h n late))
+not_removed over into h (Did (c, vs, r)) n l late = ap (λ b. cond b (Some unregistered) None) (unregisters_none c vs h n (no_cell h n late))
 not_removed over into h (Taken m held) n l late =
     let at = mapped (λ c. c.held) (cell h m) held l.0 in
     elim (cases_Bool (m == n)) [
@@ -306,10 +306,10 @@ unremoved_yet over into (e ∷ h) l n late =
     ap (λ o. option_or o (removes n h e)) (unremoved_yet over into h l.1 n early) ∙ not_removed over into h e n l.0 early
 
 -- a new registration is live, where its target is there
-pub fate_new : (over : Buffers) (into : Receivers) (h : History) (c : Command) (vs : List Value) (r : Answer) (k : Cell) → LegalBy over into (Did c vs r ∷ h) → registers (Did c vs r) ≡ Some k → is_gone h k.target ≡ false
-    → fate (Did c vs r ∷ h) (registered h + 1) ≡ live
+pub fate_new : (over : Buffers) (into : Receivers) (h : History) (c : Command) (vs : List Value) (r : Answer) (k : Cell) → LegalBy over into (Did (c, vs, r) ∷ h) → registers (Did (c, vs, r)) ≡ Some k → is_gone h k.target ≡ false
+    → fate (Did (c, vs, r) ∷ h) (registered h + 1) ≡ live
 fate_new over into h c vs r k l new here =
-    let e : Event = Did c vs r in
+    let e : Event = Did (c, vs, r) in
     let n : ℕ = registered h + 1 in
     let late : registered h < n = omega arith in
     ap (λ o. unwrap_or (option_or o (removes n h e)) (present_fate (e ∷ h) n)) (unremoved_yet over into h l.1 n late)

@@ -34,7 +34,7 @@ pub data Comes (over : Buffers) (into : Receivers) (plan : AgentPlan) (h : Histo
   skips : (k : ℕ) (j : Job) (s : ℕ) → at ≡ between → queue h ≡ [] → slice_get plan.jobs (job h - 1) ≡ Some j → is_some j.on ≡ true → k ≡ job h → Comes over into plan h at (Skipped k s)
   refuses_message : (j : Job) (code : Refusal) → at ≡ between → queue h ≡ [] → slice_get plan.jobs (job h - 1) ≡ Some j → is_some j.on ≡ true → code ≡ TooManyValues → Comes over into plan h at (Refused code)
   begins_cleanup : (r : ℕ) (rs : List ℕ) → at ≡ between → queue h ≡ r ∷ rs → Comes over into plan h at (CleanupBegun r)
-  does : (c : Command) (cs : List Command) (vs : List Value) (r : Answer) → at ≡ inside → left plan h ≡ c ∷ cs → Comes over into plan h at (Did c vs r)
+  does : (c : Command) (cs : List Command) (vs : List Value) (r : Answer) → at ≡ inside → left plan h ≡ c ∷ cs → Comes over into plan h at (Did (c, vs, r))
   refuses : (c : Command) (cs : List Command) (code : Refusal) → at ≡ inside → left plan h ≡ c ∷ cs → Comes over into plan h at (Refused code)
   empties_dead : (c : Command) (cs : List Command) (ids : List ℕ) → at ≡ inside → left plan h ≡ c ∷ cs → collects_now h c ≡ true → AreDead into h ids → Comes over into plan h at (Emptied ids)
   takes : (n : ℕ) (v : Value) → at ≡ inside → left plan h ≡ [] → next_cell h ≡ Some n → Comes over into plan h at (Taken n v)
@@ -46,7 +46,7 @@ pub data Comes (over : Buffers) (into : Receivers) (plan : AgentPlan) (h : Histo
 
 comes_command : (over : Buffers) (into : Receivers) (plan : AgentPlan) (h : History) (c : Command) (cs : List Command) (e : Event) → left plan h ≡ c ∷ cs
     → Permits over into h (run c) e → Comes over into plan h inside e
-comes_command over into plan h c cs (Did d vs r) is p = does d cs vs r refl (subst (λ d. left plan h ≡ d ∷ cs) (sym p) is)
+comes_command over into plan h c cs (Did (d, vs, r)) is p = does d cs vs r refl (subst (λ d. left plan h ≡ d ∷ cs) (sym p) is)
 comes_command over into plan h c cs (Refused code) is p = refuses c cs code refl is
 comes_command over into plan h c cs (Emptied ids) is p = empties_dead c cs ids refl is p.0 p.1
 comes_command over into plan h c cs _ is p = absurd p

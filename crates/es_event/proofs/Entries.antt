@@ -53,7 +53,7 @@ pub record Wrote (vs : List Value) (q : (ℕ × ℕ) × Option Value) : Type 0 w
   pub key : identity (second vs) ≡ Some q.0.1
   pub value : (w : Value) → q.1 ≡ Some w → third vs ≡ w
 
-pub wrote : (c : Command) (vs : List Value) (r : Answer) (q : (ℕ × ℕ) × Option Value) → entered (Did c vs r) ≡ Some q → Wrote vs q
+pub wrote : (c : Command) (vs : List Value) (r : Answer) (q : (ℕ × ℕ) × Option Value) → entered (Did (c, vs, r)) ≡ Some q → Wrote vs q
 wrote (WeakMapSet m k y) (Object i ∷ w ∷ v ∷ []) r q e =
     let at = mapped (λ j. ((i, j), Some v)) (identity w) q e in
     record { map = ap (λ q. Object q.0.0) at.2; key = at.1 ∙ ap (λ q. Some q.0.1) at.2; value = λ u f. inner (ap (λ q. q.1) at.2 ∙ f) }
@@ -67,7 +67,7 @@ pub record Joined (vs : List Value) (q : (ℕ × ℕ) × Bool) : Type 0 where
   pub set : first vs ≡ Object q.0.0
   pub member : identity (second vs) ≡ Some q.0.1
 
-pub joins : (c : Command) (vs : List Value) (r : Answer) (q : (ℕ × ℕ) × Bool) → joined (Did c vs r) ≡ Some q → Joined vs q
+pub joins : (c : Command) (vs : List Value) (r : Answer) (q : (ℕ × ℕ) × Bool) → joined (Did (c, vs, r)) ≡ Some q → Joined vs q
 joins (WeakSetAdd s y) (Object i ∷ w ∷ []) r q e =
     let at = mapped (λ j. ((i, j), true)) (identity w) q e in
     record { set = ap (λ q. Object q.0.0) at.2; member = at.1 ∙ ap (λ q. Some q.0.1) at.2 }

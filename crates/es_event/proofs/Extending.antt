@@ -95,7 +95,7 @@ same_refusal over more into h l a c vs code e =
 
 -- One more event
 
-still_has : (over more : Buffers) (h : History) (c : Command) (vs : List Value) (r : Answer) → AgreeSoFar (Did c vs r ∷ h) over more → HasWords over (made h + 1) (opens_words c) → HasWords more (made h + 1) (opens_words c)
+still_has : (over more : Buffers) (h : History) (c : Command) (vs : List Value) (r : Answer) → AgreeSoFar (Did (c, vs, r) ∷ h) over more → HasWords over (made h + 1) (opens_words c) → HasWords more (made h + 1) (opens_words c)
 still_has over more h (SharedArrayBuffer to n) vs r a e = ap (option_map (λ r. r.words)) (a (made h + 1) (omega arith)) ∙ e
 still_has over more h _ vs r a e = tt
 
@@ -104,8 +104,8 @@ still_arrives over more h t (Object o) a x = (x.0, ap is_some (a o (omega (arith
 still_arrives over more h t _ a x = x
 
 pub still_lawful : (over more : Buffers) (into : Receivers) (h : History) (e : Event) → LegalBy over into h → AgreeSoFar (e ∷ h) over more → Lawful over into h e → Lawful more into h e
-still_lawful over more into h (Did c vs r) l a x =
-    (x.0, same_completion over more into h l (agrees_before (Did c vs r) h over more a) c vs (word_in r) ∙ x.1, x.2, still_has over more h c vs r a x.3)
+still_lawful over more into h (Did (c, vs, r)) l a x =
+    (x.0, same_completion over more into h l (agrees_before (Did (c, vs, r)) h over more a) c vs (word_in r) ∙ x.1, x.2, still_has over more h c vs r a x.3)
 still_lawful over more into h (Received t v) l a x = still_arrives over more h t v a x
 still_lawful over more into h _ l a x = x
 

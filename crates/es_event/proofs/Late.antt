@@ -56,14 +56,14 @@ given s h a (Some v) r e into is apart =
     let out : is_in (identity_given (Gives v)) in_s.0 ≡ false = subst (λ a. is_in (identity_given a) in_s.0 ≡ false) (sym is) (apart in_s.0 in_s.2) in
     absurd (false≢true (sym out ∙ own (identity v) in_s.0 in_s.1))
 
-deref_oblivious : (over : Buffers) (into : Receivers) (s : List ℕ) (h : History) (to w : List ℕ) (vs : List Value) (r : Answer) (b : Bool) → refers_into s h (first vs) ≡ b → Lawful over into h (Did (Deref to w) vs r)
+deref_oblivious : (over : Buffers) (into : Receivers) (s : List ℕ) (h : History) (to w : List ℕ) (vs : List Value) (r : Answer) (b : Bool) → refers_into s h (first vs) ≡ b → Lawful over into h (Did (Deref to w, vs, r))
     → ((i : ℕ) → is_in s i ≡ true → is_in (identity_given r) i ≡ false) → DerefOf b over into h (Deref to w) vs r
 deref_oblivious over into s h to w vs r false e l apart = l
 deref_oblivious over into s h to w vs r true e l apart = (l.0, given s h (first vs) (target_of h (first vs)) r refl e (is_result over h (Deref to w) vs (word_in r) r l.1) apart)
 
 event_oblivious : (over : Buffers) (into : Receivers) (s : List ℕ) (h : History) (e : Event) → Lawful over into h e → ((i : ℕ) → is_in s i ≡ true → is_in (derefs e) i ≡ false) → ObliviousOf s over into h e
-event_oblivious over into s h (Did (Deref to w) vs r) l apart = deref_oblivious over into s h to w vs r (refers_into s h (first vs)) refl l apart
-event_oblivious over into s h (Did c vs r) l apart = l
+event_oblivious over into s h (Did (Deref to w, vs, r)) l apart = deref_oblivious over into s h to w vs r (refers_into s h (first vs)) refl l apart
+event_oblivious over into s h (Did (c, vs, r)) l apart = l
 event_oblivious over into s h (Emptied ids) l apart = tt
 event_oblivious over into s h e l apart = l
 

@@ -48,9 +48,9 @@ map_test over h _ vs q e f = cc
 
 pub entry_in_map : (over : Buffers) (into : Receivers) (h : History) → LegalBy over into h → (m k : ℕ) (v : Value) → first_entry h m k ≡ Some v → is_weakmap (kind h m) ≡ true
 entry_in_map over into [] l m k v e = cc
-entry_in_map over into (Did c vs r ∷ h) l m k v e =
-    map_stays over into (Did c vs r) h l m
-    (at_either (λ a. a ≡ Some v → is_weakmap (kind h m) ≡ true) same_pair (m, k) (entered (Did c vs r)) (first_entry h m k)
+entry_in_map over into (Did (c, vs, r) ∷ h) l m k v e =
+    map_stays over into (Did (c, vs, r)) h l m
+    (at_either (λ a. a ≡ Some v → is_weakmap (kind h m) ≡ true) same_pair (m, k) (entered (Did (c, vs, r))) (first_entry h m k)
     (λ q s t f.
     let at : first vs ≡ Object m = (wrote c vs r q s).map ∙ ap Object (eqb-true q.0.0 m (and_parts (q.0.0 == m) (q.0.1 == k) t).0) in
     subst (λ w. is_weakmap (kind_of h w) ≡ true) at (map_test over h c vs q s (is_accepted over h c vs (word_in r) r l.0.1)))

@@ -59,15 +59,15 @@ not_both (Ok q) r a e f = cc
 not_both (Err code) r a e f = cc
 
 -- a command that is done
-done : (over : Buffers) (into : Receivers) (h : History) (c d : Command) (vs : List Value) (r : Answer) → Lawful over into h (Did d vs r) → d ≡ c
+done : (over : Buffers) (into : Receivers) (h : History) (c d : Command) (vs : List Value) (r : Answer) → Lawful over into h (Did (d, vs, r)) → d ≡ c
     → (vs ≡ values_of into h (reads c)) × (completion over h c (values_of into h (reads c)) (word_in r) ≡ Ok r) × (collects c ≡ false)
 done over into h c d vs r l e =
     let read : vs ≡ values_of into h (reads c) = l.0 ∙ ap (λ c. values_of into h (reads c)) e in
     let gave : completion over h c vs (word_in r) ≡ Ok r = subst (λ c. completion over h c vs (word_in r) ≡ Ok r) e l.1 in
     (read, subst (λ ws. completion over h c ws (word_in r) ≡ Ok r) read gave, subst (λ c. collects c ≡ false) e l.2)
 
-same_done : (c d b : Command) (vs ws : List Value) (r q : Answer) → d ≡ c → b ≡ c → vs ≡ ws → r ≡ q → ◌≡◌ {A = Event} (Did d vs r) (Did b ws q)
-same_done c d b vs ws r q e f g k = ap (λ x. Did x vs r) (e ∙ sym f) ∙ (ap (λ x. Did b x r) g ∙ ap (Did b ws) k)
+same_done : (c d b : Command) (vs ws : List Value) (r q : Answer) → d ≡ c → b ≡ c → vs ≡ ws → r ≡ q → ◌≡◌ {A = Event} (Did (d, vs, r)) (Did (b, ws, q))
+same_done c d b vs ws r q e f g k = ap (λ x. Did (x, vs, r)) (e ∙ sym f) ∙ (ap (λ x. Did (b, x, r)) g ∙ ap (λ x. Did (b, ws, x)) k)
 
 -- the word matters only to a command that reads one
 a_word_of : (v w : ℕ) → a_word v ≡ a_word w → v ≡ w
@@ -97,20 +97,20 @@ inner_code : (a b : Refusal) → ◌≡◌ {A = Option Refusal} (Some a) (Some b
 inner_code a b e = cc
 
 one_at_command : (over : Buffers) (into : Receivers) (h : History) (c : Command) (e f : Event) → Lawful over into h e → AtCommand over into h c e → Lawful over into h f → AtCommand over into h c f → heard e ≡ heard f → e ≡ f
-one_at_command over into h c (Did d vs r) (Did b ws q) l p m o s =
+one_at_command over into h c (Did (d, vs, r)) (Did (b, ws, q)) l p m o s =
     let x = done over into h c d vs r l p in
     let y = done over into h c b ws q m o in
     let alike : heard_by c r ≡ heard_by c q = ap (λ c. heard_by c r) (sym p) ∙ (s ∙ ap (λ c. heard_by c q) o) in
     same_done c d b vs ws r q p o (x.0 ∙ sym y.0) (same_answer (completion over h c (values_of into h (reads c)) (word_in r)) r q x.1 (same_word over h c (values_of into h (reads c)) r q alike ∙ y.1))
-one_at_command over into h c (Did d vs r) (Refused code) l p m o s = absurd (refused_not over h c (values_of into h (reads c)) r code (done over into h c d vs r l p).1 o)
-one_at_command over into h c (Did d vs r) (Emptied ids) l p m o s = absurd (false≢true (sym (done over into h c d vs r l p).2 ∙ now_collects h c o.0))
-one_at_command over into h c (Refused code) (Did b ws q) l p m o s = absurd (refused_not over h c (values_of into h (reads c)) q code (done over into h c b ws q m o).1 p)
+one_at_command over into h c (Did (d, vs, r)) (Refused code) l p m o s = absurd (refused_not over h c (values_of into h (reads c)) r code (done over into h c d vs r l p).1 o)
+one_at_command over into h c (Did (d, vs, r)) (Emptied ids) l p m o s = absurd (false≢true (sym (done over into h c d vs r l p).2 ∙ now_collects h c o.0))
+one_at_command over into h c (Refused code) (Did (b, ws, q)) l p m o s = absurd (refused_not over h c (values_of into h (reads c)) q code (done over into h c b ws q m o).1 p)
 one_at_command over into h c (Refused a) (Refused b) l p m o s = ap Refused (inner_code a b (sym p ∙ o))
 one_at_command over into h c (Refused code) (Emptied ids) l p m o s = absurd (never_refused over h c (values_of into h (reads c)) code o.0 p)
-one_at_command over into h c (Emptied ids) (Did b ws q) l p m o s = absurd (false≢true (sym (done over into h c b ws q m o).2 ∙ now_collects h c p.0))
+one_at_command over into h c (Emptied ids) (Did (b, ws, q)) l p m o s = absurd (false≢true (sym (done over into h c b ws q m o).2 ∙ now_collects h c p.0))
 one_at_command over into h c (Emptied ids) (Refused code) l p m o s = absurd (never_refused over h c (values_of into h (reads c)) code p.0 o)
 one_at_command over into h c (Emptied ids) (Emptied jds) l p m o s = ap Emptied (one_list into h ids jds p.1 o.1 l.1 m.1)
-one_at_command over into h c (Did d vs r) _ l p m o s = absurd o
+one_at_command over into h c (Did (d, vs, r)) _ l p m o s = absurd o
 one_at_command over into h c (Refused code) _ l p m o s = absurd o
 one_at_command over into h c (Emptied ids) _ l p m o s = absurd o
 one_at_command over into h c _ f l p m o s = absurd p
@@ -229,7 +229,7 @@ answered : (over : Buffers) (into : Receivers) (h : History) (c : Command) → c
 answered over into h c e (Ok r) is = record {
   more = with_block over h (opens_words c);
   agrees = block_agrees over h (opens_words c);
-  event = Did c (values_of into h (reads c)) r;
+  event = Did (c, values_of into h (reads c), r);
   lawful = (refl, its_own_word (with_block over h (opens_words c)) h c (values_of into h (reads c)) r is, e, block_there over h (opens_words c));
   permitted = refl;
 }

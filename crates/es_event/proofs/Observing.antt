@@ -89,12 +89,12 @@ read_next : (over : Buffers) (into : Receivers) (h : History) (s : List ℕ) (b 
     → ((x : List ℕ) → length x < n → var into (later ++ h) x ≡ var into (now ++ h) x) → Brought over into h s b n now v
 read_next over into h s b n now later c vs v above to makes puts enters did before others =
     let g : History = later ++ h in
-    let var_after : (x : List ℕ) → var into (Did c vs (Gives v) ∷ g) x ≡ unwrap_or (cond (bytes_eq (word n) x) (Some v) None) (var into g x)
+    let var_after : (x : List ℕ) → var into (Did (c, vs, Gives v) ∷ g) x ≡ unwrap_or (cond (bytes_eq (word n) x) (Some v) None) (var into g x)
     = λ x. ap (λ t. unwrap_or (at_key bytes_eq x (option_map (λ y. (y, v)) t)) (var into g x)) to in
-    let left : (x : List ℕ) → length x < n → var into (Did c vs (Gives v) ∷ g) x ≡ var into g x
+    let left : (x : List ℕ) → length x < n → var into (Did (c, vs, Gives v) ∷ g) x ≡ var into g x
     = λ x short. var_after x ∙ ap (λ t. unwrap_or (cond t (Some v) None) (var into g x)) (other_name n x short) in
     record {
-      later = Did c vs (Gives v) ∷ later;
+      later = Did (c, vs, Gives v) ∷ later;
       reading = record {
         oblivious = (did, before.oblivious);
         variables = λ x short. left x (omega (arith, short, above)) ∙ before.variables x short;
@@ -153,7 +153,7 @@ held_live over into h s v l held e =
       other = into;
       agree = agrees into h;
       before = r.later;
-      event = Did (Say r.place) (v ∷ []) Nothing;
+      event = Did (Say r.place, v ∷ [], Nothing);
       oblivious = ((ap (λ a. a ∷ []) (sym r.there), refl, refl, tt), r.reading.oblivious);
       observed = or_left (has_identity_in s v) false e;
     })

@@ -26,7 +26,7 @@ one_since e h p is same s = record {
 
 pub since_copy : (h p : History) → snapshot h ≡ Some p → Since h p
 since_copy [] p e = cc
-since_copy (Did CollectLater vs r ∷ h) p e = let same_copy : Did CollectLater vs r ∷ h ≡ p = cc in record { later = []; whole = same_copy; gave = refl; still = ap gone same_copy }
-since_copy (Did c vs r ∷ h) p e = one_since (Did c vs r) h p refl refl (since_copy h p e)
+since_copy (Did (CollectLater, vs, r) ∷ h) p e = let same_copy : Did (CollectLater, vs, r) ∷ h ≡ p = cc in record { later = []; whole = same_copy; gave = refl; still = ap gone same_copy }
+since_copy (Did (c, vs, r) ∷ h) p e = one_since (Did (c, vs, r)) h p refl refl (since_copy h p e)
 since_copy (Emptied ids ∷ h) p e = cc
 since_copy (x ∷ h) p e = one_since x h p refl refl (since_copy h p e)

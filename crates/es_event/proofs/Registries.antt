@@ -54,9 +54,9 @@ registry_test over h _ vs k e f = cc
 
 pub cell_registry : (over : Buffers) (into : Receivers) (h : History) → LegalBy over into h → (n : ℕ) (k : Cell) → cell h n ≡ Some k → is_registry (kind h k.registry) ≡ true
 cell_registry over into [] l n k e = cc
-cell_registry over into (Did c vs r ∷ h) l n k e =
-    registry_stays over into (Did c vs r) h l k.registry
-    (cell_either (is_registry (kind h k.registry) ≡ true) (Did c vs r) h n k
+cell_registry over into (Did (c, vs, r) ∷ h) l n k e =
+    registry_stays over into (Did (c, vs, r)) h l k.registry
+    (cell_either (is_registry (kind h k.registry) ≡ true) (Did (c, vs, r)) h n k
     (λ s t. subst (λ w. is_registry (kind_of h w) ≡ true) (made_by c vs r k s).registry
     (registry_test over h c vs k s (is_accepted over h c vs (word_in r) r l.0.1)))
     (λ before. cell_registry over into h l.1 n k before) e)
@@ -105,12 +105,12 @@ registry_there over plan h l f n k e =
 
 -- what a command registers is not emptied
 pub registered_there : (over : Buffers) (plan : AgentPlan) (h : History) (c : Command) (vs : List Value) (r : Answer) (k : Cell)
-    → LegalBy over (receivers plan.jobs) (Did c vs r ∷ h) → Follows over plan (Did c vs r ∷ h) → registers (Did c vs r) ≡ Some k → is_gone h k.target ≡ false
+    → LegalBy over (receivers plan.jobs) (Did (c, vs, r) ∷ h) → Follows over plan (Did (c, vs, r) ∷ h) → registers (Did (c, vs, r)) ≡ Some k → is_gone h k.target ≡ false
 registered_there over plan h c vs r k l f new =
     let into : Receivers = receivers plan.jobs in
     let alive : Alive h (second vs) = subst (Alive h) (ap second (sym l.0.0)) (second_of (Alive h) into h (reads c) (stays_along over plan h l.1 f.1).held) in
     alive_at h (second vs) k.target alive (made_by c vs r k new).target
 
 pub registered_live : (over : Buffers) (plan : AgentPlan) (h : History) (c : Command) (vs : List Value) (r : Answer) (k : Cell)
-    → LegalBy over (receivers plan.jobs) (Did c vs r ∷ h) → Follows over plan (Did c vs r ∷ h) → registers (Did c vs r) ≡ Some k → fate (Did c vs r ∷ h) (registered h + 1) ≡ live
+    → LegalBy over (receivers plan.jobs) (Did (c, vs, r) ∷ h) → Follows over plan (Did (c, vs, r) ∷ h) → registers (Did (c, vs, r)) ≡ Some k → fate (Did (c, vs, r) ∷ h) (registered h + 1) ≡ live
 registered_live over plan h c vs r k l f new = fate_new over (receivers plan.jobs) h c vs r k l new (registered_there over plan h c vs r k l f new)

@@ -74,7 +74,7 @@ not_out into h s m all i out here =
 
 same_assigned : (into other : Receivers) (h : History) (e : Event) → other h ≡ into h → assigned other h e ≡ assigned into h e
 same_assigned into other h (Received t v) a = ap (λ x. Some (x, v)) a
-same_assigned into other h (Did c vs r) a = refl
+same_assigned into other h (Did (c, vs, r)) a = refl
 same_assigned into other h _ a = refl
 
 -- receivers that agree along a history say the same of its variables
@@ -131,7 +131,7 @@ held_target into h s m all f a v outside e = at_object (Held h m v) (target (f +
     not_out into h s m all i (in_set s v i out is) (not_gone f h i (in_set (gone (f ++ h)) v i from.1 is))) e
 
 gave_lawful : (over : Buffers) (other : Receivers) (h : History) (s : List ℕ) (m : ℕ → Bool) → IsClosedBeside s other h m → (f : History) (c : Command) (vs : List Value) (r : Answer)
-    → Holds (Held h m) other (f ++ h) → (IsDeref c → refers_into s (f ++ h) (first vs) ≡ false) → Lawful over other (f ++ h) (Did c vs r) → Gave (Held h m) other (f ++ h) c vs r
+    → Holds (Held h m) other (f ++ h) → (IsDeref c → refers_into s (f ++ h) (first vs) ≡ false) → Lawful over other (f ++ h) (Did (c, vs, r)) → Gave (Held h m) other (f ++ h) c vs r
 gave_lawful over other h s m all f c vs r holds outside l = record {
   values = l.0;
   answer = λ v e. gives_held (Held h m) other (f ++ h) c vs v holds l.0
@@ -149,7 +149,7 @@ gave_deref over other h s m all f to w vs r true holds e l = record { values = l
 gave_deref over other h s m all f to w vs r false holds e l = gave_lawful over other h s m all f (Deref to w) vs r holds (λ d. e) l
 
 pub gave : (over : Buffers) (other : Receivers) (h : History) (s : List ℕ) (m : ℕ → Bool) → IsClosedBeside s other h m → (f : History) (c : Command) (vs : List Value) (r : Answer)
-    → Holds (Held h m) other (f ++ h) → ObliviousOf s over other (f ++ h) (Did c vs r) → Gave (Held h m) other (f ++ h) c vs r
+    → Holds (Held h m) other (f ++ h) → ObliviousOf s over other (f ++ h) (Did (c, vs, r)) → Gave (Held h m) other (f ++ h) c vs r
 gave over other h s m all f (Deref to w) vs r holds l = gave_deref over other h s m all f to w vs r _ holds refl l
 gave over other h s m all f c vs r holds l = gave_lawful over other h s m all f c vs r holds (λ d. absurd d) l
 
@@ -161,7 +161,7 @@ holds_along over other h s m all (Received t v ∷ f) o =
     let before = holds_along over other h s m all f o.1 in
     holds_received (Held h m) other (f ++ h) t v before
     (arrives_held (Held h m) over (f ++ h) v before.plain (λ i n. held_object h m i (made_later h (f ++ h) m i (made_more f h) n)) o.0)
-holds_along over other h s m all (Did c vs r ∷ f) o =
+holds_along over other h s m all (Did (c, vs, r) ∷ f) o =
     let before = holds_along over other h s m all f o.1 in
     let given = gave over other h s m all f c vs r before o.0 in
     holds_did (Held h m) other (f ++ h) c vs r before given.values given.answer
@@ -172,7 +172,7 @@ holds_along over other h s m all (e ∷ f) o =
 keeps_along : (over : Buffers) (other : Receivers) (h : History) (s : List ℕ) (m : ℕ → Bool) → IsClosedBeside s other h m → (f : History) → Oblivious s over other h f
     → (i : ℕ) → is_in (kept (f ++ h)) i ≡ true → with_later h m i ≡ true
 keeps_along over other h s m all [] o i e = by_set h m i (all.closed.kept i e)
-keeps_along over other h s m all (Did c vs r ∷ f) o i e =
+keeps_along over other h s m all (Did (c, vs, r) ∷ f) o i e =
     let before = holds_along over other h s m all f o.1 in
     let given = gave over other h s m all f c vs r before o.0 in
     let read : Held h m (first vs) = subst (Held h m) (ap first (sym given.values)) (first_of (Held h m) other (f ++ h) (reads c) before) in

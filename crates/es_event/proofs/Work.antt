@@ -155,7 +155,7 @@ pub record Shut (h : History) : Type 0 where
   pub at_handed : phase h ≡ handed → snapshot h ≡ None
   pub in_cleaning : (r : ℕ) → cleaning h ≡ Some r → snapshot h ≡ None
 
-not_opened : (c : Command) (vs : List Value) (a : Answer) (h : History) → opens_or_collects c ≡ false → snapshot (Did c vs a ∷ h) ≡ snapshot h
+not_opened : (c : Command) (vs : List Value) (a : Answer) (h : History) → opens_or_collects c ≡ false → snapshot (Did (c, vs, a) ∷ h) ≡ snapshot h
 not_opened CollectLater vs a h e = cc
 not_opened _ vs a h e = refl
 
@@ -170,7 +170,7 @@ shut_next over plan h at (Received t v) (receives j _ _ b none is on room) here 
 shut_next over plan h at (Skipped k t) (skips _ j _ b none is on same) here s q = all_shut (Skipped k t ∷ h) (s.at_between (here ∙ b))
 shut_next over plan h at (Refused code) (refuses_message j _ b none is on same) here s q = all_shut (Refused code ∷ h) (s.at_between (here ∙ b))
 shut_next over plan h at (CleanupBegun r) (begins_cleanup _ rs b is) here s q = all_shut (CleanupBegun r ∷ h) (s.at_between (here ∙ b))
-shut_next over plan h at (Did d vs a) (does _ cs _ _ i is) here s q = record {
+shut_next over plan h at (Did (d, vs, a)) (does _ cs _ _ i is) here s q = record {
   at_between = λ e. let now : inside ≡ between = sym (here ∙ i) ∙ e in cc;
   at_handed = λ e. let now : inside ≡ handed = sym (here ∙ i) ∙ e in cc;
   in_cleaning = λ r e.
@@ -217,11 +217,11 @@ falls_begun plan h r rs is cells =
     let after : length (drop 1 (queue h)) ≡ length rs = ap (λ q. length (drop 1 q)) is in
     (omega (arith, before, after, cells), same_work plan (CleanupBegun r ∷ h) h (omega arith))
 
-falls_did : (plan : AgentPlan) (h : History) (q : ℕ) (d c : Command) (cs : List Command) (vs : List Value) (r : Answer) → left plan h ≡ c ∷ cs → CellsFall plan (Did d vs r) h → Falls plan h (Did d vs r) (Some q) inside
+falls_did : (plan : AgentPlan) (h : History) (q : ℕ) (d c : Command) (cs : List Command) (vs : List Value) (r : Answer) → left plan h ≡ c ∷ cs → CellsFall plan (Did (d, vs, r)) h → Falls plan h (Did (d, vs, r)) (Some q) inside
 falls_did plan h q d c cs vs r is cells =
     let before : length (left plan h) ≡ suc (length cs) = ap length is in
     let after : length (drop 1 (left plan h)) ≡ length cs = ap (λ l. length (drop 1 l)) is in
-    (omega (arith, before, after, cells), same_work plan (Did d vs r ∷ h) h (omega arith))
+    (omega (arith, before, after, cells), same_work plan (Did (d, vs, r) ∷ h) h (omega arith))
 
 falls_refused : (plan : AgentPlan) (h : History) (q : ℕ) (c : Command) (cs : List Command) (code : Refusal) → left plan h ≡ c ∷ cs → CellsFall plan (Refused code) h → Falls plan h (Refused code) (Some q) inside
 falls_refused plan h q c cs code is cells =
@@ -293,8 +293,8 @@ falls_next over other plan h at _ (begins_cleanup r rs b is) here all now l f up
     (falls_begun plan h r rs is (cells_fall plan (CleanupBegun r) h (awaited_before over other plan (CleanupBegun r) h now l f refl)))
 falls_next over other plan h at _ (does c cs vs r i is) here all now l f up =
     let clean = in_cleanup h inside up (here ∙ i) (λ e. cc) in
-    moved plan h (Did c vs r) (Some clean.0) inside clean.1 (here ∙ i)
-    (falls_did plan h clean.0 c c cs vs r is (cells_fall plan (Did c vs r) h (awaited_before over other plan (Did c vs r) h now l f refl)))
+    moved plan h (Did (c, vs, r)) (Some clean.0) inside clean.1 (here ∙ i)
+    (falls_did plan h clean.0 c c cs vs r is (cells_fall plan (Did (c, vs, r)) h (awaited_before over other plan (Did (c, vs, r)) h now l f refl)))
 falls_next over other plan h at _ (refuses c cs code i is) here all now l f up =
     let clean = in_cleanup h inside up (here ∙ i) (λ e. cc) in
     moved plan h (Refused code) (Some clean.0) inside clean.1 (here ∙ i)
@@ -374,12 +374,12 @@ drops_unreceived plan h code j at =
 same_cost : (plan : AgentPlan) (g h : History) → job g ≡ job h → cost (drop (job g) plan.jobs) ≡ cost (drop (job h) plan.jobs)
 same_cost plan g h e = ap (λ n. cost (drop n plan.jobs)) e
 
-drops_did : (plan : AgentPlan) (h : History) (d c : Command) (cs : List Command) (vs : List Value) (r : Answer) → left plan h ≡ c ∷ cs → Drops plan h (Did d vs r) None inside
+drops_did : (plan : AgentPlan) (h : History) (d c : Command) (cs : List Command) (vs : List Value) (r : Answer) → left plan h ≡ c ∷ cs → Drops plan h (Did (d, vs, r)) None inside
 drops_did plan h d c cs vs r is =
-    let jobs = same_cost plan (Did d vs r ∷ h) h (omega arith) in
+    let jobs = same_cost plan (Did (d, vs, r) ∷ h) h (omega arith) in
     let before : length (left plan h) ≡ suc (length cs) = ap length is in
     let after : length (drop 1 (left plan h)) ≡ length cs = ap (λ l. length (drop 1 l)) is in
-    omega (arith, jobs, before, after, open_most (Did d vs r ∷ h))
+    omega (arith, jobs, before, after, open_most (Did (d, vs, r) ∷ h))
 
 drops_emptied : (plan : AgentPlan) (h : History) (ids : List ℕ) (c : Command) (cs : List Command) → left plan h ≡ c ∷ cs → Drops plan h (Emptied ids) None inside
 drops_emptied plan h ids c cs is =
@@ -436,7 +436,7 @@ drops_next over other plan h at _ (refuses_message j code b none is on same) her
 drops_next over other plan h at _ (begins_cleanup r rs b is) here f clean up =
     let due : is_cleaning_up h ≡ true = ap (λ o. cleans_up o (phase h) (queue h)) clean ∙ (ap (λ at. cleans_up None at (queue h)) (here ∙ b) ∙ ap (cleans_up None between) is) in
     absurd (false≢true (sym up ∙ due))
-drops_next over other plan h at _ (does c cs vs r i is) here f clean up = settled plan h (Did c vs r) inside clean (here ∙ i) (drops_did plan h c c cs vs r is)
+drops_next over other plan h at _ (does c cs vs r i is) here f clean up = settled plan h (Did (c, vs, r)) inside clean (here ∙ i) (drops_did plan h c c cs vs r is)
 drops_next over other plan h at _ (refuses c cs code i is) here f clean up = settled plan h (Refused code) inside clean (here ∙ i) (drops_refused plan h code c cs is)
 drops_next over other plan h at _ (empties_dead c cs ids i is co dead) here f clean up = settled plan h (Emptied ids) inside clean (here ∙ i) (drops_emptied plan h ids c cs is)
 drops_next over other plan h at _ (takes n v i is next) here f clean up = let none : next_cell h ≡ None = ap (option_and_then (first_awaiting h)) clean in absurd (taken_none n (sym none ∙ next))

@@ -17,7 +17,7 @@ abbrev pub derefs : Event → List ℕ
 derefs (JobBegun j) = []
 derefs (CleanupBegun q) = []
 derefs (Received t v) = []
-derefs (Did c vs r) = derefs_by c r
+derefs (Did (c, vs, r)) = derefs_by c r
 derefs (Refused code) = []
 derefs (Emptied ids) = []
 derefs (Taken n held) = []

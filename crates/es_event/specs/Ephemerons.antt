@@ -28,7 +28,7 @@ abbrev pub entered : Event → Option ((ℕ × ℕ) × Option Value)
 entered (JobBegun j) = None
 entered (CleanupBegun q) = None
 entered (Received t v) = None
-entered (Did c vs r) = entered_by c vs
+entered (Did (c, vs, r)) = entered_by c vs
 entered (Refused code) = None
 entered (Emptied ids) = None
 entered (Taken n held) = None
@@ -58,7 +58,7 @@ abbrev pub joined : Event → Option ((ℕ × ℕ) × Bool)
 joined (JobBegun j) = None
 joined (CleanupBegun q) = None
 joined (Received t v) = None
-joined (Did c vs r) = joined_by c vs
+joined (Did (c, vs, r)) = joined_by c vs
 joined (Refused code) = None
 joined (Emptied ids) = None
 joined (Taken n held) = None

@@ -19,7 +19,7 @@ abbrev pub begins_later : Event → Bool
 begins_later (JobBegun j) = false
 begins_later (CleanupBegun q) = false
 begins_later (Received t v) = false
-begins_later (Did c vs r) = is_later c
+begins_later (Did (c, vs, r)) = is_later c
 begins_later (Refused code) = false
 begins_later (Emptied ids) = false
 begins_later (Taken n held) = false
@@ -37,7 +37,7 @@ abbrev pub snapshots : History → Event → Option (Option History)
 snapshots earlier (JobBegun j) = None
 snapshots earlier (CleanupBegun q) = None
 snapshots earlier (Received t v) = None
-snapshots earlier (Did c vs r) = taken_by c (Did c vs r ∷ earlier)
+snapshots earlier (Did (c, vs, r)) = taken_by c (Did (c, vs, r) ∷ earlier)
 snapshots earlier (Refused code) = None
 snapshots earlier (Emptied ids) = Some None
 snapshots earlier (Taken n held) = None

@@ -45,7 +45,7 @@ abbrev pub registers : Event → Option Cell
 registers (JobBegun j) = None
 registers (CleanupBegun q) = None
 registers (Received t v) = None
-registers (Did c vs r) = registers_by c vs
+registers (Did (c, vs, r)) = registers_by c vs
 registers (Refused code) = None
 registers (Emptied ids) = None
 registers (Taken n held) = None
@@ -103,7 +103,7 @@ abbrev pub removes : ℕ → History → Event → Option Fate
 removes n earlier (JobBegun j) = None
 removes n earlier (CleanupBegun q) = None
 removes n earlier (Received t v) = None
-removes n earlier (Did c vs r) = if unregisters_by c vs earlier n then Some unregistered else None
+removes n earlier (Did (c, vs, r)) = if unregisters_by c vs earlier n then Some unregistered else None
 removes n earlier (Refused code) = None
 removes n earlier (Emptied ids) = None
 removes n earlier (Taken m held) = if m == n then Some taken else None

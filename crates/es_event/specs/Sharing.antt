@@ -51,7 +51,7 @@ abbrev pub opens_at : Event → ℕ
 opens_at (JobBegun j) = 0
 opens_at (CleanupBegun q) = 0
 opens_at (Received t v) = 0
-opens_at (Did c vs r) = option_map_or (λ n. 1) (opens_words c) 0
+opens_at (Did (c, vs, r)) = option_map_or (λ n. 1) (opens_words c) 0
 opens_at (Refused code) = 0
 opens_at (Emptied ids) = 0
 opens_at (Taken n held) = 0
@@ -68,7 +68,7 @@ abbrev pub posts_at : Event → ℕ
 posts_at (JobBegun j) = 0
 posts_at (CleanupBegun q) = 0
 posts_at (Received t v) = 0
-posts_at (Did c vs r) = if posts c then 1 else 0
+posts_at (Did (c, vs, r)) = if posts c then 1 else 0
 posts_at (Refused code) = 0
 posts_at (Emptied ids) = 0
 posts_at (Taken n held) = 0

@@ -2,12 +2,15 @@
 #![tactic(auto)]
 
 mod command;
+mod done;
 mod event;
+mod kept;
 mod laws;
 mod ledger_event;
 mod literal;
 mod log;
 mod operands;
+mod optional_name;
 mod outcome;
 mod plan;
 mod plan_command;
@@ -16,6 +19,7 @@ mod sequence;
 mod shared_list;
 
 pub use command::{Command, OperandNames};
+pub use done::{AnswerRef, Done};
 pub use event::{Answer, Event, Refusal};
 pub use laws::{
     Members, a_closed_set_stays_closed, a_message_may_come, a_plan_has_one_outcome,
@@ -33,6 +37,7 @@ pub use ledger_event::{Body, LedgerEvent};
 pub use literal::Literal;
 pub use log::Log;
 pub use operands::Operands;
+pub use optional_name::OptionalName;
 pub use outcome::Outcome;
 pub use plan::{AgentPlan, Callback, Job, Plan};
 pub use plan_command::PlanCommand;

@@ -60,11 +60,12 @@ impl<E> Log<E> {
 
 impl<E: Drop> Log<E> {
     /// Adds an event, for which there is room; it takes no memory.
+    #[inline(always)]
     pub fn append(&mut self, event: E)
         requires { 0 < self.old.room }
         ensures events { self.new.events ≡ event ∷ self.old.events }
         ensures room { self.old.room ≤ self.new.room + 1 }
     {
-        let _ = self.all.push(event);
+        self.all.push_reserved(event);
     }
 }

@@ -6,18 +6,19 @@ use crate::Sequence;
 use es_value::Value;
 use std::marker::Model;
 
-/// The values that a command read, in order, which contracts see as their list. Up to two lie in
+/// The values that a command read, in order, which contracts see as their list. Up to three lie in
 /// place.
 #[derive(Drop)]
 pub struct Operands {
-    held: Held,
+    pub(crate) held: Held,
 }
 
 #[derive(Drop)]
-enum Held {
+pub(crate) enum Held {
     Nothing,
     One([Value; 1]),
     Two([Value; 2]),
+    Three([Value; 3]),
     More(Sequence<Value>),
 }
 
@@ -59,6 +60,15 @@ impl Operands {
         }
     }
 
+    /// Three values, in this order.
+    pub fn of_three(first: Value, second: Value, third: Value) -> Operands
+        ensures { result ≡ first ∷ second ∷ third ∷ [] }
+    {
+        Operands {
+            held: Held::Three([first, second, third]),
+        }
+    }
+
     /// Any number of values, which it keeps.
     pub fn of_sequence(values: Sequence<Value>) -> Operands
         ensures { result ≡ values }
@@ -76,6 +86,7 @@ impl Operands {
             Held::Nothing => &[],
             Held::One(values) => values.as_slice(),
             Held::Two(values) => values.as_slice(),
+            Held::Three(values) => values.as_slice(),
             Held::More(values) => values.as_slice(),
         }
     }

@@ -10,8 +10,8 @@ use std::marker::Model;
 /// which the plan shares, and its place there. So an event copies no name and no operand.
 #[derive(Drop)]
 pub struct PlanCommand {
-    commands: SharedList<Command>,
-    place: usize,
+    pub(crate) commands: SharedList<Command>,
+    pub(crate) place: u32,
 }
 
 impl Model for PlanCommand {
@@ -32,6 +32,7 @@ impl PlanCommand {
         requires { place < length commands.now }
         ensures { IfOk result (λ c. slice_get commands.now place ≡ Some c) }
     {
+        let place = u32::try_from(place).map_err(|_| NoMemory)?;
         let commands = commands.copy()?;
         Ok(PlanCommand { commands, place })
     }
@@ -40,6 +41,6 @@ impl PlanCommand {
     pub fn get(&self) -> &Command
         ensures { result.now ≡ self.now }
     {
-        &self.commands.as_slice()[self.place]
+        &self.commands.as_slice()[self.place as usize]
     }
 }

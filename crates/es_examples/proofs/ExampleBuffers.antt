@@ -63,17 +63,17 @@ z = codes "z"
 -- Events
 
 abbrev pub said : List ℕ → Value → Event
-said from v = Did (Say from) (v ∷ []) Nothing
+said from v = Did (Say from, v ∷ [], Nothing)
 
 -- a buffer over a new block of so many words
 abbrev pub made_buffer : List ℕ → ℕ → ℕ → Event
-made_buffer to words i = Did (SharedArrayBuffer to words) [] (Gives (Object i))
+made_buffer to words i = Did (SharedArrayBuffer to words, [], Gives (Object i))
 
 abbrev pub loaded : List ℕ → List ℕ → ℤ → ℕ → ℕ → Event
-loaded to from i buffer word = Did (Load to from i) (Object buffer ∷ []) (Gives (Number (pos word)))
+loaded to from i buffer word = Did (Load to from i, Object buffer ∷ [], Gives (Number (pos word)))
 
 abbrev pub made_new : List ℕ → ℕ → Event
-made_new to i = Did (New to) [] (Gives (Object i))
+made_new to i = Did (New to, [], Gives (Object i))
 
 -- A word is 32 bits: the least number below 0 is the greatest word, and an addition begins at 0 again
 
@@ -93,7 +93,7 @@ abbrev pub made_words : History
 made_words = made_buffer b 1 1 ∷ begun_words
 
 abbrev pub stored : History
-stored = Did (Store b (pos 0) (negsuc 0)) (Object 1 ∷ []) Nothing ∷ made_words
+stored = Did (Store b (pos 0) (negsuc 0), Object 1 ∷ [], Nothing) ∷ made_words
 
 abbrev pub loaded_first : History
 loaded_first = loaded x b (pos 0) 1 4294967295 ∷ stored
@@ -102,7 +102,7 @@ abbrev pub said_first : History
 said_first = said x (Number (pos 4294967295)) ∷ loaded_first
 
 abbrev pub added : History
-added = Did (Add y b (pos 0) (pos 2)) (Object 1 ∷ []) (Gives (Number (pos 4294967295))) ∷ said_first
+added = Did (Add y b (pos 0) (pos 2), Object 1 ∷ [], Gives (Number (pos 4294967295))) ∷ said_first
 
 abbrev pub said_before : History
 said_before = said y (Number (pos 4294967295)) ∷ added
@@ -141,7 +141,7 @@ abbrev pub made_empty : History
 made_empty = made_buffer b 0 1 ∷ JobBegun 1 ∷ []
 
 abbrev pub said_length : History
-said_length = said n (Number (pos 0)) ∷ Did (Length n b) (Object 1 ∷ []) (Gives (Number (pos 0))) ∷ made_empty
+said_length = said n (Number (pos 0)) ∷ Did (Length n b, Object 1 ∷ [], Gives (Number (pos 0))) ∷ made_empty
 
 abbrev pub closed_empty : History
 closed_empty = Closed ∷ JobEnded ∷ Refused IndexOutOfRange ∷ said_length
@@ -180,11 +180,11 @@ abbrev pub begun_other : History
 begun_other = JobBegun 2 ∷ received_other
 
 abbrev pub compared : Value → History
-compared v = said x v ∷ Did (SameBlock x b m) (Object 1 ∷ Object 2 ∷ []) (Gives v) ∷ begun_other
+compared v = said x v ∷ Did (SameBlock x b m, Object 1 ∷ Object 2 ∷ [], Gives v) ∷ begun_other
 
 -- a buffer is over its own block
 abbrev pub closed_same : Value → History
-closed_same v = Closed ∷ JobEnded ∷ said y (Boolean true) ∷ Did (SameBlock y m m) (Object 2 ∷ Object 2 ∷ []) (Gives (Boolean true)) ∷ compared v
+closed_same v = Closed ∷ JobEnded ∷ said y (Boolean true) ∷ Did (SameBlock y m m, Object 2 ∷ Object 2 ∷ [], Gives (Boolean true)) ∷ compared v
 
 abbrev pub closed_one : History
 closed_one = closed_same (Boolean true)
@@ -313,16 +313,16 @@ abbrev pub made_object : History
 made_object = made_buffer b 3 1 ∷ JobBegun 1 ∷ []
 
 abbrev pub has_property : History
-has_property = Did (Set b p b) (Object 1 ∷ Object 1 ∷ []) Nothing ∷ made_object
+has_property = Did (Set b p b, Object 1 ∷ Object 1 ∷ [], Nothing) ∷ made_object
 
 abbrev pub said_property : History
-said_property = said y (Object 1) ∷ Did (Keys b) (Object 1 ∷ []) (Listed (p ∷ [])) ∷ Did (Get y b p) (Object 1 ∷ []) (Gives (Object 1)) ∷ has_property
+said_property = said y (Object 1) ∷ Did (Keys b, Object 1 ∷ [], Listed (p ∷ [])) ∷ Did (Get y b p, Object 1 ∷ [], Gives (Object 1)) ∷ has_property
 
 abbrev pub derefed : History
-derefed = Did (Deref x w) (Object 2 ∷ []) (Gives (Object 1)) ∷ Did (WeakRef w b) (Object 1 ∷ []) (Gives (Object 2)) ∷ said_property
+derefed = Did (Deref x w, Object 2 ∷ [], Gives (Object 1)) ∷ Did (WeakRef w b, Object 1 ∷ [], Gives (Object 2)) ∷ said_property
 
 abbrev pub said_same : History
-said_same = JobEnded ∷ said z (Boolean true) ∷ Did (Same z x b) (Object 1 ∷ Object 1 ∷ []) (Gives (Boolean true)) ∷ derefed
+said_same = JobEnded ∷ said z (Boolean true) ∷ Did (Same z x b, Object 1 ∷ Object 1 ∷ [], Gives (Boolean true)) ∷ derefed
 
 abbrev pub begun_weakmap : History
 begun_weakmap = JobBegun 2 ∷ said_same
@@ -340,10 +340,10 @@ abbrev pub begun_length : History
 begun_length = JobBegun 6 ∷ JobEnded ∷ Refused NotAFinalizationRegistry ∷ begun_register
 
 abbrev pub made_map : History
-made_map = Did (WeakMap m) [] (Gives (Object 3)) ∷ JobBegun 7 ∷ JobEnded ∷ Refused NotASharedArrayBuffer ∷ begun_length
+made_map = Did (WeakMap m, [], Gives (Object 3)) ∷ JobBegun 7 ∷ JobEnded ∷ Refused NotASharedArrayBuffer ∷ begun_length
 
 abbrev pub has_entry : History
-has_entry = Did (WeakMapHas y m b) (Object 3 ∷ Object 1 ∷ []) (Gives (Boolean true)) ∷ Did (WeakMapSet m b b) (Object 3 ∷ Object 1 ∷ Object 1 ∷ []) Nothing ∷ made_map
+has_entry = Did (WeakMapHas y m b, Object 3 ∷ Object 1 ∷ [], Gives (Boolean true)) ∷ Did (WeakMapSet m b b, Object 3 ∷ Object 1 ∷ Object 1 ∷ [], Nothing) ∷ made_map
 
 abbrev pub closed_object : History
 closed_object = Closed ∷ JobEnded ∷ said y (Boolean true) ∷ has_entry
@@ -370,13 +370,13 @@ abbrev pub plan_kinds : AgentPlan
 plan_kinds = plan_with [] ((WeakMap m ∷ Length n m ∷ []) ∷ (WeakSet s ∷ Length n s ∷ []) ∷ (FinalizationRegistry r 1 ∷ Length n r ∷ []) ∷ [])
 
 abbrev pub made_weakmap : History
-made_weakmap = Did (WeakMap m) [] (Gives (Object 1)) ∷ JobBegun 1 ∷ []
+made_weakmap = Did (WeakMap m, [], Gives (Object 1)) ∷ JobBegun 1 ∷ []
 
 abbrev pub made_weakset : History
-made_weakset = Did (WeakSet s) [] (Gives (Object 2)) ∷ JobBegun 2 ∷ JobEnded ∷ Refused NotASharedArrayBuffer ∷ made_weakmap
+made_weakset = Did (WeakSet s, [], Gives (Object 2)) ∷ JobBegun 2 ∷ JobEnded ∷ Refused NotASharedArrayBuffer ∷ made_weakmap
 
 abbrev pub made_registry : History
-made_registry = Did (FinalizationRegistry r 1) [] (Gives (Object 3)) ∷ JobBegun 3 ∷ JobEnded ∷ Refused NotASharedArrayBuffer ∷ made_weakset
+made_registry = Did (FinalizationRegistry r 1, [], Gives (Object 3)) ∷ JobBegun 3 ∷ JobEnded ∷ Refused NotASharedArrayBuffer ∷ made_weakset
 
 abbrev pub closed_kinds : History
 closed_kinds = Closed ∷ JobEnded ∷ Refused NotASharedArrayBuffer ∷ made_registry

@@ -33,7 +33,7 @@ abbrev pub forgot_both : History
 forgot_both =
     forgot x
     ∷ forgot r
-    ∷ Did (Register r x h None) (Object 1 ∷ Object 2 ∷ Number (pos 1) ∷ []) Nothing
+    ∷ Did (Register r x h None, Object 1 ∷ Object 2 ∷ Number (pos 1) ∷ [], Nothing)
     ∷ let_number h 1
     ∷ made_new x 2
     ∷ made_registry r 1
@@ -47,10 +47,10 @@ abbrev pub closed_forgotten : History
 closed_forgotten =
     Closed
     ∷ JobEnded
-    ∷ Did (Say (codes "held")) (Number (pos 1) ∷ []) Nothing
+    ∷ Did (Say (codes "held"), Number (pos 1) ∷ [], Nothing)
     ∷ JobBegun 2
     ∷ JobEnded
-    ∷ Did (Say (codes "held")) (Number (pos 1) ∷ []) Nothing
+    ∷ Did (Say (codes "held"), Number (pos 1) ∷ [], Nothing)
     ∷ Taken 1 (Number (pos 1))
     ∷ CleanupBegun 1
     ∷ ended_forgotten
@@ -83,7 +83,7 @@ into_released = receivers plan_released.jobs
 abbrev pub held_by_its_cell : History
 held_by_its_cell =
     forgot h
-    ∷ Did (Register r x h (Some t)) (Object 1 ∷ Object 2 ∷ Object 3 ∷ Object 4 ∷ []) Nothing
+    ∷ Did (Register r x h (Some t), Object 1 ∷ Object 2 ∷ Object 3 ∷ Object 4 ∷ [], Nothing)
     ∷ made_new t 4
     ∷ made_new h 3
     ∷ made_new x 2
@@ -92,7 +92,7 @@ held_by_its_cell =
     ∷ []
 
 abbrev pub released : History
-released = Did (Unregister b r t) (Object 1 ∷ Object 4 ∷ []) (Gives (Boolean true)) ∷ Emptied [] ∷ held_by_its_cell
+released = Did (Unregister b r t, Object 1 ∷ Object 4 ∷ [], Gives (Boolean true)) ∷ Emptied [] ∷ held_by_its_cell
 
 abbrev pub closed_released : History
 closed_released = Closed ∷ JobEnded ∷ Emptied (3 ∷ []) ∷ released
@@ -140,7 +140,7 @@ into_late = receivers plan_late.jobs
 abbrev pub forgot_late : History
 forgot_late =
     forgot x
-    ∷ Did (Register r x h (Some t)) (Object 1 ∷ Object 2 ∷ Number (pos 1) ∷ Object 3 ∷ []) Nothing
+    ∷ Did (Register r x h (Some t), Object 1 ∷ Object 2 ∷ Number (pos 1) ∷ Object 3 ∷ [], Nothing)
     ∷ let_number h 1
     ∷ made_new t 3
     ∷ made_new x 2
@@ -152,7 +152,7 @@ abbrev pub begun_late : History
 begun_late = JobBegun 2 ∷ JobEnded ∷ Taken 1 (Number (pos 1)) ∷ CleanupBegun 1 ∷ JobEnded ∷ Emptied (2 ∷ []) ∷ forgot_late
 
 abbrev pub closed_late : History
-closed_late = Closed ∷ JobEnded ∷ Did (Say b) (Boolean false ∷ []) Nothing ∷ Did (Unregister b r t) (Object 1 ∷ Object 3 ∷ []) (Gives (Boolean false)) ∷ begun_late
+closed_late = Closed ∷ JobEnded ∷ Did (Say b, Boolean false ∷ [], Nothing) ∷ Did (Unregister b r t, Object 1 ∷ Object 3 ∷ [], Gives (Boolean false)) ∷ begun_late
 
 pub dead_late : AreDead into_late forgot_late (2 ∷ [])
 dead_late = dead_by into_late forgot_late (1 ∷ 3 ∷ []) (2 ∷ []) refl (by_variable into_late forgot_late r 1 refl, (by_variable into_late forgot_late t 3 refl, tt))
@@ -183,9 +183,9 @@ into_queued = receivers plan_queued.jobs
 abbrev pub forgot_first : History
 forgot_first =
     forgot x
-    ∷ Did (Register q y h None) (Object 2 ∷ Object 4 ∷ Number (pos 1) ∷ []) Nothing
-    ∷ Did (Register r y i None) (Object 1 ∷ Object 4 ∷ Number (pos 2) ∷ []) Nothing
-    ∷ Did (Register q x h None) (Object 2 ∷ Object 3 ∷ Number (pos 1) ∷ []) Nothing
+    ∷ Did (Register q y h None, Object 2 ∷ Object 4 ∷ Number (pos 1) ∷ [], Nothing)
+    ∷ Did (Register r y i None, Object 1 ∷ Object 4 ∷ Number (pos 2) ∷ [], Nothing)
+    ∷ Did (Register q x h None, Object 2 ∷ Object 3 ∷ Number (pos 1) ∷ [], Nothing)
     ∷ let_number i 2
     ∷ let_number h 1
     ∷ made_new y 4
@@ -247,7 +247,7 @@ abbrev pub forgot_awaiting : History
 forgot_awaiting =
     forgot h
     ∷ forgot x
-    ∷ Did (Register r x h (Some t)) (Object 1 ∷ Object 2 ∷ Object 3 ∷ Object 4 ∷ []) Nothing
+    ∷ Did (Register r x h (Some t), Object 1 ∷ Object 2 ∷ Object 3 ∷ Object 4 ∷ [], Nothing)
     ∷ made_new t 4
     ∷ made_new h 3
     ∷ made_new x 2
@@ -260,8 +260,8 @@ emptied_awaiting = Emptied (2 ∷ []) ∷ forgot_awaiting
 
 abbrev pub said_awaiting : History
 said_awaiting =
-    Did (Say b) (Boolean true ∷ []) Nothing
-    ∷ Did (Unregister b r t) (Object 1 ∷ Object 4 ∷ []) (Gives (Boolean true))
+    Did (Say b, Boolean true ∷ [], Nothing)
+    ∷ Did (Unregister b r t, Object 1 ∷ Object 4 ∷ [], Gives (Boolean true))
     ∷ Emptied []
     ∷ emptied_awaiting
 
@@ -314,12 +314,12 @@ into_two = receivers plan_two.jobs
 abbrev pub forgot_two : History
 forgot_two =
     forgot x
-    ∷ Did (Register q x h None) (Object 2 ∷ Object 3 ∷ Number (pos 1) ∷ []) Nothing
-    ∷ Did (Register r x h None) (Object 1 ∷ Object 3 ∷ Number (pos 1) ∷ []) Nothing
-    ∷ Did (Register r x h None) (Object 1 ∷ Object 3 ∷ Number (pos 1) ∷ []) Nothing
+    ∷ Did (Register q x h None, Object 2 ∷ Object 3 ∷ Number (pos 1) ∷ [], Nothing)
+    ∷ Did (Register r x h None, Object 1 ∷ Object 3 ∷ Number (pos 1) ∷ [], Nothing)
+    ∷ Did (Register r x h None, Object 1 ∷ Object 3 ∷ Number (pos 1) ∷ [], Nothing)
     ∷ let_number h 1
     ∷ made_new x 3
-    ∷ Did (FinalizationRegistry q 2) [] (Gives (Object 2))
+    ∷ Did (FinalizationRegistry q 2, [], Gives (Object 2))
     ∷ made_registry r 1
     ∷ JobBegun 1
     ∷ []
@@ -338,7 +338,7 @@ closed_two =
     ∷ Taken 2 (Number (pos 1))
     ∷ CleanupBegun 1
     ∷ JobEnded
-    ∷ Did (Say (codes "held")) (Number (pos 1) ∷ []) Nothing
+    ∷ Did (Say (codes "held"), Number (pos 1) ∷ [], Nothing)
     ∷ taken_two
 
 pub dead_two : AreDead into_two forgot_two (3 ∷ [])
@@ -405,8 +405,8 @@ plan_allowed =
 
 abbrev pub registered_twice : History
 registered_twice =
-    Did (Register r r h (Some y)) (Object 1 ∷ Object 1 ∷ Undefined ∷ Undefined ∷ []) Nothing
-    ∷ Did (Register r x r (Some r)) (Object 1 ∷ Object 3 ∷ Object 1 ∷ Object 1 ∷ []) Nothing
+    Did (Register r r h (Some y), Object 1 ∷ Object 1 ∷ Undefined ∷ Undefined ∷ [], Nothing)
+    ∷ Did (Register r x r (Some r), Object 1 ∷ Object 3 ∷ Object 1 ∷ Object 1 ∷ [], Nothing)
     ∷ made_new x 3
     ∷ made_registry q 2
     ∷ made_registry r 1
@@ -414,17 +414,17 @@ registered_twice =
     ∷ []
 
 abbrev pub looked_in_another : History
-looked_in_another = Did (Unregister b q r) (Object 2 ∷ Object 1 ∷ []) (Gives (Boolean false)) ∷ registered_twice
+looked_in_another = Did (Unregister b q r, Object 2 ∷ Object 1 ∷ [], Gives (Boolean false)) ∷ registered_twice
 
 abbrev pub closed_allowed : History
 closed_allowed =
     Closed
     ∷ JobEnded
-    ∷ Did (Say b) (Boolean false ∷ []) Nothing
-    ∷ Did (Unregister b r q) (Object 1 ∷ Object 2 ∷ []) (Gives (Boolean false))
-    ∷ Did (Say b) (Boolean true ∷ []) Nothing
-    ∷ Did (Unregister b r r) (Object 1 ∷ Object 1 ∷ []) (Gives (Boolean true))
-    ∷ Did (Say b) (Boolean false ∷ []) Nothing
+    ∷ Did (Say b, Boolean false ∷ [], Nothing)
+    ∷ Did (Unregister b r q, Object 1 ∷ Object 2 ∷ [], Gives (Boolean false))
+    ∷ Did (Say b, Boolean true ∷ [], Nothing)
+    ∷ Did (Unregister b r r, Object 1 ∷ Object 1 ∷ [], Gives (Boolean true))
+    ∷ Did (Say b, Boolean false ∷ [], Nothing)
     ∷ looked_in_another
 
 pub whole_allowed : IsWholeRun plan_allowed closed_allowed

@@ -56,24 +56,24 @@ into_chain = receivers plan_chain.jobs
 
 abbrev pub made_chain : History
 made_chain =
-    Did (WeakMap (codes "m")) [] (Gives (Object 4))
-    ∷ Did (New (codes "v")) [] (Gives (Object 3))
-    ∷ Did (New (codes "k2")) [] (Gives (Object 2))
-    ∷ Did (New (codes "k1")) [] (Gives (Object 1))
+    Did (WeakMap (codes "m"), [], Gives (Object 4))
+    ∷ Did (New (codes "v"), [], Gives (Object 3))
+    ∷ Did (New (codes "k2"), [], Gives (Object 2))
+    ∷ Did (New (codes "k1"), [], Gives (Object 1))
     ∷ JobBegun 1
     ∷ []
 
 abbrev pub linked_chain : History
 linked_chain =
-    Did (WeakMapSet (codes "m") (codes "k2") (codes "v")) (Object 4 ∷ Object 2 ∷ Object 3 ∷ []) Nothing
-    ∷ Did (WeakMapSet (codes "m") (codes "k1") (codes "k2")) (Object 4 ∷ Object 1 ∷ Object 2 ∷ []) Nothing
+    Did (WeakMapSet (codes "m") (codes "k2") (codes "v"), Object 4 ∷ Object 2 ∷ Object 3 ∷ [], Nothing)
+    ∷ Did (WeakMapSet (codes "m") (codes "k1") (codes "k2"), Object 4 ∷ Object 1 ∷ Object 2 ∷ [], Nothing)
     ∷ made_chain
 
 abbrev pub first_key_held : History
-first_key_held = Did (forget (codes "v")) [] (Gives Undefined) ∷ Did (forget (codes "k2")) [] (Gives Undefined) ∷ linked_chain
+first_key_held = Did (forget (codes "v"), [], Gives Undefined) ∷ Did (forget (codes "k2"), [], Gives Undefined) ∷ linked_chain
 
 abbrev pub no_key_held : History
-no_key_held = Did (forget (codes "k1")) [] (Gives Undefined) ∷ Emptied [] ∷ first_key_held
+no_key_held = Did (forget (codes "k1"), [], Gives Undefined) ∷ Emptied [] ∷ first_key_held
 
 abbrev pub closed_chain : History
 closed_chain = Closed ∷ JobEnded ∷ Emptied (1 ∷ 2 ∷ 3 ∷ []) ∷ no_key_held
@@ -112,13 +112,13 @@ into_own_key = receivers plan_own_key.jobs
 
 abbrev pub leads_back : History
 leads_back =
-    Did (forget (codes "v")) [] (Gives Undefined)
-    ∷ Did (forget (codes "k")) [] (Gives Undefined)
-    ∷ Did set_m_k_v (Object 3 ∷ Object 1 ∷ Object 2 ∷ []) Nothing
-    ∷ Did (Set (codes "v") (codes "p") (codes "k")) (Object 2 ∷ Object 1 ∷ []) Nothing
-    ∷ Did (WeakMap (codes "m")) [] (Gives (Object 3))
-    ∷ Did (New (codes "v")) [] (Gives (Object 2))
-    ∷ Did (New (codes "k")) [] (Gives (Object 1))
+    Did (forget (codes "v"), [], Gives Undefined)
+    ∷ Did (forget (codes "k"), [], Gives Undefined)
+    ∷ Did (set_m_k_v, Object 3 ∷ Object 1 ∷ Object 2 ∷ [], Nothing)
+    ∷ Did (Set (codes "v") (codes "p") (codes "k"), Object 2 ∷ Object 1 ∷ [], Nothing)
+    ∷ Did (WeakMap (codes "m"), [], Gives (Object 3))
+    ∷ Did (New (codes "v"), [], Gives (Object 2))
+    ∷ Did (New (codes "k"), [], Gives (Object 1))
     ∷ JobBegun 1
     ∷ []
 
@@ -154,24 +154,24 @@ into_map = receivers plan_map.jobs
 
 abbrev pub entered : History
 entered =
-    Did set_m_k_v (Object 3 ∷ Object 1 ∷ Object 2 ∷ []) Nothing
-    ∷ Did (WeakMap (codes "m")) [] (Gives (Object 3))
-    ∷ Did (New (codes "v")) [] (Gives (Object 2))
-    ∷ Did (New (codes "k")) [] (Gives (Object 1))
+    Did (set_m_k_v, Object 3 ∷ Object 1 ∷ Object 2 ∷ [], Nothing)
+    ∷ Did (WeakMap (codes "m"), [], Gives (Object 3))
+    ∷ Did (New (codes "v"), [], Gives (Object 2))
+    ∷ Did (New (codes "k"), [], Gives (Object 1))
     ∷ JobBegun 1
     ∷ []
 
 abbrev pub both_held : History
-both_held = Did (forget (codes "v")) [] (Gives Undefined) ∷ entered
+both_held = Did (forget (codes "v"), [], Gives Undefined) ∷ entered
 
 abbrev pub key_held : History
-key_held = Did (forget (codes "m")) [] (Gives Undefined) ∷ Emptied [] ∷ both_held
+key_held = Did (forget (codes "m"), [], Gives Undefined) ∷ Emptied [] ∷ both_held
 
 abbrev pub map_held : History
 map_held =
-    Did (forget (codes "k")) [] (Gives Undefined)
-    ∷ Did (forget (codes "x")) [] (Gives Undefined)
-    ∷ Did get_x_m_k (Object 3 ∷ Object 1 ∷ []) (Gives (Object 2))
+    Did (forget (codes "k"), [], Gives Undefined)
+    ∷ Did (forget (codes "x"), [], Gives Undefined)
+    ∷ Did (get_x_m_k, Object 3 ∷ Object 1 ∷ [], Gives (Object 2))
     ∷ both_held
 
 abbrev pub closed_key : History
@@ -212,7 +212,7 @@ pub held_by_both : IsHeld into_key both_held (Object 2)
 held_by_both = in_entry 3 1 (Object 1) (Object 2) (in_variable (codes "m") (Object 3) refl) (in_variable (codes "k") (Object 1) refl) refl refl
 
 pub entry_is_live : Live into_key both_held (2 ∷ [])
-entry_is_live = inr (record { over = []; other = into_key; agree = search rules; before = []; event = Did get_x_m_k (Object 3 ∷ Object 1 ∷ []) (Gives (Object 2)); oblivious = search rules; observed = refl })
+entry_is_live = inr (record { over = []; other = into_key; agree = search rules; before = []; event = Did (get_x_m_k, Object 3 ∷ Object 1 ∷ [], Gives (Object 2)); oblivious = search rules; observed = refl })
 
 pub not_live_without_its_map : Live into_key key_held (2 ∷ 3 ∷ []) → ⊥
 not_live_without_its_map = not_live into_key key_held (2 ∷ 3 ∷ []) dead_without_its_map
@@ -241,16 +241,16 @@ into_members = receivers plan_members.jobs
 
 abbrev pub joined : History
 joined =
-    Did (WeakSetAdd (codes "s") (codes "b")) (Object 3 ∷ Object 2 ∷ []) Nothing
-    ∷ Did (WeakSetAdd (codes "s") (codes "a")) (Object 3 ∷ Object 1 ∷ []) Nothing
-    ∷ Did (WeakSet (codes "s")) [] (Gives (Object 3))
-    ∷ Did (New (codes "b")) [] (Gives (Object 2))
-    ∷ Did (New (codes "a")) [] (Gives (Object 1))
+    Did (WeakSetAdd (codes "s") (codes "b"), Object 3 ∷ Object 2 ∷ [], Nothing)
+    ∷ Did (WeakSetAdd (codes "s") (codes "a"), Object 3 ∷ Object 1 ∷ [], Nothing)
+    ∷ Did (WeakSet (codes "s"), [], Gives (Object 3))
+    ∷ Did (New (codes "b"), [], Gives (Object 2))
+    ∷ Did (New (codes "a"), [], Gives (Object 1))
     ∷ JobBegun 1
     ∷ []
 
 abbrev pub forgot_member : History
-forgot_member = Did (forget (codes "a")) [] (Gives Undefined) ∷ joined
+forgot_member = Did (forget (codes "a"), [], Gives Undefined) ∷ joined
 
 abbrev pub emptied_member : History
 emptied_member = Emptied (1 ∷ []) ∷ forgot_member
@@ -259,10 +259,10 @@ abbrev pub closed_members : History
 closed_members =
     Closed
     ∷ JobEnded
-    ∷ Did say_x (Boolean false ∷ []) Nothing
-    ∷ Did (WeakSetHas (codes "x") (codes "s") (codes "a")) (Object 3 ∷ Undefined ∷ []) (Gives (Boolean false))
-    ∷ Did say_x (Boolean true ∷ []) Nothing
-    ∷ Did (WeakSetHas (codes "x") (codes "s") (codes "b")) (Object 3 ∷ Object 2 ∷ []) (Gives (Boolean true))
+    ∷ Did (say_x, Boolean false ∷ [], Nothing)
+    ∷ Did (WeakSetHas (codes "x") (codes "s") (codes "a"), Object 3 ∷ Undefined ∷ [], Gives (Boolean false))
+    ∷ Did (say_x, Boolean true ∷ [], Nothing)
+    ∷ Did (WeakSetHas (codes "x") (codes "s") (codes "b"), Object 3 ∷ Object 2 ∷ [], Gives (Boolean true))
     ∷ emptied_member
 
 pub dead_member : AreDead into_members forgot_member (1 ∷ [])
@@ -327,28 +327,28 @@ plan_refusals = plan_of (
 
 abbrev pub made_kinds : History
 made_kinds =
-    Did (Symbol (codes "y")) [] (Gives (SymbolValue 3))
-    ∷ Did (SymbolFor (codes "f") (codes "t")) [] (Gives (Registered (codes "t")))
-    ∷ Did (Let (codes "n") (NumberLiteral (pos 1))) [] (Gives (Number (pos 1)))
-    ∷ Did (WeakSet (codes "s")) [] (Gives (Object 2))
-    ∷ Did (WeakMap (codes "m")) [] (Gives (Object 1))
+    Did (Symbol (codes "y"), [], Gives (SymbolValue 3))
+    ∷ Did (SymbolFor (codes "f") (codes "t"), [], Gives (Registered (codes "t")))
+    ∷ Did (Let (codes "n") (NumberLiteral (pos 1)), [], Gives (Number (pos 1)))
+    ∷ Did (WeakSet (codes "s"), [], Gives (Object 2))
+    ∷ Did (WeakMap (codes "m"), [], Gives (Object 1))
     ∷ JobBegun 1
     ∷ []
 
 abbrev pub asked_in_vain : History
 asked_in_vain =
-    Did (WeakSetHas (codes "x") (codes "s") (codes "y")) (Object 2 ∷ SymbolValue 3 ∷ []) (Gives (Boolean false))
-    ∷ Did (WeakMapHas (codes "x") (codes "m") (codes "y")) (Object 1 ∷ SymbolValue 3 ∷ []) (Gives (Boolean false))
-    ∷ Did say_x (Boolean false ∷ []) Nothing
-    ∷ Did (WeakSetDelete (codes "x") (codes "s") (codes "f")) (Object 2 ∷ Registered (codes "t") ∷ []) (Gives (Boolean false))
-    ∷ Did say_x (Boolean false ∷ []) Nothing
-    ∷ Did (WeakSetHas (codes "x") (codes "s") (codes "n")) (Object 2 ∷ Number (pos 1) ∷ []) (Gives (Boolean false))
-    ∷ Did say_x (Boolean false ∷ []) Nothing
-    ∷ Did (WeakMapDelete (codes "x") (codes "m") (codes "f")) (Object 1 ∷ Registered (codes "t") ∷ []) (Gives (Boolean false))
-    ∷ Did say_x (Boolean false ∷ []) Nothing
-    ∷ Did (WeakMapHas (codes "x") (codes "m") (codes "n")) (Object 1 ∷ Number (pos 1) ∷ []) (Gives (Boolean false))
-    ∷ Did say_x (Undefined ∷ []) Nothing
-    ∷ Did (WeakMapGet (codes "x") (codes "m") (codes "n")) (Object 1 ∷ Number (pos 1) ∷ []) (Gives Undefined)
+    Did (WeakSetHas (codes "x") (codes "s") (codes "y"), Object 2 ∷ SymbolValue 3 ∷ [], Gives (Boolean false))
+    ∷ Did (WeakMapHas (codes "x") (codes "m") (codes "y"), Object 1 ∷ SymbolValue 3 ∷ [], Gives (Boolean false))
+    ∷ Did (say_x, Boolean false ∷ [], Nothing)
+    ∷ Did (WeakSetDelete (codes "x") (codes "s") (codes "f"), Object 2 ∷ Registered (codes "t") ∷ [], Gives (Boolean false))
+    ∷ Did (say_x, Boolean false ∷ [], Nothing)
+    ∷ Did (WeakSetHas (codes "x") (codes "s") (codes "n"), Object 2 ∷ Number (pos 1) ∷ [], Gives (Boolean false))
+    ∷ Did (say_x, Boolean false ∷ [], Nothing)
+    ∷ Did (WeakMapDelete (codes "x") (codes "m") (codes "f"), Object 1 ∷ Registered (codes "t") ∷ [], Gives (Boolean false))
+    ∷ Did (say_x, Boolean false ∷ [], Nothing)
+    ∷ Did (WeakMapHas (codes "x") (codes "m") (codes "n"), Object 1 ∷ Number (pos 1) ∷ [], Gives (Boolean false))
+    ∷ Did (say_x, Undefined ∷ [], Nothing)
+    ∷ Did (WeakMapGet (codes "x") (codes "m") (codes "n"), Object 1 ∷ Number (pos 1) ∷ [], Gives Undefined)
     ∷ made_kinds
 
 abbrev pub not_held_weakly : History
@@ -414,36 +414,36 @@ plan_entries = plan_of (
 
 abbrev pub overwritten : History
 overwritten =
-    Did has_x_m_k (Object 3 ∷ Object 1 ∷ []) (Gives (Boolean true))
-    ∷ Did get_x_m_k (Object 3 ∷ Object 1 ∷ []) (Gives (Object 1))
-    ∷ Did (WeakMapSet (codes "m") (codes "k") (codes "k")) (Object 3 ∷ Object 1 ∷ Object 1 ∷ []) Nothing
-    ∷ Did get_x_m_k (Object 3 ∷ Object 1 ∷ []) (Gives (Object 2))
+    Did (has_x_m_k, Object 3 ∷ Object 1 ∷ [], Gives (Boolean true))
+    ∷ Did (get_x_m_k, Object 3 ∷ Object 1 ∷ [], Gives (Object 1))
+    ∷ Did (WeakMapSet (codes "m") (codes "k") (codes "k"), Object 3 ∷ Object 1 ∷ Object 1 ∷ [], Nothing)
+    ∷ Did (get_x_m_k, Object 3 ∷ Object 1 ∷ [], Gives (Object 2))
     ∷ entered
 
 abbrev pub deleted : History
-deleted = Did delete_x_m_k (Object 3 ∷ Object 1 ∷ []) (Gives (Boolean true)) ∷ overwritten
+deleted = Did (delete_x_m_k, Object 3 ∷ Object 1 ∷ [], Gives (Boolean true)) ∷ overwritten
 
 abbrev pub deleted_again : History
-deleted_again = Did delete_x_m_k (Object 3 ∷ Object 1 ∷ []) (Gives (Boolean false)) ∷ deleted
+deleted_again = Did (delete_x_m_k, Object 3 ∷ Object 1 ∷ [], Gives (Boolean false)) ∷ deleted
 
 abbrev pub entered_again : History
 entered_again =
-    Did get_x_m_k (Object 3 ∷ Object 1 ∷ []) (Gives (Object 2))
-    ∷ Did set_m_k_v (Object 3 ∷ Object 1 ∷ Object 2 ∷ []) Nothing
-    ∷ Did get_x_m_k (Object 3 ∷ Object 1 ∷ []) (Gives Undefined)
-    ∷ Did has_x_m_k (Object 3 ∷ Object 1 ∷ []) (Gives (Boolean false))
+    Did (get_x_m_k, Object 3 ∷ Object 1 ∷ [], Gives (Object 2))
+    ∷ Did (set_m_k_v, Object 3 ∷ Object 1 ∷ Object 2 ∷ [], Nothing)
+    ∷ Did (get_x_m_k, Object 3 ∷ Object 1 ∷ [], Gives Undefined)
+    ∷ Did (has_x_m_k, Object 3 ∷ Object 1 ∷ [], Gives (Boolean false))
     ∷ deleted_again
 
 abbrev pub undefined_entered : History
-undefined_entered = Did (WeakMapSet (codes "m") (codes "k") (codes "u")) (Object 3 ∷ Object 1 ∷ Undefined ∷ []) Nothing ∷ entered_again
+undefined_entered = Did (WeakMapSet (codes "m") (codes "k") (codes "u"), Object 3 ∷ Object 1 ∷ Undefined ∷ [], Nothing) ∷ entered_again
 
 abbrev pub closed_entries : History
 closed_entries =
     Closed
     ∷ JobEnded
-    ∷ Did delete_x_m_k (Object 3 ∷ Object 1 ∷ []) (Gives (Boolean true))
-    ∷ Did has_x_m_k (Object 3 ∷ Object 1 ∷ []) (Gives (Boolean true))
-    ∷ Did get_x_m_k (Object 3 ∷ Object 1 ∷ []) (Gives Undefined)
+    ∷ Did (delete_x_m_k, Object 3 ∷ Object 1 ∷ [], Gives (Boolean true))
+    ∷ Did (has_x_m_k, Object 3 ∷ Object 1 ∷ [], Gives (Boolean true))
+    ∷ Did (get_x_m_k, Object 3 ∷ Object 1 ∷ [], Gives Undefined)
     ∷ undefined_entered
 
 pub legal_entries : LegalBy [] (receivers plan_entries.jobs) closed_entries
@@ -471,28 +471,28 @@ plan_adding = plan_of ((New (codes "y") ∷ WeakSet (codes "s") ∷ has_x_s_y �
 
 abbrev pub added_twice : History
 added_twice =
-    Did add_s_y (Object 2 ∷ Object 1 ∷ []) Nothing
-    ∷ Did add_s_y (Object 2 ∷ Object 1 ∷ []) Nothing
-    ∷ Did has_x_s_y (Object 2 ∷ Object 1 ∷ []) (Gives (Boolean false))
-    ∷ Did (WeakSet (codes "s")) [] (Gives (Object 2))
-    ∷ Did (New (codes "y")) [] (Gives (Object 1))
+    Did (add_s_y, Object 2 ∷ Object 1 ∷ [], Nothing)
+    ∷ Did (add_s_y, Object 2 ∷ Object 1 ∷ [], Nothing)
+    ∷ Did (has_x_s_y, Object 2 ∷ Object 1 ∷ [], Gives (Boolean false))
+    ∷ Did (WeakSet (codes "s"), [], Gives (Object 2))
+    ∷ Did (New (codes "y"), [], Gives (Object 1))
     ∷ JobBegun 1
     ∷ []
 
 abbrev pub deleted_member : History
 deleted_member =
-    Did delete_x_s_y (Object 2 ∷ Object 1 ∷ []) (Gives (Boolean true))
-    ∷ Did has_x_s_y (Object 2 ∷ Object 1 ∷ []) (Gives (Boolean true))
+    Did (delete_x_s_y, Object 2 ∷ Object 1 ∷ [], Gives (Boolean true))
+    ∷ Did (has_x_s_y, Object 2 ∷ Object 1 ∷ [], Gives (Boolean true))
     ∷ added_twice
 
 abbrev pub closed_adding : History
 closed_adding =
     Closed
     ∷ JobEnded
-    ∷ Did has_x_s_y (Object 2 ∷ Object 1 ∷ []) (Gives (Boolean true))
-    ∷ Did add_s_y (Object 2 ∷ Object 1 ∷ []) Nothing
-    ∷ Did has_x_s_y (Object 2 ∷ Object 1 ∷ []) (Gives (Boolean false))
-    ∷ Did delete_x_s_y (Object 2 ∷ Object 1 ∷ []) (Gives (Boolean false))
+    ∷ Did (has_x_s_y, Object 2 ∷ Object 1 ∷ [], Gives (Boolean true))
+    ∷ Did (add_s_y, Object 2 ∷ Object 1 ∷ [], Nothing)
+    ∷ Did (has_x_s_y, Object 2 ∷ Object 1 ∷ [], Gives (Boolean false))
+    ∷ Did (delete_x_s_y, Object 2 ∷ Object 1 ∷ [], Gives (Boolean false))
     ∷ deleted_member
 
 pub legal_adding : LegalBy [] (receivers plan_adding.jobs) closed_adding
@@ -515,10 +515,10 @@ plan_apart = plan_of (
 
 abbrev pub entered_in_one : History
 entered_in_one =
-    Did (WeakMapSet (codes "m") (codes "k") (codes "l")) (Object 2 ∷ Object 1 ∷ Object 3 ∷ []) Nothing
-    ∷ Did (WeakMap (codes "l")) [] (Gives (Object 3))
-    ∷ Did (WeakMap (codes "m")) [] (Gives (Object 2))
-    ∷ Did (New (codes "k")) [] (Gives (Object 1))
+    Did (WeakMapSet (codes "m") (codes "k") (codes "l"), Object 2 ∷ Object 1 ∷ Object 3 ∷ [], Nothing)
+    ∷ Did (WeakMap (codes "l"), [], Gives (Object 3))
+    ∷ Did (WeakMap (codes "m"), [], Gives (Object 2))
+    ∷ Did (New (codes "k"), [], Gives (Object 1))
     ∷ JobBegun 1
     ∷ []
 
@@ -526,12 +526,12 @@ abbrev pub closed_apart : History
 closed_apart =
     Closed
     ∷ JobEnded
-    ∷ Did (WeakMapGet (codes "x") (codes "m") (codes "m")) (Object 2 ∷ Object 2 ∷ []) (Gives (Object 1))
-    ∷ Did (WeakMapSet (codes "m") (codes "m") (codes "k")) (Object 2 ∷ Object 2 ∷ Object 1 ∷ []) Nothing
-    ∷ Did get_x_m_k (Object 2 ∷ Object 1 ∷ []) (Gives (Object 3))
-    ∷ Did (WeakMapDelete (codes "x") (codes "l") (codes "k")) (Object 3 ∷ Object 1 ∷ []) (Gives (Boolean false))
-    ∷ Did (WeakMapHas (codes "x") (codes "m") (codes "l")) (Object 2 ∷ Object 3 ∷ []) (Gives (Boolean false))
-    ∷ Did (WeakMapHas (codes "x") (codes "l") (codes "k")) (Object 3 ∷ Object 1 ∷ []) (Gives (Boolean false))
+    ∷ Did (WeakMapGet (codes "x") (codes "m") (codes "m"), Object 2 ∷ Object 2 ∷ [], Gives (Object 1))
+    ∷ Did (WeakMapSet (codes "m") (codes "m") (codes "k"), Object 2 ∷ Object 2 ∷ Object 1 ∷ [], Nothing)
+    ∷ Did (get_x_m_k, Object 2 ∷ Object 1 ∷ [], Gives (Object 3))
+    ∷ Did (WeakMapDelete (codes "x") (codes "l") (codes "k"), Object 3 ∷ Object 1 ∷ [], Gives (Boolean false))
+    ∷ Did (WeakMapHas (codes "x") (codes "m") (codes "l"), Object 2 ∷ Object 3 ∷ [], Gives (Boolean false))
+    ∷ Did (WeakMapHas (codes "x") (codes "l") (codes "k"), Object 3 ∷ Object 1 ∷ [], Gives (Boolean false))
     ∷ entered_in_one
 
 pub legal_apart : LegalBy [] (receivers plan_apart.jobs) closed_apart
@@ -543,65 +543,65 @@ follows_apart = search rules
 -- Wrong neighbours: reading
 
 -- a get gives a value after its key was emptied
-gives_after_its_key : IsUnlawful plan_key (Emptied (1 ∷ []) ∷ entered) (Did get_x_m_k (Object 3 ∷ Object 1 ∷ []) (Gives (Object 2)))
+gives_after_its_key : IsUnlawful plan_key (Emptied (1 ∷ []) ∷ entered) (Did (get_x_m_k, Object 3 ∷ Object 1 ∷ [], Gives (Object 2)))
 gives_after_its_key l = cc
 
 -- or there is an entry still
-has_after_its_key : IsUnlawful plan_key (Emptied (1 ∷ []) ∷ entered) (Did has_x_m_k (Object 3 ∷ Object 1 ∷ []) (Gives (Boolean true)))
+has_after_its_key : IsUnlawful plan_key (Emptied (1 ∷ []) ∷ entered) (Did (has_x_m_k, Object 3 ∷ Object 1 ∷ [], Gives (Boolean true)))
 has_after_its_key l = cc
 
 -- a deleted entry is there
-has_the_deleted : IsUnlawful plan_entries deleted (Did has_x_m_k (Object 3 ∷ Object 1 ∷ []) (Gives (Boolean true)))
+has_the_deleted : IsUnlawful plan_entries deleted (Did (has_x_m_k, Object 3 ∷ Object 1 ∷ [], Gives (Boolean true)))
 has_the_deleted l = cc
 
 -- or is given
-gives_the_deleted : IsUnlawful plan_entries deleted (Did get_x_m_k (Object 3 ∷ Object 1 ∷ []) (Gives (Object 1)))
+gives_the_deleted : IsUnlawful plan_entries deleted (Did (get_x_m_k, Object 3 ∷ Object 1 ∷ [], Gives (Object 1)))
 gives_the_deleted l = cc
 
 -- or what it had replaced comes back
-gives_the_replaced : IsUnlawful plan_entries deleted (Did get_x_m_k (Object 3 ∷ Object 1 ∷ []) (Gives (Object 2)))
+gives_the_replaced : IsUnlawful plan_entries deleted (Did (get_x_m_k, Object 3 ∷ Object 1 ∷ [], Gives (Object 2)))
 gives_the_replaced l = cc
 
 -- a delete gives true again
-deletes_twice : IsUnlawful plan_entries deleted (Did delete_x_m_k (Object 3 ∷ Object 1 ∷ []) (Gives (Boolean true)))
+deletes_twice : IsUnlawful plan_entries deleted (Did (delete_x_m_k, Object 3 ∷ Object 1 ∷ [], Gives (Boolean true)))
 deletes_twice l = cc
 
 -- the first value is given after a second set
-gives_the_first : IsUnlawful plan_entries overwritten (Did get_x_m_k (Object 3 ∷ Object 1 ∷ []) (Gives (Object 2)))
+gives_the_first : IsUnlawful plan_entries overwritten (Did (get_x_m_k, Object 3 ∷ Object 1 ∷ [], Gives (Object 2)))
 gives_the_first l = cc
 
 -- an entry of undefined is none
-lacks_undefined : IsUnlawful plan_entries undefined_entered (Did has_x_m_k (Object 3 ∷ Object 1 ∷ []) (Gives (Boolean false)))
+lacks_undefined : IsUnlawful plan_entries undefined_entered (Did (has_x_m_k, Object 3 ∷ Object 1 ∷ [], Gives (Boolean false)))
 lacks_undefined l = cc
 
 -- an entry is one of another WeakMap too
-in_another_map : IsUnlawful plan_apart entered_in_one (Did (WeakMapHas (codes "x") (codes "l") (codes "k")) (Object 3 ∷ Object 1 ∷ []) (Gives (Boolean true)))
+in_another_map : IsUnlawful plan_apart entered_in_one (Did (WeakMapHas (codes "x") (codes "l") (codes "k"), Object 3 ∷ Object 1 ∷ [], Gives (Boolean true)))
 in_another_map l = cc
 
 -- the value of an entry is a key
-value_for_key : IsUnlawful plan_apart entered_in_one (Did (WeakMapHas (codes "x") (codes "m") (codes "l")) (Object 2 ∷ Object 3 ∷ []) (Gives (Boolean true)))
+value_for_key : IsUnlawful plan_apart entered_in_one (Did (WeakMapHas (codes "x") (codes "m") (codes "l"), Object 2 ∷ Object 3 ∷ [], Gives (Boolean true)))
 value_for_key l = cc
 
 -- an emptied member is one still
-has_the_emptied : IsUnlawful plan_members (Emptied (1 ∷ []) ∷ joined) (Did (WeakSetHas (codes "x") (codes "s") (codes "a")) (Object 3 ∷ Object 1 ∷ []) (Gives (Boolean true)))
+has_the_emptied : IsUnlawful plan_members (Emptied (1 ∷ []) ∷ joined) (Did (WeakSetHas (codes "x") (codes "s") (codes "a"), Object 3 ∷ Object 1 ∷ [], Gives (Boolean true)))
 has_the_emptied l = cc
 
 -- a deleted member is one
-has_the_deleted_member : IsUnlawful plan_adding deleted_member (Did has_x_s_y (Object 2 ∷ Object 1 ∷ []) (Gives (Boolean true)))
+has_the_deleted_member : IsUnlawful plan_adding deleted_member (Did (has_x_s_y, Object 2 ∷ Object 1 ∷ [], Gives (Boolean true)))
 has_the_deleted_member l = cc
 
 -- Wrong neighbours: refusals
 
 -- a number becomes a key
-number_as_key : IsUnlawful plan_refusals asked_in_vain (Did set_m_n_n (Object 1 ∷ Number (pos 1) ∷ Number (pos 1) ∷ []) Nothing)
+number_as_key : IsUnlawful plan_refusals asked_in_vain (Did (set_m_n_n, Object 1 ∷ Number (pos 1) ∷ Number (pos 1) ∷ [], Nothing))
 number_as_key l = cc
 
 -- or a registered symbol does
-registered_as_key : IsUnlawful plan_refusals asked_in_vain (Did (WeakMapSet (codes "m") (codes "f") (codes "m")) (Object 1 ∷ Registered (codes "t") ∷ Object 1 ∷ []) Nothing)
+registered_as_key : IsUnlawful plan_refusals asked_in_vain (Did (WeakMapSet (codes "m") (codes "f") (codes "m"), Object 1 ∷ Registered (codes "t") ∷ Object 1 ∷ [], Nothing))
 registered_as_key l = cc
 
 -- or a member
-registered_as_member : IsUnlawful plan_refusals asked_in_vain (Did (WeakSetAdd (codes "s") (codes "f")) (Object 2 ∷ Registered (codes "t") ∷ []) Nothing)
+registered_as_member : IsUnlawful plan_refusals asked_in_vain (Did (WeakSetAdd (codes "s") (codes "f"), Object 2 ∷ Registered (codes "t") ∷ [], Nothing))
 registered_as_member l = cc
 
 -- a get of such a key is refused

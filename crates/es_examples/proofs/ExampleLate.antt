@@ -26,7 +26,7 @@ use Rattle.es_event.proofs.DecidingLate.{late_by, other_late, by_root, by_deref,
 
 -- the event by which a later collection is opened
 abbrev pub opening : Event
-opening = Did CollectLater [] Nothing
+opening = Did (CollectLater, [], Nothing)
 
 -- A deref revives its target, and what that reaches
 
@@ -43,14 +43,14 @@ into_revived = receivers plan_revived.jobs
 
 abbrev pub all_made : History
 all_made =
-    Did (forget (codes "z")) [] (Gives Undefined)
-    ∷ Did (forget (codes "q")) [] (Gives Undefined)
-    ∷ Did (forget (codes "a")) [] (Gives Undefined)
-    ∷ Did (new (codes "z")) [] (Gives (Object 4))
-    ∷ Did (WeakRef (codes "w") (codes "a")) (Object 1 ∷ []) (Gives (Object 3))
-    ∷ Did (Set (codes "a") (codes "p") (codes "q")) (Object 1 ∷ Object 2 ∷ []) Nothing
-    ∷ Did (new (codes "q")) [] (Gives (Object 2))
-    ∷ Did (new (codes "a")) [] (Gives (Object 1))
+    Did (forget (codes "z"), [], Gives Undefined)
+    ∷ Did (forget (codes "q"), [], Gives Undefined)
+    ∷ Did (forget (codes "a"), [], Gives Undefined)
+    ∷ Did (new (codes "z"), [], Gives (Object 4))
+    ∷ Did (WeakRef (codes "w") (codes "a"), Object 1 ∷ [], Gives (Object 3))
+    ∷ Did (Set (codes "a") (codes "p") (codes "q"), Object 1 ∷ Object 2 ∷ [], Nothing)
+    ∷ Did (new (codes "q"), [], Gives (Object 2))
+    ∷ Did (new (codes "a"), [], Gives (Object 1))
     ∷ JobBegun 1
     ∷ []
 
@@ -58,10 +58,10 @@ abbrev pub copied : History
 copied = opening ∷ JobBegun 2 ∷ JobEnded ∷ all_made
 
 abbrev pub derefed : History
-derefed = Did (Deref (codes "x") (codes "w")) (Object 3 ∷ []) (Gives (Object 1)) ∷ copied
+derefed = Did (Deref (codes "x") (codes "w"), Object 3 ∷ [], Gives (Object 1)) ∷ copied
 
 abbrev pub to_finish : History
-to_finish = Did (forget (codes "x")) [] (Gives Undefined) ∷ derefed
+to_finish = Did (forget (codes "x"), [], Gives Undefined) ∷ derefed
 
 abbrev pub finished : History
 finished = Emptied (4 ∷ []) ∷ to_finish
@@ -133,7 +133,7 @@ abbrev pub copied_first : History
 copied_first = opening ∷ JobBegun 1 ∷ []
 
 abbrev pub made_since : History
-made_since = Did (forget (codes "a")) [] (Gives Undefined) ∷ Did (new (codes "a")) [] (Gives (Object 1)) ∷ copied_first
+made_since = Did (forget (codes "a"), [], Gives Undefined) ∷ Did (new (codes "a"), [], Gives (Object 1)) ∷ copied_first
 
 abbrev pub closed_since : History
 closed_since = Closed ∷ JobEnded ∷ Emptied (1 ∷ []) ∷ JobBegun 2 ∷ JobEnded ∷ Emptied [] ∷ made_since
@@ -221,14 +221,14 @@ copied_after =
     opening
     ∷ JobBegun 2
     ∷ JobEnded
-    ∷ Did (forget (codes "a")) [] (Gives Undefined)
-    ∷ Did (WeakRef (codes "w") (codes "a")) (Object 1 ∷ []) (Gives (Object 2))
-    ∷ Did (new (codes "a")) [] (Gives (Object 1))
+    ∷ Did (forget (codes "a"), [], Gives Undefined)
+    ∷ Did (WeakRef (codes "w") (codes "a"), Object 1 ∷ [], Gives (Object 2))
+    ∷ Did (new (codes "a"), [], Gives (Object 1))
     ∷ JobBegun 1
     ∷ []
 
 abbrev pub stopped : History
-stopped = Refused NotAnObject ∷ Did (Let (codes "y") (NumberLiteral (pos 1))) [] (Gives (Number (pos 1))) ∷ copied_after
+stopped = Refused NotAnObject ∷ Did (Let (codes "y") (NumberLiteral (pos 1)), [], Gives (Number (pos 1))) ∷ copied_after
 
 abbrev pub closed_stopped : History
 closed_stopped = Closed ∷ JobEnded ∷ Emptied (1 ∷ []) ∷ stopped
@@ -260,13 +260,13 @@ into_entry = receivers plan_entry.jobs
 
 abbrev pub entered : History
 entered =
-    Did (forget (codes "v")) [] (Gives Undefined)
-    ∷ Did (forget (codes "k")) [] (Gives Undefined)
-    ∷ Did (WeakRef (codes "w") (codes "k")) (Object 2 ∷ []) (Gives (Object 4))
-    ∷ Did (WeakMapSet (codes "m") (codes "k") (codes "v")) (Object 1 ∷ Object 2 ∷ Object 3 ∷ []) Nothing
-    ∷ Did (new (codes "v")) [] (Gives (Object 3))
-    ∷ Did (new (codes "k")) [] (Gives (Object 2))
-    ∷ Did (WeakMap (codes "m")) [] (Gives (Object 1))
+    Did (forget (codes "v"), [], Gives Undefined)
+    ∷ Did (forget (codes "k"), [], Gives Undefined)
+    ∷ Did (WeakRef (codes "w") (codes "k"), Object 2 ∷ [], Gives (Object 4))
+    ∷ Did (WeakMapSet (codes "m") (codes "k") (codes "v"), Object 1 ∷ Object 2 ∷ Object 3 ∷ [], Nothing)
+    ∷ Did (new (codes "v"), [], Gives (Object 3))
+    ∷ Did (new (codes "k"), [], Gives (Object 2))
+    ∷ Did (WeakMap (codes "m"), [], Gives (Object 1))
     ∷ JobBegun 1
     ∷ []
 
@@ -274,7 +274,7 @@ abbrev pub copied_entry : History
 copied_entry = opening ∷ JobBegun 2 ∷ JobEnded ∷ entered
 
 abbrev pub key_given : History
-key_given = Did (Deref (codes "x") (codes "w")) (Object 4 ∷ []) (Gives (Object 2)) ∷ copied_entry
+key_given = Did (Deref (codes "x") (codes "w"), Object 4 ∷ [], Gives (Object 2)) ∷ copied_entry
 
 abbrev pub closed_entry : History
 closed_entry = Closed ∷ JobEnded ∷ Emptied [] ∷ key_given
@@ -319,17 +319,17 @@ into_cell = receivers plan_cell.jobs
 abbrev pub copied_cell : History
 copied_cell =
     opening
-    ∷ Did (forget (codes "h")) [] (Gives Undefined)
-    ∷ Did (forget (codes "x")) [] (Gives Undefined)
-    ∷ Did (Register (codes "r") (codes "x") (codes "h") None) (Object 1 ∷ Object 2 ∷ Object 3 ∷ []) Nothing
-    ∷ Did (new (codes "h")) [] (Gives (Object 3))
-    ∷ Did (new (codes "x")) [] (Gives (Object 2))
-    ∷ Did (FinalizationRegistry (codes "r") 1) [] (Gives (Object 1))
+    ∷ Did (forget (codes "h"), [], Gives Undefined)
+    ∷ Did (forget (codes "x"), [], Gives Undefined)
+    ∷ Did (Register (codes "r") (codes "x") (codes "h") None, Object 1 ∷ Object 2 ∷ Object 3 ∷ [], Nothing)
+    ∷ Did (new (codes "h"), [], Gives (Object 3))
+    ∷ Did (new (codes "x"), [], Gives (Object 2))
+    ∷ Did (FinalizationRegistry (codes "r") 1, [], Gives (Object 1))
     ∷ JobBegun 1
     ∷ []
 
 abbrev pub closed_cell : History
-closed_cell = Closed ∷ JobEnded ∷ Did (Say (codes "held")) (Object 3 ∷ []) Nothing ∷ Taken 1 (Object 3) ∷ CleanupBegun 1 ∷ JobEnded ∷ Emptied (2 ∷ []) ∷ copied_cell
+closed_cell = Closed ∷ JobEnded ∷ Did (Say (codes "held"), Object 3 ∷ [], Nothing) ∷ Taken 1 (Object 3) ∷ CleanupBegun 1 ∷ JobEnded ∷ Emptied (2 ∷ []) ∷ copied_cell
 
 pub late_target : AreLate into_cell copied_cell [] (2 ∷ [])
 late_target = late_by into_cell copied_cell [] (1 ∷ 3 ∷ []) (2 ∷ []) refl (

@@ -41,7 +41,7 @@ word_too_big : IsUnlawfulOver Buffers.one_word Buffers.plan_words Buffers.stored
 word_too_big l = false≢true (ap (gave 4294967296) l.1)
 
 -- so does an add
-added_word_too_big : IsUnlawfulOver Buffers.one_word Buffers.plan_words Buffers.said_first (Did (Add y b (pos 0) (pos 2)) (Object 1 ∷ []) (Gives (Number (pos 4294967297))))
+added_word_too_big : IsUnlawfulOver Buffers.one_word Buffers.plan_words Buffers.said_first (Did (Add y b (pos 0) (pos 2), Object 1 ∷ [], Gives (Number (pos 4294967297))))
 added_word_too_big l = false≢true (ap (gave 4294967297) l.1)
 
 -- the greatest word is read
@@ -49,30 +49,30 @@ greatest_word : Lawful Buffers.one_word Buffers.into_words Buffers.stored (loade
 greatest_word = search rules
 
 -- a load gives a number below 0
-word_below_zero : IsUnlawfulOver Buffers.one_word Buffers.plan_words Buffers.stored (Did (Load x b (pos 0)) (Object 1 ∷ []) (Gives (Number (negsuc 0))))
+word_below_zero : IsUnlawfulOver Buffers.one_word Buffers.plan_words Buffers.stored (Did (Load x b (pos 0), Object 1 ∷ [], Gives (Number (negsuc 0))))
 word_below_zero l = cc
 
 -- so does an add
-added_word_below_zero : IsUnlawfulOver Buffers.one_word Buffers.plan_words Buffers.said_first (Did (Add y b (pos 0) (pos 2)) (Object 1 ∷ []) (Gives (Number (negsuc 0))))
+added_word_below_zero : IsUnlawfulOver Buffers.one_word Buffers.plan_words Buffers.said_first (Did (Add y b (pos 0) (pos 2), Object 1 ∷ [], Gives (Number (negsuc 0))))
 added_word_below_zero l = cc
 
 -- a load gives undefined
-word_undefined : IsUnlawfulOver Buffers.one_word Buffers.plan_words Buffers.stored (Did (Load x b (pos 0)) (Object 1 ∷ []) (Gives Undefined))
+word_undefined : IsUnlawfulOver Buffers.one_word Buffers.plan_words Buffers.stored (Did (Load x b (pos 0), Object 1 ∷ [], Gives Undefined))
 word_undefined l = cc
 
 -- or nothing
-word_missing : IsUnlawfulOver Buffers.one_word Buffers.plan_words Buffers.stored (Did (Load x b (pos 0)) (Object 1 ∷ []) Nothing)
+word_missing : IsUnlawfulOver Buffers.one_word Buffers.plan_words Buffers.stored (Did (Load x b (pos 0), Object 1 ∷ [], Nothing))
 word_missing l = cc
 
 -- a store gives the number that it wrote
-store_gives : IsUnlawfulOver Buffers.one_word Buffers.plan_words Buffers.made_words (Did (Store b (pos 0) (negsuc 0)) (Object 1 ∷ []) (Gives (Number (negsuc 0))))
+store_gives : IsUnlawfulOver Buffers.one_word Buffers.plan_words Buffers.made_words (Did (Store b (pos 0) (negsuc 0), Object 1 ∷ [], Gives (Number (negsuc 0))))
 store_gives l = cc
 
 -- a word is read at an index that the block does not have
 load_past_the_end : IsUnlawfulOver Buffers.no_word Buffers.plan_empty Buffers.said_length (loaded x b (pos 0) 1 0)
 load_past_the_end l = cc
 
-store_past_the_end : IsUnlawfulOver Buffers.two_words Buffers.plan_refused Buffers.loaded_last (Did (Store b (pos 2) (pos 7)) (Object 2 ∷ []) Nothing)
+store_past_the_end : IsUnlawfulOver Buffers.two_words Buffers.plan_refused Buffers.loaded_last (Did (Store b (pos 2) (pos 7), Object 2 ∷ [], Nothing))
 store_past_the_end l = cc
 
 load_below_zero : IsUnlawfulOver Buffers.two_words Buffers.plan_refused Buffers.made_second (loaded x b (negsuc 0) 2 0)
@@ -104,14 +104,14 @@ heard_apart e = cc
 what_a_load_hears : heard (loaded x b (pos 0) 1 7) ≡ a_word 7
 what_a_load_hears = refl
 
-what_an_add_hears : heard (Did (Add y b (pos 0) (pos 2)) (Object 1 ∷ []) (Gives (Number (pos 7)))) ≡ a_word 7
+what_an_add_hears : heard (Did (Add y b (pos 0) (pos 2), Object 1 ∷ [], Gives (Number (pos 7)))) ≡ a_word 7
 what_an_add_hears = refl
 
 -- a store, a length and a post hear nothing
-store_hears_nothing : heard (Did (Store b (pos 0) (pos 7)) (Object 1 ∷ []) Nothing) ≡ silence
+store_hears_nothing : heard (Did (Store b (pos 0) (pos 7), Object 1 ∷ [], Nothing)) ≡ silence
 store_hears_nothing = refl
 
-length_hears_nothing : heard (Did (Length n b) (Object 1 ∷ []) (Gives (Number (pos 7)))) ≡ silence
+length_hears_nothing : heard (Did (Length n b, Object 1 ∷ [], Gives (Number (pos 7)))) ≡ silence
 length_hears_nothing = refl
 
 post_hears_nothing : heard (posted n (Number (pos 7))) ≡ silence
@@ -159,27 +159,27 @@ stays_by_itself = refl
 -- Lengths and blocks
 
 -- a length is another number than the table's
-other_length : IsUnlawfulOver Messages.four_words Messages.plan_buffer Messages.begun_buffer (Did (Length n m) (Object 1 ∷ []) (Gives (Number (pos 3))))
+other_length : IsUnlawfulOver Messages.four_words Messages.plan_buffer Messages.begun_buffer (Did (Length n m, Object 1 ∷ [], Gives (Number (pos 3))))
 other_length l = cc
 
 -- it is the number of the block
-length_is_the_block : IsUnlawfulOver Messages.four_words Messages.plan_buffer Messages.begun_buffer (Did (Length n m) (Object 1 ∷ []) (Gives (Number (pos 2))))
+length_is_the_block : IsUnlawfulOver Messages.four_words Messages.plan_buffer Messages.begun_buffer (Did (Length n m, Object 1 ∷ [], Gives (Number (pos 2))))
 length_is_the_block l = cc
 
 -- an object that is no buffer has a length
-length_of_an_object : IsUnlawfulOver Buffers.two_words Buffers.plan_refused (JobBegun 6 ∷ Buffers.refused_add) (Did (Length x o) (Object 1 ∷ []) (Gives (Number (pos 0))))
+length_of_an_object : IsUnlawfulOver Buffers.two_words Buffers.plan_refused (JobBegun 6 ∷ Buffers.refused_add) (Did (Length x o, Object 1 ∷ [], Gives (Number (pos 0))))
 length_of_an_object l = cc
 
 -- two buffers over one block are over two
-one_block_is_two : IsUnlawfulOver Buffers.one_block Buffers.plan_same Buffers.begun_other (Did (SameBlock x b m) (Object 1 ∷ Object 2 ∷ []) (Gives (Boolean false)))
+one_block_is_two : IsUnlawfulOver Buffers.one_block Buffers.plan_same Buffers.begun_other (Did (SameBlock x b m, Object 1 ∷ Object 2 ∷ [], Gives (Boolean false)))
 one_block_is_two l = cc
 
 -- two that are over two, with as many words, are over one
-two_blocks_are_one : IsUnlawfulOver Buffers.two_blocks Buffers.plan_same Buffers.begun_other (Did (SameBlock x b m) (Object 1 ∷ Object 2 ∷ []) (Gives (Boolean true)))
+two_blocks_are_one : IsUnlawfulOver Buffers.two_blocks Buffers.plan_same Buffers.begun_other (Did (SameBlock x b m, Object 1 ∷ Object 2 ∷ [], Gives (Boolean true)))
 two_blocks_are_one l = cc
 
 -- two buffers over one block are one value
-buffers_alike : IsUnlawfulOver Buffers.one_block Buffers.plan_same Buffers.begun_other (Did (SameBlock x b m) (Object 1 ∷ Object 1 ∷ []) (Gives (Boolean true)))
+buffers_alike : IsUnlawfulOver Buffers.one_block Buffers.plan_same Buffers.begun_other (Did (SameBlock x b m, Object 1 ∷ Object 1 ∷ [], Gives (Boolean true)))
 buffers_alike l = cc
 
 -- Making a buffer
@@ -387,7 +387,7 @@ receipt_leaves_kept h t v = refl
 
 -- a skip does not clear it
 abbrev keeps_one : History
-keeps_one = Did (WeakRef w o) (Object 1 ∷ []) (Gives (Object 2)) ∷ made_new o 1 ∷ JobBegun 1 ∷ []
+keeps_one = Did (WeakRef w o, Object 1 ∷ [], Gives (Object 2)) ∷ made_new o 1 ∷ JobBegun 1 ∷ []
 
 cleared_by_a_skip : is_in (kept (Skipped 2 1 ∷ keeps_one)) 1 ≡ false → ⊥
 cleared_by_a_skip e = cc
@@ -428,7 +428,7 @@ object_opens_none h = omega arith
 
 -- messages are counted over all receivers
 abbrev posted_to_two : History
-posted_to_two = Did (Post 2 n) (Undefined ∷ []) Nothing ∷ Did (Post 1 n) (Undefined ∷ []) Nothing ∷ JobBegun 1 ∷ []
+posted_to_two = Did (Post 2 n, Undefined ∷ [], Nothing) ∷ Did (Post 1 n, Undefined ∷ [], Nothing) ∷ JobBegun 1 ∷ []
 
 counted_over_all : messages_posted posted_to_two ≡ 2
 counted_over_all = refl
@@ -519,7 +519,7 @@ none_left_after_a_skip h j t = refl
 -- A buffer is an object, and no other kind of one
 
 -- a property of it is lost
-property_lost : IsUnlawfulOver Buffers.three_words Buffers.plan_object Buffers.has_property (Did (Get y b p) (Object 1 ∷ []) (Gives Undefined))
+property_lost : IsUnlawfulOver Buffers.three_words Buffers.plan_object Buffers.has_property (Did (Get y b p, Object 1 ∷ [], Gives Undefined))
 property_lost l = cc
 
 -- a set on it is refused
@@ -527,23 +527,23 @@ set_refused : IsOutOfPlaceOver Buffers.three_words Buffers.plan_object Buffers.m
 set_refused e = cc
 
 -- it is a WeakMap
-is_a_weakmap : IsUnlawfulOver Buffers.three_words Buffers.plan_object Buffers.begun_weakmap (Did (WeakMapGet y b b) (Object 1 ∷ Object 1 ∷ []) (Gives Undefined))
+is_a_weakmap : IsUnlawfulOver Buffers.three_words Buffers.plan_object Buffers.begun_weakmap (Did (WeakMapGet y b b, Object 1 ∷ Object 1 ∷ [], Gives Undefined))
 is_a_weakmap l = cc
 
 -- a WeakRef
-is_a_weakref : IsUnlawfulOver Buffers.three_words Buffers.plan_object Buffers.begun_deref (Did (Deref y b) (Object 1 ∷ []) (Gives Undefined))
+is_a_weakref : IsUnlawfulOver Buffers.three_words Buffers.plan_object Buffers.begun_deref (Did (Deref y b, Object 1 ∷ [], Gives Undefined))
 is_a_weakref l = cc
 
 -- a WeakSet
-is_a_weakset : IsUnlawfulOver Buffers.three_words Buffers.plan_object Buffers.begun_weakset (Did (WeakSetAdd b b) (Object 1 ∷ Object 1 ∷ []) Nothing)
+is_a_weakset : IsUnlawfulOver Buffers.three_words Buffers.plan_object Buffers.begun_weakset (Did (WeakSetAdd b b, Object 1 ∷ Object 1 ∷ [], Nothing))
 is_a_weakset l = cc
 
 -- a FinalizationRegistry
-is_a_registry : IsUnlawfulOver Buffers.three_words Buffers.plan_object Buffers.begun_register (Did (Register b o u None) (Object 1 ∷ Undefined ∷ Undefined ∷ []) Nothing)
+is_a_registry : IsUnlawfulOver Buffers.three_words Buffers.plan_object Buffers.begun_register (Did (Register b o u None, Object 1 ∷ Undefined ∷ Undefined ∷ [], Nothing))
 is_a_registry l = cc
 
 -- a WeakRef to a buffer is a buffer
-weakref_is_a_buffer : IsUnlawfulOver Buffers.three_words Buffers.plan_object Buffers.begun_length (Did (Length n w) (Object 2 ∷ []) (Gives (Number (pos 3))))
+weakref_is_a_buffer : IsUnlawfulOver Buffers.three_words Buffers.plan_object Buffers.begun_length (Did (Length n w, Object 2 ∷ [], Gives (Number (pos 3))))
 weakref_is_a_buffer l = cc
 
 -- Liveness

@@ -41,7 +41,7 @@ abbrev pub forget_m : Command
 forget_m = Let m NoLiteral
 
 abbrev pub posted : List ℕ → Value → Event
-posted from v = Did (Post 1 from) (v ∷ []) Nothing
+posted from v = Did (Post 1 from, v ∷ [], Nothing)
 
 abbrev pub forget_x : Command
 forget_x = Let x NoLiteral
@@ -179,13 +179,13 @@ abbrev pub begun_buffer : History
 begun_buffer = JobBegun 1 ∷ received_buffer
 
 abbrev pub ended_buffer : History
-ended_buffer = JobEnded ∷ said n (Number (pos 4)) ∷ Did (Length n m) (Object 1 ∷ []) (Gives (Number (pos 4))) ∷ begun_buffer
+ended_buffer = JobEnded ∷ said n (Number (pos 4)) ∷ Did (Length n m, Object 1 ∷ [], Gives (Number (pos 4))) ∷ begun_buffer
 
 abbrev pub begun_collecting : History
 begun_collecting = JobBegun 2 ∷ ended_buffer
 
 abbrev pub forgot : History
-forgot = Did forget_m [] (Gives Undefined) ∷ said m (Object 1) ∷ Emptied [] ∷ begun_collecting
+forgot = Did (forget_m, [], Gives Undefined) ∷ said m (Object 1) ∷ Emptied [] ∷ begun_collecting
 
 abbrev pub closed_buffer : History
 closed_buffer = Closed ∷ JobEnded ∷ Emptied (1 ∷ []) ∷ forgot
@@ -304,10 +304,10 @@ abbrev pub into_posted : Receivers
 into_posted = receivers plan_posted.jobs
 
 abbrev pub begun_posted : History
-begun_posted = JobBegun 2 ∷ JobEnded ∷ Did (Let s NoLiteral) [] (Gives Undefined) ∷ posted s (Object 1) ∷ Did (WeakRef w s) (Object 1 ∷ []) (Gives (Object 2)) ∷ made_buffer s 1 1 ∷ JobBegun 1 ∷ []
+begun_posted = JobBegun 2 ∷ JobEnded ∷ Did (Let s NoLiteral, [], Gives Undefined) ∷ posted s (Object 1) ∷ Did (WeakRef w s, Object 1 ∷ [], Gives (Object 2)) ∷ made_buffer s 1 1 ∷ JobBegun 1 ∷ []
 
 abbrev pub closed_posted : History
-closed_posted = Closed ∷ JobEnded ∷ said x Undefined ∷ Did (Deref x w) (Object 2 ∷ []) (Gives Undefined) ∷ Emptied (1 ∷ []) ∷ begun_posted
+closed_posted = Closed ∷ JobEnded ∷ said x Undefined ∷ Did (Deref x w, Object 2 ∷ [], Gives Undefined) ∷ Emptied (1 ∷ []) ∷ begun_posted
 
 pub dead_posted : AreDead into_posted begun_posted (1 ∷ [])
 dead_posted = dead_by into_posted begun_posted (2 ∷ []) (1 ∷ []) refl (by_variable into_posted begun_posted w 2 refl, tt)
@@ -331,7 +331,7 @@ abbrev pub into_cleanup : Receivers
 into_cleanup = receivers plan_cleanup.jobs
 
 abbrev pub forgot_x : History
-forgot_x = Did forget_x [] (Gives Undefined) ∷ Did (Register r x u None) (Object 1 ∷ Object 2 ∷ Undefined ∷ []) Nothing ∷ made_new x 2 ∷ Did (FinalizationRegistry r 1) [] (Gives (Object 1)) ∷ JobBegun 1 ∷ []
+forgot_x = Did (forget_x, [], Gives Undefined) ∷ Did (Register r x u None, Object 1 ∷ Object 2 ∷ Undefined ∷ [], Nothing) ∷ made_new x 2 ∷ Did (FinalizationRegistry r 1, [], Gives (Object 1)) ∷ JobBegun 1 ∷ []
 
 abbrev pub ended_cleanup : History
 ended_cleanup = JobEnded ∷ Emptied (2 ∷ []) ∷ forgot_x
@@ -390,16 +390,16 @@ abbrev pub posted_undefined : History
 posted_undefined = posted u Undefined ∷ JobBegun 1 ∷ []
 
 abbrev pub posted_boolean : History
-posted_boolean = posted b (Boolean true) ∷ Did (Let b (BooleanLiteral true)) [] (Gives (Boolean true)) ∷ posted_undefined
+posted_boolean = posted b (Boolean true) ∷ Did (Let b (BooleanLiteral true), [], Gives (Boolean true)) ∷ posted_undefined
 
 abbrev pub posted_number : History
-posted_number = posted n (Number (pos 1)) ∷ Did (Let n (NumberLiteral (pos 1))) [] (Gives (Number (pos 1))) ∷ posted_boolean
+posted_number = posted n (Number (pos 1)) ∷ Did (Let n (NumberLiteral (pos 1)), [], Gives (Number (pos 1))) ∷ posted_boolean
 
 abbrev pub posted_text : History
-posted_text = posted t (Text (codes "k")) ∷ Did (Let t (TextLiteral (codes "k"))) [] (Gives (Text (codes "k"))) ∷ posted_number
+posted_text = posted t (Text (codes "k")) ∷ Did (Let t (TextLiteral (codes "k")), [], Gives (Text (codes "k"))) ∷ posted_number
 
 abbrev pub posted_registered : History
-posted_registered = posted f (Registered (codes "k")) ∷ Did (SymbolFor f (codes "k")) [] (Gives (Registered (codes "k"))) ∷ posted_text
+posted_registered = posted f (Registered (codes "k")) ∷ Did (SymbolFor f (codes "k"), [], Gives (Registered (codes "k"))) ∷ posted_text
 
 abbrev pub posted_buffer : History
 posted_buffer = posted s (Object 1) ∷ made_buffer s 1 1 ∷ posted_registered
@@ -415,13 +415,13 @@ abbrev pub refused_object : History
 refused_object = JobEnded ∷ Refused NotPostable ∷ made_object
 
 abbrev pub made_weakref : History
-made_weakref = Did (WeakRef w o) (Object 2 ∷ []) (Gives (Object 3)) ∷ JobBegun 3 ∷ refused_object
+made_weakref = Did (WeakRef w o, Object 2 ∷ [], Gives (Object 3)) ∷ JobBegun 3 ∷ refused_object
 
 abbrev pub refused_weakref : History
 refused_weakref = JobEnded ∷ Refused NotPostable ∷ made_weakref
 
 abbrev pub made_symbol : History
-made_symbol = Did (Symbol s) [] (Gives (SymbolValue 4)) ∷ JobBegun 4 ∷ refused_weakref
+made_symbol = Did (Symbol s, [], Gives (SymbolValue 4)) ∷ JobBegun 4 ∷ refused_weakref
 
 abbrev pub closed_posts : History
 closed_posts = Closed ∷ JobEnded ∷ Refused NotPostable ∷ made_symbol

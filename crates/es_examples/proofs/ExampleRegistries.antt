@@ -84,16 +84,16 @@ forget to = Let to NoLiteral
 -- Events
 
 abbrev pub made_registry : List ℕ → ℕ → Event
-made_registry to m = Did (registry to) [] (Gives (Object m))
+made_registry to m = Did (registry to, [], Gives (Object m))
 
 abbrev pub made_new : List ℕ → ℕ → Event
-made_new to m = Did (New to) [] (Gives (Object m))
+made_new to m = Did (New to, [], Gives (Object m))
 
 abbrev pub let_number : List ℕ → ℕ → Event
-let_number to m = Did (number to m) [] (Gives (Number (pos m)))
+let_number to m = Did (number to m, [], Gives (Number (pos m)))
 
 abbrev pub forgot : List ℕ → Event
-forgot to = Did (forget to) [] (Gives Undefined)
+forgot to = Did (forget to, [], Gives Undefined)
 
 -- A target that is its own token: once it is emptied, its cell is taken in a cleanup job of its own
 
@@ -107,7 +107,7 @@ abbrev pub let_own_token : History
 let_own_token = let_number h 5 ∷ made_new x 2 ∷ made_registry r 1 ∷ JobBegun 1 ∷ []
 
 abbrev pub forgot_own_token : History
-forgot_own_token = forgot x ∷ Did (Register r x h (Some x)) (Object 1 ∷ Object 2 ∷ Number (pos 5) ∷ Object 2 ∷ []) Nothing ∷ let_own_token
+forgot_own_token = forgot x ∷ Did (Register r x h (Some x), Object 1 ∷ Object 2 ∷ Number (pos 5) ∷ Object 2 ∷ [], Nothing) ∷ let_own_token
 
 abbrev pub ended_own_token : History
 ended_own_token = JobEnded ∷ Emptied (2 ∷ []) ∷ forgot_own_token
@@ -145,8 +145,8 @@ into_held = receivers plan_held.jobs
 
 abbrev pub registered_held : History
 registered_held =
-    Did (Register r x h None) (Object 1 ∷ Object 2 ∷ Object 3 ∷ []) Nothing
-    ∷ Did (Set h p x) (Object 3 ∷ Object 2 ∷ []) Nothing
+    Did (Register r x h None, Object 1 ∷ Object 2 ∷ Object 3 ∷ [], Nothing)
+    ∷ Did (Set h p x, Object 3 ∷ Object 2 ∷ [], Nothing)
     ∷ made_new h 3
     ∷ made_new x 2
     ∷ made_registry r 1
@@ -194,8 +194,8 @@ into_shared_token = receivers plan_shared_token.jobs
 abbrev pub forgot_shared_token : History
 forgot_shared_token =
     forgot x
-    ∷ Did (Register r y h (Some t)) (Object 1 ∷ Object 3 ∷ Number (pos 1) ∷ Object 4 ∷ []) Nothing
-    ∷ Did (Register r x h (Some t)) (Object 1 ∷ Object 2 ∷ Number (pos 1) ∷ Object 4 ∷ []) Nothing
+    ∷ Did (Register r y h (Some t), Object 1 ∷ Object 3 ∷ Number (pos 1) ∷ Object 4 ∷ [], Nothing)
+    ∷ Did (Register r x h (Some t), Object 1 ∷ Object 2 ∷ Number (pos 1) ∷ Object 4 ∷ [], Nothing)
     ∷ let_number h 1
     ∷ made_new t 4
     ∷ made_new y 3
@@ -208,11 +208,11 @@ abbrev pub emptied_shared_token : History
 emptied_shared_token = Emptied (2 ∷ []) ∷ forgot_shared_token
 
 abbrev pub unregistered_both : History
-unregistered_both = Did (Unregister b r t) (Object 1 ∷ Object 4 ∷ []) (Gives (Boolean true)) ∷ emptied_shared_token
+unregistered_both = Did (Unregister b r t, Object 1 ∷ Object 4 ∷ [], Gives (Boolean true)) ∷ emptied_shared_token
 
 -- its registry is queued still, so a cleanup job of it begins, and finds nothing
 abbrev pub begun_shared_token : History
-begun_shared_token = CleanupBegun 1 ∷ JobEnded ∷ Did (Say b) (Boolean true ∷ []) Nothing ∷ unregistered_both
+begun_shared_token = CleanupBegun 1 ∷ JobEnded ∷ Did (Say b, Boolean true ∷ [], Nothing) ∷ unregistered_both
 
 abbrev pub closed_shared_token : History
 closed_shared_token = Closed ∷ JobEnded ∷ begun_shared_token
@@ -249,8 +249,8 @@ abbrev pub forgot_refused : History
 forgot_refused =
     forgot y
     ∷ forgot x
-    ∷ Did (Register r y i None) (Object 1 ∷ Object 3 ∷ Number (pos 2) ∷ []) Nothing
-    ∷ Did (Register r x h None) (Object 1 ∷ Object 2 ∷ Number (pos 1) ∷ []) Nothing
+    ∷ Did (Register r y i None, Object 1 ∷ Object 3 ∷ Number (pos 2) ∷ [], Nothing)
+    ∷ Did (Register r x h None, Object 1 ∷ Object 2 ∷ Number (pos 1) ∷ [], Nothing)
     ∷ let_number i 2
     ∷ let_number h 1
     ∷ made_new y 3
@@ -318,8 +318,8 @@ into_unregistered = receivers plan_unregistered.jobs
 
 abbrev pub unregistered_once : History
 unregistered_once =
-    Did (Unregister b r t) (Object 1 ∷ Object 3 ∷ []) (Gives (Boolean true))
-    ∷ Did (Register r x h (Some t)) (Object 1 ∷ Object 2 ∷ Number (pos 1) ∷ Object 3 ∷ []) Nothing
+    Did (Unregister b r t, Object 1 ∷ Object 3 ∷ [], Gives (Boolean true))
+    ∷ Did (Register r x h (Some t), Object 1 ∷ Object 2 ∷ Number (pos 1) ∷ Object 3 ∷ [], Nothing)
     ∷ let_number h 1
     ∷ made_new t 3
     ∷ made_new x 2
@@ -330,9 +330,9 @@ unregistered_once =
 abbrev pub forgot_unregistered : History
 forgot_unregistered =
     forgot x
-    ∷ Did (Say c) (Boolean false ∷ []) Nothing
-    ∷ Did (Say b) (Boolean true ∷ []) Nothing
-    ∷ Did (Unregister c r t) (Object 1 ∷ Object 3 ∷ []) (Gives (Boolean false))
+    ∷ Did (Say c, Boolean false ∷ [], Nothing)
+    ∷ Did (Say b, Boolean true ∷ [], Nothing)
+    ∷ Did (Unregister c r t, Object 1 ∷ Object 3 ∷ [], Gives (Boolean false))
     ∷ unregistered_once
 
 abbrev pub emptied_unregistered : History
@@ -372,16 +372,16 @@ begun_second =
     JobBegun 2
     ∷ JobEnded
     ∷ forgot x
-    ∷ Did (Register r x h None) (Object 1 ∷ Object 2 ∷ Number (pos 3) ∷ []) Nothing
+    ∷ Did (Register r x h None, Object 1 ∷ Object 2 ∷ Number (pos 3) ∷ [], Nothing)
     ∷ let_number h 3
-    ∷ Did (WeakRef w x) (Object 2 ∷ []) (Gives (Object 3))
+    ∷ Did (WeakRef w x, Object 2 ∷ [], Gives (Object 3))
     ∷ made_new x 2
     ∷ made_registry r 1
     ∷ JobBegun 1
     ∷ []
 
 abbrev pub begun_cleanup : History
-begun_cleanup = CleanupBegun 1 ∷ JobEnded ∷ Did (Say h) (Number (pos 3) ∷ []) Nothing ∷ Emptied (2 ∷ []) ∷ begun_second
+begun_cleanup = CleanupBegun 1 ∷ JobEnded ∷ Did (Say h, Number (pos 3) ∷ [], Nothing) ∷ Emptied (2 ∷ []) ∷ begun_second
 
 abbrev pub taken_callback : History
 taken_callback = Taken 1 (Number (pos 3)) ∷ begun_cleanup
@@ -390,9 +390,9 @@ abbrev pub closed_callback : History
 closed_callback =
     Closed
     ∷ JobEnded
-    ∷ Did (Say y) (Undefined ∷ []) Nothing
-    ∷ Did (Deref y w) (Object 3 ∷ []) (Gives Undefined)
-    ∷ Did (Say held) (Number (pos 3) ∷ []) Nothing
+    ∷ Did (Say y, Undefined ∷ [], Nothing)
+    ∷ Did (Deref y w, Object 3 ∷ [], Gives Undefined)
+    ∷ Did (Say held, Number (pos 3) ∷ [], Nothing)
     ∷ taken_callback
 
 pub dead_callback : AreDead into_callback begun_second (2 ∷ [])
@@ -423,8 +423,8 @@ into_order = receivers plan_order.jobs
 abbrev pub forgot_order : History
 forgot_order =
     forgot x
-    ∷ Did (Register r x h None) (Object 1 ∷ Object 3 ∷ Number (pos 1) ∷ []) Nothing
-    ∷ Did (Register q x i None) (Object 2 ∷ Object 3 ∷ Number (pos 2) ∷ []) Nothing
+    ∷ Did (Register r x h None, Object 1 ∷ Object 3 ∷ Number (pos 1) ∷ [], Nothing)
+    ∷ Did (Register q x i None, Object 2 ∷ Object 3 ∷ Number (pos 2) ∷ [], Nothing)
     ∷ let_number i 2
     ∷ let_number h 1
     ∷ made_new x 3

@@ -50,7 +50,7 @@ of_another_registry : IsOutOfPlace Registries.plan_order (CleanupBegun 1 ∷ Reg
 of_another_registry e = cc
 
 -- the callback runs before the cell is taken
-callback_before_its_cell : IsOutOfPlace Registries.plan_callback Registries.begun_cleanup (Did (Say held) (Undefined ∷ []) Nothing)
+callback_before_its_cell : IsOutOfPlace Registries.plan_callback Registries.begun_cleanup (Did (Say held, Undefined ∷ [], Nothing))
 callback_before_its_cell e = e
 
 -- the next cell is taken before the callback has run
@@ -58,7 +58,7 @@ cell_before_the_callback : IsOutOfPlace Registries.plan_refused Registries.taken
 cell_before_the_callback e = e
 
 -- the held value is not what the variable held has
-held_not_assigned : IsUnlawful Registries.plan_callback Registries.taken_callback (Did (Say held) (Undefined ∷ []) Nothing)
+held_not_assigned : IsUnlawful Registries.plan_callback Registries.taken_callback (Did (Say held, Undefined ∷ [], Nothing))
 held_not_assigned l = cc
 
 -- KeptAlive has the held value of a cell that is taken
@@ -135,7 +135,7 @@ begun_for_nothing : IsOutOfPlace Registries.plan_unregistered (JobEnded ∷ Regi
 begun_for_nothing e = e
 
 -- none begins for one whose cells were unregistered since it was queued
-not_begun : IsOutOfPlace Registries.plan_shared_token (JobEnded ∷ Did (Say b) (Boolean true ∷ []) Nothing ∷ Registries.unregistered_both) Closed
+not_begun : IsOutOfPlace Registries.plan_shared_token (JobEnded ∷ Did (Say b, Boolean true ∷ [], Nothing) ∷ Registries.unregistered_both) Closed
 not_begun e = e
 
 -- the agent closes while a registry is queued
@@ -145,23 +145,23 @@ closed_while_queued e = e
 -- Tokens
 
 -- a token is not found, though two cells have it
-token_not_found : IsUnlawful Registries.plan_shared_token Registries.emptied_shared_token (Did (Unregister b r t) (Object 1 ∷ Object 4 ∷ []) (Gives (Boolean false)))
+token_not_found : IsUnlawful Registries.plan_shared_token Registries.emptied_shared_token (Did (Unregister b r t, Object 1 ∷ Object 4 ∷ [], Gives (Boolean false)))
 token_not_found l = cc
 
 -- or though a cell has it that awaits its cleanup
-awaiting_is_not_found : IsUnlawful Cleanups.plan_awaiting (Emptied [] ∷ Cleanups.emptied_awaiting) (Did (Unregister b r t) (Object 1 ∷ Object 4 ∷ []) (Gives (Boolean false)))
+awaiting_is_not_found : IsUnlawful Cleanups.plan_awaiting (Emptied [] ∷ Cleanups.emptied_awaiting) (Did (Unregister b r t, Object 1 ∷ Object 4 ∷ [], Gives (Boolean false)))
 awaiting_is_not_found l = cc
 
 -- one is found, though its only cell was taken
-taken_is_found : IsUnlawful Cleanups.plan_late Cleanups.begun_late (Did (Unregister b r t) (Object 1 ∷ Object 3 ∷ []) (Gives (Boolean true)))
+taken_is_found : IsUnlawful Cleanups.plan_late Cleanups.begun_late (Did (Unregister b r t, Object 1 ∷ Object 3 ∷ [], Gives (Boolean true)))
 taken_is_found l = cc
 
 -- or was unregistered before
-unregistered_is_found : IsUnlawful Registries.plan_unregistered Registries.unregistered_once (Did (Unregister (codes "c") r t) (Object 1 ∷ Object 3 ∷ []) (Gives (Boolean true)))
+unregistered_is_found : IsUnlawful Registries.plan_unregistered Registries.unregistered_once (Did (Unregister (codes "c") r t, Object 1 ∷ Object 3 ∷ [], Gives (Boolean true)))
 unregistered_is_found l = cc
 
 -- or is of another registry
-found_in_another : IsUnlawful Cleanups.plan_allowed Cleanups.registered_twice (Did (Unregister b q r) (Object 2 ∷ Object 1 ∷ []) (Gives (Boolean true)))
+found_in_another : IsUnlawful Cleanups.plan_allowed Cleanups.registered_twice (Did (Unregister b q r, Object 2 ∷ Object 1 ∷ [], Gives (Boolean true)))
 found_in_another l = cc
 
 -- the second of two cells with a token stays
@@ -179,23 +179,23 @@ taken_out_of_another e = cc
 -- Refusals
 
 -- a target is its own held value
-holds_its_target : IsUnlawful Registries.plan_same Registries.made_same (Did (Register r a a None) (Object 1 ∷ Object 2 ∷ Object 2 ∷ []) Nothing)
+holds_its_target : IsUnlawful Registries.plan_same Registries.made_same (Did (Register r a a None, Object 1 ∷ Object 2 ∷ Object 2 ∷ [], Nothing))
 holds_its_target l = cc
 
 -- a number is a target
-number_as_target : IsUnlawful Registries.plan_same Registries.let_same (Did (Register r n n None) (Object 1 ∷ Number (pos 5) ∷ Number (pos 5) ∷ []) Nothing)
+number_as_target : IsUnlawful Registries.plan_same Registries.let_same (Did (Register r n n None, Object 1 ∷ Number (pos 5) ∷ Number (pos 5) ∷ [], Nothing))
 number_as_target l = cc
 
 -- or a token
-number_as_token : IsUnlawful Cleanups.plan_refusals Cleanups.begun_number_token (Did (Register r x n (Some n)) (Object 1 ∷ Object 2 ∷ Number (pos 5) ∷ Number (pos 5) ∷ []) Nothing)
+number_as_token : IsUnlawful Cleanups.plan_refusals Cleanups.begun_number_token (Did (Register r x n (Some n), Object 1 ∷ Object 2 ∷ Number (pos 5) ∷ Number (pos 5) ∷ [], Nothing))
 number_as_token l = cc
 
 -- or is looked for as one
-number_looked_for : IsUnlawful Cleanups.plan_refusals Cleanups.begun_no_registry (Did (Unregister b r n) (Object 1 ∷ Number (pos 5) ∷ []) (Gives (Boolean false)))
+number_looked_for : IsUnlawful Cleanups.plan_refusals Cleanups.begun_no_registry (Did (Unregister b r n, Object 1 ∷ Number (pos 5) ∷ [], Gives (Boolean false)))
 number_looked_for l = cc
 
 -- an object is a registry
-object_as_registry : IsUnlawful Cleanups.plan_refusals Cleanups.let_five (Did (Register x r n None) (Object 2 ∷ Object 1 ∷ Number (pos 5) ∷ []) Nothing)
+object_as_registry : IsUnlawful Cleanups.plan_refusals Cleanups.let_five (Did (Register x r n None, Object 2 ∷ Object 1 ∷ Number (pos 5) ∷ [], Nothing))
 object_as_registry l = cc
 
 -- a token that is its target is refused

@@ -65,16 +65,16 @@ y = codes "y"
 -- Events
 
 abbrev pub made_symbol : List ℕ → ℕ → Event
-made_symbol to n = Did (Symbol to) [] (Gives (SymbolValue n))
+made_symbol to n = Did (Symbol to, [], Gives (SymbolValue n))
 
 abbrev pub forgot : List ℕ → Event
-forgot to = Did (Let to NoLiteral) [] (Gives Undefined)
+forgot to = Did (Let to NoLiteral, [], Gives Undefined)
 
 abbrev pub said_symbol : List ℕ → ℕ → Event
-said_symbol from n = Did (Say from) (SymbolValue n ∷ []) Nothing
+said_symbol from n = Did (Say from, SymbolValue n ∷ [], Nothing)
 
 abbrev pub said_true : List ℕ → Event
-said_true from = Did (Say from) (Boolean true ∷ []) Nothing
+said_true from = Did (Say from, Boolean true ∷ [], Nothing)
 
 -- A WeakRef to a symbol: KeptAlive keeps it to the end of the job that makes the WeakRef, and to the end of one that asks for it;
 -- a deref gives the symbol itself
@@ -91,13 +91,13 @@ abbrev pub into_target : Receivers
 into_target = receivers plan_target.jobs
 
 abbrev pub forgot_target : History
-forgot_target = forgot s ∷ Did (WeakRef w s) (SymbolValue 1 ∷ []) (Gives (Object 2)) ∷ made_symbol s 1 ∷ JobBegun 1 ∷ []
+forgot_target = forgot s ∷ Did (WeakRef w s, SymbolValue 1 ∷ [], Gives (Object 2)) ∷ made_symbol s 1 ∷ JobBegun 1 ∷ []
 
 abbrev pub begun_second : History
 begun_second = JobBegun 2 ∷ JobEnded ∷ Emptied [] ∷ forgot_target
 
 abbrev pub forgot_again : History
-forgot_again = forgot x ∷ said_symbol x 1 ∷ Did (Deref x w) (Object 2 ∷ []) (Gives (SymbolValue 1)) ∷ begun_second
+forgot_again = forgot x ∷ said_symbol x 1 ∷ Did (Deref x w, Object 2 ∷ [], Gives (SymbolValue 1)) ∷ begun_second
 
 abbrev pub begun_third : History
 begun_third = JobBegun 3 ∷ JobEnded ∷ Emptied [] ∷ forgot_again
@@ -106,7 +106,7 @@ abbrev pub emptied_target : History
 emptied_target = Emptied (1 ∷ []) ∷ begun_third
 
 abbrev pub closed_target : History
-closed_target = Closed ∷ JobEnded ∷ Did (Say x) (Undefined ∷ []) Nothing ∷ Did (Deref x w) (Object 2 ∷ []) (Gives Undefined) ∷ emptied_target
+closed_target = Closed ∷ JobEnded ∷ Did (Say x, Undefined ∷ [], Nothing) ∷ Did (Deref x w, Object 2 ∷ [], Gives Undefined) ∷ emptied_target
 
 pub kept_target : AreDead into_target forgot_target []
 kept_target = dead_by into_target forgot_target (1 ∷ 2 ∷ []) [] refl (by_keeping into_target forgot_target 1 refl, (by_variable into_target forgot_target w 2 refl, tt))
@@ -146,19 +146,19 @@ into_key = receivers plan_key.jobs
 abbrev pub forgot_value : History
 forgot_value =
     forgot v
-    ∷ Did (Set v p k) (Object 2 ∷ SymbolValue 1 ∷ []) Nothing
-    ∷ Did (WeakMapSet m k v) (Object 3 ∷ SymbolValue 1 ∷ Object 2 ∷ []) Nothing
-    ∷ Did (WeakMap m) [] (Gives (Object 3))
-    ∷ Did (New v) [] (Gives (Object 2))
+    ∷ Did (Set v p k, Object 2 ∷ SymbolValue 1 ∷ [], Nothing)
+    ∷ Did (WeakMapSet m k v, Object 3 ∷ SymbolValue 1 ∷ Object 2 ∷ [], Nothing)
+    ∷ Did (WeakMap m, [], Gives (Object 3))
+    ∷ Did (New v, [], Gives (Object 2))
     ∷ made_symbol k 1
     ∷ JobBegun 1
     ∷ []
 
 abbrev pub got_value : History
-got_value = Did (WeakMapGet x m k) (Object 3 ∷ SymbolValue 1 ∷ []) (Gives (Object 2)) ∷ Emptied [] ∷ forgot_value
+got_value = Did (WeakMapGet x m k, Object 3 ∷ SymbolValue 1 ∷ [], Gives (Object 2)) ∷ Emptied [] ∷ forgot_value
 
 abbrev pub forgot_key : History
-forgot_key = forgot k ∷ forgot x ∷ said_true y ∷ Did (WeakMapHas y m k) (Object 3 ∷ SymbolValue 1 ∷ []) (Gives (Boolean true)) ∷ got_value
+forgot_key = forgot k ∷ forgot x ∷ said_true y ∷ Did (WeakMapHas y m k, Object 3 ∷ SymbolValue 1 ∷ [], Gives (Boolean true)) ∷ got_value
 
 abbrev pub emptied_key : History
 emptied_key = Emptied (1 ∷ 2 ∷ []) ∷ forgot_key
@@ -207,15 +207,15 @@ abbrev pub into_member : Receivers
 into_member = receivers plan_member.jobs
 
 abbrev pub joined : History
-joined = Did (WeakSetAdd w s) (Object 2 ∷ SymbolValue 1 ∷ []) Nothing ∷ Did (WeakSet w) [] (Gives (Object 2)) ∷ made_symbol s 1 ∷ JobBegun 1 ∷ []
+joined = Did (WeakSetAdd w s, Object 2 ∷ SymbolValue 1 ∷ [], Nothing) ∷ Did (WeakSet w, [], Gives (Object 2)) ∷ made_symbol s 1 ∷ JobBegun 1 ∷ []
 
 abbrev pub said_member : History
 said_member =
     said_symbol y 1
-    ∷ Did (Deref y u) (Object 3 ∷ []) (Gives (SymbolValue 1))
-    ∷ Did (WeakRef u s) (SymbolValue 1 ∷ []) (Gives (Object 3))
+    ∷ Did (Deref y u, Object 3 ∷ [], Gives (SymbolValue 1))
+    ∷ Did (WeakRef u s, SymbolValue 1 ∷ [], Gives (Object 3))
     ∷ said_true x
-    ∷ Did (WeakSetHas x w s) (Object 2 ∷ SymbolValue 1 ∷ []) (Gives (Boolean true))
+    ∷ Did (WeakSetHas x w s, Object 2 ∷ SymbolValue 1 ∷ [], Gives (Boolean true))
     ∷ joined
 
 abbrev pub forgot_member : History
@@ -262,13 +262,13 @@ abbrev pub forgot_token : History
 forgot_token =
     forgot s
     ∷ said_true x
-    ∷ Did (Unregister x r t) (Object 1 ∷ SymbolValue 3 ∷ []) (Gives (Boolean true))
-    ∷ Did (Register r s h (Some t)) (Object 1 ∷ SymbolValue 2 ∷ Number (pos 5) ∷ SymbolValue 3 ∷ []) Nothing
+    ∷ Did (Unregister x r t, Object 1 ∷ SymbolValue 3 ∷ [], Gives (Boolean true))
+    ∷ Did (Register r s h (Some t), Object 1 ∷ SymbolValue 2 ∷ Number (pos 5) ∷ SymbolValue 3 ∷ [], Nothing)
     ∷ made_symbol t 3
-    ∷ Did (Register r s h (Some s)) (Object 1 ∷ SymbolValue 2 ∷ Number (pos 5) ∷ SymbolValue 2 ∷ []) Nothing
-    ∷ Did (Let h (NumberLiteral (pos 5))) [] (Gives (Number (pos 5)))
+    ∷ Did (Register r s h (Some s), Object 1 ∷ SymbolValue 2 ∷ Number (pos 5) ∷ SymbolValue 2 ∷ [], Nothing)
+    ∷ Did (Let h (NumberLiteral (pos 5)), [], Gives (Number (pos 5)))
     ∷ made_symbol s 2
-    ∷ Did (FinalizationRegistry r 1) [] (Gives (Object 1))
+    ∷ Did (FinalizationRegistry r 1, [], Gives (Object 1))
     ∷ JobBegun 1
     ∷ []
 
@@ -301,7 +301,7 @@ plan_refused = plan_with [] (
     )
 
 abbrev pub found_registered : History
-found_registered = Did (SymbolFor f k) [] (Gives (Registered k)) ∷ made_symbol s 2 ∷ Did (FinalizationRegistry r 1) [] (Gives (Object 1)) ∷ JobBegun 1 ∷ []
+found_registered = Did (SymbolFor f k, [], Gives (Registered k)) ∷ made_symbol s 2 ∷ Did (FinalizationRegistry r 1, [], Gives (Object 1)) ∷ JobBegun 1 ∷ []
 
 abbrev pub closed_refused : History
 closed_refused =
@@ -328,11 +328,11 @@ whole_refused = ([], search rules, search rules)
 -- Wrong neighbours
 
 -- a deref gives an object for the symbol
-object_for_a_symbol : IsUnlawful plan_target begun_second (Did (Deref x w) (Object 2 ∷ []) (Gives (Object 1)))
+object_for_a_symbol : IsUnlawful plan_target begun_second (Did (Deref x w, Object 2 ∷ [], Gives (Object 1)))
 object_for_a_symbol l = cc
 
 -- or undefined, where nothing was emptied
-undefined_for_a_symbol : IsUnlawful plan_target begun_second (Did (Deref x w) (Object 2 ∷ []) (Gives Undefined))
+undefined_for_a_symbol : IsUnlawful plan_target begun_second (Did (Deref x w, Object 2 ∷ [], Gives Undefined))
 undefined_for_a_symbol l = cc
 
 -- the symbol goes while KeptAlive has it
@@ -344,13 +344,13 @@ empties_the_value : AreDead into_key forgot_value (2 ∷ []) → ⊥
 empties_the_value d = other_set into_key forgot_value (2 ∷ []) [] 2 d reached_by_key refl refl
 
 -- a symbol that is a member is asked in vain
-denies_the_member : IsUnlawful plan_member joined (Did (WeakSetHas x w s) (Object 2 ∷ SymbolValue 1 ∷ []) (Gives (Boolean false)))
+denies_the_member : IsUnlawful plan_member joined (Did (WeakSetHas x w s, Object 2 ∷ SymbolValue 1 ∷ [], Gives (Boolean false)))
 denies_the_member l = cc
 
 -- and a symbol that is a key
-denies_the_key : IsUnlawful plan_key (Emptied [] ∷ forgot_value) (Did (WeakMapGet x m k) (Object 3 ∷ SymbolValue 1 ∷ []) (Gives Undefined))
+denies_the_key : IsUnlawful plan_key (Emptied [] ∷ forgot_value) (Did (WeakMapGet x m k, Object 3 ∷ SymbolValue 1 ∷ [], Gives Undefined))
 denies_the_key l = cc
 
 -- a registered symbol is a target
-registered_target : IsUnlawful plan_refused found_registered (Did (WeakRef w f) (Registered k ∷ []) (Gives (Object 3)))
+registered_target : IsUnlawful plan_refused found_registered (Did (WeakRef w f, Registered k ∷ [], Gives (Object 3)))
 registered_target l = cc

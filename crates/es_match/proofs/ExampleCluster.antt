@@ -23,22 +23,22 @@ x = codes "x"
 -- A worker gets a buffer
 
 abbrev pub made : History
-made = Did (Store b (pos 1) (pos 4294967301)) (Object 1 ∷ []) Nothing ∷ Did (SharedArrayBuffer b 4) [] (Gives (Object 1))
+made = Did (Store b (pos 1) (pos 4294967301), Object 1 ∷ [], Nothing) ∷ Did (SharedArrayBuffer b 4, [], Gives (Object 1))
     ∷ JobBegun 1 ∷ []
 
 abbrev pub maker : History
-maker = Closed ∷ JobEnded ∷ Did (Post 1 b) (Object 1 ∷ []) Nothing ∷ made
+maker = Closed ∷ JobEnded ∷ Did (Post 1 b, Object 1 ∷ [], Nothing) ∷ made
 
 abbrev pub got : History
 got = JobBegun 1 ∷ Received 0 (Object 1) ∷ []
 
 abbrev pub read : History
-read = Did (SameBlock x b b) (Object 1 ∷ Object 1 ∷ []) (Gives (Boolean true))
-    ∷ Did (Length x b) (Object 1 ∷ []) (Gives (Number (pos 4)))
-    ∷ Did (Load x b (pos 1)) (Object 1 ∷ []) (Gives (Number (pos 5))) ∷ got
+read = Did (SameBlock x b b, Object 1 ∷ Object 1 ∷ [], Gives (Boolean true))
+    ∷ Did (Length x b, Object 1 ∷ [], Gives (Number (pos 4)))
+    ∷ Did (Load x b (pos 1), Object 1 ∷ [], Gives (Number (pos 5))) ∷ got
 
 abbrev pub worker : History
-worker = Closed ∷ JobEnded ∷ Did (Add x b (pos 1) (negsuc 0)) (Object 1 ∷ []) (Gives (Number (pos 5))) ∷ read
+worker = Closed ∷ JobEnded ∷ Did (Add x b (pos 1) (negsuc 0), Object 1 ∷ [], Gives (Number (pos 5))) ∷ read
 
 abbrev pub opened : Ledger
 opened = Opened 1 4 1 0 ∷ []
@@ -78,8 +78,8 @@ a_skip = two_agents idle skipper passed refl refl refl
 -- A receipt is refused, and a message is drained
 
 abbrev pub poster : History
-poster = Closed ∷ JobEnded ∷ Did (Post 1 b) (Object 1 ∷ []) Nothing ∷ Did (Post 1 b) (Object 1 ∷ []) Nothing
-    ∷ Did (SharedArrayBuffer b 4) [] (Gives (Object 1)) ∷ JobBegun 1 ∷ []
+poster = Closed ∷ JobEnded ∷ Did (Post 1 b, Object 1 ∷ [], Nothing) ∷ Did (Post 1 b, Object 1 ∷ [], Nothing)
+    ∷ Did (SharedArrayBuffer b 4, [], Gives (Object 1)) ∷ JobBegun 1 ∷ []
 
 abbrev pub refuser : History
 refuser = Closed ∷ JobEnded ∷ Refused TooManyValues ∷ []
@@ -99,16 +99,16 @@ a_refusal = two_agents poster refuser drained refl refl refl
 -- Two buffers over one block, of which one is emptied; a number is posted and received; two tickets are spent in either order
 
 abbrev pub sharer : History
-sharer = Closed ∷ JobEnded ∷ Did (Post 1 b) (Object 1 ∷ []) Nothing ∷ Did (Post 1 b) (Object 1 ∷ []) Nothing
-    ∷ Did (Post 1 x) (Number (pos 7) ∷ []) Nothing
-    ∷ Did (SharedArrayBuffer b 4) [] (Gives (Object 1)) ∷ JobBegun 1 ∷ []
+sharer = Closed ∷ JobEnded ∷ Did (Post 1 b, Object 1 ∷ [], Nothing) ∷ Did (Post 1 b, Object 1 ∷ [], Nothing)
+    ∷ Did (Post 1 x, Number (pos 7) ∷ [], Nothing)
+    ∷ Did (SharedArrayBuffer b 4, [], Gives (Object 1)) ∷ JobBegun 1 ∷ []
 
 abbrev pub received : History
 received = Received 0 (Object 2) ∷ JobEnded ∷ JobBegun 2 ∷ Received 0 (Object 1) ∷ JobEnded ∷ JobBegun 1
     ∷ Received 0 (Number (pos 7)) ∷ []
 
 abbrev pub collector : History
-collector = Closed ∷ JobEnded ∷ Emptied (1 ∷ 2 ∷ []) ∷ Did (SameBlock x b b) (Object 1 ∷ Object 2 ∷ []) (Gives (Boolean true))
+collector = Closed ∷ JobEnded ∷ Emptied (1 ∷ 2 ∷ []) ∷ Did (SameBlock x b b, Object 1 ∷ Object 2 ∷ [], Gives (Boolean true))
     ∷ JobBegun 3 ∷ received
 
 abbrev pub shared : Ledger
@@ -133,7 +133,7 @@ a_collection_in_order = two_agents sharer collector collected_in_order refl refl
 -- A receipt is refused after a job, and one after a skip
 
 abbrev pub later_refuser : History
-later_refuser = Refused TooManyValues ∷ JobEnded ∷ Did (SharedArrayBuffer b 2) [] (Gives (Object 1)) ∷ JobBegun 1 ∷ []
+later_refuser = Refused TooManyValues ∷ JobEnded ∷ Did (SharedArrayBuffer b 2, [], Gives (Object 1)) ∷ JobBegun 1 ∷ []
 
 abbrev pub before_later : Ledger
 before_later = Ended 0 ∷ Spent 1 ∷ Posted 0 1 (Block 1 4) ∷ Posted 0 1 (Block 1 3) ∷ Opened 2 2 2 1 ∷ Opened 1 4 1 0 ∷ []
@@ -162,5 +162,5 @@ posted_back = Ended 1 ∷ Spent 2 ∷ Posted 1 0 (Block 1 3) ∷ taken
 posted_back_legal : LegalLedger 2 posted_back
 posted_back_legal = search rules
 
-pub a_way_back : IsCluster (maker ∷ (Closed ∷ JobEnded ∷ Did (Post 0 b) (Object 1 ∷ []) Nothing ∷ got) ∷ []) posted_back
+pub a_way_back : IsCluster (maker ∷ (Closed ∷ JobEnded ∷ Did (Post 0 b, Object 1 ∷ [], Nothing) ∷ got) ∷ []) posted_back
 a_way_back = two_agents maker _ posted_back refl refl refl

@@ -73,19 +73,19 @@ late = untold both _ 1 refl
 -- What the worker says
 
 -- another length
-other_length : No (maker ∷ (Did (Length x b) (Object 1 ∷ []) (Gives (Number (pos 5))) ∷ got) ∷ []) taken
+other_length : No (maker ∷ (Did (Length x b, Object 1 ∷ [], Gives (Number (pos 5))) ∷ got) ∷ []) taken
 other_length = untold _ _ 1 refl
 
 -- two buffers over one block that are said to be over two
-not_same : No (maker ∷ (Did (SameBlock x b b) (Object 1 ∷ Object 1 ∷ []) (Gives (Boolean false)) ∷ got) ∷ []) taken
+not_same : No (maker ∷ (Did (SameBlock x b b, Object 1 ∷ Object 1 ∷ [], Gives (Boolean false)) ∷ got) ∷ []) taken
 not_same = untold _ _ 1 refl
 
 -- two buffers, of which one has no ticket
-no_buffer : No (maker ∷ (Did (SameBlock x b b) (Object 1 ∷ Object 2 ∷ []) (Gives (Boolean false)) ∷ got) ∷ []) taken
+no_buffer : No (maker ∷ (Did (SameBlock x b b, Object 1 ∷ Object 2 ∷ [], Gives (Boolean false)) ∷ got) ∷ []) taken
 no_buffer = untold _ _ 1 refl
 
 -- the length of no buffer
-no_length : No (maker ∷ (Did (Length x b) (Object 2 ∷ []) (Gives (Number (pos 4))) ∷ got) ∷ []) taken
+no_length : No (maker ∷ (Did (Length x b, Object 2 ∷ [], Gives (Number (pos 4))) ∷ got) ∷ []) taken
 no_length = untold _ _ 1 refl
 
 -- Messages
@@ -96,36 +96,36 @@ dropped : No both (Ended 1 ∷ Spent 2 ∷ Added 2 1 5 4294967295 ∷ Loaded 2 1
 dropped = untold both _ 0 refl
 
 -- a post to another agent
-to_another : No ((Did (Post 1 b) (Object 1 ∷ []) Nothing ∷ made) ∷ idle ∷ []) (Ended 1 ∷ Posted 0 0 (Block 1 2) ∷ Stored 1 1 5
+to_another : No ((Did (Post 1 b, Object 1 ∷ [], Nothing) ∷ made) ∷ idle ∷ []) (Ended 1 ∷ Posted 0 0 (Block 1 2) ∷ Stored 1 1 5
     ∷ opened)
 to_another = untold _ _ 0 refl
 
 -- a post of another value
-other_value : No ((Did (Post 1 x) (Number (pos 7) ∷ []) Nothing ∷ []) ∷ idle ∷ []) (Ended 1
+other_value : No ((Did (Post 1 x, Number (pos 7) ∷ [], Nothing) ∷ []) ∷ idle ∷ []) (Ended 1
     ∷ Posted 0 1 (Plain (Number (pos 8))) ∷ [])
 other_value = untold _ _ 0 refl
 
 -- a post of another block
-other_block : No ((Did (Post 1 b) (Object 1 ∷ []) Nothing ∷ made) ∷ idle ∷ []) (Ended 1 ∷ Posted 0 1 (Block 2 2) ∷ Stored 1 1 5
+other_block : No ((Did (Post 1 b, Object 1 ∷ [], Nothing) ∷ made) ∷ idle ∷ []) (Ended 1 ∷ Posted 0 1 (Block 2 2) ∷ Stored 1 1 5
     ∷ opened)
 other_block = untold _ _ 0 refl
 
 -- a block that is posted for a value
-block_for_value : No ((Did (Post 1 x) (Number (pos 1) ∷ []) Nothing ∷ []) ∷ idle ∷ []) (Ended 1 ∷ Posted 0 1 (Block 1 1) ∷ [])
+block_for_value : No ((Did (Post 1 x, Number (pos 1) ∷ [], Nothing) ∷ []) ∷ idle ∷ []) (Ended 1 ∷ Posted 0 1 (Block 1 1) ∷ [])
 block_for_value = untold _ _ 0 refl
 
 -- an object as such is posted
-object_as_such : No ((Did (Post 1 b) (Object 1 ∷ []) Nothing ∷ made) ∷ idle ∷ []) (Ended 1 ∷ Posted 0 1 (Plain (Object 1))
+object_as_such : No ((Did (Post 1 b, Object 1 ∷ [], Nothing) ∷ made) ∷ idle ∷ []) (Ended 1 ∷ Posted 0 1 (Plain (Object 1))
     ∷ Stored 1 1 5 ∷ opened)
 object_as_such = untold _ _ 0 refl
 
 -- another value is received
-other_received : No ((Did (Post 1 x) (Number (pos 7) ∷ []) Nothing ∷ []) ∷ (Received 0 (Number (pos 8)) ∷ []) ∷ []) (Taken 1 0
+other_received : No ((Did (Post 1 x, Number (pos 7) ∷ [], Nothing) ∷ []) ∷ (Received 0 (Number (pos 8)) ∷ []) ∷ []) (Taken 1 0
     ∷ Posted 0 1 (Plain (Number (pos 7))) ∷ [])
 other_received = untold _ _ 1 refl
 
 -- an object is received for a value
-object_received : No ((Did (Post 1 x) (Number (pos 7) ∷ []) Nothing ∷ []) ∷ (Received 0 (Object 1) ∷ []) ∷ []) (Taken 1 0
+object_received : No ((Did (Post 1 x, Number (pos 7) ∷ [], Nothing) ∷ []) ∷ (Received 0 (Object 1) ∷ []) ∷ []) (Taken 1 0
     ∷ Posted 0 1 (Plain (Number (pos 7))) ∷ [])
 object_received = untold _ _ 1 refl
 
@@ -150,7 +150,7 @@ object_message : No ([] ∷ (Received 0 (Object 1) ∷ []) ∷ []) (Taken 1 0 �
 object_message = untold _ _ 1 refl
 
 -- the newer of two messages is received first
-out_of_order : No ((Did (Post 1 x) (Number (pos 8) ∷ []) Nothing ∷ Did (Post 1 x) (Number (pos 7) ∷ []) Nothing ∷ [])
+out_of_order : No ((Did (Post 1 x, Number (pos 8) ∷ [], Nothing) ∷ Did (Post 1 x, Number (pos 7) ∷ [], Nothing) ∷ [])
     ∷ (Received 0 (Number (pos 8)) ∷ []) ∷ []) (Taken 1 0 ∷ Posted 0 1 (Plain (Number (pos 8)))
     ∷ Posted 0 1 (Plain (Number (pos 7))) ∷ [])
 out_of_order = untold _ _ 1 refl
@@ -166,8 +166,8 @@ other_index : No (made ∷ [] ∷ []) (Stored 1 0 5 ∷ opened)
 other_index = untold _ _ 0 refl
 
 -- a store at a negative index
-negative_index : No ((Did (Store b (negsuc 0) (pos 5)) (Object 1 ∷ []) Nothing
-    ∷ Did (SharedArrayBuffer b 4) [] (Gives (Object 1)) ∷ []) ∷ [] ∷ []) (Stored 1 1 5 ∷ opened)
+negative_index : No ((Did (Store b (negsuc 0) (pos 5), Object 1 ∷ [], Nothing)
+    ∷ Did (SharedArrayBuffer b 4, [], Gives (Object 1)) ∷ []) ∷ [] ∷ []) (Stored 1 1 5 ∷ opened)
 negative_index = untold _ _ 0 refl
 
 -- a block of another size
@@ -200,7 +200,7 @@ waits_twice : No skips (Ended 1 ∷ Passed 1 0 ∷ Ended 0 ∷ Waiting 1 0 ∷ W
 waits_twice = impatient _ _ refl
 
 -- an agent that waits for one sender takes a message of another
-takes_of_another : No (idle ∷ (Received 1 (Number (pos 7)) ∷ Did (Post 1 x) (Number (pos 7) ∷ []) Nothing ∷ []) ∷ []) (Taken 1 1
+takes_of_another : No (idle ∷ (Received 1 (Number (pos 7)) ∷ Did (Post 1 x, Number (pos 7) ∷ [], Nothing) ∷ []) ∷ []) (Taken 1 1
     ∷ Waiting 1 0 ∷ Posted 1 1 (Plain (Number (pos 7))) ∷ Ended 0 ∷ [])
 takes_of_another = impatient _ _ refl
 
@@ -242,7 +242,7 @@ spends_other : No (poster ∷ later_refuser ∷ []) (Spent 2 ∷ Taken 1 0 ∷ b
 spends_other = untold _ _ 1 refl
 
 -- a receipt is refused of a value without a ticket
-refuses_value : No ((Did (Post 1 x) (Number (pos 7) ∷ []) Nothing ∷ []) ∷ (Refused TooManyValues ∷ []) ∷ []) (Taken 1 0
+refuses_value : No ((Did (Post 1 x, Number (pos 7) ∷ [], Nothing) ∷ []) ∷ (Refused TooManyValues ∷ []) ∷ []) (Taken 1 0
     ∷ Posted 0 1 (Plain (Number (pos 7))) ∷ [])
 refuses_value = untold _ _ 1 refl
 
@@ -289,7 +289,7 @@ other_emptied : No (sharer ∷ (Emptied (1 ∷ []) ∷ received) ∷ []) (Spent 
 other_emptied = untold _ _ 1 refl
 
 -- an emptied buffer is read
-reads_emptied : No (sharer ∷ (Did (Length x b) (Object 1 ∷ []) (Gives (Number (pos 4))) ∷ Emptied (1 ∷ []) ∷ received)
+reads_emptied : No (sharer ∷ (Did (Length x b, Object 1 ∷ [], Gives (Number (pos 4))) ∷ Emptied (1 ∷ []) ∷ received)
     ∷ []) (Spent 2 ∷ shared)
 reads_emptied = untold _ _ 1 refl
 
@@ -299,28 +299,28 @@ abbrev two_opened : Ledger
 two_opened = Opened 2 3 2 0 ∷ Opened 1 4 1 0 ∷ []
 
 abbrev two_made : History
-two_made = Did (SharedArrayBuffer x 3) [] (Gives (Object 2)) ∷ Did (SharedArrayBuffer b 4) [] (Gives (Object 1)) ∷ []
+two_made = Did (SharedArrayBuffer x 3, [], Gives (Object 2)) ∷ Did (SharedArrayBuffer b 4, [], Gives (Object 1)) ∷ []
 
 -- a word is read through the ticket of the other buffer
-loads_other : No ((Did (Load x b (pos 0)) (Object 1 ∷ []) (Gives (Number (pos 0))) ∷ two_made) ∷ [] ∷ []) (Loaded 2 0 0
+loads_other : No ((Did (Load x b (pos 0), Object 1 ∷ [], Gives (Number (pos 0))) ∷ two_made) ∷ [] ∷ []) (Loaded 2 0 0
     ∷ two_opened)
 loads_other = untold _ _ 0 refl
 
 -- a word is written through it
-stores_other : No ((Did (Store b (pos 0) (pos 5)) (Object 1 ∷ []) Nothing ∷ two_made) ∷ [] ∷ []) (Stored 2 0 5 ∷ two_opened)
+stores_other : No ((Did (Store b (pos 0) (pos 5), Object 1 ∷ [], Nothing) ∷ two_made) ∷ [] ∷ []) (Stored 2 0 5 ∷ two_opened)
 stores_other = untold _ _ 0 refl
 
 -- an addend is added through it
-adds_other : No ((Did (Add x b (pos 0) (pos 5)) (Object 1 ∷ []) (Gives (Number (pos 0))) ∷ two_made) ∷ [] ∷ []) (Added 2 0 0 5
+adds_other : No ((Did (Add x b (pos 0) (pos 5), Object 1 ∷ [], Gives (Number (pos 0))) ∷ two_made) ∷ [] ∷ []) (Added 2 0 0 5
     ∷ two_opened)
 adds_other = untold _ _ 0 refl
 
 -- the block of the other buffer is posted
-posts_other : No ((Did (Post 1 b) (Object 1 ∷ []) Nothing ∷ two_made) ∷ [] ∷ []) (Posted 0 1 (Block 2 3) ∷ two_opened)
+posts_other : No ((Did (Post 1 b, Object 1 ∷ [], Nothing) ∷ two_made) ∷ [] ∷ []) (Posted 0 1 (Block 2 3) ∷ two_opened)
 posts_other = untold _ _ 0 refl
 
 -- two blocks are said to be one
-said_same : No ((Did (SameBlock x b b) (Object 1 ∷ Object 2 ∷ []) (Gives (Boolean true)) ∷ two_made) ∷ [] ∷ []) two_opened
+said_same : No ((Did (SameBlock x b b, Object 1 ∷ Object 2 ∷ [], Gives (Boolean true)) ∷ two_made) ∷ [] ∷ []) two_opened
 said_same = untold _ _ 0 refl
 
 -- Strangers

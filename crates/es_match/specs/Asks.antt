@@ -34,7 +34,7 @@ abbrev pub ends_job : Event → Bool
 ends_job (JobBegun j) = false
 ends_job (CleanupBegun q) = false
 ends_job (Received t v) = false
-ends_job (Did c vs r) = false
+ends_job (Did (c, vs, r)) = false
 ends_job (Refused code) = false
 ends_job (Emptied ids) = false
 ends_job (Taken n held) = false
@@ -73,7 +73,7 @@ abbrev pub asks : Bool → Event → Asking
 asks between (JobBegun j) = nothing
 asks between (CleanupBegun q) = nothing
 asks between (Received t v) = to_receive t v
-asks between (Did c vs r) = asks_did c vs r
+asks between (Did (c, vs, r)) = asks_did c vs r
 asks between (Refused code) = if between && wants_room code then to_refuse else nothing
 asks between (Emptied ids) = to_empty ids
 asks between (Taken n held) = nothing

@@ -1,6 +1,6 @@
 //! Going through an agent's history and its deeds.
 
-ghost use Rattle.std.specs.Prelude.{◌≡◌, [], true, take, drop, length, IfOk};
+ghost use Rattle.std.specs.Prelude.{◌≡◌, true, take, drop, length, IfOk};
 ghost use Rattle.std.specs.Option.{option_map};
 ghost use Rattle.es_match.specs.Asks.{to_open, to_receive, to_empty, to_close};
 ghost use Rattle.es_match.specs.Meets.{after, gives, nothing_came, pair, some_if, sole, within, add_ticket};
@@ -14,7 +14,7 @@ use crate::meets::{
 };
 use crate::spending::are_spent;
 use crate::tickets::{Rack, object_in, serials_of, serials_within};
-use crate::want::{Want, ends_job, want_at};
+use crate::want::{Want, asks_nothing, ends_job, want_at};
 use es_event::{Body, Event, Row};
 use es_value::{Id, IdSet, NoMemory, Value};
 use std::alloc::Global;
@@ -279,6 +279,10 @@ pub(crate) fn goes(
     let mut between = true;
     let mut rest = deeds;
     for event in history {
+        if asks_nothing(event) {
+            between = ends_job(event);
+            continue;
+        }
         let want = want_at(between, event);
         let n = asked(&came.tickets, want);
         let is_met = came.take_in(alloc, want, front(rest, n))?;

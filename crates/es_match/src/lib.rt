@@ -1,6 +1,7 @@
 //! Whether histories of agents and of a ledger are those of one cluster.
 #![tactic(auto)]
 
+mod again;
 mod came;
 mod deed;
 mod doing;

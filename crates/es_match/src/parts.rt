@@ -69,6 +69,11 @@ fn step<'a>(
 ) -> Result<bool, NoMemory>
     ensures { IfOk result (λ b. (l : Ledger) → Says l tables.old → IsSplit (length parts.old.items) l parts.old.items → IsStep b (length parts.old.items) l event.now tables.new parts.new.items) }
 {
+    let again = tables.again(parts.len(), event);
+    if again.is_some() {
+        add(parts, again)?;
+        return Ok(true);
+    }
     let doing = tables.deed(event);
     let comes = tables.may_come(parts.len(), &doing);
     if !comes {
@@ -76,6 +81,7 @@ fn step<'a>(
     }
     add(parts, doing)?;
     tables.note(alloc, event)?;
+    tables.keep(event, &doing);
     Ok(true)
 }
 

@@ -26,6 +26,9 @@ pub(crate) struct Tables<'a> {
     pub waiting: HashMap<usize, Option<usize>>,
     /// Whether a message was drained.
     pub drained: bool,
+    /// The serial of the ticket with which a word was read or written last, and its holder, where nothing else
+    /// came since.
+    pub lately: Option<(u64, usize)>,
 }
 
 impl<'a> Tables<'a> {
@@ -39,6 +42,7 @@ impl<'a> Tables<'a> {
             mail: HashMap::new(alloc),
             waiting: HashMap::new(alloc),
             drained: false,
+            lately: None,
         }
     }
 
@@ -83,6 +87,7 @@ impl<'a> Tables<'a> {
         mail::note(alloc, &mut self.mail, event)?;
         note_wait(&mut self.waiting, event)?;
         self.drained = drained_after(self.drained, event);
+        self.lately = None;
         Ok(())
     }
 }

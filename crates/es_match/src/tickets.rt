@@ -14,6 +14,9 @@ use std::alloc::Global;
 use std::collections::HashMap;
 use std::marker::Model;
 
+/// How many tickets are looked through from the first; of more the object is looked up.
+const MOST_FEW: usize = 4;
+
 /// The tickets of an agent's buffers, by object, the oldest first.
 #[derive(Drop)]
 pub(crate) struct Rack {
@@ -80,6 +83,9 @@ impl Rack {
     fn row(&self, object: Id) -> Option<Row>
         ensures { result ≡ row_at self.now object }
     {
+        if self.all.len() <= MOST_FEW {
+            return first_row(self.all.as_slice(), object);
+        }
         match self.rows.get(&object) {
             Some(row) => Some(*row),
             None => None,
@@ -120,6 +126,22 @@ fn put_new(rows: &mut HashMap<Id, Row>, object: Id, row: Row) -> Result<(), NoMe
     }
     rows.insert(object, row)?;
     Ok(())
+}
+
+/// What the first ticket of the object names, by a look at each.
+fn first_row(tickets: &[(Id, Row)], object: Id) -> Option<Row>
+    ensures { result ≡ row_at tickets.now object }
+{
+    match tickets {
+        [(first, row), rest @ ..] => {
+            if *first == object {
+                Some(*row)
+            } else {
+                first_row(rest, object)
+            }
+        }
+        [] => None,
+    }
 }
 
 /// The object that the value is, if it is one.

@@ -1,12 +1,14 @@
 //! What an event of an agent asks of the ledger.
 
-ghost use Rattle.std.specs.Prelude.{◌≡◌};
+ghost use Rattle.std.specs.Prelude.{◌≡◌, Bool, List, false, IsTrue};
+ghost use Rattle.es_value.specs.declared.value.Value.{Value as ValueSaid};
 ghost use Rattle.es_event.specs.Commands.{first, second};
-ghost use Rattle.es_match.specs.Asks.{asks, asks_did, ends_job, given, wants_room};
+ghost use Rattle.es_match.specs.Asks.{nothing, asks, asks_did, ends_job, given, wants_room};
 ghost use Rattle.es_match.specs.Shown.{asking, said};
 ghost use Rattle.es_event.specs.declared.event.Answer.{Answer as Answered};
+ghost use Rattle.es_event.specs.Answers.{answer_said};
 
-use es_event::{Answer, Command, Event, Refusal};
+use es_event::{AnswerRef, Command, Event, Refusal};
 use es_value::{Id, Value};
 
 /// What an event asks of the ledger. An answer is the value that the command gave; none stands for
@@ -74,6 +76,37 @@ pub(crate) enum Want<'a> {
     Closing,
 }
 
+/// Whether the event asks the ledger for nothing, as most do, whether a job is under way or not.
+#[inline(always)]
+pub(crate) fn asks_nothing(event: &Event) -> bool
+    ensures { IsTrue result → (between : Bool) → asks between event.now ≡ nothing }
+{
+    if let Event::Did(done) = event {
+        return !may_ask(done.command());
+    }
+    matches!(
+        event,
+        Event::JobBegun { .. } | Event::CleanupBegun { .. } | Event::Taken { .. } | Event::JobEnded
+    )
+}
+
+/// Whether the command is one that asks the ledger for something.
+#[inline(always)]
+fn may_ask(command: &Command) -> bool
+    ensures { result ≡ false → (values : List ValueSaid) (r : Answered) → asks_did command.now values r ≡ nothing }
+{
+    matches!(
+        command,
+        Command::SharedArrayBuffer { .. }
+            | Command::Length { .. }
+            | Command::SameBlock { .. }
+            | Command::Load { .. }
+            | Command::Store { .. }
+            | Command::Add { .. }
+            | Command::Post { .. }
+    )
+}
+
 /// What an event asks of the ledger, where a job is under way or not.
 pub(crate) fn want_at<'a>(between: bool, event: &'a Event) -> Want<'a>
     ensures { asking result ≡ asks between event.now }
@@ -87,11 +120,7 @@ pub(crate) fn want_at<'a>(between: bool, event: &'a Event) -> Want<'a>
             sender: *sender,
             value,
         },
-        Event::Did {
-            command,
-            values,
-            answer,
-        } => want_of(command.get(), values.as_slice(), given(answer)),
+        Event::Did(done) => want_of(done.command(), done.values(), given(done.answer())),
         Event::Refused { code } => {
             if between && wants_room(*code) {
                 Want::Refusal
@@ -120,12 +149,12 @@ fn wants_room(code: Refusal) -> bool
     matches!(code, Refusal::TooManyValues)
 }
 
-fn given(answer: &Answer) -> Option<&Value>
-    ensures { said result ≡ given answer.now }
+fn given(answer: AnswerRef<'_>) -> Option<&Value>
+    ensures { said result ≡ given (answer_said answer.entry) }
 {
     match answer {
-        Answer::Gives(value) => Some(value),
-        Answer::Nothing | Answer::Listed(_) => None,
+        AnswerRef::Gives(value) => Some(value),
+        AnswerRef::Nothing | AnswerRef::Listed(_) => None,
     }
 }
 

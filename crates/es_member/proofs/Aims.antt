@@ -46,11 +46,11 @@ some_mapped n (Some r) e = refl
 
 born_there : (over : Buffers) (into : Receivers) (h : History) (e : Event) (q : ℕ × Option Kind) → Lawful over into h e → born e ≡ Some q → is_buffer q.1 ≡ true → is_some (row_at over q.0) ≡ true
 born_there over into h (Received t v) q lawful s b = (subst (Arrives over h) (received v q s).1 lawful).1
-born_there over into h (Did c vs r) q lawful s b =
+born_there over into h (Did (c, vs, r)) q lawful s b =
     let is = birth c vs r q s in
     let kd : is_buffer (kind_made c vs) ≡ true = ap is_buffer (is.2 ∙ sym is.1) ∙ b in
     let words = words_made c vs kd in
-    let number = born_next over into h (Did c vs r) q lawful s in
+    let number = born_next over into h (Did (c, vs, r)) q lawful s in
     some_mapped words.0 (row_at over q.0) (subst (λ i. option_map (λ r. r.words) (row_at over i) ≡ Some words.0) number (subst (λ o. HasWords over (made h + 1) o) words.1 lawful.3))
 born_there over into h _ q lawful s b = cc
 

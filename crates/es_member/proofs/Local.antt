@@ -121,7 +121,7 @@ did_met b c history named going none silent w = refl
 
 command_met : (b : Book) (c : Command) (e : Event) → need_of b (run c) ≡ asks_nobody → due b.plan b.history ≡ run c → IsRunOver b.over b.plan b.history → AreNamed b → is_ended (phase b.history) ≡ false
     → Lawful b.over (receivers b.plan.jobs) b.history e → Permits b.over (receivers b.plan.jobs) b.history (run c) e → after (tickets b) (asks (between_jobs b.history) e) [] ≡ Some (tickets b)
-command_met b c (Did d vs r) is here history named going lawful p =
+command_met b c (Did (d, vs, r)) is here history named going lawful p =
     let into = receivers b.plan.jobs in
     let same : d ≡ c = p in
     let accepted = is_accepted b.over b.history d vs (word_in r) r lawful.1 in

@@ -158,7 +158,7 @@ closing_refusal true = refl
 closing_refusal false = refl
 
 closing_event : (between : Bool) (e : Event) → closes (asks between e) ≡ true → is_closing e ≡ true
-closing_event between (Did c vs r) is = let clash : false ≡ true = sym (closing_command c vs r) ∙ is in cc
+closing_event between (Did (c, vs, r)) is = let clash : false ≡ true = sym (closing_command c vs r) ∙ is in cc
 closing_event between (Refused code) is = let clash : false ≡ true = sym (closing_refusal (between && wants_room code)) ∙ is in cc
 closing_event between Closed is = refl
 closing_event between _ is = cc

@@ -46,7 +46,7 @@ abbrev plan : Plan
 plan = record { agents = main_plan ∷ worker_plan ∷ [] }
 
 abbrev poster : List Event
-poster = JobBegun 1 ∷ Did (SharedArrayBuffer (codes "b") 2) [] (Gives (Object 1)) ∷ Did (Post 1 (codes "b")) (Object 1 ∷ []) Nothing ∷ JobEnded ∷ Closed ∷ []
+poster = JobBegun 1 ∷ Did (SharedArrayBuffer (codes "b") 2, [], Gives (Object 1)) ∷ Did (Post 1 (codes "b"), Object 1 ∷ [], Nothing) ∷ JobEnded ∷ Closed ∷ []
 
 -- the worker's load, of the second of two words, is refused for its index
 abbrev refuser : List Event

@@ -3,7 +3,8 @@
 ghost use Rattle.std.specs.Prelude.{◌≡◌, IfOk, IfSome, IsTrue, ◌↔◌, ◌≢◌, true};
 ghost use Rattle.es_value.specs.Spelling.{is_name};
 
-use es_value::{Name, NameFault, Names};
+use es_event::OptionalName;
+use es_value::{Name, NameFault, Names, NoMemory};
 use std::alloc::Global;
 
 /// The names of an agent that were read so far. One of those that were read last is found by its length
@@ -12,6 +13,7 @@ use std::alloc::Global;
 pub struct KnownNames {
     all: Names,
     last: [Option<Name>; 8],
+    token: Option<OptionalName>,
 }
 
 impl KnownNames {
@@ -20,6 +22,7 @@ impl KnownNames {
         KnownNames {
             all: Names::new(alloc),
             last: [None, None, None, None, None, None, None, None],
+            token: None,
         }
     }
 
@@ -38,6 +41,35 @@ impl KnownNames {
         match self.find(place, text) {
             Some(name) => copied(name),
             None => self.read_anew(place, text),
+        }
+    }
+
+    /// The token of a registration, or that it has none. It shares its memory with the one that was read last,
+    /// where that is the same.
+    pub(crate) fn token(&mut self, name: Option<Name>) -> Result<OptionalName, NoMemory>
+        ensures { IfOk result (λ o. o ≡ name) }
+    {
+        if let Some(last) = self.last_token(&name) {
+            return last.copy();
+        }
+        let alloc = self.allocator();
+        let token = match name {
+            Some(name) => OptionalName::some(alloc, name)?,
+            None => OptionalName::none(alloc)?,
+        };
+        self.token = Some(token.copy()?);
+        Ok(token)
+    }
+
+    /// The token that was read last, if it is this one.
+    fn last_token(&self, name: &Option<Name>) -> Option<&OptionalName>
+        ensures { IfSome result (λ o. o.now ≡ name.now) }
+    {
+        let last = self.token.as_ref()?;
+        match (last.get(), name) {
+            (Some(known), Some(name)) if *known == *name => Some(last),
+            (None, None) => Some(last),
+            _ => None,
         }
     }
 

@@ -18,14 +18,14 @@ use Rattle.es_event.proofs.Accepted.{is_accepted, first_holds}
 
 -- what was done had room
 
-opened_after : (over : Buffers) (h : History) (c : Command) (vs : List Value) (r : Answer) → first_refusal (tests over h c vs) ≡ None → blocks_opened h ≤ 256 → opens_at (Did c vs r) + blocks_opened h ≤ 256
+opened_after : (over : Buffers) (h : History) (c : Command) (vs : List Value) (r : Answer) → first_refusal (tests over h c vs) ≡ None → blocks_opened h ≤ 256 → opens_at (Did (c, vs, r)) + blocks_opened h ≤ 256
 opened_after over h (SharedArrayBuffer to n) vs r e small =
     let later = first_holds (nat_lt (made h) 1000000) TooManyValues (room_for_block h ∷ []) e in
     let room = ltb-true (blocks_opened h) 256 (first_holds (nat_lt (blocks_opened h) 256) TooManyBlocks [] later.1).0 in
     omega (arith, room)
 opened_after over h _ vs r e small = omega (arith, small)
 
-posted_after : (over : Buffers) (h : History) (c : Command) (vs : List Value) (r : Answer) → first_refusal (tests over h c vs) ≡ None → messages_posted h ≤ 10000 → posts_at (Did c vs r) + messages_posted h ≤ 10000
+posted_after : (over : Buffers) (h : History) (c : Command) (vs : List Value) (r : Answer) → first_refusal (tests over h c vs) ≡ None → messages_posted h ≤ 10000 → posts_at (Did (c, vs, r)) + messages_posted h ≤ 10000
 posted_after over h (Post a y) vs r e small =
     let later = first_holds (is_postable h (first vs)) NotPostable (room_for_post h ∷ []) e in
     let room = ltb-true (messages_posted h) 10000 (first_holds (nat_lt (messages_posted h) 10000) TooManyPosts [] later.1).0 in
@@ -34,10 +34,10 @@ posted_after over h _ vs r e small = omega (arith, small)
 
 pub opened_small : (over : Buffers) (into : Receivers) (h : History) → LegalBy over into h → blocks_opened h ≤ 256
 opened_small over into [] l = omega arith
-opened_small over into (Did c vs r ∷ h) l = opened_after over h c vs r (is_accepted over h c vs (word_in r) r l.0.1) (opened_small over into h l.1)
+opened_small over into (Did (c, vs, r) ∷ h) l = opened_after over h c vs r (is_accepted over h c vs (word_in r) r l.0.1) (opened_small over into h l.1)
 opened_small over into (e ∷ h) l = let small : blocks_opened h ≤ 256 = opened_small over into h l.1 in omega (arith, small)
 
 pub posted_small : (over : Buffers) (into : Receivers) (h : History) → LegalBy over into h → messages_posted h ≤ 10000
 posted_small over into [] l = omega arith
-posted_small over into (Did c vs r ∷ h) l = posted_after over h c vs r (is_accepted over h c vs (word_in r) r l.0.1) (posted_small over into h l.1)
+posted_small over into (Did (c, vs, r) ∷ h) l = posted_after over h c vs r (is_accepted over h c vs (word_in r) r l.0.1) (posted_small over into h l.1)
 posted_small over into (e ∷ h) l = let small : messages_posted h ≤ 10000 = posted_small over into h l.1 in omega (arith, small)

@@ -57,13 +57,13 @@ given_here h a (Some v) r i e is m =
 
 pub derefed_here : (over : Buffers) (into : Receivers) (h p : History) → snapshot h ≡ Some p → LegalBy over into h → (i : ℕ) → is_in (derefed_since h) i ≡ true → is_gone h i ≡ false
 derefed_here over into [] p e l i m = cc
-derefed_here over into (Did CollectLater vs r ∷ h) p e l i m = absurd (false≢true m)
-derefed_here over into (Did (Deref to w) vs r ∷ h) p e l i m =
+derefed_here over into (Did (CollectLater, vs, r) ∷ h) p e l i m = absurd (false≢true m)
+derefed_here over into (Did (Deref to w, vs, r) ∷ h) p e l i m =
     elim (or_cases (is_in (identity_given r) i) (is_in (derefed_since h) i) (sym (in_both (identity_given r) (derefed_since h) i) ∙ m)) [
       | inl a ↦ given_here h (first vs) (target_of h (first vs)) r i refl (is_result over h (Deref to w) vs (word_in r) r l.0.1) a
       | inr b ↦ derefed_here over into h p e l.1 i b
     ]
-derefed_here over into (Did c vs r ∷ h) p e l i m = derefed_here over into h p e l.1 i m
+derefed_here over into (Did (c, vs, r) ∷ h) p e l i m = derefed_here over into h p e l.1 i m
 derefed_here over into (Emptied ids ∷ h) p e l i m = cc
 derefed_here over into (x ∷ h) p e l i m = derefed_here over into h p e l.1 i m
 

@@ -10,3 +10,4 @@ pub mod Targets
 pub mod Counted
 pub mod Leading
 pub mod DueCommand
+pub mod Plain

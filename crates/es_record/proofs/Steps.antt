@@ -21,7 +21,8 @@ use Rattle.es_cursor.specs.declared.cursor.Cursor.{Cursor}
 use Rattle.es_record.specs.Book.{Book, IsNext, with_row}
 use Rattle.es_cursor.specs.Cursor.{IsCursorOf}
 use Rattle.es_tables.specs.Effects.{AssignsTo, Advances}
-use Rattle.es_tables.specs.Ready.{CanAdvance}
+use Rattle.es_tables.specs.Changes.{table_change}
+use Rattle.es_tables.specs.Ready.{CanApply}
 use Rattle.es_tables.specs.Tables.{State, SameState, Emptying, bound}
 use Rattle.es_record.specs.Newest.{newest}
 use Rattle.es_record.specs.Ties.{Ties}
@@ -54,9 +55,9 @@ ties_same over plan h s t c ties same = record {
 pub few : (over : Buffers) (plan : AgentPlan) (h : History) (s : State) (c : Cursor) → Ties over plan h s c → length s.tags.all ≤ most_identities
 few over plan h s c ties = omega (arith, ties.says.made, made_small over plan h ties.legal ties.follows)
 
-pub can_record : (b : Book) (s : State) (c : Cursor) (e : Event) → Ties b.over b.plan b.history s c → IsNext b e → (to : List ℕ) → CanAdvance to (again_at b.history) e s
-can_record b s c e ties next to f are =
-    can_apply b.over (receivers b.plan.jobs) b.history s e f ties.legal next.lawful (stays_along b.over b.plan b.history ties.legal ties.follows) ties.says to are
+pub can_record : (b : Book) (s : State) (c : Cursor) (e : Event) → Ties b.over b.plan b.history s c → IsNext b e → CanApply s (table_change (again_at b.history) e)
+can_record b s c e ties next =
+    can_apply b.over (receivers b.plan.jobs) b.history s e ties.legal next.lawful (stays_along b.over b.plan b.history ties.legal ties.follows) ties.says
 
 pub ties_emptied : (b : Book) (s t : State) (c d : Cursor) (ids : List ℕ) → Ties b.over b.plan b.history s c → IsNext b (Emptied ids) → Emptying s ids t → IsCursorOf b.plan (Emptied ids ∷ b.history) d
     → Ties b.over b.plan (Emptied ids ∷ b.history) t d

@@ -1,11 +1,11 @@
 //! The agent's record: what is due, and the recording of events.
 
-ghost use Rattle.std.specs.Prelude.{◌≡◌, ◌≤◌, ◌<◌, ◌+◌, ◌∷◌, ℕ, [], Some, true, codes, reverse, is_some, IfOk, OnOk, OnErr};
+ghost use Rattle.std.specs.Prelude.{◌≡◌, ◌≤◌, ◌<◌, ◌+◌, ◌∷◌, ℕ, List, Option, None, [], Some, true, codes, reverse, is_some, IfOk, OnOk, OnErr};
 ghost use Rattle.std.specs.Option.{option_map_or};
 ghost use Rattle.es_event.specs.declared.command.Command.{Command as CommandSaid};
 ghost use Rattle.es_event.specs.declared.row.Row.{Row as RowSaid};
 ghost use Rattle.es_event.specs.Identities.{gone, is_in, made};
-ghost use Rattle.es_event.specs.Jobs.{receivers, on_of, job as job_said};
+ghost use Rattle.es_event.specs.Jobs.{receivers, on_of};
 ghost use Rattle.es_event.specs.WeakRefs.{kept};
 ghost use Rattle.es_event.specs.Sharing.{blocks_opened, messages_posted};
 ghost use Rattle.es_event.specs.Live.{Honest};
@@ -16,8 +16,10 @@ ghost use Rattle.es_record.specs.Newest.{newest};
 ghost use Rattle.es_cursor.specs.Cursor.{IsAt};
 ghost use Rattle.es_cursor.specs.Due.{shown};
 ghost use Rattle.es_event.specs.Later.{snapshot};
+ghost use Rattle.es_tables.specs.Plain.{IsPlainEvent};
 ghost use Rattle.es_tables.specs.Effects.{Advances, IsQuiet};
-ghost use Rattle.es_tables.specs.Ready.{CanAdvance};
+ghost use Rattle.es_tables.specs.Changes.{table_change};
+ghost use Rattle.es_tables.specs.Ready.{CanApply};
 ghost use Rattle.es_tables.specs.Tables.{SameState};
 
 mod cells;
@@ -32,7 +34,7 @@ use es_cursor::{
     job_command,
 };
 use es_event::{AgentPlan, Event, Log, PlanCommand, Row, Sequence};
-use es_tables::Tables;
+use es_tables::{Tables, is_plain};
 use es_value::{Id, Name, NameFault, NoMemory, Value};
 use std::alloc::Global;
 use std::marker::Model;
@@ -94,7 +96,7 @@ impl AgentRecord {
     {
         let held = held_name(alloc)?;
         let mut events = Log::new(alloc);
-        match events.reserve(1) {
+        match events.reserve(events_of(&plan)) {
             Ok(()) => Ok(AgentRecord {
                 plan,
                 number,
@@ -172,6 +174,7 @@ impl AgentRecord {
 
     /// The due command, as the event that does it has it; none where no command is due. It fails for want of
     /// memory alone.
+    #[inline(always)]
     pub fn due_command(&self) -> Result<Option<PlanCommand>, NoMemory>
         ensures { IfOk result (λ o. (c : CommandSaid) → due self.now.plan self.now.history ≡ run c → o ≡ Some c) }
     {
@@ -220,7 +223,28 @@ impl AgentRecord {
         ensures ok { OnOk result (Records self.old event self.new) }
         ensures err { OnErr result (self.new ≡ self.old) }
     {
+        if is_plain(&event) {
+            return self.record_plain(event);
+        }
         self.record_with(event, None)
+    }
+
+    /// The same, of a command that opens no block, posts nothing and opens no later collection, as most do: it
+    /// moves the tables and the cursor alone.
+    #[inline(always)]
+    fn record_plain(&mut self, event: Event) -> Result<(), NoMemory>
+        requires next { IsNext self.old event }
+        requires plain { IsPlainEvent event }
+        ensures ok { OnOk result (Records self.old event self.new) }
+        ensures err { OnErr result (self.new ≡ self.old) }
+    {
+        if let Err(error) = advance_plain(&mut self.events, &mut self.tables, &event) {
+            drop(event);
+            return Err(error);
+        }
+        self.cursor = self.cursor.after(&event, &self.plan, None);
+        self.events.append(event);
+        Ok(())
     }
 
     /// Records an event that comes next and by which a buffer object comes to the agent: the answer of
@@ -237,7 +261,7 @@ impl AgentRecord {
     }
 
     /// Makes every growth that the event needs, then records it: nothing after the growths can fail.
-    #[inline(always)]
+    #[inline(never)]
     fn record_with(&mut self, event: Event, row: Option<Row>) -> Result<(), NoMemory>
         requires next { IsNext (with_row row self.old) event }
         requires quiet { IsQuiet event }
@@ -308,6 +332,20 @@ impl AgentRecord {
     }
 }
 
+/// How many events the plan has, were each of its jobs run to its end and no cleanup job: room for them is
+/// made at once, so that the history does not move as it grows.
+fn events_of(plan: &AgentPlan) -> usize
+    ensures { 0 < result }
+{
+    let mut events: usize = 1;
+    for job in plan.jobs.as_slice() {
+        events = events
+            .saturating_add(job.run.as_slice().len())
+            .saturating_add(2);
+    }
+    events
+}
+
 /// The name of the variable that held values are assigned to.
 fn held_name(alloc: Global) -> Result<Name, NoMemory>
     ensures { IfOk result (λ n. n ≡ codes "held") }
@@ -347,7 +385,7 @@ fn advance(
     again: Option<Id>,
 ) -> Result<(), NoMemory>
     requires held { held.now ≡ codes "held" }
-    requires can { CanAdvance received.now again event.now tables.old }
+    requires can { CanApply tables.old (table_change again event.now) }
     ensures events { events.new.events ≡ events.old.events }
     ensures kept { events.old.room ≤ events.new.room }
     ensures rows { buffers.new.rows ≡ buffers.old.rows }
@@ -359,6 +397,25 @@ fn advance(
     events.reserve(2)?;
     buffers.reserve()?;
     tables.advance(event, held, received, again)
+}
+
+/// Makes room for an event and for the closing one after it, and applies the event to the tables.
+#[inline(always)]
+fn advance_plain(
+    events: &mut Log<Event>,
+    tables: &mut Tables,
+    event: &Event,
+) -> Result<(), NoMemory>
+    requires plain { IsPlainEvent event.now }
+    requires can { CanApply tables.old (table_change None event.now) }
+    ensures events { events.new.events ≡ events.old.events }
+    ensures kept { events.old.room ≤ events.new.room }
+    ensures ok { OnOk result ((received : List ℕ) (again : Option ℕ) → Advances received again event.now tables.old tables.new) }
+    ensures err { OnErr result (SameState tables.old tables.new) }
+    ensures room { OnOk result (2 ≤ events.new.room) }
+{
+    events.reserve(2)?;
+    tables.advance_plain(event)
 }
 
 /// Adds a buffer object, where one comes.

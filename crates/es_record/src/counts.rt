@@ -14,7 +14,7 @@ pub(crate) fn blocks_in(event: &Event) -> usize
     ensures few { result ≤ 1 }
 {
     match event {
-        Event::Did { command, .. } => match command.get() {
+        Event::Did(done) => match done.command() {
             Command::SharedArrayBuffer { .. } => 1,
             _ => 0,
         },
@@ -28,7 +28,7 @@ pub(crate) fn posts_in(event: &Event) -> usize
     ensures few { result ≤ 1 }
 {
     match event {
-        Event::Did { command, .. } => match command.get() {
+        Event::Did(done) => match done.command() {
             Command::Post { .. } => 1,
             _ => 0,
         },
@@ -41,7 +41,7 @@ pub(crate) fn open_after(event: &Event, before: bool) -> bool
     ensures { (h : History) → before ≡ is_some (snapshot h) → result ≡ is_some (snapshot (event.now ∷ h)) }
 {
     match event {
-        Event::Did { command, .. } => before || matches!(command.get(), Command::CollectLater),
+        Event::Did(done) => before || matches!(done.command(), Command::CollectLater),
         Event::Emptied { .. } => false,
         _ => before,
     }

@@ -103,17 +103,17 @@ not_refused b history r q c d vs a code same read done refused =
 refused_quiet : (b : Book) (c : Command) (code : Refusal) → due b.plan b.history ≡ run c → asked_by b (Refused code) ≡ asks_nothing
 refused_quiet b c code at = ap (λ t. cond (t && wants_room code) to_refuse asks_nothing) (at_command b.plan b.history c at)
 
-both_done : (n : ℕ) (l : Ledger) (b : Book) (c d k : Command) (vs us : List Value) (a z : Answer) (r q : Option Row) (ds es : List Deed) → d ≡ c → k ≡ c → Move n l b (Did d vs a) r ds → Move n l b (Did k us z) q es
-    → Agree n l (Did d vs a) (Did k us z) r q ds es
+both_done : (n : ℕ) (l : Ledger) (b : Book) (c d k : Command) (vs us : List Value) (a z : Answer) (r q : Option Row) (ds es : List Deed) → d ≡ c → k ≡ c → Move n l b (Did (d, vs, a)) r ds → Move n l b (Did (k, us, z)) q es
+    → Agree n l (Did (d, vs, a)) (Did (k, us, z)) r q ds es
 both_done n l b c d k vs us a z r q ds es p o x y =
     let u = settled d vs a r ds p x in
     let v = settled k us z q es o y in
-    agree n l b (Did d vs a) (Did k us z) r q ds es x y (u.row ∙ sym v.row) (ap (λ d. heard_by d a) p ∙ u.hears ∙ sym v.hears ∙ sym (ap (λ k. heard_by k z) o)) (by_deeds n l ds es (u.deeds ∙ sym v.deeds))
+    agree n l b (Did (d, vs, a)) (Did (k, us, z)) r q ds es x y (u.row ∙ sym v.row) (ap (λ d. heard_by d a) p ∙ u.hears ∙ sym v.hears ∙ sym (ap (λ k. heard_by k z) o)) (by_deeds n l ds es (u.deeds ∙ sym v.deeds))
   where
     values : List Value
     values = values_of (receivers b.plan.jobs) b.history (reads c)
 
-    settled : (d : Command) (vs : List Value) (a : Answer) (r : Option Row) (ds : List Deed) → d ≡ c → Move n l b (Did d vs a) r ds → Settles l (tickets b) (made b.history) c values a r ds
+    settled : (d : Command) (vs : List Value) (a : Answer) (r : Option Row) (ds : List Deed) → d ≡ c → Move n l b (Did (d, vs, a)) r ds → Settles l (tickets b) (made b.history) c values a r ds
     settled d vs a r ds p x =
         let read : vs ≡ values = x.next.lawful.0 ∙ ap (λ d. values_of (receivers b.plan.jobs) b.history (reads d)) p in
         let asks : asks_did d vs a ≡ asks_did c values a = ap (λ d. asks_did d vs a) p ∙ ap (λ vs. asks_did c vs a) read in
@@ -143,16 +143,16 @@ not_emptied n l b c code ids r q ds es at x y =
 
 commanded : (n : ℕ) (l : Ledger) (b : Book) → IsRunOver b.over b.plan b.history → (c : Command) → due b.plan b.history ≡ run c → (e f : Event) (r q : Option Row) (ds es : List Deed)
     → AtCommand (with_row r b).over (receivers b.plan.jobs) b.history c e → AtCommand (with_row q b).over (receivers b.plan.jobs) b.history c f → Move n l b e r ds → Move n l b f q es → Agree n l e f r q ds es
-commanded n l b history c at (Did d vs a) (Did k us z) r q ds es p o x y = both_done n l b c d k vs us a z r q ds es p o x y
-commanded n l b history c at (Did d vs a) (Refused code) r q ds es p o x y = absurd (not_refused b history r q c d vs a code p x.next.lawful.0 x.next.lawful.1 o)
-commanded n l b history c at (Did d vs a) (Emptied ids) r q ds es p o x y = absurd (false≢true (sym x.next.lawful.2 ∙ ap collects p ∙ (and_parts (collects c) (is_none (snapshot b.history)) o.0).0))
-commanded n l b history c at (Refused code) (Did k us z) r q ds es p o x y = absurd (not_refused b history q r c k us z code o y.next.lawful.0 y.next.lawful.1 p)
+commanded n l b history c at (Did (d, vs, a)) (Did (k, us, z)) r q ds es p o x y = both_done n l b c d k vs us a z r q ds es p o x y
+commanded n l b history c at (Did (d, vs, a)) (Refused code) r q ds es p o x y = absurd (not_refused b history r q c d vs a code p x.next.lawful.0 x.next.lawful.1 o)
+commanded n l b history c at (Did (d, vs, a)) (Emptied ids) r q ds es p o x y = absurd (false≢true (sym x.next.lawful.2 ∙ ap collects p ∙ (and_parts (collects c) (is_none (snapshot b.history)) o.0).0))
+commanded n l b history c at (Refused code) (Did (k, us, z)) r q ds es p o x y = absurd (not_refused b history q r c k us z code o y.next.lawful.0 y.next.lawful.1 p)
 commanded n l b history c at (Refused code) (Refused other) r q ds es p o x y = both_quiet n l b (Refused code) (Refused other) r q ds es (refused_quiet b c code at) (refused_quiet b c other at) refl x y
 commanded n l b history c at (Refused code) (Emptied ids) r q ds es p o x y = absurd (not_emptied n l b c code ids r q ds es at x y)
-commanded n l b history c at (Emptied ids) (Did k us z) r q ds es p o x y = absurd (false≢true (sym y.next.lawful.2 ∙ ap collects o ∙ (and_parts (collects c) (is_none (snapshot b.history)) p.0).0))
+commanded n l b history c at (Emptied ids) (Did (k, us, z)) r q ds es p o x y = absurd (false≢true (sym y.next.lawful.2 ∙ ap collects o ∙ (and_parts (collects c) (is_none (snapshot b.history)) p.0).0))
 commanded n l b history c at (Emptied ids) (Refused code) r q ds es p o x y = absurd (not_emptied n l b c code ids q r es ds at y x)
 commanded n l b history c at (Emptied ids) (Emptied jds) r q ds es p o x y = both_emptied n l b ids jds r q ds es x y
-commanded n l b history c at (Did d vs a) _ r q ds es p o x y = absurd o
+commanded n l b history c at (Did (d, vs, a)) _ r q ds es p o x y = absurd o
 commanded n l b history c at (Refused code) _ r q ds es p o x y = absurd o
 commanded n l b history c at (Emptied ids) _ r q ds es p o x y = absurd o
 commanded n l b history c at _ f r q ds es p o x y = absurd p

@@ -41,7 +41,7 @@ made = record {
   number = 0;
   agents = 1;
   over = (1, row 1 1 2) ∷ [];
-  history = Did (SharedArrayBuffer (codes "b") 2) [] (Gives (Object 1)) ∷ JobBegun 1 ∷ [];
+  history = Did (SharedArrayBuffer (codes "b") 2, [], Gives (Object 1)) ∷ JobBegun 1 ∷ [];
 }
 
 abbrev opened : Ledger
@@ -61,7 +61,7 @@ in_one_turn = record {
   after = made;
   agent = refl;
   agents = refl;
-  turn = (Did (SharedArrayBuffer (codes "b") 2) [] (Gives (Object 1)), Some (row 1 1 2), search rules, refl);
+  turn = (Did (SharedArrayBuffer (codes "b") 2, [], Gives (Object 1)), Some (row 1 1 2), search rules, refl);
   told = λ s e. cc;
   ledger = (opened, refl, ((Opens 1 2 1, refl), tt));
   number = refl;

@@ -58,23 +58,23 @@ registered_after e n h k q is out says = record {
 }
 
 -- a command that makes a registration
-pub made_after : (c : Command) (vs : List Value) (a : Answer) (n : ℕ) (h : History) (k : Look) (m : Made) → made_by c vs ≡ Some m → Looks n h k → Looks n (Did c vs a ∷ h) (with_made k m n)
+pub made_after : (c : Command) (vs : List Value) (a : Answer) (n : ℕ) (h : History) (k : Look) (m : Made) → made_by c vs ≡ Some m → Looks n h k → Looks n (Did (c, vs, a) ∷ h) (with_made k m n)
 made_after c vs a n h k m is says =
     let at = mapped made_of (registers_by c vs) m (sym (made_is c vs) ∙ is) in
-    subst (λ m. Looks n (Did c vs a ∷ h) (with_made k m n)) at.2 (registered_after (Did c vs a) n h k at.0 at.1 (unmoved_by c vs a h (makes_alone c vs at.0 at.1) n) says)
+    subst (λ m. Looks n (Did (c, vs, a) ∷ h) (with_made k m n)) at.2 (registered_after (Did (c, vs, a)) n h k at.0 at.1 (unmoved_by c vs a h (makes_alone c vs at.0 at.1) n) says)
 
 -- a command that takes registrations out
 pub named_after : (c : Command) (vs : List Value) (a : Answer) (n : ℕ) (h : History) (k : Look) (r t : ℕ) → made_by c vs ≡ None → named_by c vs ≡ Some (r, t) → Looks n h k
-    → Looks n (Did c vs a ∷ h) (removed_by k (is_under k.cell r t) Unregistered)
+    → Looks n (Did (c, vs, a) ∷ h) (removed_by k (is_under k.cell r t) Unregistered)
 named_after c vs a n h k r t none is says =
-    let out : removes n h (Did c vs a) ≡ cond (is_under_said h r t n) (Some unregistered) None
+    let out : removes n h (Did (c, vs, a)) ≡ cond (is_under_said h r t n) (Some unregistered) None
     = ap (λ b. cond b (Some unregistered) None) (named_is c vs h n) ∙ ap (λ o. cond (option_map_or (λ (k : ℕ × ℕ). is_under_said h k.0 k.1 n) o false) (Some unregistered) None) is in
-    removed (Did c vs a) n h k (is_under k.cell r t) Unregistered (none_made c vs (registers_by c vs) refl none)
+    removed (Did (c, vs, a)) n h k (is_under k.cell r t) Unregistered (none_made c vs (registers_by c vs) refl none)
     (out ∙ ap (λ b. cond b (Some unregistered) None) (under_is r t (cell h n) k.cell says.cell)) says
 
 -- any other command
-pub idle_after : (c : Command) (vs : List Value) (a : Answer) (n : ℕ) (h : History) (k : Look) → made_by c vs ≡ None → named_by c vs ≡ None → Looks n h k → Looks n (Did c vs a ∷ h) k
-idle_after c vs a n h k none quiet says = same_after (Did c vs a) n h k (none_made c vs (registers_by c vs) refl none) (unmoved_by c vs a h quiet n) says
+pub idle_after : (c : Command) (vs : List Value) (a : Answer) (n : ℕ) (h : History) (k : Look) → made_by c vs ≡ None → named_by c vs ≡ None → Looks n h k → Looks n (Did (c, vs, a) ∷ h) k
+idle_after c vs a n h k none quiet says = same_after (Did (c, vs, a)) n h k (none_made c vs (registers_by c vs) refl none) (unmoved_by c vs a h quiet n) says
 
 -- What became of it
 

@@ -93,11 +93,7 @@ fn next(looked: Look, event: &Event, number: usize) -> Look
     ensures most { result.made ≤ looked.made + 1 }
 {
     match event {
-        Event::Did {
-            command,
-            values,
-            ..
-        } => next_done(looked, command.get(), values.as_slice(), number),
+        Event::Did(done) => next_done(looked, done.command(), done.values(), number),
         Event::Taken { registration, .. } => {
             removed_if(looked, *registration == number, Fate::Taken)
         }
@@ -114,7 +110,7 @@ fn next(looked: Look, event: &Event, number: usize) -> Look
 
 fn next_done(looked: Look, command: &Command, values: &[Value], number: usize) -> Look
     requires { looked.made < 2 ^ 63 }
-    ensures tells { (answer : Given) → Tells (Did command.now values.now answer) number looked result }
+    ensures tells { (answer : Given) → Tells (Did (command.now, values.now, answer)) number looked result }
     ensures most { result.made ≤ looked.made + 1 }
 {
     if let Some(made) = made_by(command, values) {
@@ -189,7 +185,7 @@ fn empties_it(event: &Event, id: Id) -> bool
 {
     match event {
         Event::Emptied { ids } => IdSet::of(ids.as_slice()).has(id),
-        Event::Did { .. }
+        Event::Did(_)
         | Event::Taken { .. }
         | Event::JobBegun { .. }
         | Event::CleanupBegun { .. }

@@ -60,10 +60,10 @@ no_collection over h Collect vs r e done = absurd (none_done (snapshot h) Nothin
 no_collection over h _ vs r e done = refl
 
 pub local_done : (b : Book) (c : Command) (vs : List Value) (r : Answer) → due b.plan b.history ≡ run c → collects_now b.history c ≡ false → request b c ≡ None
-    → vs ≡ values_of (receivers b.plan.jobs) b.history (reads c) → completion b.over b.history c vs 0 ≡ Ok r → IsNext b (Did c vs r)
+    → vs ≡ values_of (receivers b.plan.jobs) b.history (reads c) → completion b.over b.history c vs 0 ≡ Ok r → IsNext b (Did (c, vs, r))
 local_done b c vs r is empties_nothing none said e = record {
   lawful = (said, own_word b.over b.history c vs r e, no_collection b.over b.history c vs r empties_nothing e, no_words b c r none (subst (λ vs. completion b.over b.history c vs 0 ≡ Ok r) said e));
-  permitted = subst (λ d. Permits b.over (receivers b.plan.jobs) b.history d (Did c vs r)) (sym is) refl;
+  permitted = subst (λ d. Permits b.over (receivers b.plan.jobs) b.history d (Did (c, vs, r))) (sym is) refl;
 }
 
 pub local_refused : (b : Book) (c : Command) (vs : List Value) (code : Refusal) → due b.plan b.history ≡ run c → vs ≡ values_of (receivers b.plan.jobs) b.history (reads c)
@@ -162,13 +162,13 @@ pub may_give_nothing : (b : Book) → TakesDone (need b) → MayGive b Nothing
 may_give_nothing b takes = done_at b (need b) refl takes
 
 -- the due command done with an answer that it may give comes next
-pub done_next : (b : Book) (r : Answer) (c : Command) → MayGive b r → due b.plan b.history ≡ run c → IsNext b (Did c (values_of (receivers b.plan.jobs) b.history (reads c)) r)
+pub done_next : (b : Book) (r : Answer) (c : Command) → MayGive b r → due b.plan b.history ≡ run c → IsNext b (Did (c, values_of (receivers b.plan.jobs) b.history (reads c), r))
 done_next b r c may is =
     let same_due : run may.command ≡ run c = sym may.is_due ∙ is in
     let same : may.command ≡ c = cc in
-    subst (λ c. IsNext b (Did c (values_of (receivers b.plan.jobs) b.history (reads c)) r)) same (record {
+    subst (λ c. IsNext b (Did (c, values_of (receivers b.plan.jobs) b.history (reads c), r))) same (record {
       lawful = (refl, may.gives, may.no_collection, subst (λ o. HasWords b.over (made b.history + 1) o) (sym may.no_block) tt);
-      permitted = subst (λ d. Permits b.over (receivers b.plan.jobs) b.history d (Did may.command (values_of (receivers b.plan.jobs) b.history (reads may.command)) r)) (sym may.is_due) refl;
+      permitted = subst (λ d. Permits b.over (receivers b.plan.jobs) b.history d (Did (may.command, values_of (receivers b.plan.jobs) b.history (reads may.command), r))) (sym may.is_due) refl;
     })
 
 -- A ticket
@@ -195,27 +195,27 @@ block_asked (Post a y) n vs e = absurd (both_ways true refl (some_is is_block (p
 block_asked _ n vs e = cc
 
 buffer_next : (b : Book) (to : List ℕ) (n : ℕ) (row : Row) → due b.plan b.history ≡ run (SharedArrayBuffer to n) → refusal b.over b.history (SharedArrayBuffer to n) [] ≡ None → row.words ≡ n
-    → IsNext (with_buffer row b) (Did (SharedArrayBuffer to n) [] (Gives (Object (made b.history + 1))))
+    → IsNext (with_buffer row b) (Did (SharedArrayBuffer to n, [], Gives (Object (made b.history + 1))))
 buffer_next b to n row is none words = record {
   lawful = (refl, ap (λ f. refuse_or f (Gives (Object (made b.history + 1)))) none, refl, ap (λ t. option_map (λ r. r.words) (cond t (Some row) (row_at b.over (made b.history + 1)))) (eq-eqb (made b.history + 1) (made b.history + 1) refl) ∙ ap Some words);
-  permitted = subst (λ d. Permits (with_buffer row b).over (receivers b.plan.jobs) b.history d (Did (SharedArrayBuffer to n) [] (Gives (Object (made b.history + 1))))) (sym is) refl;
+  permitted = subst (λ d. Permits (with_buffer row b).over (receivers b.plan.jobs) b.history d (Did (SharedArrayBuffer to n, [], Gives (Object (made b.history + 1))))) (sym is) refl;
 }
 
-buffer_of : (b : Book) (c : Command) (n : ℕ) (row : Row) → due b.plan b.history ≡ run c → request b c ≡ Some (for_block n) → row.words ≡ n → IsNext (with_buffer row b) (Did c [] (Gives (Object (made b.history + 1))))
+buffer_of : (b : Book) (c : Command) (n : ℕ) (row : Row) → due b.plan b.history ≡ run c → request b c ≡ Some (for_block n) → row.words ≡ n → IsNext (with_buffer row b) (Did (c, [], Gives (Object (made b.history + 1))))
 buffer_of b c n row is asks words =
     let vs = values_of (receivers b.plan.jobs) b.history (reads c) in
     let open' = not_refused (refusal b.over b.history c vs) (asked c vs) (for_block n) asks in
     let from = block_asked c n vs open'.1 in
-    subst (λ c. IsNext (with_buffer row b) (Did c [] (Gives (Object (made b.history + 1))))) (sym from.1)
+    subst (λ c. IsNext (with_buffer row b) (Did (c, [], Gives (Object (made b.history + 1))))) (sym from.1)
     (buffer_next b from.0 n row (subst (λ c. due b.plan b.history ≡ run c) from.1 is) (subst (λ c. refusal b.over b.history c (values_of (receivers b.plan.jobs) b.history (reads c)) ≡ None) from.1 open'.0) words)
 
-ticket_at : (b : Book) (c : Command) (row : Row) (n : Need) → need_of b (run c) ≡ n → TakesTicket n row → due b.plan b.history ≡ run c → IsNext (with_buffer row b) (Did c [] (Gives (Object (made b.history + 1))))
+ticket_at : (b : Book) (c : Command) (row : Row) (n : Need) → need_of b (run c) ≡ n → TakesTicket n row → due b.plan b.history ≡ run c → IsNext (with_buffer row b) (Did (c, [], Gives (Object (made b.history + 1))))
 ticket_at b c row (asks_ledger (for_block n)) asks takes is = buffer_of b c n row is (ledger_command b c (for_block n) asks).1 takes
 ticket_at b c row (asks_message s) asks takes is = let f = message_due b (run c) s asks in let g : run c ≡ receive f.0 s = f.1 in cc
 ticket_at b c row _ asks takes is = absurd takes
 
 -- the command that asked for the block, done with the new buffer object, comes next over a table that has it
-pub block_next : (b : Book) (c : Command) (row : Row) → TakesTicket (need b) row → due b.plan b.history ≡ run c → IsNext (with_buffer row b) (Did c [] (Gives (Object (made b.history + 1))))
+pub block_next : (b : Book) (c : Command) (row : Row) → TakesTicket (need b) row → due b.plan b.history ≡ run c → IsNext (with_buffer row b) (Did (c, [], Gives (Object (made b.history + 1))))
 block_next b c row takes is = ticket_at b c row (need_of b (run c)) refl (subst (λ d. TakesTicket (need_of b d) row) is takes) is
 
 makes_at : (b : Book) (c : Command) (row : Row) (n : Need) → need_of b (run c) ≡ n → TakesTicket n row → makes c ≡ 1
@@ -278,10 +278,10 @@ opening_is b c asks is =
     let same : run c ≡ run CollectLater = sym is ∙ at.0 in
     cc
 
-pub opening_next : (b : Book) → need b ≡ asks_copy → IsNext b (Did CollectLater [] Nothing)
+pub opening_next : (b : Book) → need b ≡ asks_copy → IsNext b (Did (CollectLater, [], Nothing))
 opening_next b asks =
     let at = copy_due b (due b.plan b.history) asks in
     record {
       lawful = (refl, unopened_done (snapshot b.history) at.1, refl, tt);
-      permitted = subst (λ d. Permits b.over (receivers b.plan.jobs) b.history d (Did CollectLater [] Nothing)) (sym at.0) refl;
+      permitted = subst (λ d. Permits b.over (receivers b.plan.jobs) b.history d (Did (CollectLater, [], Nothing))) (sym at.0) refl;
     }

@@ -143,13 +143,13 @@ TakesDone asks_nothing = ⊥
 
 -- the event is the due command, done with this answer
 abbrev pub IsDone : Book → Answer → Event → Type 0
-IsDone b r e = (c : Command) × (due b.plan b.history ≡ run c) × (e ≡ Did c (values_of (receivers b.plan.jobs) b.history (reads c)) r)
+IsDone b r e = (c : Command) × (due b.plan b.history ≡ run c) × (e ≡ Did (c, values_of (receivers b.plan.jobs) b.history (reads c), r))
 
 -- the event brings the object o: it is the answer of the due command, or a receipt
 abbrev pub Brings : Due → ℕ → Event → Type 0
 Brings (begin n) o e = ⊥
 Brings (receive n s) o e = e ≡ Received s (Object o)
-Brings (run c) o e = e ≡ Did c [] (Gives (Object o))
+Brings (run c) o e = e ≡ Did (c, [], Gives (Object o))
 Brings (clean r) o e = ⊥
 Brings (take_cell n) o e = ⊥
 Brings (finish p) o e = ⊥

@@ -10,7 +10,7 @@ ghost use Rattle.es_rules.specs.Needs.{need, asks_message, asks_copy, TakesTicke
 ghost use Rattle.es_rules.specs.Giving.{MayGive};
 
 use es_cursor::Due;
-use es_event::{Answer, Command, Event, Operands, PlanCommand, Refusal, Row};
+use es_event::{Answer, Command, Done, Event, Operands, PlanCommand, Refusal, Row};
 use es_record::AgentRecord;
 use es_value::{NoMemory, Value};
 
@@ -42,12 +42,7 @@ fn done(agent: &AgentRecord, answer: Answer) -> Result<Event, NoMemory>
     match agent.due() {
         Due::Run(command) => {
             let values = agent.values(command)?;
-            let command = planned(agent, command)?;
-            Ok(Event::Did {
-                command,
-                values,
-                answer,
-            })
+            did(agent, command, values, answer)
         }
         _ => unreachable!(),
     }
@@ -65,14 +60,7 @@ pub fn brought(agent: &AgentRecord, row: Row) -> Result<Event, NoMemory>
 {
     let object = Value::Object(agent.next_identity());
     match agent.due() {
-        Due::Run(command) => {
-            let command = planned(agent, command)?;
-            Ok(Event::Did {
-                command,
-                values: Operands::of_none(),
-                answer: Answer::Gives(object),
-            })
-        }
+        Due::Run(command) => { did(agent, command, Operands::of_none(), Answer::Gives(object)) }
         Due::Receive { sender, .. } => Ok(Event::Received {
             sender,
             value: object,
@@ -121,25 +109,34 @@ pub fn skipped(agent: &AgentRecord) -> Event
 /// The event by which a later collection is opened. It fails for want of memory alone.
 pub fn opened(agent: &AgentRecord) -> Result<Event, NoMemory>
     requires { need agent.now ≡ asks_copy }
-    ensures said { IfOk result (λ e. e ≡ Event.Did Command.CollectLater [] Answer.Nothing) }
+    ensures said { IfOk result (λ e. e ≡ Event.Did (Command.CollectLater, [], Answer.Nothing)) }
     ensures next { IfOk result (IsNext agent.now) }
 {
     match agent.due() {
-        Due::Run(command) => {
-            let command = planned(agent, command)?;
-            Ok(Event::Did {
-                command,
-                values: Operands::of_none(),
-                answer: Answer::Nothing,
-            })
-        }
+        Due::Run(command) => did(agent, command, Operands::of_none(), Answer::Nothing),
         _ => unreachable!(),
     }
 }
 
+/// The event of the due command, of what it read and gave. It fails for want of memory alone.
+#[inline(always)]
+pub(crate) fn did(
+    agent: &AgentRecord,
+    command: &Command,
+    values: Operands,
+    answer: Answer,
+) -> Result<Event, NoMemory>
+    requires { due agent.now.plan agent.now.history ≡ run command.now }
+    ensures { IfOk result (λ e. e ≡ Event.Did (command.now, values, answer)) }
+{
+    let command = planned(agent, command)?;
+    let done = Done::of(agent.alloc(), command, values, answer)?;
+    Ok(Event::Did(done))
+}
+
 /// The due command, as its event has it. It fails for want of memory alone.
 #[inline(always)]
-pub(crate) fn planned(agent: &AgentRecord, command: &Command) -> Result<PlanCommand, NoMemory>
+fn planned(agent: &AgentRecord, command: &Command) -> Result<PlanCommand, NoMemory>
     requires { due agent.now.plan agent.now.history ≡ run command.now }
     ensures { IfOk result (λ c. c ≡ command.now) }
 {

@@ -1,19 +1,19 @@
 //! The next event of an agent, decided from its record alone.
 
-ghost use Rattle.std.specs.Prelude.{◌≡◌, ◌+◌, ◌∷◌, ◌↔◌, [], true, false, None, Ok, Err, is_some, nat_lt, IfOk, IfSome, if◌then◌else◌};
+ghost use Rattle.std.specs.Prelude.{◌≡◌, ◌+◌, ◌∷◌, ◌↔◌, [], false, None, Ok, Err, nat_lt, IfOk, IsTrue, if◌then◌else◌};
 ghost use Rattle.es_value.specs.Limits.{most_identities};
 ghost use Rattle.es_event.specs.Commands.{reads};
-ghost use Rattle.es_event.specs.Later.{collects_now, snapshot};
+ghost use Rattle.es_event.specs.Later.{collects_now};
 ghost use Rattle.es_event.specs.Identities.{gone, has_identity_in, made};
 ghost use Rattle.es_event.specs.Jobs.{receivers};
 ghost use Rattle.es_event.specs.Rules.{completion, refuse_or, first_refusal, none_open, room, of_object, of_weakref, of_held_weakly, or_undefined, prop_of, keys_of, target_of};
 ghost use Rattle.es_event.specs.Legal.{values_of};
-ghost use Rattle.es_event.specs.Order.{due, due_end, run};
+ghost use Rattle.es_event.specs.Order.{due, run};
 ghost use Rattle.es_record.specs.Book.{IsNext, AreThere};
 ghost use Rattle.es_rules.specs.Completion.{Completes};
 ghost use Rattle.es_rules.specs.Needs.{asks_nobody, need, request};
 
-use crate::answered::planned;
+use crate::answered::did;
 use crate::buffers::{length, new_buffer, post, same_block, store, word};
 use crate::ephemerons::{weakmap_get, weakmap_has, weakmap_set, weakset_add, weakset_has};
 use crate::need::asks_somebody;
@@ -26,49 +26,40 @@ use es_record::AgentRecord;
 use es_tables::Tag;
 use es_value::{Id, MOST_IDENTITIES, Name, NoMemory, Value, same_value};
 
-/// The event that comes next, where the agent asks nobody for it (ECMA-262, Jobs and Host Operations
-/// to Enqueue Jobs); none where it asks somebody, or for nothing. It fails for want of memory alone.
-pub fn next_event(agent: &AgentRecord) -> Result<Option<Event>, NoMemory>
-    ensures next { IfOk result (λ o. IfSome o (IsNext agent.now)) }
-    ensures asks { IfOk result (λ o. (is_some o ≡ true) ↔ (need agent.now ≡ asks_nobody)) }
+/// Whether the agent asks nobody for the event that comes next.
+#[inline(always)]
+pub fn asks_nobody(agent: &AgentRecord) -> bool
+    ensures { IsTrue result ↔ (need agent.now ≡ asks_nobody) }
 {
     match agent.due() {
-        Due::Begin(job) => Ok(Some(Event::JobBegun { job })),
-        Due::Clean(_) => Ok(Some(cleaning(agent)?)),
-        Due::Run(command) => event_of(agent, command),
-        Due::Take(registration) => Ok(Some(taking(agent, registration)?)),
-        Due::EndJob => Ok(end_of_job(agent)),
-        Due::Receive { .. } | Due::Close | Due::Nothing => Ok(None),
+        Due::Run(command) => !asks_somebody(agent, command),
+        Due::Begin(_) | Due::Clean(_) | Due::Take(_) => true,
+        Due::EndJob => !agent.is_open(),
+        Due::Receive { .. } | Due::Close | Due::Nothing => false,
     }
 }
 
-/// The end of the running job, which is due unless an open later collection is to be finished first.
-fn end_of_job(agent: &AgentRecord) -> Option<Event>
-    requires { due agent.now.plan agent.now.history ≡ due_end (snapshot agent.now.history) }
-    ensures next { IfSome result (IsNext agent.now) }
-    ensures asks { (is_some result ≡ true) ↔ (need agent.now ≡ asks_nobody) }
+/// The event that comes next, where the agent asks nobody for it (ECMA-262, Jobs and Host Operations
+/// to Enqueue Jobs). It fails for want of memory alone.
+#[inline(always)]
+pub fn next_event(agent: &AgentRecord) -> Result<Event, NoMemory>
+    requires { need agent.now ≡ asks_nobody }
+    ensures { IfOk result (IsNext agent.now) }
 {
-    if agent.is_open() {
-        None
-    } else {
-        Some(Event::JobEnded)
+    match agent.due() {
+        Due::Run(command) => own_event(agent, command),
+        Due::Begin(job) => Ok(Event::JobBegun { job }),
+        Due::Clean(_) => cleaning(agent),
+        Due::Take(registration) => taking(agent, registration),
+        Due::EndJob => Ok(Event::JobEnded),
+        Due::Receive { .. } | Due::Close | Due::Nothing => unreachable!(),
     }
 }
 
-/// The event of a command that is due, where it asks nobody.
-fn event_of(agent: &AgentRecord, command: &Command) -> Result<Option<Event>, NoMemory>
-    requires { due agent.now.plan agent.now.history ≡ run command.now }
-    ensures next { IfOk result (λ o. IfSome o (IsNext agent.now)) }
-    ensures asks { IfOk result (λ o. (is_some o ≡ true) ↔ (need agent.now ≡ asks_nobody)) }
-{
-    if asks_somebody(agent, command) {
-        return Ok(None);
-    }
-    Ok(Some(own_event(agent, command)?))
-}
-
-/// The event of a command that is due, empties nothing, and asks the ledger for nothing.
-fn own_event(agent: &AgentRecord, command: &Command) -> Result<Event, NoMemory>
+/// The event of a command that is due and asks nobody: it empties nothing, and asks the ledger for nothing. It
+/// fails for want of memory alone.
+#[inline(always)]
+pub fn own_event(agent: &AgentRecord, command: &Command) -> Result<Event, NoMemory>
     requires due { due agent.now.plan agent.now.history ≡ run command.now }
     requires here { collects_now agent.now.history command.now ≡ false }
     requires local { request agent.now command.now ≡ None }
@@ -76,14 +67,7 @@ fn own_event(agent: &AgentRecord, command: &Command) -> Result<Event, NoMemory>
 {
     let values = agent.values(command)?;
     match completion(agent, command, &values) {
-        Ok(answer) => {
-            let command = planned(agent, command)?;
-            Ok(Event::Did {
-                command,
-                values,
-                answer,
-            })
-        }
+        Ok(answer) => did(agent, command, values, answer),
         Err(Stop::Refused(code)) => Ok(Event::Refused { code }),
         Err(Stop::NoMemory) => Err(NoMemory),
     }
@@ -91,6 +75,7 @@ fn own_event(agent: &AgentRecord, command: &Command) -> Result<Event, NoMemory>
 
 /// What the rules answer to a command, were the word 0 that it reads of shared memory. Nothing that a
 /// variable holds is emptied, so each object that is read is there.
+#[inline(always)]
 fn completion(agent: &AgentRecord, command: &Command, values: &Operands) -> Result<Answer, Stop>
     requires said { values.now ≡ values_of (receivers agent.now.plan.jobs) agent.now.history (reads command.now) }
     requires there { AreThere agent.now values.now }
@@ -143,14 +128,16 @@ fn completion(agent: &AgentRecord, command: &Command, values: &Operands) -> Resu
             let (set, member) = values.two();
             weakset_has(agent, set, member)
         }
-        Command::Register { token: None, .. } => {
-            let (registry, target, held) = values.three();
-            register(agent, registry, target, held, &Value::Undefined)
-        }
-        Command::Register { token: Some(_), .. } => {
-            let (registry, target, held, token) = values.four();
-            register(agent, registry, target, held, token)
-        }
+        Command::Register { token, .. } => match token.get() {
+            None => {
+                let (registry, target, held) = values.three();
+                register(agent, registry, target, held, &Value::Undefined)
+            }
+            Some(_) => {
+                let (registry, target, held, token) = values.four();
+                register(agent, registry, target, held, token)
+            }
+        },
         Command::Unregister { .. } => {
             let (registry, token) = values.two();
             unregister(agent, registry, token)

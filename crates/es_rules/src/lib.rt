@@ -18,5 +18,5 @@ mod stop;
 pub use answered::{
     answered_done, answered_word, brought, opened, received, refused_message, skipped,
 };
-pub use decide::next_event;
-pub use need::{Need, Request, asks};
+pub use decide::{asks_nobody, next_event, own_event};
+pub use need::{Need, Request, asks, asks_somebody};

@@ -136,7 +136,8 @@ fn for_end<'a>(agent: &'a AgentRecord) -> Need<'a>
 
 /// Whether a command that is due asks somebody: for marks or a copy, where no later collection is open, or the
 /// ledger.
-pub(crate) fn asks_somebody(agent: &AgentRecord, command: &Command) -> bool
+#[inline(always)]
+pub fn asks_somebody(agent: &AgentRecord, command: &Command) -> bool
     ensures asks { (result ≡ false) ↔ (need_of agent.now (run command.now) ≡ asks_nobody) }
     ensures here { result ≡ false → collects_now agent.now.history command.now ≡ false }
     ensures local { result ≡ false → request agent.now command.now ≡ None }

@@ -66,4 +66,4 @@ says_same into h s t same says = record {
 pub says_advanced : (over : Buffers) (into : Receivers) (h : History) (s t : State) (e : Event)
     → LegalBy over into h → Lawful over into h e → Stays into h → IsQuiet e → Says into h s → (received : List ℕ) → AssignsTo received (into h) e → Advances received (again_at h) e s t → Says into (e ∷ h) t
 says_advanced over into h s t e legal lawful stays silent says received to steps =
-    says_after over into h steps.2 t e steps.0 legal lawful stays silent (says_same into h s steps.2 steps.3 says) received to steps.1 steps.4
+    says_after over into h steps.before t e legal lawful stays silent (says_same into h s steps.before steps.same says) received to steps.assigned steps.changed

@@ -13,3 +13,4 @@ pub mod Registering
 pub mod Slots
 pub mod Tagging
 pub mod Weak
+pub mod Written

@@ -25,7 +25,7 @@ put_did (Set o k y) vs r = refl
 put_did c vs r = refl
 
 put_read : (again : Option ℕ) (e : Event) → put_of (table_change again e) ≡ put e
-put_read again (Did c vs r) = put_did c vs r
+put_read again (Did (c, vs, r)) = put_did c vs r
 put_read again e = refl
 
 -- the object that is made, of some kind
@@ -48,7 +48,7 @@ received_object : (o : Option ℕ) → o ≡ option_map (λ b. b.0) (option_map 
 received_object None = refl
 received_object (Some i) = refl
 
-born_did : (c : Command) (vs : List Value) (r : Answer) → born_of (table_change_by c vs r) ≡ object_born (Did c vs r)
+born_did : (c : Command) (vs : List Value) (r : Answer) → born_of (table_change_by c vs r) ≡ object_born (Did (c, vs, r))
 born_did (New to) vs r = of_a_kind _ (object_given r)
 born_did (WeakRef to y) vs r = of_a_kind _ (object_given r)
 born_did (WeakMap to) vs r = of_a_kind _ (object_given r)
@@ -59,7 +59,7 @@ born_did c vs r = of_none (object_given r)
 
 born_read : (again : Option ℕ) (e : Event) → born_of (table_change again e) ≡ object_born e
 born_read again (Received t v) = received_object (object_of v)
-born_read again (Did c vs r) = born_did c vs r
+born_read again (Did (c, vs, r)) = born_did c vs r
 born_read again e = refl
 
 -- a new WeakRef and its target
@@ -77,7 +77,7 @@ points_did (WeakRef to y) vs r = aimed to y vs r
 points_did c vs r = refl
 
 points_read : (again : Option ℕ) (e : Event) → points_of (table_change again e) ≡ points e
-points_read again (Did c vs r) = points_did c vs r
+points_read again (Did (c, vs, r)) = points_did c vs r
 points_read again e = refl
 
 entered_did : (c : Command) (vs : List Value) (r : Answer) → entered_of (table_change_by c vs r) ≡ entered_by c vs
@@ -85,7 +85,7 @@ entered_did (WeakMapSet m k y) vs r = refl
 entered_did c vs r = refl
 
 entered_read : (again : Option ℕ) (e : Event) → entered_of (table_change again e) ≡ entered e
-entered_read again (Did c vs r) = entered_did c vs r
+entered_read again (Did (c, vs, r)) = entered_did c vs r
 entered_read again e = refl
 
 joined_did : (c : Command) (vs : List Value) (r : Answer) → joined_of (table_change_by c vs r) ≡ joined_by c vs
@@ -93,7 +93,7 @@ joined_did (WeakSetAdd s y) vs r = refl
 joined_did c vs r = refl
 
 joined_read : (again : Option ℕ) (e : Event) → joined_of (table_change again e) ≡ joined e
-joined_read again (Did c vs r) = joined_did c vs r
+joined_read again (Did (c, vs, r)) = joined_did c vs r
 joined_read again e = refl
 
 registry_did : (c : Command) (vs : List Value) (r : Answer) → registry_of (table_change_by c vs r) ≡ change_by c vs r
@@ -101,7 +101,7 @@ registry_did (FinalizationRegistry to n) vs r = refl
 registry_did c vs r = refl
 
 registry_read : (again : Option ℕ) (e : Event) → registry_of (table_change again e) ≡ change again e
-registry_read again (Did c vs r) = registry_did c vs r
+registry_read again (Did (c, vs, r)) = registry_did c vs r
 registry_read again e = refl
 
 given_kept : (r : Answer) → option_to_list (identity_kept r) ≡ identity_given r
@@ -114,15 +114,15 @@ kept_did (Deref to w) vs r = given_kept r
 kept_did c vs r = refl
 
 kept_read : (again : Option ℕ) (e : Event) → kept_of (table_change again e) ≡ keeps e
-kept_read again (Did c vs r) = kept_did c vs r
+kept_read again (Did (c, vs, r)) = kept_did c vs r
 kept_read again e = refl
 
-clears_did : (c : Command) (vs : List Value) (r : Answer) → clears (table_change_by c vs r) ≡ ends_job (Did c vs r)
+clears_did : (c : Command) (vs : List Value) (r : Answer) → clears (table_change_by c vs r) ≡ ends_job (Did (c, vs, r))
 clears_did (New to) vs r = refl
 clears_did c vs r = refl
 
 clears_read : (again : Option ℕ) (e : Event) → clears (table_change again e) ≡ ends_job e
-clears_read again (Did c vs r) = clears_did c vs r
+clears_read again (Did (c, vs, r)) = clears_did c vs r
 clears_read again e = refl
 
 makes_did : (c : Command) (vs : List Value) (r : Answer) → makes_of (table_change_by c vs r) ≡ tag_made c
@@ -130,7 +130,7 @@ makes_did (New to) vs r = refl
 makes_did c vs r = refl
 
 makes_read : (again : Option ℕ) (e : Event) → makes_of (table_change again e) ≡ tag_made_at e
-makes_read again (Did c vs r) = makes_did c vs r
+makes_read again (Did (c, vs, r)) = makes_did c vs r
 makes_read again e = refl
 
 -- the change is what the definitions read off the event
@@ -145,15 +145,15 @@ pub record IsRead (again : Option ℕ) (e : Event) (c : TableChange) : Type 0 wh
   pub clears : clears c ≡ ends_job e
   pub makes : makes_of c ≡ tag_made_at e
 
-pub is_read : (again : Option ℕ) (e : Event) (c : TableChange) → c ≡ table_change again e → IsRead again e c
-is_read again e c is = record {
-  put = ap put_of is ∙ put_read again e;
-  born = ap born_of is ∙ born_read again e;
-  points = ap points_of is ∙ points_read again e;
-  entered = ap entered_of is ∙ entered_read again e;
-  joined = ap joined_of is ∙ joined_read again e;
-  registry = ap registry_of is ∙ registry_read again e;
-  kept = ap kept_of is ∙ kept_read again e;
-  clears = ap (λ c. clears c) is ∙ clears_read again e;
-  makes = ap makes_of is ∙ makes_read again e;
+pub is_read : (again : Option ℕ) (e : Event) → IsRead again e (table_change again e)
+is_read again e = record {
+  put = put_read again e;
+  born = born_read again e;
+  points = points_read again e;
+  entered = entered_read again e;
+  joined = joined_read again e;
+  registry = registry_read again e;
+  kept = kept_read again e;
+  clears = clears_read again e;
+  makes = makes_read again e;
 }

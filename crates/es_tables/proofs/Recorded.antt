@@ -31,15 +31,14 @@ use Rattle.es_event.proofs.Alive.{Stays, Alive, next_alive}
 use Rattle.es_event.proofs.Births.{birth, born_some, received as received_object}
 use Rattle.es_event.proofs.Holds.{first_of}
 use Rattle.es_event.proofs.Targets.{held_weakly_identity}
-use Rattle.es_tables.specs.declared.effects.Effects.{Effects}
-use Rattle.es_tables.specs.Effects.{AssignsTo, AreEffects, Applied, object_born, points}
+use Rattle.es_tables.specs.Effects.{AssignsTo, Changed, assigned_by, object_born, points}
 use Rattle.es_tables.specs.Tables.{State, Says, bound}
 use Rattle.es_event.proofs.Births.{born_next}
 use Rattle.es_tables.proofs.Fresh.{next_target}
 use Rattle.es_registry.specs.Registries.{callback}
 use Rattle.es_tables.specs.Registries.{change, callback_after, cells_after, queue_after, again_at}
 use Rattle.es_tables.proofs.Registering.{IsQuiet, quiet_empties, callback_next, cells_next, queue_next}
-use Rattle.es_tables.specs.Changes.{kept_of, makes_of}
+use Rattle.es_tables.specs.Changes.{table_change, kept_of, makes_of}
 use Rattle.es_tables.proofs.Reading.{IsRead, is_read}
 use Rattle.es_tables.proofs.Weak.{left_of, written, entered_there, joined_there}
 use Rattle.es_tables.proofs.Tagging.{tags_after, made_after}
@@ -98,19 +97,19 @@ aims_at_none over into h e w legal lawful none q is = (
   λ same. subst (λ o. first_target h o ≡ None) (born_next over into h e q lawful is ∙ same) (next_target over into h legal),
 )
 
-ordinary_born : (c : Command) (vs : List Value) (r : Answer) → option_and_then aims (kind_made c vs) ≡ None → (q : ℕ × Option Kind) → born (Did c vs r) ≡ Some q → option_and_then aims q.1 ≡ None
+ordinary_born : (c : Command) (vs : List Value) (r : Answer) → option_and_then aims (kind_made c vs) ≡ None → (q : ℕ × Option Kind) → born (Did (c, vs, r)) ≡ Some q → option_and_then aims q.1 ≡ None
 ordinary_born c vs r none q e = let b = birth c vs r q e in ap (option_and_then aims) (b.1 ∙ sym b.2) ∙ none
 
 target_step : (over : Buffers) (into : Receivers) (h : History) (e : Event) (s : Option ℕ) (w : ℕ) → LegalBy over into h → Lawful over into h e → Stays into h
     → s ≡ aimed_at (gone h) (kind h w) → unwrap_or (at_key (λ i j. i == j) w (points e)) s ≡ aimed_at (gone h) (kind (e ∷ h) w)
-target_step over into h (Did (WeakRef to y) vs r) s w legal lawful stays same =
+target_step over into h (Did (WeakRef to y, vs, r)) s w legal lawful stays same =
     let ok = accepted (first_refusal (tests over h (WeakRef to y) vs)) (result over h (WeakRef to y) vs (word_in r)) r lawful.1 in
     let held = held_weakly_identity (first vs) (first_holds (is_held_weakly (first vs)) NotHeldWeakly (room h ∷ []) ok.0).0 in
     let read : Alive h (first vs) = subst (Alive h) (ap first (sym lawful.0)) (first_of (Alive h) into h (reads (WeakRef to y)) stays.held) in
-    subst (λ r. unwrap_or (at_key (λ i j. i == j) w (points (Did (WeakRef to y) vs r))) s ≡ aimed_at (gone h) (kind (Did (WeakRef to y) vs r ∷ h) w)) ok.1
+    subst (λ r. unwrap_or (at_key (λ i j. i == j) w (points (Did (WeakRef to y, vs, r)))) s ≡ aimed_at (gone h) (kind (Did (WeakRef to y, vs, r) ∷ h) w)) ok.1
     (new_target (gone h) s (kind h w) (made h + 1) w held.0 (first vs) held.1 read same)
-target_step over into h (Did c vs r) s w legal lawful stays same =
-    plain_target (gone h) s (kind h w) (born (Did c vs r)) w same (aims_at_none over into h (Did c vs r) w legal lawful (ordinary_born c vs r refl))
+target_step over into h (Did (c, vs, r)) s w legal lawful stays same =
+    plain_target (gone h) s (kind h w) (born (Did (c, vs, r))) w same (aims_at_none over into h (Did (c, vs, r)) w legal lawful (ordinary_born c vs r refl))
 target_step over into h (Received t v) s w legal lawful stays same =
     plain_target (gone h) s (kind h w) (born (Received t v)) w same (aims_at_none over into h (Received t v) w legal lawful (λ q is. ap (option_and_then aims) (received_object v q is).0))
 target_step over into h e s w legal lawful stays same =
@@ -123,47 +122,52 @@ left_still h e m k none a quiet = ap (λ b. left_of none b (is_gone h k) a) (sym
 
 -- All tables
 
-pub says_after : (over : Buffers) (into : Receivers) (h : History) (s t : State) (e : Event) (f : Effects)
-    → LegalBy over into h → Lawful over into h e → Stays into h → IsQuiet e → Says into h s → (received : List ℕ) → AssignsTo received (into h) e → AreEffects received (again_at h) e f → Applied s f t → Says into (e ∷ h) t
-says_after over into h s t e f legal lawful stays silent says received to are applied = let quiet : empties e ≡ [] = quiet_empties e silent in let read : IsRead (again_at h) e f.change = is_read (again_at h) e f.change are.change in record {
-  variables = λ x. applied.variables x ∙ ap (λ p. unwrap_or (at_key bytes_eq x p) (bound s.variables x)) (are.assigned into h to) ∙ ap (unwrap_or (at_key bytes_eq x (assigned into h e))) (says.variables x);
-  objects = λ o. applied.objects o
+assigns : (into : Receivers) (h : History) (received : List ℕ) (e : Event) → AssignsTo received (into h) e → assigned_by received e ≡ assigned into h e
+assigns into h received (Received t v) to = ap (λ x. Some (x, v)) (sym to)
+assigns into h received e to = refl
+
+pub says_after : (over : Buffers) (into : Receivers) (h : History) (s t : State) (e : Event)
+    → LegalBy over into h → Lawful over into h e → Stays into h → IsQuiet e → Says into h s → (received : List ℕ) → AssignsTo received (into h) e
+    → ((x : List ℕ) → bound t.variables x ≡ unwrap_or (at_key bytes_eq x (assigned_by received e)) (bound s.variables x)) → Changed s (table_change (again_at h) e) t → Says into (e ∷ h) t
+says_after over into h s t e legal lawful stays silent says received to assigned' changed = let quiet : empties e ≡ [] = quiet_empties e silent in let read : IsRead (again_at h) e (table_change (again_at h) e) = is_read (again_at h) e in record {
+  variables = λ x. assigned' x ∙ ap (λ p. unwrap_or (at_key bytes_eq x p) (bound s.variables x)) (assigns into h received e to) ∙ ap (unwrap_or (at_key bytes_eq x (assigned into h e))) (says.variables x);
+  objects = λ o. changed.objects o
       ∙ ap (λ b. option_map_or (λ i. i == o) b false || has s.heap o) read.born
       ∙ ap (λ b. option_map_or (λ i. i == o) (object_born e) false || b) (says.objects o)
       ∙ there (born e) (kind h o) (is_gone h o) o (born_alive over into h e o legal lawful)
       ∙ ap (λ g. is_some (kind (e ∷ h) o) && not g) (sym (same_gone h e o quiet));
-  properties = λ o k here. applied.properties o k ∙ ap (λ p. unwrap_or (at_key same_key (o, k) p) (property s.heap o k)) read.put
+  properties = λ o k here. changed.properties o k ∙ ap (λ p. unwrap_or (at_key same_key (o, k) p) (property s.heap o k)) read.put
       ∙ ap (unwrap_or (at_key same_key (o, k) (put e))) (says.properties o k (sym (same_gone h e o quiet) ∙ here));
-  keys = λ o here. applied.keys o ∙ ap (λ p. keys_after o p (keys s.heap o)) read.put ∙ ap (keys_after o (put e)) (says.keys o (sym (same_gone h e o quiet) ∙ here));
-  targets = λ w here. applied.targets w ∙ ap (λ p. unwrap_or (at_key (λ i j. i == j) w p) (target s.weakrefs w)) read.points
+  keys = λ o here. changed.keys o ∙ ap (λ p. keys_after o p (keys s.heap o)) read.put ∙ ap (keys_after o (put e)) (says.keys o (sym (same_gone h e o quiet) ∙ here));
+  targets = λ w here. changed.targets w ∙ ap (λ p. unwrap_or (at_key (λ i j. i == j) w p) (target s.weakrefs w)) read.points
       ∙ target_step over into h e (target s.weakrefs w) w legal lawful stays (says.targets w (sym (same_gone h e w quiet) ∙ here))
       ∙ ap (λ ids. aimed_at (ids ++ gone h) (kind (e ∷ h) w)) (sym quiet);
-  callbacks = λ r. applied.callbacks r
+  callbacks = λ r. changed.callbacks r
       ∙ ap (λ c. callback_after c r (callback s.registries r)) read.registry
       ∙ ap (callback_after (change (again_at h) e) r) (says.callbacks r)
       ∙ callback_next over into h e r legal lawful;
-  cells = applied.cells
+  cells = changed.cells
       ∙ ap (λ c. cells_after c s.registries.cells) read.registry
       ∙ ap (cells_after (change (again_at h) e)) says.cells
       ∙ cells_next over into h e (lawful, legal) stays silent;
-  queue = applied.queue
+  queue = changed.queue
       ∙ ap (λ c. queue_after c s.registries.queue) read.registry
       ∙ ap (queue_after (change (again_at h) e)) says.queue
       ∙ queue_next h e silent;
-  kept = applied.kept
-      ∙ ap (λ b. cond b [] (kept_of f.change ++ reverse s.weakrefs.kept)) read.clears
+  kept = changed.kept
+      ∙ ap (λ b. cond b [] (kept_of (table_change (again_at h) e) ++ reverse s.weakrefs.kept)) read.clears
       ∙ ap (λ ids. cond (ends_job e) [] (ids ++ reverse s.weakrefs.kept)) read.kept
       ∙ ap (λ ids. cond (ends_job e) [] (keeps e ++ ids)) says.kept;
-  entries = λ m k. applied.entries m k
+  entries = λ m k. changed.entries m k
       ∙ ap (λ p. unwrap_or (at_key same_pair (m, k) p) (record_at s.weak.entries.all m k)) read.entered
       ∙ ap (unwrap_or (at_key same_pair (m, k) (entered e))) (says.entries m k)
       ∙ written None m k (entered e) (is_gone h m) (is_gone h k) (first_entry h m k) (entered_there over into h e m k lawful stays)
       ∙ left_still h e m k None (first_entry (e ∷ h) m k) quiet;
-  members = λ m k. applied.members m k
+  members = λ m k. changed.members m k
       ∙ ap (λ p. unwrap_or (at_key same_pair (m, k) p) (is_some (record_at s.weak.members.all m k))) read.joined
       ∙ ap (unwrap_or (at_key same_pair (m, k) (joined e))) (says.members m k)
       ∙ written false m k (joined e) (is_gone h m) (is_gone h k) (first_member h m k) (joined_there over into h e m k lawful stays)
       ∙ left_still h e m k false (first_member (e ∷ h) m k) quiet;
-  tags = tags_after over into h e s.tags.all t.tags.all (makes_of f.change) legal lawful (λ i. same_gone h e i quiet) says.made says.tags (sym read.makes) applied.tags;
-  made = made_after h e s.tags.all t.tags.all (makes_of f.change) says.made (sym read.makes) applied.tags;
+  tags = tags_after over into h e s.tags.all t.tags.all (makes_of (table_change (again_at h) e)) legal lawful (λ i. same_gone h e i quiet) says.made says.tags (sym read.makes) changed.tags;
+  made = made_after h e s.tags.all t.tags.all (makes_of (table_change (again_at h) e)) says.made (sym read.makes) changed.tags;
 }

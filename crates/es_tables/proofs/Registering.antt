@@ -50,38 +50,38 @@ registers_change q y v t (Object o ∷ w ∷ held ∷ rest) r = at (identity w)
     at (Some i) = refl
 registers_change q y v t _ r = refl
 
-register_cells : (over : Buffers) (into : Receivers) (h : History) (q y v : List ℕ) (t : Option (List ℕ)) (vs : List Value) (r : Answer) (k : Option Cell) → LegalBy over into (Did (Register q y v t) vs r ∷ h) → Stays into h
-    → registers_by (Register q y v t) vs ≡ k → cells_after (option_map_or (λ k. Registers k.registry k.target k.held k.token) k Leaves) (slots h) ≡ slots (Did (Register q y v t) vs r ∷ h)
-register_cells over into h q y v t vs r None legal stays is = slots_same (Did (Register q y v t) vs r) h is refl (λ n. refl)
+register_cells : (over : Buffers) (into : Receivers) (h : History) (q y v : List ℕ) (t : Option (List ℕ)) (vs : List Value) (r : Answer) (k : Option Cell) → LegalBy over into (Did (Register q y v t, vs, r) ∷ h) → Stays into h
+    → registers_by (Register q y v t) vs ≡ k → cells_after (option_map_or (λ k. Registers k.registry k.target k.held k.token) k Leaves) (slots h) ≡ slots (Did (Register q y v t, vs, r) ∷ h)
+register_cells over into h q y v t vs r None legal stays is = slots_same (Did (Register q y v t, vs, r)) h is refl (λ n. refl)
 register_cells over into h q y v t vs r (Some k) legal stays is =
     let alive : Alive h (second vs) = subst (Alive h) (ap second (sym legal.0.0)) (second_of (Alive h) into h (reads (Register q y v t)) stays.held) in
     slots_registered over into h (Register q y v t) vs r k legal is (alive_at h (second vs) k.target alive (made_by (Register q y v t) vs r k is).target) (λ n. refl)
 
-unregister_cells : (h : History) (to q x : List ℕ) (vs : List Value) (r : Answer) → cells_after (change_by (Unregister to q x) vs r) (slots h) ≡ slots (Did (Unregister to q x) vs r ∷ h)
+unregister_cells : (h : History) (to q x : List ℕ) (vs : List Value) (r : Answer) → cells_after (change_by (Unregister to q x) vs r) (slots h) ≡ slots (Did (Unregister to q x, vs, r) ∷ h)
 unregister_cells h to q x (Object o ∷ w ∷ []) r = at (identity w) refl
   where
-    at : (i : Option ℕ) → identity w ≡ i → cells_after (option_map_or (Unregisters o) i Leaves) (slots h) ≡ slots (Did (Unregister to q x) (Object o ∷ w ∷ []) r ∷ h)
-    at None is = slots_same (Did (Unregister to q x) (Object o ∷ w ∷ []) r) h refl refl (λ n. ap (λ i. cond (option_map_or (λ i. is_under h o i n) i false) (Some unregistered) None) is)
+    at : (i : Option ℕ) → identity w ≡ i → cells_after (option_map_or (Unregisters o) i Leaves) (slots h) ≡ slots (Did (Unregister to q x, Object o ∷ w ∷ [], r) ∷ h)
+    at None is = slots_same (Did (Unregister to q x, Object o ∷ w ∷ [], r)) h refl refl (λ n. ap (λ i. cond (option_map_or (λ i. is_under h o i n) i false) (Some unregistered) None) is)
     at (Some t) is = slots_unregistered to q x o t w r h is
-unregister_cells h to q x vs r = slots_same (Did (Unregister to q x) vs r) h refl refl (λ n. refl)
+unregister_cells h to q x vs r = slots_same (Did (Unregister to q x, vs, r)) h refl refl (λ n. refl)
 
 made_cells : (c : ℕ) (r : Answer) (cells : List _) → cells_after (registry_made_by c r) cells ≡ cells
 made_cells c (Gives (Object o)) cells = refl
 made_cells c _ cells = refl
 
-did_cells : (over : Buffers) (into : Receivers) (h : History) (c : Command) (vs : List Value) (r : Answer) → LegalBy over into (Did c vs r ∷ h) → Stays into h → cells_after (change_by c vs r) (slots h) ≡ slots (Did c vs r ∷ h)
-did_cells over into h (FinalizationRegistry to n) vs r legal stays = made_cells n r (slots h) ∙ slots_same (Did (FinalizationRegistry to n) vs r) h refl refl (λ n. refl)
+did_cells : (over : Buffers) (into : Receivers) (h : History) (c : Command) (vs : List Value) (r : Answer) → LegalBy over into (Did (c, vs, r) ∷ h) → Stays into h → cells_after (change_by c vs r) (slots h) ≡ slots (Did (c, vs, r) ∷ h)
+did_cells over into h (FinalizationRegistry to n) vs r legal stays = made_cells n r (slots h) ∙ slots_same (Did (FinalizationRegistry to n, vs, r)) h refl refl (λ n. refl)
 did_cells over into h (Register q y v t) vs r legal stays =
     ap (λ c. cells_after c (slots h)) (registers_change q y v t vs r) ∙ register_cells over into h q y v t vs r (registers_by (Register q y v t) vs) legal stays refl
 did_cells over into h (Unregister to q x) vs r legal stays = unregister_cells h to q x vs r
-did_cells over into h c vs r legal stays = slots_same (Did c vs r) h refl refl (λ n. refl)
+did_cells over into h c vs r legal stays = slots_same (Did (c, vs, r)) h refl refl (λ n. refl)
 
 ended_cells : (again : Option ℕ) (cells : List _) → cells_after (option_map_or Queues again Leaves) cells ≡ cells
 ended_cells None cells = refl
 ended_cells (Some r) cells = refl
 
 pub cells_next : (over : Buffers) (into : Receivers) (h : History) (e : Event) → LegalBy over into (e ∷ h) → Stays into h → IsQuiet e → cells_after (change (again_at h) e) (slots h) ≡ slots (e ∷ h)
-cells_next over into h (Did c vs r) legal stays quiet = did_cells over into h c vs r legal stays
+cells_next over into h (Did (c, vs, r)) legal stays quiet = did_cells over into h c vs r legal stays
 cells_next over into h (Taken n v) legal stays quiet =
     let at = mapped (λ c. c.held) (cell h n) v legal.0.0 in
     let numbered = cell_within h n at.0 at.1 in
@@ -128,7 +128,7 @@ did_queue (Unregister to x t) vs r q = refl
 did_queue c vs r q = refl
 
 pub queue_next : (h : History) (e : Event) → IsQuiet e → queue_after (change (again_at h) e) (queue h) ≡ queue (e ∷ h)
-queue_next h (Did c vs r) quiet = did_queue c vs r (queue h)
+queue_next h (Did (c, vs, r)) quiet = did_queue c vs r (queue h)
 queue_next h (Emptied ids) quiet = absurd quiet
 queue_next h JobEnded quiet = ended_queue (again_at h) (queue h) ∙ ap (λ q. queue h ++ q) (sym (again_is h))
 queue_next h e quiet = refl
@@ -152,20 +152,20 @@ none_called over into h e r legal lawful none q is = (
   λ same. subst (λ o. callback h o ≡ None) (born_next over into h e q lawful is ∙ same) (ap (option_and_then callback_in) (next_kind over into h legal)),
 )
 
-uncalled : (c : Command) (vs : List Value) (r : Answer) → option_and_then callback_in (kind_made c vs) ≡ None → (q : ℕ × Option Kind) → born (Did c vs r) ≡ Some q → option_and_then callback_in q.1 ≡ None
+uncalled : (c : Command) (vs : List Value) (r : Answer) → option_and_then callback_in (kind_made c vs) ≡ None → (q : ℕ × Option Kind) → born (Did (c, vs, r)) ≡ Some q → option_and_then callback_in q.1 ≡ None
 uncalled c vs r none q e = let b = birth c vs r q e in ap (option_and_then callback_in) (b.1 ∙ sym b.2) ∙ none
 
 new_callback : (h : History) (to : List ℕ) (n : ℕ) (vs : List Value) (r : ℕ)
-    → callback_after (registry_made_by n (Gives (Object (made h + 1)))) r (callback h r) ≡ callback (Did (FinalizationRegistry to n) vs (Gives (Object (made h + 1))) ∷ h) r
+    → callback_after (registry_made_by n (Gives (Object (made h + 1)))) r (callback h r) ≡ callback (Did (FinalizationRegistry to n, vs, Gives (Object (made h + 1))) ∷ h) r
 new_callback h to n vs r = at (made h + 1 == r)
   where
     at : (b : Bool) → cond b (Some n) (option_and_then callback_in (kind h r)) ≡ option_and_then callback_in (unwrap_or (cond b (Some (Some (registry_of n))) None) (kind h r))
     at true = refl
     at false = refl
 
-same_callback : (over : Buffers) (into : Receivers) (h : History) (c : Command) (vs : List Value) (a : Answer) (r : ℕ) → LegalBy over into h → Lawful over into h (Did c vs a)
-    → option_and_then callback_in (kind_made c vs) ≡ None → callback h r ≡ callback (Did c vs a ∷ h) r
-same_callback over into h c vs a r legal lawful none = plain_callback (kind h r) (born (Did c vs a)) r (none_called over into h (Did c vs a) r legal lawful (uncalled c vs a none))
+same_callback : (over : Buffers) (into : Receivers) (h : History) (c : Command) (vs : List Value) (a : Answer) (r : ℕ) → LegalBy over into h → Lawful over into h (Did (c, vs, a))
+    → option_and_then callback_in (kind_made c vs) ≡ None → callback h r ≡ callback (Did (c, vs, a) ∷ h) r
+same_callback over into h c vs a r legal lawful none = plain_callback (kind h r) (born (Did (c, vs, a))) r (none_called over into h (Did (c, vs, a)) r legal lawful (uncalled c vs a none))
 
 registered_callback : (k : Option Cell) (r : ℕ) (before : Option ℕ) → callback_after (option_map_or (λ k. Registers k.registry k.target k.held k.token) k Leaves) r before ≡ before
 registered_callback None r before = refl
@@ -179,10 +179,10 @@ unregister_callback : (to x t : List ℕ) (vs : List Value) (a : Answer) (r : �
 unregister_callback to x t (Object o ∷ w ∷ []) a r before = unregistered_callback o (identity w) r before
 unregister_callback to x t vs a r before = refl
 
-did_callback : (over : Buffers) (into : Receivers) (h : History) (c : Command) (vs : List Value) (a : Answer) (r : ℕ) → LegalBy over into h → Lawful over into h (Did c vs a)
-    → callback_after (change_by c vs a) r (callback h r) ≡ callback (Did c vs a ∷ h) r
+did_callback : (over : Buffers) (into : Receivers) (h : History) (c : Command) (vs : List Value) (a : Answer) (r : ℕ) → LegalBy over into h → Lawful over into h (Did (c, vs, a))
+    → callback_after (change_by c vs a) r (callback h r) ≡ callback (Did (c, vs, a) ∷ h) r
 did_callback over into h (FinalizationRegistry to n) vs a r legal lawful =
-    subst (λ a. callback_after (registry_made_by n a) r (callback h r) ≡ callback (Did (FinalizationRegistry to n) vs a ∷ h) r) (is_result over h (FinalizationRegistry to n) vs (word_in a) a lawful.1)
+    subst (λ a. callback_after (registry_made_by n a) r (callback h r) ≡ callback (Did (FinalizationRegistry to n, vs, a) ∷ h) r) (is_result over h (FinalizationRegistry to n) vs (word_in a) a lawful.1)
     (new_callback h to n vs r)
 did_callback over into h (Register x y v t) vs a r legal lawful =
     ap (λ c. callback_after c r (callback h r)) (registers_change x y v t vs a) ∙ registered_callback (registers_by (Register x y v t) vs) r (callback h r)
@@ -205,6 +205,6 @@ received_callback over into h t v r legal lawful =
 
 pub callback_next : (over : Buffers) (into : Receivers) (h : History) (e : Event) (r : ℕ) → LegalBy over into h → Lawful over into h e → callback_after (change (again_at h) e) r (callback h r) ≡ callback (e ∷ h) r
 callback_next over into h (Received t v) r legal lawful = received_callback over into h t v r legal lawful
-callback_next over into h (Did c vs a) r legal lawful = did_callback over into h c vs a r legal lawful
+callback_next over into h (Did (c, vs, a)) r legal lawful = did_callback over into h c vs a r legal lawful
 callback_next over into h JobEnded r legal lawful = ended_callback (again_at h) r (callback h r)
 callback_next over into h e r legal lawful = refl

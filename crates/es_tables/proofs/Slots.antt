@@ -56,11 +56,11 @@ slots_same e h none nothing stays =
     by_number e h (slot_said h) (registered_same e h none) (λ n l m. sym (same_slot (e ∷ h) h n (fate_stays e h n m nothing (stays n)) (cell_before e h n m)))
 
 -- a registration adds its slot
-pub slots_registered : (over : Buffers) (into : Receivers) (h : History) (c : Command) (vs : List Value) (r : Answer) (k : Cell) → LegalBy over into (Did c vs r ∷ h)
-    → registers (Did c vs r) ≡ Some k → is_gone h k.target ≡ false → ((n : ℕ) → unregisters_by c vs h n ≡ false)
-    → slots h ++ registered_slot k.registry k.target k.held k.token (length (slots h) + 1) ∷ [] ≡ slots (Did c vs r ∷ h)
+pub slots_registered : (over : Buffers) (into : Receivers) (h : History) (c : Command) (vs : List Value) (r : Answer) (k : Cell) → LegalBy over into (Did (c, vs, r) ∷ h)
+    → registers (Did (c, vs, r)) ≡ Some k → is_gone h k.target ≡ false → ((n : ℕ) → unregisters_by c vs h n ≡ false)
+    → slots h ++ registered_slot k.registry k.target k.held k.token (length (slots h) + 1) ∷ [] ≡ slots (Did (c, vs, r) ∷ h)
 slots_registered over into h c vs r k legal new here stays =
-    let e : Event = Did c vs r in
+    let e : Event = Did (c, vs, r) in
     let next : 1 + registered h ≡ registered h + 1 = omega arith in
     let more : suc (registered h) ≡ registered (e ∷ h) = omega (arith, registered_next e h k new) in
     let last : registered_slot k.registry k.target k.held k.token (registered h + 1) ≡ slot_said (e ∷ h) (registered h + 1) =
@@ -93,9 +93,9 @@ under_slot n o t unregistered (Some c) = refl
 under_slot n o t taken (Some c) = refl
 
 pub slots_unregistered : (to q x : List ℕ) (o t : ℕ) (w : Value) (r : Answer) (h : History) → identity w ≡ Some t
-    → map (unregistered_by o t) (slots h) ≡ slots (Did (Unregister to q x) (Object o ∷ w ∷ []) r ∷ h)
+    → map (unregistered_by o t) (slots h) ≡ slots (Did (Unregister to q x, Object o ∷ w ∷ [], r) ∷ h)
 slots_unregistered to q x o t w r h token =
-    let e : Event = Did (Unregister to q x) (Object o ∷ w ∷ []) r in
+    let e : Event = Did (Unregister to q x, Object o ∷ w ∷ [], r) in
     map_map (unregistered_by o t) (slot_said h) (registrations h)
     ∙ by_number e h (λ n. unregistered_by o t (slot_said h n)) (registered_same e h refl)
     (λ n l m. under_slot n o t (fate h n) (cell h n)

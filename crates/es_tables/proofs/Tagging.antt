@@ -58,7 +58,7 @@ counted_received _ = refl
 
 counted_at : (e : Event) → option_map_or (λ t. 1) (tag_made_at e) 0 ≡ makes_at e
 counted_at (Received t v) = counted_received v
-counted_at (Did c vs r) = counted c
+counted_at (Did (c, vs, r)) = counted c
 counted_at _ = refl
 
 -- an object is of a kind that its command makes
@@ -73,7 +73,7 @@ kind_counted _ vs kd e = cc
 
 born_counted : (e : Event) (q : ℕ × Option Kind) → born e ≡ Some q → makes_at e ≡ 1
 born_counted (Received t v) q e = ap (λ v. option_map_or (λ i. 1) (object_of v) 0) (received v q e).1
-born_counted (Did c vs r) q e = let b = birth c vs r q e in kind_counted c vs b.0 b.2
+born_counted (Did (c, vs, r)) q e = let b = birth c vs r q e in kind_counted c vs b.0 b.2
 born_counted _ q e = cc
 
 -- Kinds
@@ -94,7 +94,7 @@ kind_quiet h e i none = other_at (born e) (kind h i) i (λ q is same. let one : 
 given : (n : ℕ) (k before : Option Kind) → unwrap_or (at_key (λ i j. i == j) n (Some (n, k))) before ≡ k
 given n k before = ap (λ b. unwrap_or (cond b (Some k) None) before) (eq-eqb n n refl)
 
-tag_new : (over : Buffers) (h : History) (c : Command) (vs : List Value) (w : ℕ) (t : Tag) → tag_made c ≡ Some t → kind h (made h + 1) ≡ None → tag_of (kind (Did c vs (result over h c vs w) ∷ h) (made h + 1)) ≡ t
+tag_new : (over : Buffers) (h : History) (c : Command) (vs : List Value) (w : ℕ) (t : Tag) → tag_made c ≡ Some t → kind h (made h + 1) ≡ None → tag_of (kind (Did (c, vs, result over h c vs w) ∷ h) (made h + 1)) ≡ t
 tag_new over h (New to) vs w t e none = ap tag_of (given (made h + 1) _ (kind h (made h + 1))) ∙ cc
 tag_new over h (Symbol to) vs w t e none = ap tag_of none ∙ cc
 tag_new over h (WeakRef to y) vs w t e none = ap tag_of (given (made h + 1) _ (kind h (made h + 1))) ∙ cc
@@ -105,9 +105,9 @@ tag_new over h (SharedArrayBuffer to n) vs w t e none = ap tag_of (given (made h
 tag_new over h _ vs w t e none = cc
 
 tag_next : (over : Buffers) (into : Receivers) (h : History) (e : Event) (t : Tag) (i : ℕ) → LegalBy over into h → Lawful over into h e → tag_made_at e ≡ Some t → i ≡ made h + 1 → tag_of (kind (e ∷ h) i) ≡ t
-tag_next over into h (Did c vs r) t i legal lawful is same =
-    subst (λ r. tag_of (kind (Did c vs r ∷ h) i) ≡ t) (is_result over h c vs (word_in r) r lawful.1)
-    (subst (λ j. tag_of (kind (Did c vs (result over h c vs (word_in r)) ∷ h) j) ≡ t) (sym same) (tag_new over h c vs (word_in r) t is (next_kind over into h legal)))
+tag_next over into h (Did (c, vs, r)) t i legal lawful is same =
+    subst (λ r. tag_of (kind (Did (c, vs, r) ∷ h) i) ≡ t) (is_result over h c vs (word_in r) r lawful.1)
+    (subst (λ j. tag_of (kind (Did (c, vs, result over h c vs (word_in r)) ∷ h) j) ≡ t) (sym same) (tag_new over h c vs (word_in r) t is (next_kind over into h legal)))
 tag_next over into h (Received n (Object o)) t i legal lawful is same =
     let arrived : made h + 1 ≡ o = sym lawful.0 in
     subst (λ j. tag_of (kind (Received n (Object o) ∷ h) j) ≡ t) (sym same)

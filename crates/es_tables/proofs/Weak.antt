@@ -45,7 +45,7 @@ second_alive into h xs vs i e stays is = alive_at h (second vs) i (subst (Alive 
 
 pub entered_there : (over : Buffers) (into : Receivers) (h : History) (e : Event) (m k : ℕ) → Lawful over into h e → Stays into h
     → (q : (ℕ × ℕ) × Option Value) → entered e ≡ Some q → (q.0.0 ≡ m → is_gone h m ≡ false) × (q.0.1 ≡ k → is_gone h k ≡ false)
-entered_there over into h (Did c vs r) m k lawful stays q is =
+entered_there over into h (Did (c, vs, r)) m k lawful stays q is =
     let w = wrote c vs r q is in (
       λ same. subst (λ i. is_gone h i ≡ false) same (first_alive into h (reads c) vs q.0.0 lawful.0 stays (ap identity w.map)),
       λ same. subst (λ i. is_gone h i ≡ false) same (second_alive into h (reads c) vs q.0.1 lawful.0 stays w.key),
@@ -54,7 +54,7 @@ entered_there over into h _ m k lawful stays q is = cc
 
 pub joined_there : (over : Buffers) (into : Receivers) (h : History) (e : Event) (m k : ℕ) → Lawful over into h e → Stays into h
     → (q : (ℕ × ℕ) × Bool) → joined e ≡ Some q → (q.0.0 ≡ m → is_gone h m ≡ false) × (q.0.1 ≡ k → is_gone h k ≡ false)
-joined_there over into h (Did c vs r) m k lawful stays q is =
+joined_there over into h (Did (c, vs, r)) m k lawful stays q is =
     let w = joins c vs r q is in (
       λ same. subst (λ i. is_gone h i ≡ false) same (first_alive into h (reads c) vs q.0.0 lawful.0 stays (ap identity w.set)),
       λ same. subst (λ i. is_gone h i ≡ false) same (second_alive into h (reads c) vs q.0.1 lawful.0 stays w.member),

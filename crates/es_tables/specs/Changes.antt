@@ -60,7 +60,7 @@ abbrev pub table_change : Option ℕ → Event → TableChange
 table_change again (JobBegun j) = NoChange
 table_change again (CleanupBegun q) = Registry Dequeues
 table_change again (Received t v) = Birth (tag_received v) (object_of v)
-table_change again (Did c vs r) = table_change_by c vs r
+table_change again (Did (c, vs, r)) = table_change_by c vs r
 table_change again (Refused code) = NoChange
 table_change again (Emptied ids) = NoChange
 table_change again (Taken n held) = Registry (Takes n)

@@ -1,4 +1,5 @@
 -- Internal: what an event does to the tables.
+use denote.Ref.{Bor}
 use Rattle.std.specs.Prelude.{⊤, ℕ, ◌≡◌, ◌==◌, ◌||◌, ◌++◌, false, List, [], map, Option, Some, None, unwrap_or, is_some, reverse, if◌then◌else◌}
 use Rattle.std.specs.Option.{option_map, option_map_or, option_to_list}
 use Rattle.std.specs.Str.{bytes_eq}
@@ -20,7 +21,7 @@ use Rattle.es_event.specs.Ephemerons.{same_pair}
 use Rattle.es_props.specs.Heap.{has, property, keys}
 use Rattle.es_weakref.specs.WeakRefs.{target}
 use Rattle.es_ephemeron.specs.Ephemerons.{record_at}
-use Rattle.es_tables.specs.declared.effects.Effects.{Effects}
+use Rattle.es_tables.specs.declared.table_change.TableChange.{TableChange}
 use Rattle.es_tables.specs.Changes.{table_change, put_of, born_of, points_of, entered_of, joined_of, registry_of, kept_of, clears, makes_of}
 use Rattle.es_registry.specs.Registries.{callback}
 use Rattle.es_tables.specs.Registries.{callback_after, cells_after, queue_after}
@@ -40,7 +41,7 @@ abbrev pub points : Event → Option (ℕ × Option ℕ)
 points (JobBegun j) = None
 points (CleanupBegun q) = None
 points (Received t v) = None
-points (Did c vs r) = points_by c vs r
+points (Did (c, vs, r)) = points_by c vs r
 points (Refused code) = None
 points (Emptied ids) = None
 points (Taken n held) = None
@@ -53,7 +54,7 @@ abbrev pub IsQuiet : Event → Type 0
 IsQuiet (JobBegun j) = ⊤
 IsQuiet (CleanupBegun q) = ⊤
 IsQuiet (Received t v) = ⊤
-IsQuiet (Did c vs r) = ⊤
+IsQuiet (Did (c, vs, r)) = ⊤
 IsQuiet (Refused code) = ⊤
 IsQuiet (Emptied ids) = ⊥
 IsQuiet (Taken n held) = ⊤
@@ -66,7 +67,7 @@ abbrev pub AssignsTo : List ℕ → List ℕ → Event → Type 0
 AssignsTo received to (JobBegun j) = ⊤
 AssignsTo received to (CleanupBegun q) = ⊤
 AssignsTo received to (Received t v) = to ≡ received
-AssignsTo received to (Did c vs r) = ⊤
+AssignsTo received to (Did (c, vs, r)) = ⊤
 AssignsTo received to (Refused code) = ⊤
 AssignsTo received to (Emptied ids) = ⊤
 AssignsTo received to (Taken n held) = ⊤
@@ -74,27 +75,35 @@ AssignsTo received to JobEnded = ⊤
 AssignsTo received to (Skipped j t) = ⊤
 AssignsTo received to Closed = ⊤
 
--- where the event is a receipt, its value goes to the variable `received`; where it ends a job, `again` is the registry that it
--- queues again, if it does
-pub record AreEffects (received : List ℕ) (again : Option ℕ) (event : Event) (e : Effects) : Type 0 where
-  pub assigned : (into : Receivers) (h : History) → AssignsTo received (into h) event → e.assigned ≡ assigned into h event
-  pub change : e.change ≡ table_change again event
+-- what the event assigns, where the value of a receipt goes to the variable `received`
+abbrev pub assigned_by : List ℕ → Event → Option (List ℕ × Value)
+assigned_by received e = assigned (λ h. received) [] e
 
--- the tables after the effects
-pub record Applied (s : State) (e : Effects) (t : State) : Type 0 where
-  pub variables : (x : List ℕ) → bound t.variables x ≡ unwrap_or (at_key bytes_eq x e.assigned) (bound s.variables x)
-  pub properties : (o : ℕ) (k : List ℕ) → property t.heap o k ≡ unwrap_or (at_key same_key (o, k) (put_of e.change)) (property s.heap o k)
-  pub keys : (o : ℕ) → keys t.heap o ≡ keys_after o (put_of e.change) (keys s.heap o)
-  pub objects : (o : ℕ) → has t.heap o ≡ (option_map_or (λ b. b == o) (born_of e.change) false || has s.heap o)
-  pub targets : (w : ℕ) → target t.weakrefs w ≡ unwrap_or (at_key (λ i j. i == j) w (points_of e.change)) (target s.weakrefs w)
-  pub entries : (m k : ℕ) → record_at t.weak.entries.all m k ≡ unwrap_or (at_key same_pair (m, k) (entered_of e.change)) (record_at s.weak.entries.all m k)
-  pub members : (m k : ℕ) → is_some (record_at t.weak.members.all m k) ≡ unwrap_or (at_key same_pair (m, k) (joined_of e.change)) (is_some (record_at s.weak.members.all m k))
-  pub callbacks : (r : ℕ) → callback t.registries r ≡ callback_after (registry_of e.change) r (callback s.registries r)
-  pub cells : t.registries.cells ≡ cells_after (registry_of e.change) s.registries.cells
-  pub queue : t.registries.queue ≡ queue_after (registry_of e.change) s.registries.queue
-  pub kept : reverse t.weakrefs.kept ≡ (if clears e.change then [] else kept_of e.change ++ reverse s.weakrefs.kept)
-  pub tags : t.tags.all ≡ s.tags.all ++ map Some (option_to_list (makes_of e.change))
+-- what is assigned, as the code has it
+abbrev pub said : Option (Bor (List ℕ) × Bor Value) → Option (List ℕ × Value)
+said o = option_map (λ p. (p.0.now, p.1.now)) o
 
--- the tables after the event: its effects were applied to tables that said the same
+-- the tables after the change
+pub record Changed (s : State) (c : TableChange) (t : State) : Type 0 where
+  pub properties : (o : ℕ) (k : List ℕ) → property t.heap o k ≡ unwrap_or (at_key same_key (o, k) (put_of c)) (property s.heap o k)
+  pub keys : (o : ℕ) → keys t.heap o ≡ keys_after o (put_of c) (keys s.heap o)
+  pub objects : (o : ℕ) → has t.heap o ≡ (option_map_or (λ b. b == o) (born_of c) false || has s.heap o)
+  pub targets : (w : ℕ) → target t.weakrefs w ≡ unwrap_or (at_key (λ i j. i == j) w (points_of c)) (target s.weakrefs w)
+  pub entries : (m k : ℕ) → record_at t.weak.entries.all m k ≡ unwrap_or (at_key same_pair (m, k) (entered_of c)) (record_at s.weak.entries.all m k)
+  pub members : (m k : ℕ) → is_some (record_at t.weak.members.all m k) ≡ unwrap_or (at_key same_pair (m, k) (joined_of c)) (is_some (record_at s.weak.members.all m k))
+  pub callbacks : (r : ℕ) → callback t.registries r ≡ callback_after (registry_of c) r (callback s.registries r)
+  pub cells : t.registries.cells ≡ cells_after (registry_of c) s.registries.cells
+  pub queue : t.registries.queue ≡ queue_after (registry_of c) s.registries.queue
+  pub kept : reverse t.weakrefs.kept ≡ (if clears c then [] else kept_of c ++ reverse s.weakrefs.kept)
+  pub tags : t.tags.all ≡ s.tags.all ++ map Some (option_to_list (makes_of c))
+
+-- the tables after an assignment, if there is one, and a change, which were made in tables that said the same
+pub record Takes (a : Option (List ℕ × Value)) (c : TableChange) (s t : State) : Type 0 where
+  pub before : State
+  pub same : SameState s before
+  pub assigned : (x : List ℕ) → bound t.variables x ≡ unwrap_or (at_key bytes_eq x a) (bound before.variables x)
+  pub changed : Changed before c t
+
+-- the tables after the event
 abbrev pub Advances : List ℕ → Option ℕ → Event → State → State → Type 0
-Advances received again event s t = (e : Effects) × AreEffects received again event e × (g : State) × SameState s g × Applied g e t
+Advances received again e s t = Takes (assigned_by received e) (table_change again e) s t

@@ -5,3 +5,4 @@ pub mod Changes
 pub mod Effects
 pub mod Ready
 pub mod Found
+pub mod Plain

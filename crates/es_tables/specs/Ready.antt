@@ -5,21 +5,18 @@ use Rattle.es_value.specs.declared.value.Value.{Value}
 use Rattle.es_props.specs.Heap.{has, room_at}
 use Rattle.es_weakref.specs.WeakRefs.{target}
 use Rattle.es_ephemeron.specs.Ephemerons.{room_at as room_under}
-use Rattle.es_tables.specs.declared.effects.Effects.{Effects}
 use Rattle.es_tables.specs.declared.table_change.TableChange.{TableChange}
 use Rattle.es_tables.specs.declared.table_change.TableChange.TheVariants.{NoChange, Property, Birth, WeakRefBirth, RegistryBirth, Keeping, Entry, Member, Registry, JobEnd}
 use Rattle.es_tables.specs.Changes.{put_of, born_of, points_of, registry_of}
 use Rattle.es_tables.specs.Registries.{CanChange, HasRoomFor}
-use Rattle.es_event.specs.declared.event.Event.{Event}
-use Rattle.es_tables.specs.Effects.{AreEffects}
 use Rattle.es_tables.specs.Tables.{State}
 
 -- what is put is an object's, what is born is not there yet, and a cell that is taken awaits its cleanup
-pub record CanApply (s : State) (e : Effects) : Type 0 where
-  pub put : option_map_or (λ p. has s.heap p.0.0) (put_of e.change) true ≡ true
-  pub born : option_map_or (has s.heap) (born_of e.change) false ≡ false
-  pub points : option_map_or (λ p. is_some (target s.weakrefs p.0)) (points_of e.change) false ≡ false
-  pub registry : CanChange s.registries (registry_of e.change)
+pub record CanApply (s : State) (c : TableChange) : Type 0 where
+  pub put : option_map_or (λ p. has s.heap p.0.0) (put_of c) true ≡ true
+  pub born : option_map_or (has s.heap) (born_of c) false ≡ false
+  pub points : option_map_or (λ p. is_some (target s.weakrefs p.0)) (points_of c) false ≡ false
+  pub registry : CanChange s.registries (registry_of c)
 
 -- object o has room for what is set; a delete needs none
 abbrev pub has_room_at : List ℕ → ℕ → Option Value → Bool
@@ -60,12 +57,3 @@ HasRoom s (Entry p) = has_entry_room s.weak.entries.rooms p ≡ true
 HasRoom s (Member p) = has_member_room s.weak.members.rooms p ≡ true
 HasRoom s (Registry c) = HasRoomFor s.registries c
 HasRoom s (JobEnd c) = HasRoomFor s.registries c
-
--- there is room for all that the effects add
-pub record IsReady (s : State) (e : Effects) : Type 0 where
-  pub variables : 0 < s.variables.room
-  pub change : HasRoom s e.change
-
--- what the event does can be applied to the tables
-abbrev pub CanAdvance : List ℕ → Option ℕ → Event → State → Type 0
-CanAdvance received again event s = (e : Effects) → AreEffects received again event e → CanApply s e

@@ -36,7 +36,7 @@ abbrev pub change : Option ℕ → Event → RegistryChange
 change again (JobBegun j) = Leaves
 change again (CleanupBegun q) = Dequeues
 change again (Received t v) = Leaves
-change again (Did c vs r) = change_by c vs r
+change again (Did (c, vs, r)) = change_by c vs r
 change again (Refused code) = Leaves
 change again (Emptied ids) = Leaves
 change again (Taken n held) = Takes n

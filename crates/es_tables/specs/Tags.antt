@@ -85,7 +85,7 @@ abbrev pub tag_made_at : Event → Option Tag
 tag_made_at (JobBegun j) = None
 tag_made_at (CleanupBegun q) = None
 tag_made_at (Received t v) = tag_received v
-tag_made_at (Did c vs r) = tag_made c
+tag_made_at (Did (c, vs, r)) = tag_made c
 tag_made_at (Refused code) = None
 tag_made_at (Emptied ids) = None
 tag_made_at (Taken n held) = None

@@ -44,7 +44,7 @@ pub(crate) fn put(heap: &mut Heap, put: Option<((Id, Name), Option<Value>)>)
 }
 
 /// Sets a property, or deletes it where there is no value.
-fn write(heap: &mut Heap, object: Id, key: Name, value: Option<Value>)
+pub(crate) fn write(heap: &mut Heap, object: Id, key: Name, value: Option<Value>)
     requires there { has heap.old.all object ≡ true }
     requires room { has_room_at heap.old.rooms object value ≡ true }
     ensures properties { (o : ℕ) (k : List ℕ) → property heap.new.all o k ≡ (if same_key (object, key) (o, k) then value else property heap.old.all o k) }

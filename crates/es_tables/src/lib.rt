@@ -2,8 +2,8 @@
 //! what each identity is, with what they say of a history.
 #![tactic(auto)]
 
+mod assigned;
 mod changes;
-mod effects;
 mod ephemerons;
 mod growths;
 mod properties;
@@ -13,8 +13,7 @@ mod tables;
 mod tags;
 mod variables;
 
-pub use effects::{Effects, effects_of};
 pub use registries::RegistryChange;
-pub use table_change::TableChange;
+pub use table_change::{TableChange, is_plain};
 pub use tables::Tables;
 pub use tags::Tag;

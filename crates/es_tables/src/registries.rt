@@ -6,8 +6,9 @@ ghost use Rattle.std.specs.Option.{option_map_or};
 ghost use Rattle.es_value.specs.Values.{identity};
 ghost use Rattle.es_registry.specs.Registries.{callback, SameCallbacks};
 ghost use Rattle.es_tables.specs.Registries.{change_by, made_by, callback_after, cells_after, queue_after, CanChange, HasRoomFor};
+ghost use Rattle.es_event.specs.Answers.{answer_said};
 
-use es_event::{Answer, Command};
+use es_event::{AnswerRef, Command};
 use es_registry::Registries;
 use es_value::{Id, NoMemory, Value};
 
@@ -59,9 +60,9 @@ pub(crate) fn queued(again: Option<Id>) -> RegistryChange
 pub(crate) fn change_by(
     command: &Command,
     values: &[Value],
-    answer: &Answer,
+    answer: AnswerRef<'_>,
 ) -> Result<RegistryChange, NoMemory>
-    ensures { IfOk result (λ c. c ≡ change_by command.now values.now answer.now) }
+    ensures { IfOk result (λ c. c ≡ change_by command.now values.now (answer_said answer.entry)) }
 {
     match (command, values) {
         (Command::FinalizationRegistry { callback, .. }, _) => Ok(made_by(*callback, answer)),
@@ -80,11 +81,11 @@ pub(crate) fn change_by(
 }
 
 /// The making of a registry with the callback of this number.
-pub(crate) fn made_by(callback: usize, answer: &Answer) -> RegistryChange
-    ensures { result ≡ made_by callback answer.now }
+pub(crate) fn made_by(callback: usize, answer: AnswerRef<'_>) -> RegistryChange
+    ensures { result ≡ made_by callback (answer_said answer.entry) }
 {
     match answer {
-        Answer::Gives(Value::Object(registry)) => RegistryChange::Makes {
+        AnswerRef::Gives(Value::Object(registry)) => RegistryChange::Makes {
             registry: *registry,
             callback,
         },

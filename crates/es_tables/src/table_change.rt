@@ -1,12 +1,12 @@
 //! What an event does to the tables beside an assignment: one change, read off the event.
 
-ghost use Rattle.std.specs.Prelude.{◌≡◌, ℕ, List, Option, IsTrue, IfOk};
-ghost use Rattle.es_value.specs.declared.value.Value.{Value as ValueSaid};
-ghost use Rattle.es_event.specs.declared.event.Answer.{Answer as AnswerSaid};
+ghost use Rattle.std.specs.Prelude.{◌≡◌, IsTrue, IfOk};
 ghost use Rattle.es_event.specs.Commands.{first};
 ghost use Rattle.es_event.specs.Ephemerons.{entered_by, joined_by};
 ghost use Rattle.es_event.specs.Identities.{identity, object_of, object_given};
 ghost use Rattle.es_event.specs.Properties.{put_by};
+ghost use Rattle.es_event.specs.Answers.{answer_said};
+ghost use Rattle.es_tables.specs.Plain.{IsAssignment, IsPlain, IsPlainEvent};
 ghost use Rattle.es_tables.specs.Changes.{table_change, table_change_by, identity_kept, pointing};
 ghost use Rattle.es_tables.specs.Registries.{change_by};
 ghost use Rattle.es_tables.specs.Tags.{tag_made, tag_received};
@@ -15,7 +15,7 @@ use crate::ephemerons::{entered_by, joined_by};
 use crate::properties::put_by;
 use crate::registries::{RegistryChange, change_by, made_by, queued};
 use crate::tags::Tag;
-use es_event::{Answer, Command, Event};
+use es_event::{AnswerRef, Command, Event};
 use es_value::{Id, Name, NoMemory, Value};
 
 /// What an event does to the tables beside an assignment. Most events touch one table or none.
@@ -65,11 +65,7 @@ pub(crate) fn table_change(event: &Event, again: Option<Id>) -> Result<TableChan
             tag: tag_received(value),
             object: object_of(value),
         }),
-        Event::Did {
-            command,
-            values,
-            answer,
-        } => table_change_by(command.get(), values.as_slice(), answer),
+        Event::Did(done) => table_change_by(done.command(), done.values(), done.answer()),
         Event::Refused { .. } => Ok(TableChange::NoChange),
         Event::Emptied { .. } => Ok(TableChange::NoChange),
         Event::Taken { registration, .. } => Ok(TableChange::Registry(RegistryChange::Takes {
@@ -81,20 +77,31 @@ pub(crate) fn table_change(event: &Event, again: Option<Id>) -> Result<TableChan
     }
 }
 
-/// Whether the event is a command that changes no table: at most it assigns a variable.
+/// Whether the event is a command, done, that opens no block, posts nothing and opens no later collection.
 #[inline(always)]
-pub(crate) fn changes_no_table(event: &Event) -> bool
-    ensures { IsTrue result → (again : Option ℕ) → TableChange.NoChange ≡ table_change again event.now }
+pub fn is_plain(event: &Event) -> bool
+    ensures { IsTrue result → IsPlainEvent event.now }
 {
     match event {
-        Event::Did { command, .. } => assigns_alone(command.get()),
+        Event::Did(done) => is_plain_command(done.command()),
         _ => false,
     }
 }
 
-/// Whether the command changes no table, whatever it read and gave.
-fn assigns_alone(command: &Command) -> bool
-    ensures { IsTrue result → (values : List ValueSaid) (answer : AnswerSaid) → TableChange.NoChange ≡ table_change_by command.now values answer }
+#[inline(always)]
+fn is_plain_command(command: &Command) -> bool
+    ensures { IsTrue result → IsPlain command.now }
+{
+    !matches!(
+        command,
+        Command::SharedArrayBuffer { .. } | Command::Post { .. } | Command::CollectLater
+    )
+}
+
+/// Whether the command changes no table, and so assigns a variable at most, whatever it read and gave.
+#[inline(always)]
+pub(crate) fn is_assignment(command: &Command) -> bool
+    ensures { IsTrue result → IsAssignment command.now }
 {
     match command {
         Command::Let { .. }
@@ -111,19 +118,18 @@ fn assigns_alone(command: &Command) -> bool
         | Command::SameBlock { .. }
         | Command::Load { .. }
         | Command::Store { .. }
-        | Command::Add { .. }
-        | Command::Post { .. } => true,
+        | Command::Add { .. } => true,
         _ => false,
     }
 }
 
 /// What a command does to the tables.
-fn table_change_by(
+pub(crate) fn table_change_by(
     command: &Command,
     values: &[Value],
-    answer: &Answer,
+    answer: AnswerRef<'_>,
 ) -> Result<TableChange, NoMemory>
-    ensures { IfOk result (λ c. c ≡ table_change_by command.now values.now answer.now) }
+    ensures { IfOk result (λ c. c ≡ table_change_by command.now values.now (answer_said answer.entry)) }
 {
     match command {
         Command::Set { .. } => written(command, values),
@@ -172,15 +178,19 @@ fn entry(command: &Command, values: &[Value]) -> Result<TableChange, NoMemory>
 }
 
 /// A registration, or the end of some.
-fn registry(command: &Command, values: &[Value], answer: &Answer) -> Result<TableChange, NoMemory>
-    ensures { IfOk result (λ c. c ≡ TableChange.Registry (change_by command.now values.now answer.now)) }
+fn registry(
+    command: &Command,
+    values: &[Value],
+    answer: AnswerRef<'_>,
+) -> Result<TableChange, NoMemory>
+    ensures { IfOk result (λ c. c ≡ TableChange.Registry (change_by command.now values.now (answer_said answer.entry))) }
 {
     Ok(TableChange::Registry(change_by(command, values, answer)?))
 }
 
 /// The making of an object of a kind that needs nothing more.
-fn birth(command: &Command, answer: &Answer) -> TableChange
-    ensures { result ≡ TableChange.Birth (tag_made command.now) (object_given answer.now) }
+fn birth(command: &Command, answer: AnswerRef<'_>) -> TableChange
+    ensures { result ≡ TableChange.Birth (tag_made command.now) (object_given (answer_said answer.entry)) }
 {
     TableChange::Birth {
         tag: tag_made(command),
@@ -189,13 +199,13 @@ fn birth(command: &Command, answer: &Answer) -> TableChange
 }
 
 /// The object that was given, if it is one.
-fn object_given(answer: &Answer) -> Option<Id>
-    ensures { result ≡ object_given answer.now }
+fn object_given(answer: AnswerRef<'_>) -> Option<Id>
+    ensures { result ≡ object_given (answer_said answer.entry) }
 {
     match answer {
-        Answer::Nothing => None,
-        Answer::Gives(value) => object_of(value),
-        Answer::Listed(_) => None,
+        AnswerRef::Nothing => None,
+        AnswerRef::Gives(value) => object_of(value),
+        AnswerRef::Listed(_) => None,
     }
 }
 
@@ -226,13 +236,13 @@ fn first_identity(values: &[Value]) -> Option<Id>
 }
 
 /// The identity of the value that was given, if it has one.
-fn identity_given(answer: &Answer) -> Option<Id>
-    ensures { result ≡ identity_kept answer.now }
+fn identity_given(answer: AnswerRef<'_>) -> Option<Id>
+    ensures { result ≡ identity_kept (answer_said answer.entry) }
 {
     match answer {
-        Answer::Nothing => None,
-        Answer::Gives(value) => value.identity(),
-        Answer::Listed(_) => None,
+        AnswerRef::Nothing => None,
+        AnswerRef::Gives(value) => value.identity(),
+        AnswerRef::Listed(_) => None,
     }
 }
 

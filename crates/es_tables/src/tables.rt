@@ -1,31 +1,35 @@
 //! All that an agent keeps beside its history, as one value.
 
-ghost use Rattle.std.specs.Prelude.{◌≡◌, true, ◌<◌, ◌&&◌, ◌++◌, not, is_some, length, map, nat_eq, IfOk, OnOk, OnErr, codes, slice_get, unwrap_or};
+ghost use Rattle.std.specs.Prelude.{◌≡◌, ℕ, List, Option, None, Some, true, ◌<◌, ◌&&◌, ◌++◌, not, is_some, length, map, nat_eq, IfOk, OnOk, OnErr, codes, slice_get, unwrap_or};
 ghost use Rattle.std.specs.List.{filter, list_any, range_with_len, IsDistinct};
-ghost use Rattle.std.specs.Option.{option_copied, option_map_or, option_and_then};
+ghost use Rattle.std.specs.Option.{option_copied, option_and_then};
 ghost use Rattle.es_value.specs.declared.value.Value.TheVariants.{Undefined};
 ghost use Rattle.es_mark.specs.Marks.{is_marked};
 ghost use Rattle.es_props.specs.Heap.{has, property, keys, HasProperties};
 ghost use Rattle.es_weakref.specs.WeakRefs.{target as target_of};
-ghost use Rattle.es_tables.specs.Changes.{put_of};
-ghost use Rattle.es_tables.specs.Effects.{Advances, Applied};
+ghost use Rattle.es_event.specs.Commands.{assigns};
+ghost use Rattle.es_event.specs.Variables.{gives_to};
+ghost use Rattle.es_event.specs.Answers.{answer_said};
+ghost use Rattle.es_tables.specs.Plain.{IsPlainEvent};
+ghost use Rattle.es_tables.specs.Effects.{Advances, Changed, Takes, said};
+ghost use Rattle.es_tables.specs.Changes.{table_change, table_change_by};
 ghost use Rattle.es_ephemeron.specs.Ephemerons.{holders, record_at, records_at};
 ghost use Rattle.es_registry.specs.Slots.{has_token, held_identity, registration_of, tally_of};
 ghost use Rattle.es_registry.specs.Registries.{callback as callback_of, oldest};
 ghost use Rattle.es_tables.specs.Found.{Adds, HasHeld, AddsEntries};
-ghost use Rattle.es_tables.specs.Ready.{CanAdvance, CanApply, HasRoom, IsReady};
+ghost use Rattle.es_tables.specs.Ready.{CanApply, HasRoom};
 ghost use Rattle.es_tables.specs.Tables.{bound, IsNew, SameState, State, Emptying};
 ghost use Rattle.es_tables.specs.Tags.{tag_at};
 
-use crate::changes::{aim, enter, join, keep, make, put};
-use crate::effects::{Effects, assigned_at, effects_of};
+use crate::assigned::{assigned_by, given_by};
+use crate::changes::{aim, enter, join, keep, make, put, write};
 use crate::growths::{reserve_born, reserve_entered, reserve_joined, reserve_put};
 use crate::registries::{make_change, reserve_change};
-use crate::table_change::{TableChange, changes_no_table};
+use crate::table_change::{TableChange, is_assignment, table_change, table_change_by};
 use crate::tags::{Tag, Tags};
 use crate::variables::Variables;
 use es_ephemeron::WeakTables;
-use es_event::Event;
+use es_event::{AnswerRef, Command, Event};
 use es_mark::Marks;
 use es_props::Heap;
 use es_registry::{Cell, Registration, Registries, Tally};
@@ -283,6 +287,75 @@ impl Tables {
         Ok(())
     }
 
+    /// Applies a command that was done, as `advance` does, of those that open no block, post nothing and open no
+    /// later collection.
+    #[inline(always)]
+    pub fn advance_plain(&mut self, event: &Event) -> Result<(), NoMemory>
+        requires plain { IsPlainEvent event.now }
+        requires can { CanApply self.old (table_change None event.now) }
+        ensures ok { OnOk result ((received : List ℕ) (again : Option ℕ) → Advances received again event.now self.old self.new) }
+        ensures err { OnErr result (SameState self.old self.new) }
+    {
+        match event {
+            Event::Did(done) => self.take_command(done.command(), done.values(), done.answer()),
+            _ => unreachable!(),
+        }
+    }
+
+    /// Applies a command, by what it read and gave. Most change no table.
+    #[inline(always)]
+    fn take_command(
+        &mut self,
+        command: &Command,
+        values: &[Value],
+        answer: AnswerRef<'_>,
+    ) -> Result<(), NoMemory>
+        requires { CanApply self.old (table_change_by command.now values.now (answer_said answer)) }
+        ensures ok { OnOk result (Takes (gives_to (assigns command.now) (answer_said answer.entry)) (table_change_by command.now values.now (answer_said answer.entry)) self.old self.new) }
+        ensures err { OnErr result (SameState self.old self.new) }
+    {
+        if is_assignment(command) {
+            return self.variables.take_in(given_by(command, answer));
+        }
+        self.change_by(command, values, answer)
+    }
+
+    /// The same, of a command that may change a table.
+    #[inline(never)]
+    fn change_by(
+        &mut self,
+        command: &Command,
+        values: &[Value],
+        answer: AnswerRef<'_>,
+    ) -> Result<(), NoMemory>
+        requires { CanApply self.old (table_change_by command.now values.now (answer_said answer)) }
+        ensures ok { OnOk result (Takes (gives_to (assigns command.now) (answer_said answer.entry)) (table_change_by command.now values.now (answer_said answer.entry)) self.old self.new) }
+        ensures err { OnErr result (SameState self.old self.new) }
+    {
+        match (command, values) {
+            (Command::Set { key, .. }, [Value::Object(object), value]) => {
+                self.set(*object, key, value)
+            }
+            _ => {
+                let change = table_change_by(command, values, answer)?;
+                self.take(change, given_by(command, answer))
+            }
+        }
+    }
+
+    /// Sets a property of an object.
+    fn set(&mut self, object: Id, key: &Name, value: &Value) -> Result<(), NoMemory>
+        requires { has self.old.heap object ≡ true }
+        ensures ok { OnOk result (Takes None (TableChange.Property (Some ((object, key.now), Some value.now))) self.old self.new) }
+        ensures err { OnErr result (SameState self.old self.new) }
+    {
+        self.heap.reserve_set(object)?;
+        let value = value.copy()?;
+        let key = key.copy()?;
+        write(&mut self.heap, object, key, Some(value));
+        Ok(())
+    }
+
     /// Applies an event: makes every growth that it needs, and then does what it does, which can't fail.
     /// Where there is no memory the tables say what they said. `held` is the name of the variable that a
     /// cell's held value is assigned to, `received` that of the one that a message's value is assigned
@@ -295,88 +368,42 @@ impl Tables {
         again: Option<Id>,
     ) -> Result<(), NoMemory>
         requires held { held.now ≡ codes "held" }
-        requires can { CanAdvance received.now again event.now self.old }
+        requires can { CanApply self.old (table_change again event.now) }
         ensures ok { OnOk result (Advances received.now again event.now self.old self.new) }
         ensures err { OnErr result (SameState self.old self.new) }
     {
-        if changes_no_table(event) {
-            let assigned = assigned_at(event, held, received)?;
-            return self.take_in(Effects {
-                assigned,
-                change: TableChange::NoChange,
-            });
-        }
-        self.advance_tables(event, held, received, again)
+        let change = table_change(event, again)?;
+        self.take(change, assigned_by(event, held, received))
     }
 
-    /// The same, of an event that may change a table. It stands alone so that the others need not make place for
-    /// what it does.
-    #[inline(never)]
-    fn advance_tables(
+    /// Makes every growth that a change needs, assigns a variable, where one is to be assigned, and makes the
+    /// change.
+    fn take(
         &mut self,
-        event: &Event,
-        held: &Name,
-        received: &Name,
-        again: Option<Id>,
+        change: TableChange,
+        assigned: Option<(&Name, &Value)>,
     ) -> Result<(), NoMemory>
-        requires held { held.now ≡ codes "held" }
-        requires can { CanAdvance received.now again event.now self.old }
-        ensures ok { OnOk result (Advances received.now again event.now self.old self.new) }
+        requires { CanApply self.old change }
+        ensures ok { OnOk result (Takes (said assigned.entry) change self.old self.new) }
         ensures err { OnErr result (SameState self.old self.new) }
     {
-        let effects = effects_of(event, held, received, again)?;
-        self.take_in(effects)
-    }
-
-    /// Makes every growth that the effects need, and applies them. Where there is no memory the tables say what
-    /// they said.
-    #[inline(always)]
-    fn take_in(&mut self, effects: Effects) -> Result<(), NoMemory>
-        requires { CanApply self.old effects }
-        ensures ok { OnOk result ((g : State) × SameState self.old g × Applied g effects self.new) }
-        ensures err { OnErr result (SameState self.old self.new) }
-    {
-        if let Err(error) = self.reserve(&effects) {
-            drop(effects);
+        if let Err(error) = self.reserve(&change) {
+            drop(change);
             return Err(error);
         }
-        self.apply(effects);
+        if let Err(error) = self.variables.take_in(assigned) {
+            drop(change);
+            return Err(error);
+        }
+        self.apply(change);
         Ok(())
     }
 
-    /// Makes every growth that the effects need, so that `apply` of them is granted; the tables say
-    /// what they said.
-    #[inline(always)]
-    pub fn reserve(&mut self, effects: &Effects) -> Result<(), NoMemory>
-        requires { CanApply self.old effects.now }
-        ensures same { SameState self.old self.new }
-        ensures can { CanApply self.new effects.now }
-        ensures ready { OnOk result (IsReady self.new effects.now) }
-    {
-        self.variables.reserve()?;
-        self.reserve_for(&effects.change)
-    }
-
     /// Makes every growth that the change needs; the tables say what they said.
-    #[inline(always)]
-    fn reserve_for(&mut self, change: &TableChange) -> Result<(), NoMemory>
-        requires { option_map_or (λ p. has self.old.heap p.0.0) (put_of change.now) true ≡ true }
+    fn reserve(&mut self, change: &TableChange) -> Result<(), NoMemory>
+        requires { CanApply self.old change.now }
         ensures same { SameState self.old self.new }
-        ensures variables { self.new.variables ≡ self.old.variables }
-        ensures room { OnOk result (HasRoom self.new change.now) }
-    {
-        match change {
-            TableChange::NoChange => Ok(()),
-            _ => self.reserve_tables_for(change),
-        }
-    }
-
-    /// The same, of a change of a table too.
-    #[inline(never)]
-    fn reserve_tables_for(&mut self, change: &TableChange) -> Result<(), NoMemory>
-        requires { option_map_or (λ p. has self.old.heap p.0.0) (put_of change.now) true ≡ true }
-        ensures same { SameState self.old self.new }
-        ensures variables { self.new.variables ≡ self.old.variables }
+        ensures can { CanApply self.new change.now }
         ensures room { OnOk result (HasRoom self.new change.now) }
     {
         match change {
@@ -404,15 +431,13 @@ impl Tables {
         }
     }
 
-    /// Applies the effects of an event, for which there is room; it takes no memory.
-    #[inline(always)]
-    pub fn apply(&mut self, effects: Effects)
-        requires can { CanApply self.old effects }
-        requires ready { IsReady self.old effects }
-        ensures { Applied self.old effects self.new }
+    /// Makes a change for which there is room; it takes no memory.
+    fn apply(&mut self, change: TableChange)
+        requires can { CanApply self.old change }
+        requires room { HasRoom self.old change }
+        ensures changed { Changed self.old change self.new }
+        ensures variables { self.new.variables ≡ self.old.variables }
     {
-        let Effects { assigned, change } = effects;
-        self.variables.assign(assigned);
         match change {
             TableChange::NoChange => {}
             TableChange::Property(written) => put(&mut self.heap, written),

@@ -1,33 +1,35 @@
 //! The variables of an agent.
 
-ghost use Rattle.std.specs.Prelude.{◌≡◌, ◌<◌, List, ℕ, [], Some, IfOk, OnOk, map, unwrap_or, if◌then◌else◌};
-ghost use Rattle.std.specs.HashMap.{Updates, spare};
+ghost use Rattle.std.specs.Prelude.{◌≡◌, List, ℕ, [], Some, IfOk, OnOk, OnErr, map, unwrap_or, if◌then◌else◌};
+ghost use Rattle.std.specs.HashMap.{Updates as map_updates};
 ghost use Rattle.std.specs.Option.{option_copied};
 ghost use Rattle.std.specs.Str.{bytes_eq};
 ghost use Rattle.es_value.specs.declared.value.Value.TheVariants.{Undefined};
 ghost use Rattle.es_event.specs.History.{at_key};
+ghost use Rattle.es_tables.specs.Effects.{said};
 ghost use Rattle.es_tables.specs.Found.{Adds, HasBound};
-ghost use Rattle.es_tables.specs.Tables.{bound};
+ghost use Rattle.es_tables.specs.Tables.{bound, is_at};
 
 use es_value::{Id, Name, NoMemory, Value};
+use indexmap::IndexMap;
 use std::alloc::Global;
-use std::collections::HashMap;
 use std::hash::Hash;
 use std::marker::Model;
 
-/// The variables of an agent that were assigned so far; every other one is undefined.
+/// The variables of an agent that were assigned so far; every other one is undefined. Where a variable stands
+/// is guessed by its name's length and last byte, and looked up where the guess is wrong.
 #[derive(Drop)]
 pub(crate) struct Variables {
-    values: HashMap<Name, Value>,
+    values: IndexMap<Name, Value>,
+    guesses: [usize; 32],
 }
 
 impl Model for Variables {
-    ghost use Rattle.std.specs.HashMap.{spare};
     ghost use Rattle.es_tables.specs.Tables.{Bindings};
 
     ghost Value = { Bindings };
 
-    ghost view = { λ v. record { entries = v.values.entries; room = spare v.values } };
+    ghost view = { λ v. record { entries = v.values.entries } };
 }
 
 impl Variables {
@@ -36,7 +38,8 @@ impl Variables {
         ensures { result.entries ≡ [] }
     {
         Variables {
-            values: HashMap::new(alloc),
+            values: IndexMap::new(alloc),
+            guesses: [0; 32],
         }
     }
 
@@ -44,7 +47,7 @@ impl Variables {
     pub(crate) fn value(&self, name: &Name) -> Result<Value, NoMemory>
         ensures { IfOk result (λ v. v ≡ bound self.now name.now) }
     {
-        match self.values.get(name) {
+        match self.bound(name) {
             Some(value) => value.copy(),
             None => Ok(Value::Undefined),
         }
@@ -54,7 +57,19 @@ impl Variables {
     pub(crate) fn bound(&self, name: &Name) -> Option<&Value>
         ensures { unwrap_or (option_copied result) Undefined ≡ bound self.now name.now }
     {
-        self.values.get(name)
+        match self.values.get_index(self.guess(name)) {
+            Some((key, value)) if *key == *name => Some(value),
+            _ => self.values.get(name),
+        }
+    }
+
+    /// Where the variable may stand.
+    #[inline(always)]
+    fn guess(&self, name: &Name) -> usize {
+        match self.guesses.get(place_of(name)) {
+            Some(guess) => *guess,
+            None => 0,
+        }
     }
 
     /// The names of all that were assigned, in no order.
@@ -80,37 +95,94 @@ impl Variables {
         Ok(())
     }
 
-    /// Makes room for one more.
-    pub(crate) fn reserve(&mut self) -> Result<(), NoMemory>
-        ensures same { (x : List ℕ) → bound self.new x ≡ bound self.old x }
-        ensures room { OnOk result (0 < self.new.room) }
+    /// Assigns a variable, where one is to be assigned. Where there is no memory, it has what it had.
+    #[inline(always)]
+    pub(crate) fn take_in(&mut self, assigned: Option<(&Name, &Value)>) -> Result<(), NoMemory>
+        ensures ok { OnOk result ((x : List ℕ) → bound self.new x ≡ unwrap_or (at_key bytes_eq x (said assigned.entry)) (bound self.old x)) }
+        ensures err { OnErr result ((x : List ℕ) → bound self.new x ≡ bound self.old x) }
     {
-        self.values.reserve(1)?;
-        Ok(())
-    }
-
-    /// Assigns a variable, where one is assigned.
-    pub(crate) fn assign(&mut self, assigned: Option<(Name, Value)>)
-        requires { 0 < self.old.room }
-        ensures { (x : List ℕ) → bound self.new x ≡ unwrap_or (at_key bytes_eq x assigned) (bound self.old x) }
-    {
-        if let Some((name, value)) = assigned {
-            self.set(name, value);
+        match assigned {
+            Some((name, value)) => self.assign(name, value),
+            None => Ok(()),
         }
     }
 
-    fn set(&mut self, name: Name, value: Value)
-        requires { 0 < self.old.room }
-        ensures { (x : List ℕ) → bound self.new x ≡ (if bytes_eq name x then value else bound self.old x) }
+    /// Assigns a variable. Where there is no memory, it has what it had.
+    fn assign(&mut self, name: &Name, value: &Value) -> Result<(), NoMemory>
+        ensures ok { OnOk result ((x : List ℕ) → bound self.new x ≡ (if bytes_eq name.now x then value.now else bound self.old x)) }
+        ensures err { OnErr result ((x : List ℕ) → bound self.new x ≡ bound self.old x) }
     {
-        insert_reserved(&mut self.values, name, value);
+        let value = value.copy()?;
+        let guess = self.guess(name);
+        if !self.is_at(guess, name) {
+            return self.assign_anew(name, value);
+        }
+        let Some(place) = self.values.get_index_mut(guess) else {
+            unreachable!();
+        };
+        replace(place, value);
+        Ok(())
+    }
+
+    /// Whether the variable stands there.
+    #[inline(always)]
+    fn is_at(&self, place: usize, name: &Name) -> bool
+        ensures { result ≡ is_at self.now.entries place name.now }
+    {
+        match self.values.get_index(place) {
+            Some((key, _)) => *key == *name,
+            None => false,
+        }
+    }
+
+    /// Assigns a variable that does not stand where it was guessed to, which is where it will be guessed to
+    /// stand from now on.
+    #[inline(never)]
+    fn assign_anew(&mut self, name: &Name, value: Value) -> Result<(), NoMemory>
+        ensures ok { OnOk result ((x : List ℕ) → bound self.new x ≡ (if bytes_eq name.now x then value else bound self.old x)) }
+        ensures err { OnErr result ((x : List ℕ) → bound self.new x ≡ bound self.old x) }
+    {
+        let name = name.copy()?;
+        let guessed = place_of(&name);
+        let place = put(&mut self.values, name, value)?;
+        note(&mut self.guesses, guessed, place);
+        Ok(())
     }
 }
 
-/// Puts a value under a key, where there is room for one more.
-fn insert_reserved<K: Eq + Hash + Drop, V: Drop>(map: &mut HashMap<K, V>, key: K, value: V)
-    requires { 0 < spare map.old }
-    ensures { Updates K.eq map.old map.new key (Some value) }
+/// Notes a place as a guess.
+fn note(guesses: &mut [usize; 32], guessed: usize, place: usize) {
+    if let Some(guess) = guesses.get_mut(guessed) {
+        *guess = place;
+    }
+}
+
+/// By which of the guesses the place of a variable of this name is guessed.
+#[inline(always)]
+fn place_of(name: &Name) -> usize {
+    let text = name.as_bytes();
+    match text.last() {
+        Some(byte) => text.len() % 2 * 16 + *byte as usize % 16,
+        None => 0,
+    }
+}
+
+/// Puts a value in the place of another.
+fn replace<V: Drop>(place: &mut V, value: V)
+    ensures { place.new ≡ value }
 {
-    let _ = map.insert(key, value);
+    *place = value;
+}
+
+/// Puts a value under a key, and gives its place. Where there is no memory, the map has what it had.
+fn put<K: Eq + Hash + Drop, V: Drop>(
+    map: &mut IndexMap<K, V>,
+    key: K,
+    value: V,
+) -> Result<usize, NoMemory>
+    ensures ok { OnOk result (map_updates K.eq map.old map.new key (Some value)) }
+    ensures err { OnErr result (map.new.entries ≡ map.old.entries) }
+{
+    let (place, _) = map.insert_full(key, value)?;
+    Ok(place)
 }

@@ -24,7 +24,7 @@ one_less at cs false e =
     ap (drop 1) none ∙ sym none
 
 pub command_led : (plan : AgentPlan) (c : Command) (vs : List Value) (r : Answer) (o : Option ℕ) (p : Place)
-    → Leads plan (Did c vs r) o p (record { running = p.running; done = one_more p.done (length (commands_in plan p.running)); registry = p.registry })
+    → Leads plan (Did (c, vs, r)) o p (record { running = p.running; done = one_more p.done (length (commands_in plan p.running)); registry = p.registry })
 command_led plan c vs r o p = λ h is told. record { left = ap (drop 1) is.left ∙ one_less p.done (commands_in plan p.running) _ refl; cleaning = is.cleaning }
 
 pub emptying_led : (plan : AgentPlan) (ids : List ℕ) (o : Option ℕ) (p : Place)

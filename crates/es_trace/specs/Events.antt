@@ -33,7 +33,7 @@ abbrev pub event_text : List (List ℕ) → AgentPlan → Option Command → Eve
 event_text names plan o (JobBegun j) = codes "job " ++ decimal j
 event_text names plan o (CleanupBegun q) = codes "cleanup job of object " ++ decimal q
 event_text names plan o (Received t v) = codes "message of " ++ name_at names t
-event_text names plan o (Did c vs r) = command_text names plan c
+event_text names plan o (Did (c, vs, r)) = command_text names plan c
 event_text names plan o (Refused code) = or_else (codes "message") names plan o
 event_text names plan o (Emptied ids) = or_else (codes "later collection ends") names plan o
 event_text names plan o (Taken n held) = codes "registration " ++ decimal n ++ codes " taken"
@@ -55,7 +55,7 @@ abbrev pub answers : Event → Bool
 answers (JobBegun j) = false
 answers (CleanupBegun q) = false
 answers (Received t v) = true
-answers (Did c vs r) = is_answered c r
+answers (Did (c, vs, r)) = is_answered c r
 answers (Refused code) = true
 answers (Emptied ids) = true
 answers (Taken n held) = true
@@ -78,7 +78,7 @@ abbrev pub answer_text : Event → List ℕ
 answer_text (JobBegun j) = []
 answer_text (CleanupBegun q) = []
 answer_text (Received t v) = given_text v
-answer_text (Did c vs r) = answer_of (Did c vs r) c r
+answer_text (Did (c, vs, r)) = answer_of (Did (c, vs, r)) c r
 answer_text (Refused code) = line (Refused code)
 answer_text (Emptied ids) = line (Emptied ids)
 answer_text (Taken n held) = line (Taken n held)
@@ -96,7 +96,7 @@ abbrev pub emptied_rows : List ℕ → Event → List ℕ
 emptied_rows l (JobBegun j) = []
 emptied_rows l (CleanupBegun q) = []
 emptied_rows l (Received t v) = []
-emptied_rows l (Did c vs r) = []
+emptied_rows l (Did (c, vs, r)) = []
 emptied_rows l (Refused code) = []
 emptied_rows l (Emptied ids) = flat_map (emptied_row l) ids
 emptied_rows l (Taken n held) = []

@@ -3,9 +3,10 @@
 ghost use Rattle.std.specs.Prelude.{◌≡◌, OnOk};
 ghost use Rattle.std.specs.Io.KnownBytes.{Appends};
 ghost use Rattle.es_event.specs.Report.{line};
+ghost use Rattle.es_event.specs.Answers.{answer_said};
 ghost use Rattle.es_trace.specs.Events.{answer_of, answer_text, answers as answers_said, given_text, is_answered as answered_said};
 
-use es_event::{Answer, Command, Event};
+use es_event::{AnswerRef, Command, Event};
 use es_report::write_lines;
 use es_value::{Value, write_value};
 use std::io;
@@ -17,11 +18,7 @@ pub(crate) fn answers(event: &Event) -> bool
     ensures { result ≡ answers_said event.now }
 {
     match event {
-        Event::Did {
-            command,
-            answer,
-            ..
-        } => is_answered(command.get(), answer),
+        Event::Did(done) => is_answered(done.command(), done.answer()),
         Event::Received { .. }
         | Event::Refused { .. }
         | Event::Emptied { .. }
@@ -32,13 +29,13 @@ pub(crate) fn answers(event: &Event) -> bool
     }
 }
 
-fn is_answered(command: &Command, answer: &Answer) -> bool
-    ensures { result ≡ answered_said command.now answer.now }
+fn is_answered(command: &Command, answer: AnswerRef<'_>) -> bool
+    ensures { result ≡ answered_said command.now (answer_said answer.entry) }
 {
     match (command, answer) {
         (Command::Say { .. }, _) => true,
-        (Command::Keys { .. }, Answer::Listed(_)) => true,
-        (_, Answer::Gives(_)) => true,
+        (Command::Keys { .. }, AnswerRef::Listed(_)) => true,
+        (_, AnswerRef::Gives(_)) => true,
         _ => false,
     }
 }
@@ -48,11 +45,7 @@ pub(crate) fn write_answer<W: Write>(event: &Event, writer: &mut W) -> Result<()
     ensures { OnOk result (Appends (W.contents writer.old) (W.contents writer.new) (answer_text event.now)) }
 {
     match event {
-        Event::Did {
-            command,
-            answer,
-            ..
-        } => write_done(event, command.get(), answer, writer),
+        Event::Did(done) => write_done(event, done.command(), done.answer(), writer),
         Event::Received { value, .. } => write_given(value, writer),
         Event::Refused { .. }
         | Event::Emptied { .. }
@@ -67,15 +60,15 @@ pub(crate) fn write_answer<W: Write>(event: &Event, writer: &mut W) -> Result<()
 fn write_done<W: Write>(
     event: &Event,
     command: &Command,
-    answer: &Answer,
+    answer: AnswerRef<'_>,
     writer: &mut W,
 ) -> Result<(), io::Error>
-    ensures { OnOk result (Appends (W.contents writer.old) (W.contents writer.new) (answer_of event.now command.now answer.now)) }
+    ensures { OnOk result (Appends (W.contents writer.old) (W.contents writer.new) (answer_of event.now command.now (answer_said answer.entry))) }
 {
     match (command, answer) {
         (Command::Say { .. }, _) => write_reported(event, writer),
-        (Command::Keys { .. }, Answer::Listed(_)) => write_reported(event, writer),
-        (_, Answer::Gives(value)) => write_given(value, writer),
+        (Command::Keys { .. }, AnswerRef::Listed(_)) => write_reported(event, writer),
+        (_, AnswerRef::Gives(value)) => write_given(value, writer),
         _ => Ok(()),
     }
 }

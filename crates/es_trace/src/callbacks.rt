@@ -8,9 +8,10 @@ ghost use Rattle.es_event.specs.Commands.{kind_made};
 ghost use Rattle.es_event.specs.History.{History};
 ghost use Rattle.es_event.specs.Identities.{object_given as object_given_said, object_of};
 ghost use Rattle.es_event.specs.Registrations.{callback as callback_said, callback_in};
+ghost use Rattle.es_event.specs.Answers.{answer_said};
 ghost use Rattle.es_trace.specs.Callbacks.{Tells, Told, made_at as made_said};
 
-use es_event::{Answer, Command, Event};
+use es_event::{AnswerRef, Command, Event};
 use es_value::{Id, Value};
 use std::alloc::Global;
 use std::collections::HashMap;
@@ -75,13 +76,9 @@ fn made_at(event: &Event) -> Option<(Id, Option<usize>)>
 {
     match event {
         Event::Received { value, .. } => Some((object_in(value)?, None)),
-        Event::Did {
-            command,
-            answer,
-            ..
-        } => {
-            let callback = callback_made(command.get())?;
-            Some((object_given(answer)?, callback))
+        Event::Did(done) => {
+            let callback = callback_made(done.command())?;
+            Some((object_given(done.answer())?, callback))
         }
         Event::JobBegun { .. }
         | Event::CleanupBegun { .. }
@@ -110,12 +107,12 @@ fn callback_made(command: &Command) -> Option<Option<usize>>
 }
 
 /// The object that an answer is.
-fn object_given(answer: &Answer) -> Option<Id>
-    ensures { result ≡ object_given_said answer.now }
+fn object_given(answer: AnswerRef<'_>) -> Option<Id>
+    ensures { result ≡ object_given_said (answer_said answer.entry) }
 {
     match answer {
-        Answer::Gives(value) => object_in(value),
-        Answer::Nothing | Answer::Listed(_) => None,
+        AnswerRef::Gives(value) => object_in(value),
+        AnswerRef::Nothing | AnswerRef::Listed(_) => None,
     }
 }
 

@@ -44,9 +44,7 @@ fn write_event<W: Write>(
         Event::JobBegun { job } => write_job(*job, writer),
         Event::CleanupBegun { registry } => write_cleanup(*registry, writer),
         Event::Received { sender, .. } => write_message(names, *sender, writer),
-        Event::Did { command, .. } => {
-            write_command(Style::Words, command.get(), names, plan, writer)
-        }
+        Event::Did(done) => write_command(Style::Words, done.command(), names, plan, writer),
         Event::Refused { .. } => write_or_else(at_hand, "message", names, plan, writer),
         Event::Emptied { .. } => {
             write_or_else(at_hand, "later collection ends", names, plan, writer)

@@ -70,7 +70,7 @@ impl Place {
                 done: 0,
                 registry: Some(*registry),
             },
-            Event::Did { .. } | Event::Emptied { .. } => self.with_one_done(plan),
+            Event::Did(_) | Event::Emptied { .. } => self.with_one_done(plan),
             Event::Taken { .. } => self.beginning(running_callback(callback)),
             Event::JobEnded => Place {
                 running: Running::Nothing,

@@ -139,7 +139,7 @@ fn write_emptied<W: Write>(
 {
     match event {
         Event::Emptied { ids } => write_ids(alloc, label, ids.as_slice(), writer),
-        Event::Did { .. }
+        Event::Did(_)
         | Event::Taken { .. }
         | Event::JobBegun { .. }
         | Event::CleanupBegun { .. }

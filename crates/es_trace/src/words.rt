@@ -7,7 +7,7 @@ ghost use Rattle.es_value.specs.Printed.{quoted};
 ghost use Rattle.es_trace.specs.Commands.{after, literal_text, mark as mark_said, named, one, three, token_text, two, word as word_said};
 
 use crate::style::Style;
-use es_event::Literal;
+use es_event::{Literal, OptionalName};
 use es_value::{Name, Text};
 use std::io;
 use std::io::Write;
@@ -90,12 +90,12 @@ pub(crate) fn write_named<W: Write>(
 
 pub(crate) fn write_token<W: Write>(
     style: Style,
-    token: &Option<Name>,
+    token: &OptionalName,
     writer: &mut W,
 ) -> Result<(), io::Error>
     ensures { OnOk result (Appends (W.contents writer.old) (W.contents writer.new) (token_text style token.now)) }
 {
-    match token {
+    match token.get() {
         Some(name) => write_name(style, name, writer),
         None => Ok(()),
     }

@@ -29,7 +29,7 @@ abbrev pub members : List (List ℕ) → AgentPlan → Option Command → Event 
 members names plan o (JobBegun j) = codes "\"event\":\"job\",\"job\":" ++ decimal j
 members names plan o (CleanupBegun q) = codes "\"event\":\"cleanup job\",\"registry\":" ++ decimal q
 members names plan o (Received t v) = codes "\"event\":\"message\",\"sender\":" ++ (quoted (name_at names t) ++ (codes ",\"value\":" ++ value_json v))
-members names plan o (Did c vs r) = codes "\"event\":\"did\",\"command\":" ++ (command_json names plan c ++ (codes ",\"values\":" ++ (array_json value_json vs ++ (codes ",\"answer\":" ++ answer_json r))))
+members names plan o (Did (c, vs, r)) = codes "\"event\":\"did\",\"command\":" ++ (command_json names plan c ++ (codes ",\"values\":" ++ (array_json value_json vs ++ (codes ",\"answer\":" ++ answer_json r))))
 members names plan o (Refused code) = codes "\"event\":\"refused\",\"command\":" ++ (command_if names plan o ++ (codes ",\"error\":" ++ quoted (refusal_text code)))
 members names plan o (Emptied ids) = codes "\"event\":\"emptied\",\"command\":" ++ (command_if names plan o ++ (codes ",\"identities\":" ++ array_json decimal ids))
 members names plan o (Taken n held) = codes "\"event\":\"taken\",\"registration\":" ++ (decimal n ++ (codes ",\"held\":" ++ value_json held))

@@ -5,6 +5,7 @@ ghost use Rattle.std.specs.Option.{option_copied};
 ghost use Rattle.std.specs.Io.KnownBytes.{Appends};
 ghost use Rattle.es_value.specs.Printed.{quoted};
 ghost use Rattle.es_event.specs.Report.{refusal_text as refusal_said};
+ghost use Rattle.es_event.specs.Answers.{answer_said};
 ghost use Rattle.es_trace.specs.Commands.{command_json, name_at as name_said};
 ghost use Rattle.es_trace_json.specs.Events.{answer_json, command_if, event_line, members};
 ghost use Rattle.es_trace_json.specs.Values.{array_json, value_json};
@@ -13,7 +14,7 @@ use crate::array::write_array;
 use crate::command::{write_array_of, write_if_any};
 use crate::member::{begin_line, write_agent};
 use crate::value::write_value;
-use es_event::{AgentPlan, Answer, Command, Event, Refusal};
+use es_event::{AgentPlan, AnswerRef, Command, Event, Refusal};
 use es_report::refusal_text;
 use es_value::{Id, Name, Value};
 use std::io;
@@ -51,16 +52,12 @@ fn write_members<W: Write>(
         Event::JobBegun { job } => write_job(*job, writer),
         Event::CleanupBegun { registry } => write_cleanup(*registry, writer),
         Event::Received { sender, value } => write_message(names, *sender, value, writer),
-        Event::Did {
-            command,
-            values,
-            answer,
-        } => write_did(
+        Event::Did(done) => write_did(
             names,
             plan,
-            command.get(),
-            values.as_slice(),
-            answer,
+            done.command(),
+            done.values(),
+            done.answer(),
             writer,
         ),
         Event::Refused { code } => write_refused(names, plan, at_hand, *code, writer),
@@ -104,10 +101,10 @@ fn write_did<W: Write>(
     plan: &AgentPlan,
     command: &Command,
     values: &[Value],
-    answer: &Answer,
+    answer: AnswerRef<'_>,
     writer: &mut W,
 ) -> Result<(), io::Error>
-    ensures { OnOk result (Appends (W.contents writer.old) (W.contents writer.new) (codes "\"event\":\"did\",\"command\":" ++ (command_json names.now plan.now command.now ++ (codes ",\"values\":" ++ (array_json value_json values.now ++ (codes ",\"answer\":" ++ answer_json answer.now)))))) }
+    ensures { OnOk result (Appends (W.contents writer.old) (W.contents writer.new) (codes "\"event\":\"did\",\"command\":" ++ (command_json names.now plan.now command.now ++ (codes ",\"values\":" ++ (array_json value_json values.now ++ (codes ",\"answer\":" ++ answer_json (answer_said answer.entry))))))) }
 {
     writer.write_all(b"\"event\":\"did\",\"command\":")?;
     write_array_of(command, names, plan, writer)?;
@@ -118,13 +115,13 @@ fn write_did<W: Write>(
 }
 
 /// Writes what a command answered: nothing, a value, or keys.
-fn write_answer<W: Write>(answer: &Answer, writer: &mut W) -> Result<(), io::Error>
-    ensures { OnOk result (Appends (W.contents writer.old) (W.contents writer.new) (answer_json answer.now)) }
+fn write_answer<W: Write>(answer: AnswerRef<'_>, writer: &mut W) -> Result<(), io::Error>
+    ensures { OnOk result (Appends (W.contents writer.old) (W.contents writer.new) (answer_json (answer_said answer.entry))) }
 {
     match answer {
-        Answer::Nothing => writer.write_all(b"null"),
-        Answer::Gives(value) => write_given(value, writer),
-        Answer::Listed(keys) => write_keys(keys.as_slice(), writer),
+        AnswerRef::Nothing => writer.write_all(b"null"),
+        AnswerRef::Gives(value) => write_given(value, writer),
+        AnswerRef::Listed(keys) => write_keys(keys, writer),
     }
 }
 

@@ -46,7 +46,7 @@ abbrev pub IsAfterTold : View → List (List ℕ) → Book → Event → List �
 IsAfterTold v names b (JobBegun j) text = text ≡ []
 IsAfterTold v names b (CleanupBegun q) text = text ≡ []
 IsAfterTold v names b (Received t x) text = text ≡ []
-IsAfterTold v names b (Did c vs r) text = text ≡ []
+IsAfterTold v names b (Did (c, vs, r)) text = text ≡ []
 IsAfterTold v names b (Refused code) text = text ≡ []
 IsAfterTold v names b (Emptied ids) text = IsCollectionTold v.form v.all names b ids text
 IsAfterTold v names b (Taken n held) text = text ≡ []

@@ -40,7 +40,7 @@ pub(crate) fn tell_after(
         Event::JobBegun { .. }
         | Event::CleanupBegun { .. }
         | Event::Received { .. }
-        | Event::Did { .. }
+        | Event::Did(_)
         | Event::Refused { .. }
         | Event::Taken { .. }
         | Event::JobEnded

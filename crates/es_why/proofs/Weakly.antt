@@ -51,9 +51,9 @@ joining_later e h s k was =
 
 members_made : (over : Buffers) (into : Receivers) (h : History) → LegalBy over into h → (s k : ℕ) → first_member h s k ≡ true → Joining h s k
 members_made over into [] l s k e = cc
-members_made over into (Did c vs r ∷ h) l s k e =
-    joining_later (Did c vs r) h s k (
-    at_either (λ a. a ≡ true → Joining h s k) same_pair (s, k) (joined (Did c vs r)) (first_member h s k)
+members_made over into (Did (c, vs, r) ∷ h) l s k e =
+    joining_later (Did (c, vs, r)) h s k (
+    at_either (λ a. a ≡ true → Joining h s k) same_pair (s, k) (joined (Did (c, vs, r))) (first_member h s k)
     (λ q js t f.
     let parts = and_parts (q.0.0 == s) (q.0.1 == k) t in
     let j = joins c vs r q js in

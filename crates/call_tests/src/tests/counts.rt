@@ -2,7 +2,8 @@
 //! gives, and histories that no plan has.
 
 use es_event::{
-    Answer, Body, Command, Event, LedgerEvent, Operands, Outcome, PlanCommand, Sequence, SharedList,
+    Answer, Body, Command, Done, Event, LedgerEvent, Operands, OptionalName, Outcome, PlanCommand,
+    Sequence, SharedList,
 };
 use es_report::{Counts, write_report, write_report_counted};
 use es_script::read_plan;
@@ -108,6 +109,12 @@ fn planned(alloc: Global, command: Command) -> Result<PlanCommand, Fail> {
     Ok(PlanCommand::at(&commands, 0)?)
 }
 
+/// The command, done with these values; it gave nothing.
+fn done(alloc: Global, command: Command, values: Operands) -> Result<Event, Fail> {
+    let done = Done::of(alloc, planned(alloc, command)?, values, Answer::Nothing)?;
+    Ok(Event::Did(done))
+}
+
 /// A registration of object 2 in registry 1, with object 3 as its token.
 fn registered(alloc: Global) -> Result<Event, Fail> {
     let values = Vec::from_array(alloc, [object(1), object(2), Value::Undefined, object(3)])?;
@@ -115,13 +122,10 @@ fn registered(alloc: Global) -> Result<Event, Fail> {
         registry: name(alloc)?,
         target: name(alloc)?,
         held: name(alloc)?,
-        token: Some(name(alloc)?),
+        token: OptionalName::some(alloc, name(alloc)?)?,
     };
-    Ok(Event::Did {
-        command: planned(alloc, command)?,
-        values: Operands::of_sequence(Sequence::from_vec(values)),
-        answer: Answer::Nothing,
-    })
+    let values = Operands::of_sequence(Sequence::from_vec(values));
+    done(alloc, command, values)
 }
 
 /// What is registered in registry 1 with object 3 as its token is taken out.
@@ -131,11 +135,7 @@ fn unregistered(alloc: Global) -> Result<Event, Fail> {
         registry: name(alloc)?,
         token: name(alloc)?,
     };
-    Ok(Event::Did {
-        command: planned(alloc, command)?,
-        values: Operands::of_two(object(1), object(3)),
-        answer: Answer::Nothing,
-    })
+    done(alloc, command, Operands::of_two(object(1), object(3)))
 }
 
 fn taken(registration: usize) -> Event {

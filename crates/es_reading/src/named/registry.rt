@@ -55,18 +55,20 @@ fn register_of<V: Seen>(
 {
     if has_exactly(operands, 4) {
         let (registry, target, held, token) = four(names, scope, operands, spot)?;
+        let token = names.token(Some(token))?;
         return Ok(Command::Register {
             registry,
             target,
             held,
-            token: Some(token),
+            token,
         });
     }
     let (registry, target, held) = three(names, scope, operands, spot)?;
+    let token = names.token(None)?;
     Ok(Command::Register {
         registry,
         target,
         held,
-        token: None,
+        token,
     })
 }

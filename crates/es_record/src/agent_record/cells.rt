@@ -115,7 +115,7 @@ impl AgentRecord {
             Event::JobBegun { .. }
             | Event::CleanupBegun { .. }
             | Event::Received { .. }
-            | Event::Did { .. }
+            | Event::Did(_)
             | Event::Refused { .. }
             | Event::Emptied { .. }
             | Event::JobEnded

@@ -1,7 +1,7 @@
 //! What an agent's history says of one variable or one object, read from the tables.
 
 ghost use Rattle.std.specs.Prelude.{◌≡◌, ◌≤◌, ◌+◌, ◌∷◌, [], true, false, Some, reverse, IfOk, IfErr};
-ghost use Rattle.std.specs.Option.{option_copied, option_map, option_map_or, option_and_then};
+ghost use Rattle.std.specs.Option.{option_copied, option_map_or, option_and_then};
 ghost use Rattle.es_value.specs.Limits.{most_identities};
 ghost use Rattle.es_value.specs.Values.{identity};
 ghost use Rattle.es_event.specs.Commands.{reads};
@@ -22,8 +22,15 @@ use super::AgentRecord;
 use es_event::{AgentPlan, Command, OperandNames, Operands, Refusal, Row, Sequence};
 use es_tables::Tag;
 use es_value::{Id, Name, NoMemory, Value};
+use std::alloc::Global;
 
 impl AgentRecord {
+    /// The allocator of its lists.
+    #[inline(always)]
+    pub fn alloc(&self) -> Global {
+        self.alloc
+    }
+
     /// How many identities it has made.
     pub fn identities(&self) -> u32
         ensures made { result ≡ made self.now.history }
@@ -96,7 +103,7 @@ impl AgentRecord {
     {
         match command.reads() {
             OperandNames::Nothing => Ok(Operands::of_none()),
-            OperandNames::One(a) => Ok(Operands::of_one(self.variable(a)?)),
+            OperandNames::One(a) => self.one(a),
             OperandNames::Two(a, b) => self.two(a, b),
             OperandNames::Three(a, b, c) => self.three(a, b, c),
             OperandNames::Four(a, b, c, d) => self.four(a, b, c, d),
@@ -111,8 +118,19 @@ impl AgentRecord {
         self.tables.variable(name)
     }
 
-    /// The values of two variables.
-    #[inline(always)]
+    /// The value of one variable. It and those below stand alone, so that a command makes place for no more
+    /// values than it reads.
+    #[inline(never)]
+    fn one(&self, a: &Name) -> Result<Operands, NoMemory>
+        ensures said { IfOk result (λ vs. vs ≡ values_of (receivers self.now.plan.jobs) self.now.history (a.now ∷ [])) }
+        ensures there { IfOk result (AreThere self.now) }
+    {
+        let a = self.variable(a)?;
+        Ok(Operands::of_one(a))
+    }
+
+    /// The values of two.
+    #[inline(never)]
     fn two(&self, a: &Name, b: &Name) -> Result<Operands, NoMemory>
         ensures said { IfOk result (λ vs. vs ≡ values_of (receivers self.now.plan.jobs) self.now.history (a.now ∷ b.now ∷ [])) }
         ensures there { IfOk result (AreThere self.now) }
@@ -123,6 +141,7 @@ impl AgentRecord {
     }
 
     /// The values of three.
+    #[inline(never)]
     fn three(&self, a: &Name, b: &Name, c: &Name) -> Result<Operands, NoMemory>
         ensures said { IfOk result (λ vs. vs ≡ values_of (receivers self.now.plan.jobs) self.now.history (a.now ∷ b.now ∷ c.now ∷ [])) }
         ensures there { IfOk result (AreThere self.now) }
@@ -130,11 +149,11 @@ impl AgentRecord {
         let a = self.variable(a)?;
         let b = self.variable(b)?;
         let c = self.variable(c)?;
-        let values = Vec::from_array(self.alloc, [a, b, c])?;
-        Ok(Operands::of_sequence(Sequence::from_vec(values)))
+        Ok(Operands::of_three(a, b, c))
     }
 
     /// The values of four.
+    #[inline(never)]
     fn four(&self, a: &Name, b: &Name, c: &Name, d: &Name) -> Result<Operands, NoMemory>
         ensures said { IfOk result (λ vs. vs ≡ values_of (receivers self.now.plan.jobs) self.now.history (a.now ∷ b.now ∷ c.now ∷ d.now ∷ [])) }
         ensures there { IfOk result (AreThere self.now) }

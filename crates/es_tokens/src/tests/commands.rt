@@ -54,14 +54,13 @@ fn write_weak(command: &Command, told: &mut Vec<u8>) -> Result<(), Fail> {
             registry,
             target,
             held,
-            token: None,
-        } => { write!(told, " register {registry:?} {target:?} {held:?}")? }
-        Command::Register {
-            registry,
-            target,
-            held,
-            token: Some(token),
-        } => { write!(told, " register {registry:?} {target:?} {held:?} {token:?}")? }
+            token,
+        } => {
+            write!(told, " register {registry:?} {target:?} {held:?}")?;
+            if let Some(token) = token.get() {
+                write!(told, " {token:?}")?
+            }
+        }
         Command::Unregister {
             to,
             registry,

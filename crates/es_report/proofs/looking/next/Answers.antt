@@ -5,7 +5,7 @@ use Rattle.es_report.proofs.Looked.{removed}
 use Rattle.es_report.proofs.looking.next.Goals as goal
 
 pub returns-in-Did-clause-tells : goal.returns-in-Did-clause-tells
-returns-in-Did-clause-tells c = rw c.in-Did.is (rw (c.get.ensures, c.as_slice.ensures) at (c.next_done.ensures.tells c.in-Did.answer))
+returns-in-Did-clause-tells c = rw c.in-Did.is (rw (c.command.ensures, c.values.ensures) at (c.next_done.ensures.tells c.in-Did.done.2))
 
 pub returns-in-Taken-clause-tells : goal.returns-in-Taken-clause-tells
 returns-in-Taken-clause-tells c = rw c.in-Taken.is (λ h says.

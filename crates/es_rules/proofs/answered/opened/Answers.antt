@@ -1,4 +1,5 @@
 use Rattle.std.proofs.Common.{◌∙◌, ap, sym, refl}
+use Rattle.std.proofs.lemmas.Result.{IfOk-weaker}
 use Rattle.es_event.specs.Later.{snapshot}
 use Rattle.es_cursor.specs.Due.{shown}
 use Rattle.es_rules.proofs.Answering.{opening_is, opening_next}
@@ -6,8 +7,12 @@ use Rattle.es_rules.proofs.answered.opened.Goals as goal
 
 pub returns-clause-said : goal.returns-clause-said
 returns-clause-said c =
-    rw (c.of_none.ensures, c.in_ok-command-in-Run.ensures, opening_is c.args.agent.now c.in-Run.command.now c.requires (sym c.due.ensures ∙ ap (shown (snapshot c.args.agent.now.history)) c.in-Run.is)) refl
+    IfOk-weaker c.did.result _ _
+    (λ e is. rw is (rw (c.of_none.ensures, opening_is c.args.agent.now c.in-Run.command.now c.requires (sym c.due.ensures ∙ ap (shown (snapshot c.args.agent.now.history)) c.in-Run.is)) refl))
+    c.did.ensures
 
 pub returns-clause-next : goal.returns-clause-next
 returns-clause-next c =
-    rw (c.of_none.ensures, c.in_ok-command-in-Run.ensures, opening_is c.args.agent.now c.in-Run.command.now c.requires (sym c.due.ensures ∙ ap (shown (snapshot c.args.agent.now.history)) c.in-Run.is)) (opening_next c.args.agent.now c.requires)
+    IfOk-weaker c.did.result _ _
+    (λ e is. rw is (rw (c.of_none.ensures, opening_is c.args.agent.now c.in-Run.command.now c.requires (sym c.due.ensures ∙ ap (shown (snapshot c.args.agent.now.history)) c.in-Run.is)) (opening_next c.args.agent.now c.requires)))
+    c.did.ensures

@@ -9,7 +9,7 @@ advance-requires-clause-can c =
     let book : Book = record { plan = c.self.inside.plan; number = c.self.inside.number; agents = c.self.inside.agents; over = c.self.inside.buffers.rows; history = c.self.inside.events.events } in
     let next = rw (← c.self.view_is) at c.requires.next in
     let again' = rw (← c.self.view_is) at c.again-again.ensures in
-    rw again' (can_record (with_row c.args.row book) _ _ _ (ties_with c.args.row book _ _ c.self.invariant.0) next _)
+    rw again' (can_record (with_row c.args.row book) _ _ _ (ties_with c.args.row book _ _ c.self.invariant.0) next)
 
 -- where there was no memory
 pub invariant_of-self : goal.invariant_of-self
