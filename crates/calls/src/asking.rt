@@ -3,12 +3,13 @@
 
 ghost use Rattle.std.specs.Prelude.{◌≡◌, ◌<◌, false, IfOk, OnErr};
 ghost use Rattle.es_event.specs.Ledger.{ended};
-ghost use Rattle.es_rules.specs.Needs.{need, asks_ledger, asks_message, for_block, for_post, for_buffer_post, for_load, for_store, for_add};
+ghost use Rattle.es_rules.specs.Needs.{need, asks_ledger, asks_message, for_block, for_post, for_buffer_post, for_access};
 ghost use Rattle.es_member.specs.Seats.{Holds};
 ghost use Rattle.calls.specs.Suiting.{Suits};
 
 use crate::given::Given;
 use es_agent::{AgentCore, Need, Request};
+use es_event::Access;
 use es_ledger::{LedgerCore, Letter, Message, Turn};
 use es_ticket::{Run, Stake};
 use es_value::{Id, NoMemory, Value};
@@ -38,17 +39,15 @@ pub(crate) fn ask<L: Run>(
             Request::PostBuffer { receiver, buffer } => {
                 post_buffer(core, stake, ledger, receiver, buffer)
             }
-            Request::Load { buffer, index } => load(core, stake, ledger, buffer, index),
-            Request::Store {
+            Request::Access {
                 buffer,
                 index,
-                word,
-            } => store(core, stake, ledger, buffer, index, word),
-            Request::Add {
-                buffer,
-                index,
-                addend,
-            } => add(core, stake, ledger, buffer, index, addend),
+                access,
+            } => match access {
+                Access::Load => load(core, stake, ledger, buffer, index),
+                Access::Store(word) => store(core, stake, ledger, buffer, index, word),
+                Access::Add(addend) => add(core, stake, ledger, buffer, index, addend),
+            },
         },
         Need::Message(sender) => hear(core, stake, ledger, sender),
         Need::Local | Need::Collect | Need::Later | Need::Finish | Need::Close => Ok(Given::Alone),
@@ -129,7 +128,7 @@ fn load<L: Run>(
     buffer: Id,
     index: usize,
 ) -> Result<Given<L>, NoMemory>
-    requires due { need core.now ≡ asks_ledger (for_load buffer index) }
+    requires due { need core.now ≡ asks_ledger (for_access buffer index Access.Load) }
     requires held { Holds core.now stake.old }
     ensures ok { IfOk result (λ g. Suits g core.now stake.new) }
     ensures err { OnErr result (Holds core.now stake.new) }
@@ -149,7 +148,7 @@ fn store<L: Run>(
     index: usize,
     word: u32,
 ) -> Result<Given<L>, NoMemory>
-    requires due { need core.now ≡ asks_ledger (for_store buffer index word) }
+    requires due { need core.now ≡ asks_ledger (for_access buffer index (Access.Store word)) }
     requires held { Holds core.now stake.old }
     ensures ok { IfOk result (λ g. Suits g core.now stake.new) }
     ensures err { OnErr result (Holds core.now stake.new) }
@@ -169,7 +168,7 @@ fn add<L: Run>(
     index: usize,
     addend: u32,
 ) -> Result<Given<L>, NoMemory>
-    requires due { need core.now ≡ asks_ledger (for_add buffer index addend) }
+    requires due { need core.now ≡ asks_ledger (for_access buffer index (Access.Add addend)) }
     requires held { Holds core.now stake.old }
     ensures ok { IfOk result (λ g. Suits g core.now stake.new) }
     ensures err { OnErr result (Holds core.now stake.new) }

@@ -65,9 +65,7 @@ impl Tickets {
                 Ok(())
             }
             LedgerEvent::Spent { serial } => self.note_spent(*serial),
-            LedgerEvent::Loaded { .. }
-            | LedgerEvent::Stored { .. }
-            | LedgerEvent::Added { .. }
+            LedgerEvent::Accessed { .. }
             | LedgerEvent::Waiting { .. }
             | LedgerEvent::Passed { .. }
             | LedgerEvent::Ended { .. } => Ok(()),

@@ -40,9 +40,7 @@ impl Totals {
             LedgerEvent::Taken { .. } => more.taken += 1,
             LedgerEvent::Drained { .. } => more.drained += 1,
             LedgerEvent::Spent { .. }
-            | LedgerEvent::Loaded { .. }
-            | LedgerEvent::Stored { .. }
-            | LedgerEvent::Added { .. }
+            | LedgerEvent::Accessed { .. }
             | LedgerEvent::Waiting { .. }
             | LedgerEvent::Passed { .. }
             | LedgerEvent::Ended { .. } => {}

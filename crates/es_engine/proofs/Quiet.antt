@@ -12,7 +12,7 @@ use Rattle.es_event.specs.declared.event.Answer.{Answer}
 use Rattle.es_event.specs.declared.event.Event.{Event}
 use Rattle.es_event.specs.declared.event.Event.TheVariants.{JobEnded, Skipped, Refused}
 use Rattle.es_event.specs.declared.ledger_event.LedgerEvent.{LedgerEvent}
-use Rattle.es_event.specs.declared.ledger_event.LedgerEvent.TheVariants.{Opened, Posted, Taken, Spent, Loaded, Stored, Added, Passed, Drained}
+use Rattle.es_event.specs.declared.ledger_event.LedgerEvent.TheVariants.{Opened, Posted, Taken, Spent, Accessed, Passed, Drained}
 use Rattle.es_event.specs.declared.plan.AgentPlan.{AgentPlan}
 use Rattle.es_event.specs.declared.plan.Job.{Job}
 use Rattle.es_event.specs.declared.row.Row.{Row}
@@ -150,9 +150,7 @@ one_more n l (Opened b w s a) q may all = absurd (stands a (Opens b w s) refl re
 one_more n l (Posted a r m) q may all = absurd (stands a (Posts r m) refl refl (all a))
 one_more n l (Taken r s) q may all = absurd (no_message l s r q may)
 one_more n l (Spent s) q may all = let none = ap is_some (sym (no_holder l s q)) ∙ may in cc
-one_more n l (Loaded s i w) q may all = absurd (no_access l s i _ q may)
-one_more n l (Stored s i w) q may all = absurd (no_access l s i _ q may)
-one_more n l (Added s i old m) q may all = absurd (no_access l s i _ q may)
+one_more n l (Accessed s i m old) q may all = absurd (no_access l s i _ q may)
 one_more n l (Passed a s) q may all = absurd (stands a (Passes s) refl refl (all a))
 one_more n l (Drained r s) q may all = absurd (no_message l s r q may.1)
 one_more n l _ q may all = record { blocks = ap (λ k. 0 + k) q.blocks; lines = q.lines; ports = q.ports; debt = refl; posts = q.posts; takes = q.takes; drains = q.drains }

@@ -1,14 +1,15 @@
 -- To believe: what the ledger's history says of blocks, tickets, ports and waiting agents.
-use Rattle.std.specs.Prelude.{ℕ, ◌+◌, ◌%◌, ◌^◌, ◌==◌, ◌&&◌, ◌||◌, Bool, false, List, [], ◌∷◌, ◌++◌, drop, Option, Some, None, slice_get, nat_lt, nat_le, if◌then◌else◌}
+use Rattle.std.specs.Prelude.{ℕ, ◌+◌, ◌==◌, ◌&&◌, ◌||◌, Bool, false, List, [], ◌∷◌, ◌++◌, drop, Option, Some, None, slice_get, nat_lt, nat_le, if◌then◌else◌}
 use Rattle.std.specs.Option.{option_and_then, option_map, option_map_or}
 use Rattle.es_event.specs.declared.ledger_event.Body.{Body}
 use Rattle.es_event.specs.declared.ledger_event.Body.TheVariants.{Plain, Block}
 use Rattle.es_event.specs.declared.ledger_event.LedgerEvent.{LedgerEvent}
-use Rattle.es_event.specs.declared.ledger_event.LedgerEvent.TheVariants.{Opened, Posted, Taken, Spent, Loaded, Stored, Added, Waiting, Passed, Ended, Drained}
+use Rattle.es_event.specs.declared.ledger_event.LedgerEvent.TheVariants.{Opened, Posted, Taken, Spent, Accessed, Waiting, Passed, Ended, Drained}
 use Rattle.es_event.specs.declared.row.Row.{Row}
 use Rattle.es_event.specs.declared.row.Entry.{Entry}
 use Rattle.es_event.specs.declared.row.Holder.{Holder}
 use Rattle.es_event.specs.declared.row.Holder.TheVariants.{Agent, Port, Nobody}
+use Rattle.es_event.specs.Access.{written}
 use Rattle.es_event.specs.Rows.{row, held_by, moved, line_of, unspent, count_of}
 
 -- the newest event first
@@ -23,9 +24,7 @@ opens (Opened b w s a) = Some (b, w)
 opens (Posted a r m) = None
 opens (Taken r a) = None
 opens (Spent s) = None
-opens (Loaded s i w) = None
-opens (Stored s i w) = None
-opens (Added s i old n) = None
+opens (Accessed s i m old) = None
 opens (Waiting a s) = None
 opens (Passed a s) = None
 opens (Ended a) = None
@@ -57,9 +56,7 @@ issues (Opened b w s a) = 1
 issues (Posted a r m) = ticket_in m
 issues (Taken r a) = 0
 issues (Spent s) = 0
-issues (Loaded s i w) = 0
-issues (Stored s i w) = 0
-issues (Added s i old n) = 0
+issues (Accessed s i m old) = 0
 issues (Waiting a s) = 0
 issues (Passed a s) = 0
 issues (Ended a) = 0
@@ -81,9 +78,7 @@ queued (Opened b w k a) s r before = before
 queued (Posted t u m) s r before = if is_at s r t u then before ++ m ∷ [] else before
 queued (Taken u t) s r before = if is_at s r t u then drop 1 before else before
 queued (Spent k) s r before = before
-queued (Loaded k i w) s r before = before
-queued (Stored k i w) s r before = before
-queued (Added k i old n) s r before = before
+queued (Accessed k i m old) s r before = before
 queued (Waiting a t) s r before = before
 queued (Passed a t) s r before = before
 queued (Ended a) s r before = before
@@ -120,9 +115,7 @@ table_after l (Opened b w s a) t = t ++ held_by (Agent a) (row s b w) ∷ []
 table_after l (Posted a r m) t = t ++ posted_line l a r m
 table_after l (Taken r a) t = moved_if (option_and_then serial_in (front l a r)) (Agent r) t
 table_after l (Spent s) t = moved s Nobody t
-table_after l (Loaded s i w) t = t
-table_after l (Stored s i w) t = t
-table_after l (Added s i old n) t = t
+table_after l (Accessed s i m old) t = t
 table_after l (Waiting a s) t = t
 table_after l (Passed a s) t = t
 table_after l (Ended a) t = t
@@ -166,15 +159,13 @@ holder_of l s = option_and_then by_agent (line_of s (table l))
 abbrev pub written_by : Ledger → ℕ → ℕ → ℕ → Option (ℕ × ℕ × ℕ)
 written_by l s i w = option_map (λ p. (p.1.block, i, w)) (holder_of l s)
 
--- those that an event writes that comes after l; a sum is taken modulo 2^32
+-- those that an event writes that comes after l
 abbrev pub writes : Ledger → LedgerEvent → Option (ℕ × ℕ × ℕ)
 writes l (Opened b w s a) = None
 writes l (Posted a r m) = None
 writes l (Taken r a) = None
 writes l (Spent s) = None
-writes l (Loaded s i w) = None
-writes l (Stored s i w) = written_by l s i w
-writes l (Added s i old n) = written_by l s i ((old + n) % 2 ^ 32)
+writes l (Accessed s i m old) = option_and_then (written_by l s i) (written m old)
 writes l (Waiting a s) = None
 writes l (Passed a s) = None
 writes l (Ended a) = None
@@ -197,9 +188,7 @@ awaited (Opened b w s a) c before = before
 awaited (Posted a r m) c before = before
 awaited (Taken r s) c before = if r == c then None else before
 awaited (Spent s) c before = before
-awaited (Loaded s i w) c before = before
-awaited (Stored s i w) c before = before
-awaited (Added s i old n) c before = before
+awaited (Accessed s i m old) c before = before
 awaited (Waiting a s) c before = if a == c then Some s else before
 awaited (Passed a s) c before = if a == c then None else before
 awaited (Ended a) c before = before
@@ -215,9 +204,7 @@ is_end_of (Opened b w s a) c = false
 is_end_of (Posted a r m) c = false
 is_end_of (Taken r s) c = false
 is_end_of (Spent s) c = false
-is_end_of (Loaded s i w) c = false
-is_end_of (Stored s i w) c = false
-is_end_of (Added s i old n) c = false
+is_end_of (Accessed s i m old) c = false
 is_end_of (Waiting a s) c = false
 is_end_of (Passed a s) c = false
 is_end_of (Ended a) c = a == c

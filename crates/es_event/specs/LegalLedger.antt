@@ -1,12 +1,13 @@
 -- To believe: which histories of the ledger of n agents are legal (Agent Clusters, Data Blocks, The Atomics Object).
-use Rattle.std.specs.Prelude.{ℕ, zero, suc, ◌≡◌, ◌≢◌, ◌+◌, ◌<◌, ◌^◌, ◌&&◌, ◌||◌, not, ⊤, Bool, true, false, [], ◌∷◌, Option, Some, None, is_some, nat_lt}
+use Rattle.std.specs.Prelude.{ℕ, zero, suc, ◌≡◌, ◌≢◌, ◌+◌, ◌<◌, ◌&&◌, ◌||◌, not, ⊤, Bool, true, false, [], ◌∷◌, Option, Some, None, is_some, nat_lt}
 use Rattle.std.specs.Option.{option_and_then, option_map_or}
 use Rattle.es_value.specs.Values.{identity}
 use Rattle.es_event.specs.declared.ledger_event.Body.{Body}
 use Rattle.es_event.specs.declared.ledger_event.Body.TheVariants.{Plain, Block}
 use Rattle.es_event.specs.declared.ledger_event.LedgerEvent.{LedgerEvent}
-use Rattle.es_event.specs.declared.ledger_event.LedgerEvent.TheVariants.{Opened, Posted, Taken, Spent, Loaded, Stored, Added, Waiting, Passed, Ended, Drained}
+use Rattle.es_event.specs.declared.ledger_event.LedgerEvent.TheVariants.{Opened, Posted, Taken, Spent, Accessed, Waiting, Passed, Ended, Drained}
 use Rattle.es_event.specs.declared.row.Row.{Row}
+use Rattle.es_event.specs.Access.{IsStorable}
 use Rattle.es_event.specs.Rows.{held, count_of}
 use Rattle.es_event.specs.Ledger.{Ledger, opened, serials, table, front, serial_in, holder_of, word, waits, ended}
 
@@ -60,9 +61,7 @@ MayCome n l (Opened b w s a) = (b ≡ opened l + 1) × (s ≡ serials l + 1) × 
 MayCome n l (Posted a r m) = (a < n) × (r < n) × (a ≢ r) × IsPostable l a m
 MayCome n l (Taken r s) = has_message l s r ≡ true
 MayCome n l (Spent s) = is_some (holder_of l s) ≡ true
-MayCome n l (Loaded s i w) = Reaches (holder_of l s) i (λ r. w ≡ word l r.block i)
-MayCome n l (Stored s i w) = Reaches (holder_of l s) i (λ r. w < 2 ^ 32)
-MayCome n l (Added s i old m) = Reaches (holder_of l s) i (λ r. old ≡ word l r.block i)
+MayCome n l (Accessed s i m old) = Reaches (holder_of l s) i (λ r. (old ≡ word l r.block i) × IsStorable m)
 MayCome n l (Waiting a s) = (a < n) × (s < n) × (a ≢ s) × (has_message l s a ≡ false) × (waits l a ≡ None) × (ended l a ≡ false)
 MayCome n l (Passed a s) = (waits l a ≡ Some s) × (skips l n a s ≡ true)
 MayCome n l (Ended a) = (a < n) × (ended l a ≡ false)
@@ -75,9 +74,7 @@ owed (Opened b w s a ∷ earlier) = None
 owed (Posted a r m ∷ earlier) = None
 owed (Taken r s ∷ earlier) = None
 owed (Spent s ∷ earlier) = None
-owed (Loaded s i w ∷ earlier) = None
-owed (Stored s i w ∷ earlier) = None
-owed (Added s i old m ∷ earlier) = None
+owed (Accessed s i m old ∷ earlier) = None
 owed (Waiting a s ∷ earlier) = None
 owed (Passed a s ∷ earlier) = None
 owed (Ended a ∷ earlier) = None

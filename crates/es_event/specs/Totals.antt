@@ -2,7 +2,7 @@
 use Rattle.std.specs.Prelude.{ℕ, Bool, true, false, count_by}
 use Rattle.std.specs.List.{range_with_len}
 use Rattle.es_event.specs.declared.ledger_event.LedgerEvent.{LedgerEvent}
-use Rattle.es_event.specs.declared.ledger_event.LedgerEvent.TheVariants.{Opened, Posted, Taken, Spent, Loaded, Stored, Added, Waiting, Passed, Ended, Drained}
+use Rattle.es_event.specs.declared.ledger_event.LedgerEvent.TheVariants.{Opened, Posted, Taken, Spent, Accessed, Waiting, Passed, Ended, Drained}
 use Rattle.es_event.specs.Ledger.{Ledger, opened, is_released}
 
 -- the blocks are numbered from 1
@@ -14,9 +14,7 @@ is_posted (Opened b w s a) = false
 is_posted (Posted a r m) = true
 is_posted (Taken r s) = false
 is_posted (Spent s) = false
-is_posted (Loaded s i w) = false
-is_posted (Stored s i w) = false
-is_posted (Added s i old n) = false
+is_posted (Accessed s i m old) = false
 is_posted (Waiting a s) = false
 is_posted (Passed a s) = false
 is_posted (Ended a) = false
@@ -27,9 +25,7 @@ is_taken (Opened b w s a) = false
 is_taken (Posted a r m) = false
 is_taken (Taken r s) = true
 is_taken (Spent s) = false
-is_taken (Loaded s i w) = false
-is_taken (Stored s i w) = false
-is_taken (Added s i old n) = false
+is_taken (Accessed s i m old) = false
 is_taken (Waiting a s) = false
 is_taken (Passed a s) = false
 is_taken (Ended a) = false
@@ -40,9 +36,7 @@ is_drained (Opened b w s a) = false
 is_drained (Posted a r m) = false
 is_drained (Taken r s) = false
 is_drained (Spent s) = false
-is_drained (Loaded s i w) = false
-is_drained (Stored s i w) = false
-is_drained (Added s i old n) = false
+is_drained (Accessed s i m old) = false
 is_drained (Waiting a s) = false
 is_drained (Passed a s) = false
 is_drained (Ended a) = false

@@ -1,5 +1,6 @@
 //! What happens in the ledger of an agent cluster: to blocks, tickets, ports and agents.
 
+use crate::Access;
 use es_value::Value;
 
 /// What a message carries.
@@ -37,24 +38,13 @@ pub enum LedgerEvent {
     Spent {
         serial: u64,
     },
-    /// A word was read through a ticket (ECMA-262, Atomics.load).
-    Loaded {
+    /// This was done through a ticket to the word at an index, and the old word was there (ECMA-262,
+    /// Atomics.load, store and add).
+    Accessed {
         serial: u64,
         index: usize,
-        word: u32,
-    },
-    /// A word was written through a ticket (ECMA-262, Atomics.store).
-    Stored {
-        serial: u64,
-        index: usize,
-        word: u32,
-    },
-    /// An addend was added through a ticket to the word that was there (ECMA-262, Atomics.add).
-    Added {
-        serial: u64,
-        index: usize,
+        access: Access,
         old: u32,
-        addend: u32,
     },
     /// An agent began to wait for a message of a sender.
     Waiting {

@@ -1,6 +1,7 @@
 //! Commands, events and plans, and what a history of events means.
 #![tactic(auto)]
 
+mod access;
 mod command;
 mod done;
 mod event;
@@ -18,6 +19,7 @@ mod row;
 mod sequence;
 mod shared_list;
 
+pub use access::Access;
 pub use command::{Command, OperandNames};
 pub use done::{AnswerRef, Done};
 pub use event::{Answer, Event, Refusal};

@@ -1,6 +1,7 @@
 -- One agent opens blocks, reads and writes their words, and spends its tickets; and what no ledger allows.
 use Rattle.std.proofs.Common.{◌≡◌, arith, true, false, refl, [], ◌∷◌, Some, rules}
-use Rattle.es_event.specs.declared.ledger_event.LedgerEvent.TheVariants.{Opened, Spent, Loaded, Stored, Added, Ended}
+use Rattle.es_event.specs.declared.access.Access.TheVariants.{Load as loads, Store as stores, Add as adds}
+use Rattle.es_event.specs.declared.ledger_event.LedgerEvent.TheVariants.{Opened, Spent, Accessed, Ended}
 use Rattle.es_event.specs.Rows.{row, held, held_by}
 use Rattle.es_event.specs.declared.row.Holder.TheVariants.{Nobody}
 use Rattle.es_event.specs.Ledger.{Ledger, table, size, opened, word, count, is_released, rows, holder_of}
@@ -12,13 +13,13 @@ abbrev pub opened_one : Ledger
 opened_one = Opened 1 2 1 0 ∷ []
 
 abbrev pub stored : Ledger
-stored = Stored 1 1 7 ∷ opened_one
+stored = Accessed 1 1 (stores 7) 0 ∷ opened_one
 
 abbrev pub added : Ledger
-added = Added 1 1 7 4294967295 ∷ Loaded 1 1 7 ∷ stored
+added = Accessed 1 1 (adds 4294967295) 7 ∷ Accessed 1 1 loads 7 ∷ stored
 
 abbrev pub loaded : Ledger
-loaded = Loaded 1 0 0 ∷ Loaded 1 1 6 ∷ added
+loaded = Accessed 1 0 loads 0 ∷ Accessed 1 1 loads 6 ∷ added
 
 abbrev pub spent : Ledger
 spent = Spent 1 ∷ loaded
@@ -86,34 +87,34 @@ spends_twice : MayCome 1 spent (Spent 1) → ⊥
 spends_twice m = cc
 
 -- a block that was released is read
-reads_the_released : MayCome 1 spent (Loaded 1 1 6) → ⊥
+reads_the_released : MayCome 1 spent (Accessed 1 1 loads 6) → ⊥
 reads_the_released m = m
 
 -- a word is read that was never stored
-invents_a_word : MayCome 1 stored (Loaded 1 1 8) → ⊥
+invents_a_word : MayCome 1 stored (Accessed 1 1 loads 8) → ⊥
 invents_a_word m = cc
 
 -- or that is above the greatest word
-sum_not_taken_modulo : MayCome 1 added (Loaded 1 1 4294967302) → ⊥
+sum_not_taken_modulo : MayCome 1 added (Accessed 1 1 loads 4294967302) → ⊥
 sum_not_taken_modulo m = absurd (omega (arith, m.1))
 
-stores_too_much : MayCome 1 stored (Stored 1 0 4294967296) → ⊥
+stores_too_much : MayCome 1 stored (Accessed 1 0 (stores 4294967296) 0) → ⊥
 stores_too_much m = absurd (omega (arith, m.1))
 
 -- or that was overwritten by a sum
-reads_an_old_word : MayCome 1 added (Loaded 1 1 7) → ⊥
+reads_an_old_word : MayCome 1 added (Accessed 1 1 loads 7) → ⊥
 reads_an_old_word m = cc
 
 -- an index is the number of words
-index_at_the_end : MayCome 1 stored (Stored 1 2 7) → ⊥
+index_at_the_end : MayCome 1 stored (Accessed 1 2 (stores 7) 0) → ⊥
 index_at_the_end m = absurd (omega (arith, m.0))
 
 -- a block without words is read
-reads_no_word : MayCome 1 opened_two (Loaded 2 0 0) → ⊥
+reads_no_word : MayCome 1 opened_two (Accessed 2 0 loads 0) → ⊥
 reads_no_word m = absurd (omega (arith, m.0))
 
 -- the addend is added to another word than the one that is there
-adds_to_another : MayCome 1 stored (Added 1 1 8 1) → ⊥
+adds_to_another : MayCome 1 stored (Accessed 1 1 (adds 1) 8) → ⊥
 adds_to_another m = cc
 
 -- a block or a ticket is numbered anew, or one is passed over

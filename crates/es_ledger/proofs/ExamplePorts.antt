@@ -2,8 +2,9 @@
 use Rattle.std.proofs.Common.{◌≡◌, arith, true, false, refl, [], ◌∷◌, Some, None, rules}
 use Rattle.std.specs.Prelude.{pos}
 use Rattle.es_value.specs.declared.value.Value.TheVariants.{Number}
+use Rattle.es_event.specs.declared.access.Access.TheVariants.{Load as loads, Store as stores}
 use Rattle.es_event.specs.declared.ledger_event.Body.TheVariants.{Plain, Block}
-use Rattle.es_event.specs.declared.ledger_event.LedgerEvent.TheVariants.{Opened, Posted, Taken, Spent, Loaded, Stored, Waiting, Passed, Ended, Drained}
+use Rattle.es_event.specs.declared.ledger_event.LedgerEvent.TheVariants.{Opened, Posted, Taken, Spent, Accessed, Waiting, Passed, Ended, Drained}
 use Rattle.es_event.specs.Rows.{row, held, in_port}
 use Rattle.es_event.specs.Ledger.{Ledger, table, count, is_released, port_of, holder_of, waits}
 use Rattle.es_event.specs.LegalLedger.{MayCome, ComesNext, LegalLedger, owed}
@@ -11,7 +12,7 @@ use Rattle.es_event.specs.LegalLedger.{MayCome, ComesNext, LegalLedger, owed}
 -- A block is posted; the sender keeps its own ticket, and spends it; the receiver reads what was stored
 
 abbrev pub stored : Ledger
-stored = Stored 1 3 7 ∷ Opened 1 4 1 0 ∷ Waiting 1 0 ∷ []
+stored = Accessed 1 3 (stores 7) 0 ∷ Opened 1 4 1 0 ∷ Waiting 1 0 ∷ []
 
 abbrev pub posted : Ledger
 posted = Posted 0 1 (Block 1 2) ∷ stored
@@ -23,7 +24,7 @@ abbrev pub taken : Ledger
 taken = Taken 1 0 ∷ sender_ended
 
 abbrev pub all_ended : Ledger
-all_ended = Ended 1 ∷ Spent 2 ∷ Loaded 2 3 7 ∷ taken
+all_ended = Ended 1 ∷ Spent 2 ∷ Accessed 2 3 loads 7 ∷ taken
 
 pub legal_taken : LegalLedger 2 all_ended
 legal_taken = search rules
@@ -107,7 +108,7 @@ posts_to_itself : MayCome 2 stored (Posted 0 0 (Plain (Number (pos 1)))) → ⊥
 posts_to_itself m = m.2 refl
 
 -- a word is written through a ticket that lies in a port
-writes_through_a_message : MayCome 2 posted (Stored 2 0 1) → ⊥
+writes_through_a_message : MayCome 2 posted (Accessed 2 0 (stores 1) 0) → ⊥
 writes_through_a_message m = m
 
 -- a message is taken from an empty port, or twice

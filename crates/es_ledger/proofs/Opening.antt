@@ -1,14 +1,15 @@
 -- A block is opened: it is the next one, its words are 0, and nothing was written into it before.
-use Rattle.std.proofs.Common.{◌≡◌, ℕ, zero, suc, ◌+◌, ◌<◌, ◌≤◌, ◌==◌, ◌%◌, ◌^◌, ◌&&◌, List, [], ◌∷◌, ◌++◌, Option, Some, None, Bool, true, false, cond, refl, sym, ap, ◌∙◌, subst, arith, length, length-append, zero-add, eq-eqb}
+use Rattle.std.proofs.Common.{◌≡◌, ℕ, zero, suc, ◌+◌, ◌<◌, ◌≤◌, ◌==◌, ◌&&◌, List, [], ◌∷◌, ◌++◌, Option, Some, None, Bool, true, false, cond, refl, sym, ap, ◌∙◌, subst, arith, length, length-append, zero-add, eq-eqb}
 use Rattle.std.proofs.lemmas.Bool.{eqb-true, false≢true}
 use Rattle.std.specs.Prelude.{slice_index_or}
 use Rattle.es_event.specs.declared.ledger_event.LedgerEvent.{LedgerEvent}
-use Rattle.es_event.specs.declared.ledger_event.LedgerEvent.TheVariants.{Opened, Stored, Added}
+use Rattle.es_event.specs.declared.ledger_event.LedgerEvent.TheVariants.{Opened, Accessed}
 use Rattle.es_event.specs.declared.row.Entry.{Entry}
 use Rattle.es_event.specs.declared.row.Holder.TheVariants.{Agent}
 use Rattle.es_event.specs.declared.row.Row.{Row}
+use Rattle.es_event.specs.Access.{written}
 use Rattle.es_event.specs.Rows.{row, held_by}
-use Rattle.es_event.specs.Ledger.{Ledger, opened, serials, size, table, rows, count, word, writes, newest_word, holder_of}
+use Rattle.es_event.specs.Ledger.{Ledger, opened, serials, size, table, rows, count, word, written_by, writes, newest_word, holder_of}
 use Rattle.es_event.specs.LegalLedger.{LegalSoFar}
 use Rattle.es_ledger.specs.declared.blocks.Counted.{Counted}
 use Rattle.es_ledger.specs.Blocks.{block_at}
@@ -19,7 +20,7 @@ use Rattle.es_ledger.proofs.After.{spent_count, opened_count, opened_length}
 use Rattle.es_ledger.proofs.Made.{block_made}
 use Rattle.std.proofs.lemmas.List.{length-replicate, get_or-replicate}
 use Rattle.std.specs.Prelude.{replicate, nat_lt}
-use Rattle.std.specs.Option.{option_map}
+use Rattle.std.specs.Option.{option_and_then, option_map}
 use Rattle.std.proofs.lemmas.List.{length-map}
 use Rattle.std.proofs.lemmas.List.FromFn.{length-range_with_len}
 use Rattle.es_ledger.proofs.Numbered.{numbered}
@@ -51,8 +52,11 @@ written_made n l s i w q (Some p) legal is e =
     first (Some q) = q.0
 
 writes_made : (n : ℕ) (l : Ledger) (e : LedgerEvent) (q : ℕ × ℕ × ℕ) → LegalSoFar n l → writes l e ≡ Some q → q.0 ≤ opened l
-writes_made n l (Stored s i w) q legal is = written_made n l s i w q (holder_of l s) legal refl is
-writes_made n l (Added s i old m) q legal is = written_made n l s i ((old + m) % 2 ^ 32) q (holder_of l s) legal refl is
+writes_made n l (Accessed s i m old) q legal is = by_written (written m old) is
+  where
+    by_written : (o : Option ℕ) → option_and_then (written_by l s i) o ≡ Some q → q.0 ≤ opened l
+    by_written None e = cc
+    by_written (Some w) e = written_made n l s i w q (holder_of l s) legal refl e
 writes_made n l _ q legal is = cc
 
 opened_more : (e : LedgerEvent) (l : Ledger) → opened l ≤ opened (e ∷ l)

@@ -4,19 +4,21 @@ use Rattle.std.proofs.lemmas.Bool.{eqb-true, false≢true}
 use Rattle.std.proofs.lemmas.List.{get_or-set_same, get_or-set_other}
 use Rattle.std.specs.Prelude.{slice_set, slice_index_or, unwrap_or, is_some, IsTrue, ◌↔◌}
 use Rattle.std.specs.List.{Contains}
+use Rattle.es_event.specs.declared.access.Access.{Access}
 use Rattle.es_event.specs.declared.ledger_event.LedgerEvent.{LedgerEvent}
-use Rattle.es_event.specs.declared.ledger_event.LedgerEvent.TheVariants.{Spent, Loaded, Stored, Added}
+use Rattle.es_event.specs.declared.ledger_event.LedgerEvent.TheVariants.{Spent, Accessed}
 use Rattle.es_event.specs.declared.row.Entry.{Entry}
 use Rattle.es_event.specs.declared.row.Holder.TheVariants.{Nobody}
 use Rattle.es_event.specs.declared.row.Row.{Row}
 use Rattle.es_event.specs.declared.row.Holder.{Holder}
+use Rattle.es_event.specs.Access.{IsStorable, written}
 use Rattle.es_event.specs.Rows.{held, moved, unspent, count_of, rows_by, is_somebody}
-use Rattle.es_event.specs.Ledger.{Ledger, opened, size, table, rows, count, word, waits as awaits, port_of, ended, is_end_of, writes, newest_word}
+use Rattle.es_event.specs.Ledger.{Ledger, opened, size, table, rows, count, word, holder_of, waits as awaits, port_of, ended, is_end_of, written_by, writes, newest_word}
 use Rattle.es_event.specs.LegalLedger.{MayCome, ComesNext, LegalLedger, Reaches, owed}
 use Rattle.es_ledger.specs.declared.blocks.Counted.{Counted}
-use Rattle.es_ledger.specs.Blocks.{no_block, block_at, tickets_at, words_at, rewritten, with_less, lost}
-use Rattle.es_block.specs.Words.{with_word, sum}
-use Rattle.std.specs.Option.{option_map}
+use Rattle.es_ledger.specs.Blocks.{no_block, block_at, tickets_at, words_at, rewritten, with_written, with_less, lost}
+use Rattle.es_block.specs.Words.{with_word}
+use Rattle.std.specs.Option.{option_and_then, option_map}
 use Rattle.es_ledger.specs.Ports.{Queued}
 use Rattle.es_ledger.specs.Ties.{left, waiting, Mail, Ties}
 use Rattle.es_ledger.proofs.Kept.{set_here, set_there}
@@ -72,17 +74,6 @@ still_ties n l lines moved_lines blocks ends ws others qs queues messages number
     refl (λ b. refl) (λ b some. refl) (λ b i some. ties.words b i some ∙ sym (worded b i)) mail room
 
 -- Words
-
--- a read
-pub loaded_ties : {L : Type 0} (n : ℕ) (l : Ledger) (lines : List Entry) (blocks : List Counted) (ends : List Bool) (ws : List (Option ℕ)) (qs : List (Queued L)) (messages places more a i : ℕ) (r : Row)
-    → Ties n l lines blocks ends ws qs messages places → Contains (held a (table l)) r → i < r.words → length (rows l) + left l n + waiting l n + messages ≤ more
-    → Ties n (Loaded r.serial i (word l r.block i) ∷ l) lines blocks ends ws qs messages more
-loaded_ties n l lines blocks ends ws qs messages places more a i r ties has inside room =
-    let holder = holder_here n l a r ties.legal.0 has in
-    still_ties n l lines lines blocks ends ws ws qs qs messages messages places more (Loaded r.serial i (word l r.block i)) ties
-    (subst (λ o. Reaches o i (λ q. word l r.block i ≡ word l q.block i)) (sym holder) (inside, refl)) refl
-    ties.tabled (zero-add (opened l)) (λ b. refl) (λ b. refl) (λ b. refl) (λ b i. refl)
-    (mail_same n l ws qs (Loaded r.serial i (word l r.block i)) ties.mail (λ s r. refl) (λ a. refl)) room
 
 -- the words of a block
 
@@ -296,24 +287,29 @@ reserved_room n l lines blocks ends ws qs messages places made len got more extr
     let agents = ties.agents in
     omega (arith, is_made, is_len, room, last, short, tabled, few, waits, agents)
 
--- A word is stored, or added to
+-- A word is read, written, or added to
 
-pub stored_ties : {L : Type 0} (n : ℕ) (l : Ledger) (lines : List Entry) (blocks : List Counted) (ends : List Bool) (ws : List (Option ℕ)) (qs : List (Queued L)) (messages places more a i w : ℕ) (r : Row)
-    → Ties n l lines blocks ends ws qs messages places → Contains (held a (table l)) r → i < r.words → w < 2 ^ 32 → length (rows l) + left l n + waiting l n + messages ≤ more
-    → Ties n (Stored r.serial i w ∷ l) lines (rewritten blocks r.block (with_word (words_at blocks r.block) i w)) ends ws qs messages more
-stored_ties n l lines blocks ends ws qs messages places more a i w r ties has inside small room =
-    let holder = holder_here n l a r ties.legal.0 has in
-    written_ties n l lines blocks ends ws qs messages places more a i w r (Stored r.serial i w) ties has inside
-    (subst (λ o. Reaches o i (λ q. w < 2 ^ 32)) (sym holder) (inside, small)) refl
-    refl (zero-add (opened l)) (λ b. refl) (λ c. refl) (λ s r. refl) (λ c. refl)
-    (ap (λ o. option_map (λ p. (p.1.block, i, w)) o) holder) room
+pub accessed_ties : {L : Type 0} (n : ℕ) (l : Ledger) (lines : List Entry) (blocks : List Counted) (ends : List Bool) (ws : List (Option ℕ)) (qs : List (Queued L)) (messages places more a i : ℕ) (m : Access) (r : Row)
+    → Ties n l lines blocks ends ws qs messages places → Contains (held a (table l)) r → i < r.words → IsStorable m → length (rows l) + left l n + waiting l n + messages ≤ more
+    → Ties n (Accessed r.serial i m (word l r.block i) ∷ l) lines (with_written blocks r.block i (written m (word l r.block i))) ends ws qs messages more
+accessed_ties n l lines blocks ends ws qs messages places more a i m r ties has inside storable room = by_written (written m (word l r.block i)) refl
+  where
+    e : LedgerEvent
+    e = Accessed r.serial i m (word l r.block i)
 
-pub added_ties : {L : Type 0} (n : ℕ) (l : Ledger) (lines : List Entry) (blocks : List Counted) (ends : List Bool) (ws : List (Option ℕ)) (qs : List (Queued L)) (messages places more a i m : ℕ) (r : Row)
-    → Ties n l lines blocks ends ws qs messages places → Contains (held a (table l)) r → i < r.words → length (rows l) + left l n + waiting l n + messages ≤ more
-    → Ties n (Added r.serial i (word l r.block i) m ∷ l) lines (rewritten blocks r.block (with_word (words_at blocks r.block) i (sum (word l r.block i) m))) ends ws qs messages more
-added_ties n l lines blocks ends ws qs messages places more a i m r ties has inside room =
-    let holder = holder_here n l a r ties.legal.0 has in
-    written_ties n l lines blocks ends ws qs messages places more a i (sum (word l r.block i) m) r (Added r.serial i (word l r.block i) m) ties has inside
-    (subst (λ o. Reaches o i (λ q. word l r.block i ≡ word l q.block i)) (sym holder) (inside, refl)) refl
-    refl (zero-add (opened l)) (λ b. refl) (λ c. refl) (λ s r. refl) (λ c. refl)
-    (ap (λ o. option_map (λ p. (p.1.block, i, sum (word l r.block i) m)) o) holder) room
+    holder : holder_of l r.serial ≡ Some (a, r)
+    holder = holder_here n l a r ties.legal.0 has
+
+    may : MayCome n l e
+    may = subst (λ o. Reaches o i (λ q. (word l r.block i ≡ word l q.block i) × IsStorable m)) (sym holder) (inside, (refl, storable))
+
+    by_written : (o : Option ℕ) → written m (word l r.block i) ≡ o → Ties n (e ∷ l) lines (with_written blocks r.block i o) ends ws qs messages more
+    by_written None is =
+        still_ties n l lines lines blocks ends ws ws qs qs messages messages places more e ties may refl
+        ties.tabled (zero-add (opened l)) (λ b. refl) (λ b. refl) (λ b. refl)
+        (λ b j. ap (λ o. newest_word (option_and_then (written_by l r.serial i) o) b j (word l b j)) is)
+        (mail_same n l ws qs e ties.mail (λ s r. refl) (λ a. refl)) room
+    by_written (Some w) is =
+        written_ties n l lines blocks ends ws qs messages places more a i w r e ties has inside may refl
+        refl (zero-add (opened l)) (λ b. refl) (λ c. refl) (λ s r. refl) (λ c. refl)
+        (ap (option_and_then (written_by l r.serial i)) is ∙ ap (λ o. option_map (λ p. (p.1.block, i, w)) o) holder) room

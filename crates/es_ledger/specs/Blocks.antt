@@ -1,5 +1,6 @@
 -- Internal: the blocks of a ledger as they are kept.
-use Rattle.std.specs.Prelude.{ℕ, ◌+◌, ◌-◌, ◌==◌, List, [], Some, None, unwrap_or, slice_index_or, slice_set, if◌then◌else◌}
+use Rattle.std.specs.Prelude.{ℕ, ◌+◌, ◌-◌, ◌==◌, List, [], Option, Some, None, unwrap_or, slice_index_or, slice_set, if◌then◌else◌}
+use Rattle.es_block.specs.Words.{with_word}
 use Rattle.es_ledger.specs.declared.blocks.Counted.{Counted}
 
 -- by number, from 1, and for how many more there is room
@@ -21,9 +22,19 @@ tickets_at all b = (block_at all b).tickets
 abbrev pub words_at : List Counted → ℕ → List ℕ
 words_at all b = unwrap_or (block_at all b).words []
 
+-- the words with this one, if there is one, at an index
+abbrev pub words_written : List ℕ → ℕ → Option ℕ → List ℕ
+words_written ws i None = ws
+words_written ws i (Some w) = with_word ws i w
+
 -- all blocks with other words of block b
 abbrev pub rewritten : List Counted → ℕ → List ℕ → List Counted
 rewritten all b ws = slice_set all (b - 1) (record { words = Some ws; tickets = tickets_at all b })
+
+-- all blocks with this word, if there is one, at an index of block b
+abbrev pub with_written : List Counted → ℕ → ℕ → Option ℕ → List Counted
+with_written all b i None = all
+with_written all b i (Some w) = rewritten all b (with_word (words_at all b) i w)
 
 abbrev pub with_less : Counted → Counted
 with_less c = if c.tickets == 1 then no_block else record { words = c.words; tickets = c.tickets - 1 }

@@ -4,7 +4,7 @@ use Rattle.std.specs.List.{range_with_len}
 use Rattle.std.specs.Option.{option_map}
 use Rattle.es_event.specs.declared.ledger_event.Body.{Body}
 use Rattle.es_event.specs.declared.ledger_event.LedgerEvent.{LedgerEvent}
-use Rattle.es_event.specs.declared.ledger_event.LedgerEvent.TheVariants.{Opened, Posted, Taken, Spent, Loaded, Stored, Added, Waiting, Passed, Ended, Drained}
+use Rattle.es_event.specs.declared.ledger_event.LedgerEvent.TheVariants.{Opened, Posted, Taken, Spent, Accessed, Waiting, Passed, Ended, Drained}
 use Rattle.es_event.specs.Rows.{held, in_port, count_of}
 use Rattle.es_event.specs.Ledger.{Ledger, serials, table, count, is_opened, is_released, holder_of, port_of, is_at, front}
 use Rattle.es_event.specs.LegalLedger.{LegalSoFar}
@@ -36,9 +36,7 @@ owner l (Opened b w s a) = Some a
 owner l (Posted a r m) = None
 owner l (Taken r s) = Some r
 owner l (Spent s) = option_map (λ p. p.0) (holder_of l s)
-owner l (Loaded s i w) = None
-owner l (Stored s i w) = None
-owner l (Added s i old m) = None
+owner l (Accessed s i m old) = None
 owner l (Waiting a s) = None
 owner l (Passed a s) = None
 owner l (Ended a) = None
@@ -56,9 +54,7 @@ posts (Opened b w k a) s r = []
 posts (Posted t u m) s r = if is_at s r t u then m ∷ [] else []
 posts (Taken u t) s r = []
 posts (Spent k) s r = []
-posts (Loaded k i w) s r = []
-posts (Stored k i w) s r = []
-posts (Added k i old m) s r = []
+posts (Accessed k i m old) s r = []
 posts (Waiting a t) s r = []
 posts (Passed a t) s r = []
 posts (Ended a) s r = []
@@ -75,9 +71,7 @@ gives l (Opened b w k a) s r = []
 gives l (Posted t u m) s r = []
 gives l (Taken u t) s r = if is_at s r t u then option_to_list (front l s r) else []
 gives l (Spent k) s r = []
-gives l (Loaded k i w) s r = []
-gives l (Stored k i w) s r = []
-gives l (Added k i old m) s r = []
+gives l (Accessed k i m old) s r = []
 gives l (Waiting a t) s r = []
 gives l (Passed a t) s r = []
 gives l (Ended a) s r = []

@@ -1,10 +1,12 @@
 //! The blocks of a ledger: the words of each, and how many tickets of it are not spent.
 
 ghost use Rattle.std.specs.Prelude.{◌≡◌, ◌<◌, ◌^◌, ◌≤◌, ◌+◌, ◌-◌, ◌++◌, ◌∷◌, [], ◌↔◌, IsTrue, length, replicate, IfOk, OnOk, Some};
-ghost use Rattle.es_block.specs.Words.{word, with_word, sum};
-ghost use Rattle.es_ledger.specs.Blocks.{tickets_at, words_at, lost, gained, rewritten};
+ghost use Rattle.es_event.specs.Access.{IsStorable, written};
+ghost use Rattle.es_block.specs.Words.{word};
+ghost use Rattle.es_ledger.specs.Blocks.{tickets_at, words_at, lost, gained, with_written, words_written};
 
 use es_block::Block;
+use es_event::Access;
 use es_value::NoMemory;
 use std::alloc::Global;
 use std::marker::Model;
@@ -81,36 +83,15 @@ impl Blocks {
         }
     }
 
-    /// The word at an index of a block that is not released.
-    pub fn load(&self, number: u64, index: usize) -> u32
-        requires { index < length (words_at self.now.all number) }
-        ensures { result ≡ word (words_at self.now.all number) index }
-    {
-        match &self.all[number as usize - 1].words {
-            Some(words) => words.load(index),
-            None => unreachable!(),
-        }
-    }
-
-    /// Writes the word at an index of a block that is not released.
-    pub fn store(&mut self, number: u64, index: usize, word: u32)
-        requires { index < length (words_at self.old.all number) }
-        ensures { self.new.all ≡ rewritten self.old.all number (with_word (words_at self.old.all number) index word) }
-    {
-        match &mut self.all[number as usize - 1].words {
-            Some(words) => words.store(index, word),
-            None => unreachable!(),
-        }
-    }
-
-    /// Adds to the word at an index of a block that is not released, and gives what was there.
-    pub fn add(&mut self, number: u64, index: usize, addend: u32) -> u32
+    /// Does this to the word at an index of a block that is not released, and gives the word that was there.
+    pub fn access(&mut self, number: u64, index: usize, access: Access) -> u32
         requires { index < length (words_at self.old.all number) }
         ensures was { result ≡ word (words_at self.old.all number) index }
-        ensures now { self.new.all ≡ rewritten self.old.all number (with_word (words_at self.old.all number) index (sum (word (words_at self.old.all number) index) addend)) }
+        ensures now { self.new.all ≡ with_written self.old.all number index (written access (word (words_at self.old.all number) index)) }
+        ensures fits { IsStorable access }
     {
         match &mut self.all[number as usize - 1].words {
-            Some(words) => words.add(index, addend),
+            Some(words) => access_word(words, index, access),
             None => unreachable!(),
         }
     }
@@ -138,5 +119,23 @@ impl Blocks {
         } else {
             false
         }
+    }
+}
+
+/// Does this to the word at an index of a block, and gives the word that was there.
+fn access_word(words: &mut Block, index: usize, access: Access) -> u32
+    requires { index < length words.old }
+    ensures was { result ≡ word words.old index }
+    ensures now { words.new ≡ words_written words.old index (written access (word words.old index)) }
+    ensures fits { IsStorable access }
+{
+    match access {
+        Access::Load => words.load(index),
+        Access::Store(word) => {
+            let old = words.load(index);
+            words.store(index, word);
+            old
+        }
+        Access::Add(addend) => words.add(index, addend),
     }
 }

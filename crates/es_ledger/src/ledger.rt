@@ -5,15 +5,15 @@ ghost use Rattle.std.specs.List.{Contains};
 ghost use Rattle.es_ticket.specs.Shares.{Share, erase};
 ghost use Rattle.es_event.specs.declared.row.Row.{Row};
 ghost use Rattle.es_event.specs.Rows.{row, held};
-ghost use Rattle.es_event.specs.Ledger.{opened, serials, table, count, word, ended, holder_of};
+ghost use Rattle.es_event.specs.Ledger.{opened, serials, table, count, word as word_at, ended, holder_of};
 ghost use Rattle.es_event.specs.LegalLedger.{LegalLedger};
 ghost use Rattle.es_ledger.specs.Audits.{held_below};
-ghost use Rattle.es_event.specs.declared.ledger_event.LedgerEvent.TheVariants.{Opened as OpenedEvent, Spent as SpentEvent, Loaded, Stored, Added, Ended as EndedEvent};
+ghost use Rattle.es_event.specs.declared.ledger_event.LedgerEvent.TheVariants.{Opened as OpenedEvent, Spent as SpentEvent, Accessed, Ended as EndedEvent};
 
 use crate::blocks::Blocks;
 use crate::ports::Ports;
 use es_block::Block;
-use es_event::{LedgerEvent, Log};
+use es_event::{Access, LedgerEvent, Log};
 use es_ticket::{Opened, Rows, Run, Stake, Ticket};
 use es_value::NoMemory;
 use std::alloc::Global;
@@ -148,8 +148,38 @@ impl<L: Run> LedgerCore<L> {
         self.rows.look(stake);
     }
 
-    /// Reads a word through a ticket (ECMA-262, Atomics.load). Where there is no memory nothing has
-    /// changed. The block is never found gone.
+    /// Does this to the word at an index through a ticket, and gives the word that was there (ECMA-262,
+    /// Atomics.load, store and add). Where there is no memory nothing has changed. The block is never
+    /// found gone.
+    pub fn access(
+        &mut self,
+        stake: &mut Stake<L>,
+        ticket: &Ticket<L>,
+        index: usize,
+        access: Access,
+    ) -> Result<u32, NoMemory>
+        requires here { Contains stake.old.rows ticket.now }
+        requires inside { index < ticket.now.words }
+        ensures word { IfOk result (λ w. w ≡ word_at self.old.history ticket.now.block index) }
+        ensures history { IfOk result (λ w. (self.new.agents ≡ self.old.agents) × (self.new.history ≡ Accessed ticket.now.serial index access w ∷ self.old.history)) }
+        ensures there { 0 < count self.old.history ticket.now.block }
+        ensures stake { stake.new ≡ stake.old }
+        ensures err { OnErr result (self.new ≡ self.old) }
+    {
+        self.rows.look(stake);
+        let agents = self.ended.as_slice().len();
+        make_room(&mut self.history, &self.rows, &self.ports, agents, 1)?;
+        let old = self.blocks.access(ticket.block(), index, access);
+        self.history.append(LedgerEvent::Accessed {
+            serial: ticket.serial(),
+            index,
+            access,
+            old,
+        });
+        Ok(old)
+    }
+
+    /// Reads a word through a ticket (ECMA-262, Atomics.load), as `access` does.
     pub fn load(
         &mut self,
         stake: &mut Stake<L>,
@@ -158,26 +188,16 @@ impl<L: Run> LedgerCore<L> {
     ) -> Result<u32, NoMemory>
         requires here { Contains stake.old.rows ticket.now }
         requires inside { index < ticket.now.words }
-        ensures word { IfOk result (λ w. w ≡ word self.old.history ticket.now.block index) }
-        ensures history { IfOk result (λ w. (self.new.agents ≡ self.old.agents) × (self.new.history ≡ Loaded ticket.now.serial index w ∷ self.old.history)) }
+        ensures word { IfOk result (λ w. w ≡ word_at self.old.history ticket.now.block index) }
+        ensures history { IfOk result (λ w. (self.new.agents ≡ self.old.agents) × (self.new.history ≡ Accessed ticket.now.serial index Access.Load w ∷ self.old.history)) }
         ensures there { 0 < count self.old.history ticket.now.block }
         ensures stake { stake.new ≡ stake.old }
         ensures err { OnErr result (self.new ≡ self.old) }
     {
-        self.rows.look(stake);
-        let agents = self.ended.as_slice().len();
-        make_room(&mut self.history, &self.rows, &self.ports, agents, 1)?;
-        let word = self.blocks.load(ticket.block(), index);
-        self.history.append(LedgerEvent::Loaded {
-            serial: ticket.serial(),
-            index,
-            word,
-        });
-        Ok(word)
+        self.access(stake, ticket, index, Access::Load)
     }
 
-    /// Writes a word through a ticket (ECMA-262, Atomics.store). Where there is no memory nothing has
-    /// changed. The block is never found gone.
+    /// Writes a word through a ticket (ECMA-262, Atomics.store), as `access` does.
     pub fn store(
         &mut self,
         stake: &mut Stake<L>,
@@ -187,25 +207,17 @@ impl<L: Run> LedgerCore<L> {
     ) -> Result<(), NoMemory>
         requires here { Contains stake.old.rows ticket.now }
         requires inside { index < ticket.now.words }
-        ensures history { OnOk result ((self.new.agents ≡ self.old.agents) × (self.new.history ≡ Stored ticket.now.serial index word ∷ self.old.history)) }
+        ensures history { OnOk result ((self.new.agents ≡ self.old.agents) × (self.new.history ≡ Accessed ticket.now.serial index (Access.Store word) (word_at self.old.history ticket.now.block index) ∷ self.old.history)) }
         ensures there { 0 < count self.old.history ticket.now.block }
         ensures stake { stake.new ≡ stake.old }
         ensures err { OnErr result (self.new ≡ self.old) }
     {
-        self.rows.look(stake);
-        let agents = self.ended.as_slice().len();
-        make_room(&mut self.history, &self.rows, &self.ports, agents, 1)?;
-        self.blocks.store(ticket.block(), index, word);
-        self.history.append(LedgerEvent::Stored {
-            serial: ticket.serial(),
-            index,
-            word,
-        });
+        self.access(stake, ticket, index, Access::Store(word))?;
         Ok(())
     }
 
     /// Adds to a word through a ticket, modulo 2^32, and gives the word that was there (ECMA-262,
-    /// Atomics.add). Where there is no memory nothing has changed. The block is never found gone.
+    /// Atomics.add), as `access` does.
     pub fn add(
         &mut self,
         stake: &mut Stake<L>,
@@ -215,23 +227,13 @@ impl<L: Run> LedgerCore<L> {
     ) -> Result<u32, NoMemory>
         requires here { Contains stake.old.rows ticket.now }
         requires inside { index < ticket.now.words }
-        ensures word { IfOk result (λ w. w ≡ word self.old.history ticket.now.block index) }
-        ensures history { IfOk result (λ w. (self.new.agents ≡ self.old.agents) × (self.new.history ≡ Added ticket.now.serial index w addend ∷ self.old.history)) }
+        ensures word { IfOk result (λ w. w ≡ word_at self.old.history ticket.now.block index) }
+        ensures history { IfOk result (λ w. (self.new.agents ≡ self.old.agents) × (self.new.history ≡ Accessed ticket.now.serial index (Access.Add addend) w ∷ self.old.history)) }
         ensures there { 0 < count self.old.history ticket.now.block }
         ensures stake { stake.new ≡ stake.old }
         ensures err { OnErr result (self.new ≡ self.old) }
     {
-        self.rows.look(stake);
-        let agents = self.ended.as_slice().len();
-        make_room(&mut self.history, &self.rows, &self.ports, agents, 1)?;
-        let old = self.blocks.add(ticket.block(), index, addend);
-        self.history.append(LedgerEvent::Added {
-            serial: ticket.serial(),
-            index,
-            old,
-            addend,
-        });
-        Ok(old)
+        self.access(stake, ticket, index, Access::Add(addend))
     }
 
     /// An agent that has not ended ends. It takes no memory.

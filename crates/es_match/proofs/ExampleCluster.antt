@@ -2,12 +2,13 @@
 use Rattle.std.proofs.Common.{ℕ, true, refl, List, [], ◌∷◌, codes, rules}
 use Rattle.std.specs.Prelude.{pos, negsuc}
 use Rattle.es_value.specs.declared.value.Value.TheVariants.{Boolean, Number, Object}
+use Rattle.es_event.specs.declared.access.Access.TheVariants.{Load as loads, Store as stores, Add as adds}
 use Rattle.es_event.specs.declared.command.Command.TheVariants.{SharedArrayBuffer, Length, SameBlock, Load, Store, Add, Post}
 use Rattle.es_event.specs.declared.event.Answer.TheVariants.{Nothing, Gives}
 use Rattle.es_event.specs.declared.event.Refusal.TheVariants.{TooManyValues}
 use Rattle.es_event.specs.declared.event.Event.TheVariants.{JobBegun, Received, Did, Refused, Emptied, JobEnded, Skipped, Closed}
 use Rattle.es_event.specs.declared.ledger_event.Body.TheVariants.{Plain, Block}
-use Rattle.es_event.specs.declared.ledger_event.LedgerEvent.TheVariants.{Opened, Posted, Taken, Spent, Loaded, Stored, Added, Waiting, Passed, Ended, Drained}
+use Rattle.es_event.specs.declared.ledger_event.LedgerEvent.TheVariants.{Opened, Posted, Taken, Spent, Accessed, Waiting, Passed, Ended, Drained}
 use Rattle.es_event.specs.History.{History}
 use Rattle.es_event.specs.Ledger.{Ledger}
 use Rattle.es_event.specs.LegalLedger.{LegalLedger}
@@ -44,13 +45,13 @@ abbrev pub opened : Ledger
 opened = Opened 1 4 1 0 ∷ []
 
 abbrev pub posted : Ledger
-posted = Posted 0 1 (Block 1 2) ∷ Stored 1 1 5 ∷ Waiting 1 0 ∷ opened
+posted = Posted 0 1 (Block 1 2) ∷ Accessed 1 1 (stores 5) 0 ∷ Waiting 1 0 ∷ opened
 
 abbrev pub taken : Ledger
 taken = Ended 0 ∷ Spent 1 ∷ Taken 1 0 ∷ posted
 
 abbrev pub worked : Ledger
-worked = Ended 1 ∷ Spent 2 ∷ Added 2 1 5 4294967295 ∷ Loaded 2 1 5 ∷ taken
+worked = Ended 1 ∷ Spent 2 ∷ Accessed 2 1 (adds 4294967295) 5 ∷ Accessed 2 1 loads 5 ∷ taken
 
 worked_legal : LegalLedger 2 worked
 worked_legal = search rules

@@ -2,12 +2,13 @@
 use Rattle.std.proofs.Common.{true, false, refl, List, [], ◌∷◌}
 use Rattle.std.specs.Prelude.{pos, negsuc}
 use Rattle.es_value.specs.declared.value.Value.TheVariants.{Boolean, Number, Object}
+use Rattle.es_event.specs.declared.access.Access.TheVariants.{Load as loads, Store as stores, Add as adds}
 use Rattle.es_event.specs.declared.command.Command.TheVariants.{SharedArrayBuffer, Length, SameBlock, Load, Store, Add, Post}
 use Rattle.es_event.specs.declared.event.Answer.TheVariants.{Nothing, Gives}
 use Rattle.es_event.specs.declared.event.Refusal.TheVariants.{TooManyValues, TooManyPosts}
 use Rattle.es_event.specs.declared.event.Event.TheVariants.{JobBegun, Received, Did, Refused, Emptied, Skipped, Closed}
 use Rattle.es_event.specs.declared.ledger_event.Body.TheVariants.{Plain, Block}
-use Rattle.es_event.specs.declared.ledger_event.LedgerEvent.TheVariants.{Opened, Posted, Taken, Spent, Loaded, Stored, Added, Waiting, Passed, Ended, Drained}
+use Rattle.es_event.specs.declared.ledger_event.LedgerEvent.TheVariants.{Opened, Posted, Taken, Spent, Accessed, Waiting, Passed, Ended, Drained}
 use Rattle.es_event.specs.History.{History}
 use Rattle.es_event.specs.Ledger.{Ledger}
 use Rattle.es_match.specs.Cluster.{IsCluster}
@@ -23,51 +24,51 @@ both = maker ∷ worker ∷ []
 -- What the worker does
 
 -- a word that was not read
-invented : No both (Ended 1 ∷ Spent 2 ∷ Added 2 1 5 4294967295 ∷ Loaded 2 1 6 ∷ taken)
+invented : No both (Ended 1 ∷ Spent 2 ∷ Accessed 2 1 (adds 4294967295) 5 ∷ Accessed 2 1 loads 6 ∷ taken)
 invented = untold both _ 1 refl
 
 -- another index
-elsewhere : No both (Ended 1 ∷ Spent 2 ∷ Added 2 1 5 4294967295 ∷ Loaded 2 2 5 ∷ taken)
+elsewhere : No both (Ended 1 ∷ Spent 2 ∷ Accessed 2 1 (adds 4294967295) 5 ∷ Accessed 2 2 loads 5 ∷ taken)
 elsewhere = untold both _ 1 refl
 
 -- through the ticket of nobody
-unheld : No both (Ended 1 ∷ Spent 2 ∷ Added 2 1 5 4294967295 ∷ Loaded 1 1 5 ∷ taken)
+unheld : No both (Ended 1 ∷ Spent 2 ∷ Accessed 2 1 (adds 4294967295) 5 ∷ Accessed 1 1 loads 5 ∷ taken)
 unheld = untold both _ 1 refl
 
 -- another addend
-other_addend : No both (Ended 1 ∷ Spent 2 ∷ Added 2 1 5 4294967294 ∷ Loaded 2 1 5 ∷ taken)
+other_addend : No both (Ended 1 ∷ Spent 2 ∷ Accessed 2 1 (adds 4294967294) 5 ∷ Accessed 2 1 loads 5 ∷ taken)
 other_addend = untold both _ 1 refl
 
 -- another word before the sum
-other_old : No both (Ended 1 ∷ Spent 2 ∷ Added 2 1 6 4294967295 ∷ Loaded 2 1 5 ∷ taken)
+other_old : No both (Ended 1 ∷ Spent 2 ∷ Accessed 2 1 (adds 4294967295) 6 ∷ Accessed 2 1 loads 5 ∷ taken)
 other_old = untold both _ 1 refl
 
 -- a sum at another index
-other_sum : No both (Ended 1 ∷ Spent 2 ∷ Added 2 0 5 4294967295 ∷ Loaded 2 1 5 ∷ taken)
+other_sum : No both (Ended 1 ∷ Spent 2 ∷ Accessed 2 0 (adds 4294967295) 5 ∷ Accessed 2 1 loads 5 ∷ taken)
 other_sum = untold both _ 1 refl
 
 -- two deeds swapped
-swapped : No both (Ended 1 ∷ Spent 2 ∷ Loaded 2 1 5 ∷ Added 2 1 5 4294967295 ∷ taken)
+swapped : No both (Ended 1 ∷ Spent 2 ∷ Accessed 2 1 loads 5 ∷ Accessed 2 1 (adds 4294967295) 5 ∷ taken)
 swapped = untold both _ 1 refl
 
 -- a deed that was not asked
-besides : No both (Ended 1 ∷ Spent 2 ∷ Loaded 2 1 5 ∷ Added 2 1 5 4294967295 ∷ Loaded 2 1 5 ∷ taken)
+besides : No both (Ended 1 ∷ Spent 2 ∷ Accessed 2 1 loads 5 ∷ Accessed 2 1 (adds 4294967295) 5 ∷ Accessed 2 1 loads 5 ∷ taken)
 besides = untold both _ 1 refl
 
 -- a deed missing
-missing : No both (Ended 1 ∷ Spent 2 ∷ Loaded 2 1 5 ∷ taken)
+missing : No both (Ended 1 ∷ Spent 2 ∷ Accessed 2 1 loads 5 ∷ taken)
 missing = untold both _ 1 refl
 
 -- the ticket is not spent at the closing
-unspent : No both (Ended 1 ∷ Added 2 1 5 4294967295 ∷ Loaded 2 1 5 ∷ taken)
+unspent : No both (Ended 1 ∷ Accessed 2 1 (adds 4294967295) 5 ∷ Accessed 2 1 loads 5 ∷ taken)
 unspent = untold both _ 1 refl
 
 -- the agent does not end
-endless : No both (Spent 2 ∷ Added 2 1 5 4294967295 ∷ Loaded 2 1 5 ∷ taken)
+endless : No both (Spent 2 ∷ Accessed 2 1 (adds 4294967295) 5 ∷ Accessed 2 1 loads 5 ∷ taken)
 endless = untold both _ 1 refl
 
 -- the ticket is spent after the end
-late : No both (Spent 2 ∷ Ended 1 ∷ Added 2 1 5 4294967295 ∷ Loaded 2 1 5 ∷ taken)
+late : No both (Spent 2 ∷ Ended 1 ∷ Accessed 2 1 (adds 4294967295) 5 ∷ Accessed 2 1 loads 5 ∷ taken)
 late = untold both _ 1 refl
 
 -- What the worker says
@@ -91,12 +92,12 @@ no_length = untold _ _ 1 refl
 -- Messages
 
 -- a post dropped
-dropped : No both (Ended 1 ∷ Spent 2 ∷ Added 2 1 5 4294967295 ∷ Loaded 2 1 5 ∷ Ended 0 ∷ Spent 1 ∷ Taken 1 0 ∷ Stored 1 1 5
+dropped : No both (Ended 1 ∷ Spent 2 ∷ Accessed 2 1 (adds 4294967295) 5 ∷ Accessed 2 1 loads 5 ∷ Ended 0 ∷ Spent 1 ∷ Taken 1 0 ∷ Accessed 1 1 (stores 5) 0
     ∷ Waiting 1 0 ∷ opened)
 dropped = untold both _ 0 refl
 
 -- a post to another agent
-to_another : No ((Did (Post 1 b, Object 1 ∷ [], Nothing) ∷ made) ∷ idle ∷ []) (Ended 1 ∷ Posted 0 0 (Block 1 2) ∷ Stored 1 1 5
+to_another : No ((Did (Post 1 b, Object 1 ∷ [], Nothing) ∷ made) ∷ idle ∷ []) (Ended 1 ∷ Posted 0 0 (Block 1 2) ∷ Accessed 1 1 (stores 5) 0
     ∷ opened)
 to_another = untold _ _ 0 refl
 
@@ -106,7 +107,7 @@ other_value : No ((Did (Post 1 x, Number (pos 7) ∷ [], Nothing) ∷ []) ∷ id
 other_value = untold _ _ 0 refl
 
 -- a post of another block
-other_block : No ((Did (Post 1 b, Object 1 ∷ [], Nothing) ∷ made) ∷ idle ∷ []) (Ended 1 ∷ Posted 0 1 (Block 2 2) ∷ Stored 1 1 5
+other_block : No ((Did (Post 1 b, Object 1 ∷ [], Nothing) ∷ made) ∷ idle ∷ []) (Ended 1 ∷ Posted 0 1 (Block 2 2) ∷ Accessed 1 1 (stores 5) 0
     ∷ opened)
 other_block = untold _ _ 0 refl
 
@@ -116,7 +117,7 @@ block_for_value = untold _ _ 0 refl
 
 -- an object as such is posted
 object_as_such : No ((Did (Post 1 b, Object 1 ∷ [], Nothing) ∷ made) ∷ idle ∷ []) (Ended 1 ∷ Posted 0 1 (Plain (Object 1))
-    ∷ Stored 1 1 5 ∷ opened)
+    ∷ Accessed 1 1 (stores 5) 0 ∷ opened)
 object_as_such = untold _ _ 0 refl
 
 -- another value is received
@@ -158,20 +159,20 @@ out_of_order = untold _ _ 1 refl
 -- What the maker does
 
 -- a store of another number
-other_number : No (made ∷ [] ∷ []) (Stored 1 1 6 ∷ opened)
+other_number : No (made ∷ [] ∷ []) (Accessed 1 1 (stores 6) 0 ∷ opened)
 other_number = untold _ _ 0 refl
 
 -- a store at another index
-other_index : No (made ∷ [] ∷ []) (Stored 1 0 5 ∷ opened)
+other_index : No (made ∷ [] ∷ []) (Accessed 1 0 (stores 5) 0 ∷ opened)
 other_index = untold _ _ 0 refl
 
 -- a store at a negative index
 negative_index : No ((Did (Store b (negsuc 0) (pos 5), Object 1 ∷ [], Nothing)
-    ∷ Did (SharedArrayBuffer b 4, [], Gives (Object 1)) ∷ []) ∷ [] ∷ []) (Stored 1 1 5 ∷ opened)
+    ∷ Did (SharedArrayBuffer b 4, [], Gives (Object 1)) ∷ []) ∷ [] ∷ []) (Accessed 1 1 (stores 5) 0 ∷ opened)
 negative_index = untold _ _ 0 refl
 
 -- a block of another size
-other_size : No (made ∷ [] ∷ []) (Stored 1 1 5 ∷ Opened 1 5 1 0 ∷ [])
+other_size : No (made ∷ [] ∷ []) (Accessed 1 1 (stores 5) 0 ∷ Opened 1 5 1 0 ∷ [])
 other_size = untold _ _ 0 refl
 
 -- Skips and waits
@@ -218,13 +219,13 @@ posts_waiting hs = impatient _ _ refl
 spends_waiting : (hs : List History) → No hs (Spent 1 ∷ waiting)
 spends_waiting hs = impatient _ _ refl
 
-loads_waiting : (hs : List History) → No hs (Loaded 1 0 0 ∷ waiting)
+loads_waiting : (hs : List History) → No hs (Accessed 1 0 loads 0 ∷ waiting)
 loads_waiting hs = impatient _ _ refl
 
-stores_waiting : (hs : List History) → No hs (Stored 1 0 5 ∷ waiting)
+stores_waiting : (hs : List History) → No hs (Accessed 1 0 (stores 5) 0 ∷ waiting)
 stores_waiting hs = impatient _ _ refl
 
-adds_waiting : (hs : List History) → No hs (Added 1 0 0 5 ∷ waiting)
+adds_waiting : (hs : List History) → No hs (Accessed 1 0 (adds 5) 0 ∷ waiting)
 adds_waiting hs = impatient _ _ refl
 
 -- Refusals
@@ -302,16 +303,16 @@ abbrev two_made : History
 two_made = Did (SharedArrayBuffer x 3, [], Gives (Object 2)) ∷ Did (SharedArrayBuffer b 4, [], Gives (Object 1)) ∷ []
 
 -- a word is read through the ticket of the other buffer
-loads_other : No ((Did (Load x b (pos 0), Object 1 ∷ [], Gives (Number (pos 0))) ∷ two_made) ∷ [] ∷ []) (Loaded 2 0 0
+loads_other : No ((Did (Load x b (pos 0), Object 1 ∷ [], Gives (Number (pos 0))) ∷ two_made) ∷ [] ∷ []) (Accessed 2 0 loads 0
     ∷ two_opened)
 loads_other = untold _ _ 0 refl
 
 -- a word is written through it
-stores_other : No ((Did (Store b (pos 0) (pos 5), Object 1 ∷ [], Nothing) ∷ two_made) ∷ [] ∷ []) (Stored 2 0 5 ∷ two_opened)
+stores_other : No ((Did (Store b (pos 0) (pos 5), Object 1 ∷ [], Nothing) ∷ two_made) ∷ [] ∷ []) (Accessed 2 0 (stores 5) 0 ∷ two_opened)
 stores_other = untold _ _ 0 refl
 
 -- an addend is added through it
-adds_other : No ((Did (Add x b (pos 0) (pos 5), Object 1 ∷ [], Gives (Number (pos 0))) ∷ two_made) ∷ [] ∷ []) (Added 2 0 0 5
+adds_other : No ((Did (Add x b (pos 0) (pos 5), Object 1 ∷ [], Gives (Number (pos 0))) ∷ two_made) ∷ [] ∷ []) (Accessed 2 0 (adds 5) 0
     ∷ two_opened)
 adds_other = untold _ _ 0 refl
 

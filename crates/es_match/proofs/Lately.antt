@@ -3,11 +3,11 @@ use Rattle.std.proofs.Common.{◌≡◌, ℕ, Bool, true, false, true≢false, n
 use Rattle.std.specs.Prelude.{nat_lt}
 use Rattle.std.specs.Option.{option_map, option_map_or}
 use Rattle.es_event.specs.declared.ledger_event.LedgerEvent.{LedgerEvent}
-use Rattle.es_event.specs.declared.ledger_event.LedgerEvent.TheVariants.{Loaded, Stored, Added}
+use Rattle.es_event.specs.declared.ledger_event.LedgerEvent.TheVariants.{Accessed}
 use Rattle.es_event.specs.declared.row.Row.{Row}
 use Rattle.es_event.specs.Ledger.{Ledger, holder_of, waits}
 use Rattle.es_match.specs.declared.tables.Tables.{Tables}
-use Rattle.es_match.specs.Deeds.{Deed, Loads, Stores, Adds, by_holder, deed, is_wait}
+use Rattle.es_match.specs.Deeds.{Deed, Accesses, by_holder, deed, is_wait}
 use Rattle.es_match.specs.Cluster.{drained, ends_wait, may_do}
 use Rattle.es_match.specs.Orderly.{may_come}
 use Rattle.es_match.specs.Tables.{Says, HoldsStill, HoldsLately, IsAgain, WordBy, is_word}
@@ -25,15 +25,11 @@ or_true false c e = e
 
 lately_again : (l : Ledger) (e : LedgerEvent) (o : Option (ℕ × ℕ)) → is_word e ≡ true → HoldsLately l o → HoldsLately (e ∷ l) o
 lately_again l e None is holds = tt
-lately_again l (Loaded s i w) (Some p) is holds = record { holder = holds.holder; waits = holds.waits; drains = holds.drains }
-lately_again l (Stored s i w) (Some p) is holds = record { holder = holds.holder; waits = holds.waits; drains = holds.drains }
-lately_again l (Added s i old n) (Some p) is holds = record { holder = holds.holder; waits = holds.waits; drains = holds.drains }
+lately_again l (Accessed s i m old) (Some p) is holds = record { holder = holds.holder; waits = holds.waits; drains = holds.drains }
 lately_again l _ (Some p) is holds = absurd (cc)
 
 says_again : (l : Ledger) (e : LedgerEvent) (t : Tables) → is_word e ≡ true → Says l t → Says (e ∷ l) t
-says_again l (Loaded s i w) t is says = record { lines = says.lines; sizes = says.sizes; mail = says.mail; waiting = says.waiting; drains = says.drains; lately = lately_again l (Loaded s i w) t.lately is says.lately }
-says_again l (Stored s i w) t is says = record { lines = says.lines; sizes = says.sizes; mail = says.mail; waiting = says.waiting; drains = says.drains; lately = lately_again l (Stored s i w) t.lately is says.lately }
-says_again l (Added s i old n) t is says = record { lines = says.lines; sizes = says.sizes; mail = says.mail; waiting = says.waiting; drains = says.drains; lately = lately_again l (Added s i old n) t.lately is says.lately }
+says_again l (Accessed s i m old) t is says = record { lines = says.lines; sizes = says.sizes; mail = says.mail; waiting = says.waiting; drains = says.drains; lately = lately_again l (Accessed s i m old) t.lately is says.lately }
 says_again l _ t is says = absurd (cc)
 
 pub is_again : (n : ℕ) (l : Ledger) (e : LedgerEvent) (t : Tables) (s a : ℕ) (p : ℕ × Deed) → Says l t → t.lately ≡ Some (s, a) → WordBy e p → p.0 ≡ s → nat_lt a n ≡ true
@@ -74,9 +70,7 @@ still n l s a x d is never comes =
     }
 
 never : (e : LedgerEvent) (l : Ledger) (a : ℕ) (d : Deed) → is_word e ≡ true → Some (a, d) ≡ deed l e → (t : ℕ) → ends_wait t d ≡ false
-never (Loaded s i w) l a d is at t = ap (ends_wait t) (deed_back a (Loads s i w) d (holder_of l s) (sym at))
-never (Stored s i w) l a d is at t = ap (ends_wait t) (deed_back a (Stores s i w) d (holder_of l s) (sym at))
-never (Added s i old n) l a d is at t = ap (ends_wait t) (deed_back a (Adds s i old n) d (holder_of l s) (sym at))
+never (Accessed s i m old) l a d is at t = ap (ends_wait t) (deed_back a (Accesses s i m old) d (holder_of l s) (sym at))
 never _ l a d is at t = absurd (cc)
 
 pub word_kept : (n : ℕ) (l : Ledger) (e : LedgerEvent) (a : ℕ) (d : Deed) (p : ℕ × Deed) → WordBy e p → Some (a, d) ≡ deed l e → may_come n l (Some (a, d)) ≡ true

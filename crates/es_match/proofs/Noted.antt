@@ -4,7 +4,7 @@ use Rattle.std.specs.Option.{option_and_then, option_map, option_map_or}
 use Rattle.es_event.specs.declared.ledger_event.Body.{Body}
 use Rattle.es_event.specs.declared.ledger_event.Body.TheVariants.{Plain, Block}
 use Rattle.es_event.specs.declared.ledger_event.LedgerEvent.{LedgerEvent}
-use Rattle.es_event.specs.declared.ledger_event.LedgerEvent.TheVariants.{Opened, Posted, Taken, Spent, Loaded, Stored, Added, Waiting, Passed, Ended, Drained}
+use Rattle.es_event.specs.declared.ledger_event.LedgerEvent.TheVariants.{Opened, Posted, Taken, Spent, Accessed, Waiting, Passed, Ended, Drained}
 use Rattle.es_event.specs.declared.row.Entry.{Entry}
 use Rattle.es_event.specs.declared.row.Holder.{Holder}
 use Rattle.es_event.specs.declared.row.Holder.TheVariants.{Agent, Nobody}
@@ -78,9 +78,7 @@ line_said l (Opened b w s a) q = line_added (table l) _ q
 line_said l (Posted a r body) q = posted_said l a r body (table l) q
 line_said l (Taken r s) q = moved_said (option_and_then serial_in (front l s r)) (Agent r) (table l) q
 line_said l (Spent s) q = line_moved s Nobody (table l) q
-line_said l (Loaded s i w) q = refl
-line_said l (Stored s i w) q = refl
-line_said l (Added s i old n) q = refl
+line_said l (Accessed s i m old) q = refl
 line_said l (Waiting a s) q = refl
 line_said l (Passed a s) q = refl
 line_said l (Ended a) q = refl

@@ -3,12 +3,12 @@ use Rattle.std.specs.Prelude.{ℕ, ◌≡◌, ◌<◌, length, Bool, true, false
 use Rattle.std.specs.Option.{option_map_or}
 use Rattle.es_event.specs.declared.plan.AgentPlan.{AgentPlan}
 use Rattle.es_event.specs.declared.ledger_event.LedgerEvent.{LedgerEvent}
-use Rattle.es_event.specs.declared.ledger_event.LedgerEvent.TheVariants.{Opened, Posted, Taken, Spent, Loaded, Stored, Added, Waiting, Passed, Ended, Drained}
+use Rattle.es_event.specs.declared.ledger_event.LedgerEvent.TheVariants.{Opened, Posted, Taken, Spent, Accessed, Waiting, Passed, Ended, Drained}
 use Rattle.es_event.specs.History.{History}
 use Rattle.es_event.specs.Jobs.{job, on_of}
 use Rattle.es_event.specs.Ledger.{Ledger, waits}
 use Rattle.es_event.specs.Sharing.{Buffers}
-use Rattle.es_match.specs.Deeds.{Deed, Opens, Posts, Takes, Spends, Loads, Stores, Adds, Waits, Passes, Ends, Owned, deed, part}
+use Rattle.es_match.specs.Deeds.{Deed, Opens, Posts, Takes, Spends, Accesses, Waits, Passes, Ends, Owned, deed, part}
 use Rattle.es_match.specs.Asks.{Asking, to_refuse, between_jobs, asks}
 use Rattle.es_match.specs.Meets.{Came, came_after, nothing_came}
 
@@ -26,9 +26,7 @@ ends_wait t (Opens b w s) = false
 ends_wait t (Posts r m) = false
 ends_wait t (Takes s m w) = s == t
 ends_wait t (Spends s) = false
-ends_wait t (Loads s i w) = false
-ends_wait t (Stores s i w) = false
-ends_wait t (Adds s i old n) = false
+ends_wait t (Accesses s i m old) = false
 ends_wait t (Waits s) = false
 ends_wait t (Passes s) = s == t
 ends_wait t Ends = false
@@ -51,9 +49,7 @@ drains (Opened b w s a) = false
 drains (Posted a r m) = false
 drains (Taken r s) = false
 drains (Spent s) = false
-drains (Loaded s i w) = false
-drains (Stored s i w) = false
-drains (Added s i old n) = false
+drains (Accessed s i m old) = false
 drains (Waiting a s) = false
 drains (Passed a s) = false
 drains (Ended a) = false

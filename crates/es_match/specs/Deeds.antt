@@ -1,10 +1,11 @@
 -- To believe: what an event of the ledger is to the agent that does it, and an agent's part in the ledger's history.
 use Rattle.std.specs.Prelude.{ℕ, Bool, true, false, not, ◌&&◌, ◌==◌, List, [], ◌∷◌, ◌++◌, Option, Some, None, if◌then◌else◌}
 use Rattle.std.specs.Option.{option_map, option_map_or}
+use Rattle.es_event.specs.declared.access.Access.{Access}
 use Rattle.es_event.specs.declared.ledger_event.Body.{Body}
 use Rattle.es_event.specs.declared.ledger_event.Body.TheVariants.{Plain, Block}
 use Rattle.es_event.specs.declared.ledger_event.LedgerEvent.{LedgerEvent}
-use Rattle.es_event.specs.declared.ledger_event.LedgerEvent.TheVariants.{Opened, Posted, Taken, Spent, Loaded, Stored, Added, Waiting, Passed, Ended, Drained}
+use Rattle.es_event.specs.declared.ledger_event.LedgerEvent.TheVariants.{Opened, Posted, Taken, Spent, Accessed, Waiting, Passed, Ended, Drained}
 use Rattle.es_event.specs.Ledger.{Ledger, size, front, holder_of}
 
 -- what an agent does to the ledger; a message that it takes is none where the port was empty, and comes with the number of
@@ -14,9 +15,7 @@ pub data Deed : Type 0 where
   Posts : (receiver : ℕ) (body : Body) → Deed
   Takes : (sender : ℕ) (message : Option Body) (words : ℕ) → Deed
   Spends : (serial : ℕ) → Deed
-  Loads : (serial index word : ℕ) → Deed
-  Stores : (serial index word : ℕ) → Deed
-  Adds : (serial index old addend : ℕ) → Deed
+  Accesses : (serial index : ℕ) (access : Access) (old : ℕ) → Deed
   Waits : (sender : ℕ) → Deed
   Passes : (sender : ℕ) → Deed
   Ends : Deed
@@ -43,9 +42,7 @@ deed l (Opened b w s a) = Some (a, Opens b w s)
 deed l (Posted a r m) = Some (a, Posts r m)
 deed l (Taken r s) = Some (r, taking l s (front l s r))
 deed l (Spent s) = by_holder l s (Spends s)
-deed l (Loaded s i w) = by_holder l s (Loads s i w)
-deed l (Stored s i w) = by_holder l s (Stores s i w)
-deed l (Added s i old n) = by_holder l s (Adds s i old n)
+deed l (Accessed s i m old) = by_holder l s (Accesses s i m old)
 deed l (Waiting a s) = Some (a, Waits s)
 deed l (Passed a s) = Some (a, Passes s)
 deed l (Ended a) = Some (a, Ends)
@@ -56,9 +53,7 @@ is_wait (Opens b w s) = false
 is_wait (Posts r m) = false
 is_wait (Takes s m w) = false
 is_wait (Spends s) = false
-is_wait (Loads s i w) = false
-is_wait (Stores s i w) = false
-is_wait (Adds s i old n) = false
+is_wait (Accesses s i m old) = false
 is_wait (Waits s) = true
 is_wait (Passes s) = false
 is_wait Ends = false

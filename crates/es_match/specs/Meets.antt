@@ -1,18 +1,20 @@
 -- To believe: which deeds meet what an agent asks, and the tickets of its buffers after them.
-use Rattle.std.specs.Prelude.{ℕ, ℤ, pos, Bool, true, false, not, ◌&&◌, ◌==◌, List, [], ◌∷◌, ◌++◌, filter, map, Option, Some, None, is_some, if◌then◌else◌}
+use Rattle.std.specs.Prelude.{ℕ, ℤ, pos, Bool, true, false, not, ◌&&◌, ◌||◌, ◌==◌, List, [], ◌∷◌, ◌++◌, filter, map, Option, Some, None, is_some, if◌then◌else◌}
 use Rattle.std.specs.Option.{option_and_then, option_map, option_map_or}
 use Rattle.std.specs.Ordering.{int_eq}
 use Rattle.es_value.specs.Values.{is_same}
 use Rattle.es_value.specs.declared.value.Value.{Value}
 use Rattle.es_value.specs.declared.value.Value.TheVariants.{Number, Boolean}
+use Rattle.es_event.specs.declared.access.Access.{Access}
 use Rattle.es_event.specs.declared.ledger_event.Body.{Body}
 use Rattle.es_event.specs.declared.ledger_event.Body.TheVariants.{Plain, Block}
 use Rattle.es_event.specs.declared.row.Row.{Row}
+use Rattle.es_event.specs.Access.{gives_word, is_same_access}
 use Rattle.es_event.specs.Identities.{is_in, object_of}
 use Rattle.es_event.specs.Rows.{row}
-use Rattle.es_event.specs.Sharing.{row_of, to_uint32}
-use Rattle.es_match.specs.Asks.{Asking, nothing, to_open, to_measure, to_compare, to_load, to_store, to_add, to_post, to_receive, to_refuse, to_pass, to_empty, to_close}
-use Rattle.es_match.specs.Deeds.{Deed, Opens, Posts, Takes, Spends, Loads, Stores, Adds, Passes, Ends}
+use Rattle.es_event.specs.Sharing.{row_of}
+use Rattle.es_match.specs.Asks.{Asking, nothing, to_open, to_measure, to_compare, to_access, to_post, to_receive, to_refuse, to_pass, to_empty, to_close}
+use Rattle.es_match.specs.Deeds.{Deed, Opens, Posts, Takes, Spends, Accesses, Passes, Ends}
 
 -- an agent's tickets by buffer object, the oldest first
 abbrev pub Tickets : Type 0
@@ -47,17 +49,13 @@ abbrev pub opening : Tickets → ℕ → Value → Deed → Option Tickets
 opening t n v (Opens b w s) = if w == n then add_ticket t v (row s b w) else None
 opening t n v _ = None
 
-abbrev pub is_load : Tickets → Value → ℤ → Value → Deed → Bool
-is_load t b i v (Loads s j w) = is_ticket t b s && (same_index i j && is_number v w)
-is_load t b i v _ = false
+-- the answer is the word that was there, where the command gives it
+abbrev pub answers : Access → Value → ℕ → Bool
+answers m v old = not (gives_word m) || is_number v old
 
-abbrev pub is_store : Tickets → Value → ℤ → ℤ → Deed → Bool
-is_store t b i n (Stores s j w) = is_ticket t b s && (same_index i j && (w == to_uint32 n))
-is_store t b i n _ = false
-
-abbrev pub is_add : Tickets → Value → ℤ → ℤ → Value → Deed → Bool
-is_add t b i n v (Adds s j old m) = is_ticket t b s && (same_index i j && (is_number v old && (m == to_uint32 n)))
-is_add t b i n v _ = false
+abbrev pub is_access : Tickets → Value → ℤ → Access → Value → Deed → Bool
+is_access t b i m v (Accesses s j done old) = is_ticket t b s && (same_index i j && (is_same_access m done && answers m v old))
+is_access t b i m v _ = false
 
 -- the message carries the value, or the block of the buffer
 abbrev pub carries : Tickets → Value → Body → Bool
@@ -148,9 +146,7 @@ after t nothing ds = some_if (no_more ds) t
 after t (to_open n v) ds = option_and_then (opening t n v) (sole ds)
 after t (to_measure b v) ds = some_if (no_more ds && has_ticket t b (λ r. is_number v r.words)) t
 after t (to_compare b c v) ds = some_if (no_more ds && compares t b c v) t
-after t (to_load b i v) ds = some_if (is_one (is_load t b i v) ds) t
-after t (to_store b i n) ds = some_if (is_one (is_store t b i n) ds) t
-after t (to_add b i n v) ds = some_if (is_one (is_add t b i n v) ds) t
+after t (to_access b i m v) ds = some_if (is_one (is_access t b i m v) ds) t
 after t (to_post a v) ds = some_if (is_one (is_post t a v) ds) t
 after t (to_receive s v) ds = option_and_then (receiving t s v) (sole ds)
 after t to_refuse ds = some_if (option_map_or (λ p. is_refusal p.0 p.1) (pair ds) false) t

@@ -5,20 +5,18 @@ use denote.Ref.{Bor}
 use Rattle.es_value.specs.declared.value.Value.{Value}
 use Rattle.es_value.specs.declared.value.Value.TheVariants.{Undefined}
 use Rattle.es_match.specs.declared.deed.Deed.{Deed}
-use Rattle.es_match.specs.declared.deed.Deed.TheVariants.{Open, Post, Take, Spend, Load, Store, Add, Wait, Pass, End}
+use Rattle.es_match.specs.declared.deed.Deed.TheVariants.{Open, Post, Take, Spend, Access, Wait, Pass, End}
 use Rattle.es_match.specs.declared.want.Want.{Want}
-use Rattle.es_match.specs.declared.want.Want.TheVariants.{Nothing, Opening, Length, SameBlock, Loading, Storing, Adding, Posting, Receiving, Refusal, Passing, Emptying, Closing}
-use Rattle.es_match.specs.Deeds.{Deed as DeedSaid, Owned, Opens, Posts, Takes, Spends, Loads, Stores, Adds, Waits, Passes, Ends}
-use Rattle.es_match.specs.Asks.{Asking, nothing, to_open, to_measure, to_compare, to_load, to_store, to_add, to_post, to_receive, to_refuse, to_pass, to_empty, to_close}
+use Rattle.es_match.specs.declared.want.Want.TheVariants.{Nothing, Opening, Length, SameBlock, Accessing, Posting, Receiving, Refusal, Passing, Emptying, Closing}
+use Rattle.es_match.specs.Deeds.{Deed as DeedSaid, Owned, Opens, Posts, Takes, Spends, Accesses, Waits, Passes, Ends}
+use Rattle.es_match.specs.Asks.{Asking, nothing, to_open, to_measure, to_compare, to_access, to_post, to_receive, to_refuse, to_pass, to_empty, to_close}
 
 abbrev pub shown : Deed → DeedSaid
 shown (Open b w s) = Opens b w s
 shown (Post r m) = Posts r m.now
 shown (Take s m w) = Takes s (option_map (λ b. b.now) m) w
 shown (Spend s) = Spends s
-shown (Load s i w) = Loads s i w
-shown (Store s i w) = Stores s i w
-shown (Add s i old n) = Adds s i old n
+shown (Access s i m old) = Accesses s i m old
 shown (Wait s) = Waits s
 shown (Pass s) = Passes s
 shown End = Ends
@@ -36,9 +34,7 @@ asking Nothing = nothing
 asking (Opening n v) = to_open n (said v)
 asking (Length b v) = to_measure (said b) (said v)
 asking (SameBlock b c v) = to_compare (said b) (said c) (said v)
-asking (Loading b i v) = to_load (said b) i (said v)
-asking (Storing b i n) = to_store (said b) i n
-asking (Adding b i n v) = to_add (said b) i n (said v)
+asking (Accessing b i m v) = to_access (said b) i m (said v)
 asking (Posting a v) = to_post a (said v)
 asking (Receiving s v) = to_receive s v.now
 asking Refusal = to_refuse

@@ -10,7 +10,7 @@ use denote.Ref.{Bor}
 use Rattle.es_event.specs.declared.ledger_event.Body.{Body}
 use Rattle.es_event.specs.declared.ledger_event.Body.TheVariants.{Plain, Block}
 use Rattle.es_event.specs.declared.ledger_event.LedgerEvent.{LedgerEvent}
-use Rattle.es_event.specs.declared.ledger_event.LedgerEvent.TheVariants.{Opened, Posted, Taken, Spent, Loaded, Stored, Added, Waiting, Passed, Ended, Drained}
+use Rattle.es_event.specs.declared.ledger_event.LedgerEvent.TheVariants.{Opened, Posted, Taken, Spent, Accessed, Waiting, Passed, Ended, Drained}
 use Rattle.es_event.specs.declared.row.Entry.{Entry}
 use Rattle.es_event.specs.declared.row.Holder.{Holder}
 use Rattle.es_event.specs.declared.row.Holder.TheVariants.{Agent, Port, Nobody}
@@ -87,9 +87,7 @@ taken_by l (Opened b w s a) = None
 taken_by l (Posted a r m) = None
 taken_by l (Taken r s) = front l s r
 taken_by l (Spent s) = None
-taken_by l (Loaded s i w) = None
-taken_by l (Stored s i w) = None
-taken_by l (Added s i old n) = None
+taken_by l (Accessed s i m old) = None
 taken_by l (Waiting a s) = None
 taken_by l (Passed a s) = None
 taken_by l (Ended a) = None
@@ -101,9 +99,7 @@ words_by l (Opened b w s a) = 0
 words_by l (Posted a r m) = words_in l m
 words_by l (Taken r s) = 0
 words_by l (Spent s) = 0
-words_by l (Loaded s i w) = 0
-words_by l (Stored s i w) = 0
-words_by l (Added s i old n) = 0
+words_by l (Accessed s i m old) = 0
 words_by l (Waiting a s) = 0
 words_by l (Passed a s) = 0
 words_by l (Ended a) = 0
@@ -116,37 +112,19 @@ line_after m words (Posted a r body) q before = post_line words a r body q befor
 line_after m words (Taken r s) q before =
     option_map_or (λ k. move_line k (Agent r) q before) (option_and_then serial_in m) before
 line_after m words (Spent s) q before = move_line s Nobody q before
-line_after m words (Loaded s i w) q before = before
-line_after m words (Stored s i w) q before = before
-line_after m words (Added s i old n) q before = before
+line_after m words (Accessed s i done old) q before = before
 line_after m words (Waiting a s) q before = before
 line_after m words (Passed a s) q before = before
 line_after m words (Ended a) q before = before
 line_after m words (Drained r s) q before = before
 
--- the event is done with a ticket
-abbrev pub is_by_ticket : LedgerEvent → Bool
-is_by_ticket (Opened b w s a) = false
-is_by_ticket (Posted a r m) = false
-is_by_ticket (Taken r s) = false
-is_by_ticket (Spent s) = true
-is_by_ticket (Loaded s i w) = true
-is_by_ticket (Stored s i w) = true
-is_by_ticket (Added s i old n) = true
-is_by_ticket (Waiting a s) = false
-is_by_ticket (Passed a s) = false
-is_by_ticket (Ended a) = false
-is_by_ticket (Drained r s) = false
-
--- the event loads, stores or adds
+-- the event is an access to a word
 abbrev pub is_word : LedgerEvent → Bool
 is_word (Opened b w s a) = false
 is_word (Posted a r m) = false
 is_word (Taken r s) = false
 is_word (Spent s) = false
-is_word (Loaded s i w) = true
-is_word (Stored s i w) = true
-is_word (Added s i old n) = true
+is_word (Accessed s i m old) = true
 is_word (Waiting a s) = false
 is_word (Passed a s) = false
 is_word (Ended a) = false

@@ -46,42 +46,18 @@ fn word<'a>(event: &'a LedgerEvent) -> Option<(u64, Deed<'a>)>
     ensures { IfSome result (λ p. WordBy event.now (p.0, shown p.1)) }
 {
     match event {
-        LedgerEvent::Loaded {
+        LedgerEvent::Accessed {
             serial,
             index,
-            word,
-        } => Some((
-            *serial,
-            Deed::Load {
-                serial: *serial,
-                index: *index,
-                word: *word,
-            },
-        )),
-        LedgerEvent::Stored {
-            serial,
-            index,
-            word,
-        } => Some((
-            *serial,
-            Deed::Store {
-                serial: *serial,
-                index: *index,
-                word: *word,
-            },
-        )),
-        LedgerEvent::Added {
-            serial,
-            index,
+            access,
             old,
-            addend,
         } => Some((
             *serial,
-            Deed::Add {
+            Deed::Access {
                 serial: *serial,
                 index: *index,
+                access: *access,
                 old: *old,
-                addend: *addend,
             },
         )),
         _ => None,

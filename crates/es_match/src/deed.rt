@@ -1,6 +1,6 @@
 //! What an agent does to the ledger.
 
-use es_event::Body;
+use es_event::{Access, Body};
 
 /// What an agent does to the ledger.
 #[derive(Clone, Copy)]
@@ -26,24 +26,12 @@ pub(crate) enum Deed<'a> {
     Spend {
         serial: u64,
     },
-    /// It reads a word.
-    Load {
+    /// It does this to a word, over the old one.
+    Access {
         serial: u64,
         index: usize,
-        word: u32,
-    },
-    /// It writes a word.
-    Store {
-        serial: u64,
-        index: usize,
-        word: u32,
-    },
-    /// It adds to a word.
-    Add {
-        serial: u64,
-        index: usize,
+        access: Access,
         old: u32,
-        addend: u32,
     },
     /// It begins to wait for a message of a sender.
     Wait {

@@ -6,7 +6,7 @@ ghost use Rattle.es_match.specs.Cluster.{ends_wait, may_do};
 ghost use Rattle.es_match.specs.Deeds.{by_holder, deed, is_wait, taking};
 ghost use Rattle.es_match.specs.Orderly.{is_known, may_come};
 ghost use Rattle.es_match.specs.Shown.{owned, shown};
-ghost use Rattle.es_match.specs.Tables.{Says, is_by_ticket};
+ghost use Rattle.es_match.specs.Tables.{Says};
 
 use crate::deed::Deed;
 use crate::lines::holder;
@@ -47,10 +47,24 @@ impl<'a> Tables<'a> {
             LedgerEvent::Taken { receiver, sender } => {
                 Some((*receiver, self.taking(*sender, *receiver)))
             }
-            LedgerEvent::Spent { .. } => self.ticket_deed(event),
-            LedgerEvent::Loaded { .. } => self.ticket_deed(event),
-            LedgerEvent::Stored { .. } => self.ticket_deed(event),
-            LedgerEvent::Added { .. } => self.ticket_deed(event),
+            LedgerEvent::Spent { serial } => self.by_holder(
+                *serial,
+                Deed::Spend { serial: *serial },
+            ),
+            LedgerEvent::Accessed {
+                serial,
+                index,
+                access,
+                old,
+            } => self.by_holder(
+                *serial,
+                Deed::Access {
+                    serial: *serial,
+                    index: *index,
+                    access: *access,
+                    old: *old,
+                },
+            ),
             LedgerEvent::Waiting { agent, sender } => Some((
                 *agent,
                 Deed::Wait { sender: *sender },
@@ -58,58 +72,6 @@ impl<'a> Tables<'a> {
             LedgerEvent::Passed { agent, sender } => Some((*agent, Deed::Pass { sender: *sender })),
             LedgerEvent::Ended { agent } => Some((*agent, Deed::End)),
             LedgerEvent::Drained { .. } => None,
-        }
-    }
-
-    /// The same of an event that is done with a ticket.
-    fn ticket_deed(&self, event: &'a LedgerEvent) -> Option<(usize, Deed<'a>)>
-        requires { is_by_ticket event.now ≡ true }
-        ensures { (l : Ledger) → Says l self.now → owned result ≡ deed l event.now }
-    {
-        match event {
-            LedgerEvent::Spent { serial } => self.by_holder(
-                *serial,
-                Deed::Spend { serial: *serial },
-            ),
-            LedgerEvent::Loaded {
-                serial,
-                index,
-                word,
-            } => self.by_holder(
-                *serial,
-                Deed::Load {
-                    serial: *serial,
-                    index: *index,
-                    word: *word,
-                },
-            ),
-            LedgerEvent::Stored {
-                serial,
-                index,
-                word,
-            } => self.by_holder(
-                *serial,
-                Deed::Store {
-                    serial: *serial,
-                    index: *index,
-                    word: *word,
-                },
-            ),
-            LedgerEvent::Added {
-                serial,
-                index,
-                old,
-                addend,
-            } => self.by_holder(
-                *serial,
-                Deed::Add {
-                    serial: *serial,
-                    index: *index,
-                    old: *old,
-                    addend: *addend,
-                },
-            ),
-            _ => unreachable!(),
         }
     }
 

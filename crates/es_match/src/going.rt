@@ -9,9 +9,7 @@ ghost use Rattle.es_match.specs.Shown.{all_shown, asking, said, shown};
 
 use crate::came::Came;
 use crate::deed::Deed;
-use crate::meets::{
-    compares, is_add, is_length, is_load, is_pass, is_plain, is_post, is_refusal, is_store,
-};
+use crate::meets::{compares, is_access, is_length, is_pass, is_plain, is_post, is_refusal};
 use crate::spending::are_spent;
 use crate::tickets::{Rack, object_in, serials_of, serials_within};
 use crate::want::{Want, asks_nothing, ends_job, want_at};
@@ -148,29 +146,13 @@ pub(crate) fn after(
             right,
             answer,
         } => Ok(deeds.is_empty() && compares(tickets, left, right, answer)),
-        Want::Loading {
+        Want::Accessing {
             buffer,
             index,
+            access,
             answer,
         } => match one(deeds) {
-            Some(deed) => Ok(is_load(tickets, buffer, index, answer, &deed)),
-            None => Ok(false),
-        },
-        Want::Storing {
-            buffer,
-            index,
-            number,
-        } => match one(deeds) {
-            Some(deed) => Ok(is_store(tickets, buffer, index, number, &deed)),
-            None => Ok(false),
-        },
-        Want::Adding {
-            buffer,
-            index,
-            number,
-            answer,
-        } => match one(deeds) {
-            Some(deed) => Ok(is_add(tickets, buffer, index, number, answer, &deed)),
+            Some(deed) => Ok(is_access(tickets, buffer, index, access, answer, &deed)),
             None => Ok(false),
         },
         Want::Posting { receiver, value } => match one(deeds) {
@@ -225,9 +207,7 @@ fn asked(tickets: &Rack, want: Want<'_>) -> usize
     match want {
         Want::Nothing | Want::Length { .. } | Want::SameBlock { .. } => 0,
         Want::Opening { .. }
-        | Want::Loading { .. }
-        | Want::Storing { .. }
-        | Want::Adding { .. }
+        | Want::Accessing { .. }
         | Want::Posting { .. }
         | Want::Receiving { .. }
         | Want::Passing { .. } => 1,

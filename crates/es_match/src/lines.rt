@@ -129,9 +129,7 @@ pub(crate) fn note(
             _ => Ok(()),
         },
         LedgerEvent::Spent { serial } => hand(lines, *serial, Holder::Nobody),
-        LedgerEvent::Loaded { .. }
-        | LedgerEvent::Stored { .. }
-        | LedgerEvent::Added { .. }
+        LedgerEvent::Accessed { .. }
         | LedgerEvent::Waiting { .. }
         | LedgerEvent::Passed { .. }
         | LedgerEvent::Ended { .. }

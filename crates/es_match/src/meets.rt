@@ -1,23 +1,15 @@
 //! Which deeds meet what an agent asks.
 
 ghost use Rattle.std.specs.Prelude.{◌≡◌, not, ◌&&◌};
-ghost use Rattle.es_event.specs.Sharing.{to_uint32};
-ghost use Rattle.es_match.specs.Meets.{carries, compares, has_ticket, is_add, same_index, is_load, is_number, is_object, is_pass, is_post, is_refusal, is_store, is_ticket};
+ghost use Rattle.es_match.specs.Meets.{answers, carries, compares, has_ticket, is_access, same_index, is_number, is_object, is_pass, is_post, is_refusal, is_ticket};
 ghost use Rattle.es_match.specs.Shown.{said, shown};
 ghost use Rattle.es_value.specs.Values.{is_same};
 ghost use Rattle.es_value.specs.declared.value.Value.TheVariants.{Boolean};
 
 use crate::deed::Deed;
 use crate::tickets::Rack;
-use es_event::Body;
+use es_event::{Access, Body};
 use es_value::{Value, same_value};
-
-/// The word of 32 bits that is written for a number (ToUint32).
-fn word_of(number: i64) -> u32
-    ensures { result ≡ to_uint32 number }
-{
-    number.rem_euclid(4294967296) as u32
-}
 
 fn same_index(index: i64, other: usize) -> bool
     ensures { result ≡ same_index index other }
@@ -77,79 +69,38 @@ pub(crate) fn compares(
     }
 }
 
-/// Whether the deed reads the word that is the answer.
-pub(crate) fn is_load(
+/// Whether the deed does this to a word, over the one that is the answer.
+pub(crate) fn is_access(
     tickets: &Rack,
     buffer: Option<&Value>,
     at: i64,
+    access: Access,
     answer: Option<&Value>,
     deed: &Deed<'_>,
 ) -> bool
-    ensures { result ≡ is_load tickets.now (said buffer.entry) at (said answer.entry) (shown deed.now) }
+    ensures { result ≡ is_access tickets.now (said buffer.entry) at access (said answer.entry) (shown deed.now) }
 {
     match deed {
-        Deed::Load {
+        Deed::Access {
             serial,
             index,
-            word,
-        } => {
-            is_ticket(tickets, buffer, *serial)
-                && same_index(at, *index)
-                && is_number(answer, *word as usize)
-        }
-        _ => false,
-    }
-}
-
-/// Whether the deed writes the number modulo 2^32.
-pub(crate) fn is_store(
-    tickets: &Rack,
-    buffer: Option<&Value>,
-    at: i64,
-    number: i64,
-    deed: &Deed<'_>,
-) -> bool
-    ensures { result ≡ is_store tickets.now (said buffer.entry) at number (shown deed.now) }
-{
-    match deed {
-        Deed::Store {
-            serial,
-            index,
-            word,
-        } => {
-            is_ticket(tickets, buffer, *serial)
-                && same_index(at, *index)
-                && *word == word_of(number)
-        }
-        _ => false,
-    }
-}
-
-/// Whether the deed adds the number modulo 2^32 to the word that is the answer.
-pub(crate) fn is_add(
-    tickets: &Rack,
-    buffer: Option<&Value>,
-    at: i64,
-    number: i64,
-    answer: Option<&Value>,
-    deed: &Deed<'_>,
-) -> bool
-    ensures { result ≡ is_add tickets.now (said buffer.entry) at number (said answer.entry) (shown deed.now) }
-{
-    match deed {
-        Deed::Add {
-            serial,
-            index,
+            access: done,
             old,
-            addend,
         } => {
             is_ticket(tickets, buffer, *serial)
                 && same_index(at, *index)
-                && is_number(answer, *old as usize)
-                && *addend == word_of(number)
+                && access.is_same(*done)
+                && answers(access, answer, *old)
         }
         _ => false,
     }
+}
+
+/// Whether the answer is the word that was there, where the command gives it.
+fn answers(access: Access, answer: Option<&Value>, old: u32) -> bool
+    ensures { result ≡ answers access (said answer.entry) old }
+{
+    !access.gives_word() || is_number(answer, old as usize)
 }
 
 /// Whether the value is no object and the same as another.

@@ -109,9 +109,7 @@ fn note_size(sizes: &mut HashMap<u64, u32>, event: &LedgerEvent) -> Result<(), N
         LedgerEvent::Posted { .. }
         | LedgerEvent::Taken { .. }
         | LedgerEvent::Spent { .. }
-        | LedgerEvent::Loaded { .. }
-        | LedgerEvent::Stored { .. }
-        | LedgerEvent::Added { .. }
+        | LedgerEvent::Accessed { .. }
         | LedgerEvent::Waiting { .. }
         | LedgerEvent::Passed { .. }
         | LedgerEvent::Ended { .. }
@@ -132,9 +130,7 @@ fn note_wait(
         LedgerEvent::Opened { .. }
         | LedgerEvent::Posted { .. }
         | LedgerEvent::Spent { .. }
-        | LedgerEvent::Loaded { .. }
-        | LedgerEvent::Stored { .. }
-        | LedgerEvent::Added { .. }
+        | LedgerEvent::Accessed { .. }
         | LedgerEvent::Ended { .. }
         | LedgerEvent::Drained { .. } => Ok(()),
     }

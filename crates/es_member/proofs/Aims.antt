@@ -7,6 +7,8 @@ use Rattle.std.proofs.lemmas.Bool.{cases_Bool, eqb-true, ltb-true}
 use Rattle.std.proofs.lemmas.List.{reverse-append}
 use Rattle.es_value.specs.declared.value.Value.{Value}
 use Rattle.es_value.specs.declared.value.Value.TheVariants.{Object, Symbol}
+use Rattle.es_event.specs.declared.access.Access.{Access}
+use Rattle.es_event.specs.declared.access.Access.TheVariants.{Load as loads, Store as stores, Add as adds}
 use Rattle.es_event.specs.declared.command.Command.{Command}
 use Rattle.es_event.specs.declared.command.Command.TheVariants.{SharedArrayBuffer, Load, Store, Add, Post}
 use Rattle.es_event.specs.declared.event.Event.{Event}
@@ -30,7 +32,7 @@ use Rattle.es_event.proofs.Births.{birth, received, born_next}
 use Rattle.es_event.proofs.LookBacks.{at_either}
 use Rattle.es_ticket.specs.Shares.{at}
 use Rattle.es_record.specs.Book.{Book}
-use Rattle.es_rules.specs.Needs.{Request, for_block, for_post, for_buffer_post, for_load, for_store, for_add, posts_to, asked, Need, asks_ledger, asks_nothing, need_of, need}
+use Rattle.es_rules.specs.Needs.{Request, for_block, for_post, for_buffer_post, for_access, access_at, posts_to, asked, Need, asks_ledger, asks_nothing, need_of, need}
 use Rattle.es_rules.proofs.Needs.{ledger_due, not_refused}
 use Rattle.es_agent.specs.Tickets.{is_ended, tickets}
 
@@ -136,18 +138,14 @@ abbrev pub aim : Request → Option ℕ
 aim (for_block n) = None
 aim (for_post a v) = None
 aim (for_buffer_post a o) = Some o
-aim (for_load o i) = Some o
-aim (for_store o i n) = Some o
-aim (for_add o i n) = Some o
+aim (for_access o i a) = Some o
 
 -- and the index
 abbrev pub place : Request → Option ℕ
 place (for_block n) = None
 place (for_post a v) = None
 place (for_buffer_post a o) = None
-place (for_load o i) = Some i
-place (for_store o i n) = Some i
-place (for_add o i n) = Some i
+place (for_access o i a) = Some i
 
 at_object : (v : Value) (o : ℕ) → object_of v ≡ Some o → v ≡ Object o
 at_object (Object i) o e = let same : i ≡ o = cc in ap Object same
@@ -160,12 +158,12 @@ mapped f (Some o) r e = (o, refl, cc)
 pub aimed_at : (into : Receivers) (h : History) (x : List ℕ) (o : ℕ) → object_of (var into h x) ≡ Some o → is_buffer (kind_of h (var into h x)) ≡ true → Aimed into h o
 aimed_at into h x o e b = record { name = x; holds = at_object (var into h x) o e; buffer = ap (λ q. is_buffer (option_and_then (kind h) q)) (sym e) ∙ b }
 
--- a load, a store and an add: the value is a buffer object, and its block has a word there
-word_aimed : (over : Buffers) (into : Receivers) (h : History) (x : List ℕ) (j : ℤ) (f : ℕ → ℕ → Request) (r : Request) (o : ℕ) → ((o i : ℕ) → aim (f o i) ≡ Some o)
-    → option_map (λ o. f o (unsigned_abs j)) (object_of (var into h x)) ≡ Some r → first_refusal ((is_buffer (kind_of h (var into h x)), NotASharedArrayBuffer) ∷ of_index over (var into h x) j ∷ []) ≡ None → aim r ≡ Some o → Aimed into h o
-word_aimed over into h x j f r o each is none e =
-    let m = mapped (λ o. f o (unsigned_abs j)) (object_of (var into h x)) r is in
-    let here : ◌≡◌ {A = Option ℕ} (Some m.0) (Some o) = sym (each m.0 (unsigned_abs j)) ∙ ap aim m.2 ∙ e in
+-- an access: the value is a buffer object, and its block has a word there
+word_aimed : (over : Buffers) (into : Receivers) (h : History) (x : List ℕ) (j : ℤ) (a : Access) (r : Request) (o : ℕ)
+    → access_at (var into h x) j a ≡ Some r → first_refusal ((is_buffer (kind_of h (var into h x)), NotASharedArrayBuffer) ∷ of_index over (var into h x) j ∷ []) ≡ None → aim r ≡ Some o → Aimed into h o
+word_aimed over into h x j a r o is none e =
+    let m = mapped (λ o. for_access o (unsigned_abs j) a) (object_of (var into h x)) r is in
+    let here : ◌≡◌ {A = Option ℕ} (Some m.0) (Some o) = ap aim m.2 ∙ e in
     let same : m.0 ≡ o = cc in
     aimed_at into h x o (m.1 ∙ ap Some same) (first_holds _ NotASharedArrayBuffer (of_index over (var into h x) j ∷ []) none).0
 
@@ -180,9 +178,9 @@ post_aimed into h x a v r o holds is may e =
     let none : ◌≡◌ {A = Option ℕ} None (Some o) = ap aim m ∙ e in cc
 
 command_aims : (over : Buffers) (into : Receivers) (h : History) (c : Command) (r : Request) (o : ℕ) → asked c (values_of into h (reads c)) ≡ Some r → refusal over h c (values_of into h (reads c)) ≡ None → aim r ≡ Some o → Aimed into h o
-command_aims over into h (Load to x j) r o is none e = word_aimed over into h x j for_load r o (λ o i. refl) is none e
-command_aims over into h (Store x j n) r o is none e = word_aimed over into h x j (λ o i. for_store o i (to_uint32 n)) r o (λ o i. refl) is none e
-command_aims over into h (Add to x j n) r o is none e = word_aimed over into h x j (λ o i. for_add o i (to_uint32 n)) r o (λ o i. refl) is none e
+command_aims over into h (Load to x j) r o is none e = word_aimed over into h x j loads r o is none e
+command_aims over into h (Store x j n) r o is none e = word_aimed over into h x j (stores (to_uint32 n)) r o is none e
+command_aims over into h (Add to x j n) r o is none e = word_aimed over into h x j (adds (to_uint32 n)) r o is none e
 command_aims over into h (Post a y) r o is none e = post_aimed into h y a (var into h y) r o refl is (first_holds _ NotPostable (room_for_post h ∷ []) none).0 e
 command_aims over into h (SharedArrayBuffer to n) r o is none e =
     let m : for_block n ≡ r = cc in
@@ -207,13 +205,12 @@ index_within : (j : ℤ) (words : ℕ) → is_index j words ≡ true → unsigne
 index_within (pos i) words e = ltb-true i words e
 index_within (negsuc i) words e = cc
 
-word_placed : (over : Buffers) (h : History) (v : Value) (j : ℤ) (f : ℕ → ℕ → Request) (r : Request) (o i : ℕ) → ((o i : ℕ) → (aim (f o i) ≡ Some o) × (place (f o i) ≡ Some i))
-    → option_map (λ o. f o (unsigned_abs j)) (object_of v) ≡ Some r → first_refusal ((is_buffer (kind_of h v), NotASharedArrayBuffer) ∷ of_index over v j ∷ []) ≡ None → aim r ≡ Some o → place r ≡ Some i
+word_placed : (over : Buffers) (h : History) (v : Value) (j : ℤ) (a : Access) (r : Request) (o i : ℕ) → access_at v j a ≡ Some r → first_refusal ((is_buffer (kind_of h v), NotASharedArrayBuffer) ∷ of_index over v j ∷ []) ≡ None → aim r ≡ Some o → place r ≡ Some i
     → (w : Row) → Some w ≡ row_at over o → i < w.words
-word_placed over h v j f r o i each is none aims places w here =
-    let m = mapped (λ o. f o (unsigned_abs j)) (object_of v) r is in
-    let first : ◌≡◌ {A = Option ℕ} (Some m.0) (Some o) = sym (each m.0 (unsigned_abs j)).0 ∙ ap aim m.2 ∙ aims in
-    let second : ◌≡◌ {A = Option ℕ} (Some (unsigned_abs j)) (Some i) = sym (each m.0 (unsigned_abs j)).1 ∙ ap place m.2 ∙ places in
+word_placed over h v j a r o i is none aims places w here =
+    let m = mapped (λ o. for_access o (unsigned_abs j) a) (object_of v) r is in
+    let first : ◌≡◌ {A = Option ℕ} (Some m.0) (Some o) = ap aim m.2 ∙ aims in
+    let second : ◌≡◌ {A = Option ℕ} (Some (unsigned_abs j)) (Some i) = ap place m.2 ∙ places in
     let same : m.0 ≡ o = cc in
     let index : unsigned_abs j ≡ i = cc in
     let inside = (first_holds _ _ [] (first_holds _ NotASharedArrayBuffer (of_index over v j ∷ []) none).1).0 in
@@ -222,9 +219,9 @@ word_placed over h v j f r o i each is none aims places w here =
 
 command_places : (over : Buffers) (into : Receivers) (h : History) (c : Command) (r : Request) (o i : ℕ) → asked c (values_of into h (reads c)) ≡ Some r → refusal over h c (values_of into h (reads c)) ≡ None
     → aim r ≡ Some o → place r ≡ Some i → (w : Row) → Some w ≡ row_at over o → i < w.words
-command_places over into h (Load to x j) r o i is none aims places = word_placed over h (var into h x) j for_load r o i (λ o i. (refl, refl)) is none aims places
-command_places over into h (Store x j n) r o i is none aims places = word_placed over h (var into h x) j (λ o i. for_store o i (to_uint32 n)) r o i (λ o i. (refl, refl)) is none aims places
-command_places over into h (Add to x j n) r o i is none aims places = word_placed over h (var into h x) j (λ o i. for_add o i (to_uint32 n)) r o i (λ o i. (refl, refl)) is none aims places
+command_places over into h (Load to x j) r o i is none aims places = word_placed over h (var into h x) j loads r o i is none aims places
+command_places over into h (Store x j n) r o i is none aims places = word_placed over h (var into h x) j (stores (to_uint32 n)) r o i is none aims places
+command_places over into h (Add to x j n) r o i is none aims places = word_placed over h (var into h x) j (adds (to_uint32 n)) r o i is none aims places
 command_places over into h (Post a y) r o i is none aims places = absurd (no_place a (var into h y) r i is places)
   where
     no_place : (a : ℕ) (v : Value) (r : Request) (i : ℕ) → Some (posts_to a v) ≡ Some r → place r ≡ Some i → ⊥
@@ -253,9 +250,9 @@ plain_post h a b v w is may = let same : v ≡ w = cc in ap identity (sym same)
 
 command_posts : (over : Buffers) (into : Receivers) (h : History) (c : Command) (a : ℕ) (w : Value) → asked c (values_of into h (reads c)) ≡ Some (for_post a w) → refusal over h c (values_of into h (reads c)) ≡ None → identity w ≡ None
 command_posts over into h (Post b y) a w is none = plain_post h b a (var into h y) w is (first_holds _ NotPostable (room_for_post h ∷ []) none).0
-command_posts over into h (Load to x j) a w is none = let m = mapped (λ o. for_load o (unsigned_abs j)) (object_of (var into h x)) (for_post a w) is in cc
-command_posts over into h (Store x j n) a w is none = let m = mapped (λ o. for_store o (unsigned_abs j) (to_uint32 n)) (object_of (var into h x)) (for_post a w) is in cc
-command_posts over into h (Add to x j n) a w is none = let m = mapped (λ o. for_add o (unsigned_abs j) (to_uint32 n)) (object_of (var into h x)) (for_post a w) is in cc
+command_posts over into h (Load to x j) a w is none = let m = mapped (λ o. for_access o (unsigned_abs j) loads) (object_of (var into h x)) (for_post a w) is in cc
+command_posts over into h (Store x j n) a w is none = let m = mapped (λ o. for_access o (unsigned_abs j) (stores (to_uint32 n))) (object_of (var into h x)) (for_post a w) is in cc
+command_posts over into h (Add to x j n) a w is none = let m = mapped (λ o. for_access o (unsigned_abs j) (adds (to_uint32 n))) (object_of (var into h x)) (for_post a w) is in cc
 command_posts over into h _ a w is none = cc
 
 -- a value that is posted has no identity

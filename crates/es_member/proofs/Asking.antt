@@ -8,6 +8,8 @@ use Rattle.std.proofs.lemmas.Slice.Eq.{bytes_eq-Decides}
 use Rattle.es_value.specs.Values.{identity, is_same}
 use Rattle.es_value.specs.declared.value.Value.{Value}
 use Rattle.es_value.specs.declared.value.Value.TheVariants.{Undefined, Boolean, Number, Text, Registered, Object, Symbol}
+use Rattle.es_event.specs.declared.access.Access.{Access}
+use Rattle.es_event.specs.declared.access.Access.TheVariants.{Load as loads, Store as stores, Add as adds}
 use Rattle.es_event.specs.declared.command.Command.{Command}
 use Rattle.es_event.specs.declared.command.Command.TheVariants.{SharedArrayBuffer, Load, Store, Add, Post}
 use Rattle.es_event.specs.declared.event.Answer.{Answer}
@@ -19,6 +21,7 @@ use Rattle.es_event.specs.declared.plan.Job.{Job}
 use Rattle.es_event.specs.declared.event.Refusal.TheVariants.{NotASharedArrayBuffer}
 use Rattle.es_event.specs.declared.ledger_event.Body.TheVariants.{Plain, Block}
 use Rattle.es_event.specs.declared.row.Row.{Row}
+use Rattle.es_event.specs.Access.{is_same_access}
 use Rattle.es_event.specs.Commands.{reads}
 use Rattle.es_event.specs.History.{History}
 use Rattle.es_event.specs.Identities.{object_of}
@@ -32,13 +35,15 @@ use Rattle.es_event.specs.Legal.{values_of}
 use Rattle.es_event.specs.Later.{snapshot}
 use Rattle.es_event.specs.Order.{Phase, between, handed, inside, stopped, ended, phase, phase_after, receive, run, clean, left, queue, due_end, due_after, due_inside, due_job, due_between, due_at, due}
 use Rattle.es_event.proofs.Accepted.{first_holds}
-use Rattle.es_match.specs.Asks.{to_open, to_load, to_store, to_add, to_post, to_receive, to_pass, asks_did, between_jobs}
+use Rattle.es_event.proofs.Accesses.{same_as_itself}
+use Rattle.es_match.specs.Asks.{to_open, to_access, to_post, to_receive, to_pass, given, asks_did, between_jobs}
 use Rattle.es_match.specs.Cluster.{awaited}
-use Rattle.es_match.specs.Deeds.{Opens, Posts, Takes, Loads, Stores, Adds, Passes}
-use Rattle.es_match.specs.Meets.{Tickets, after, has_ticket, is_ticket, some_if}
+use Rattle.es_match.specs.Deeds.{Opens, Posts, Takes, Accesses, Passes}
+use Rattle.es_match.specs.Meets.{Tickets, after, answers, has_ticket, is_ticket, some_if}
 use Rattle.es_ticket.specs.Shares.{at}
 use Rattle.es_record.specs.Book.{Book}
-use Rattle.es_rules.specs.Needs.{Request, for_block, for_post, for_buffer_post, for_load, for_store, for_add, posts_to, asked, asks_ledger, need, need_of}
+use Rattle.es_rules.specs.Needs.{Request, for_block, for_post, for_buffer_post, for_access, access_at, posts_to, asked, asks_ledger, need, need_of}
+use Rattle.es_member.specs.Midway.{answer_to}
 use Rattle.es_rules.proofs.Needs.{ledger_command, not_refused}
 
 -- Values are the same as themselves
@@ -93,87 +98,57 @@ positive (negsuc i) words e = cc
 index_of : (over : Buffers) (h : History) (v : Value) (j : ℤ) (i : ℕ) → first_refusal ((is_buffer (kind_of h v), NotASharedArrayBuffer) ∷ of_index over v j ∷ []) ≡ None → unsigned_abs j ≡ i → j ≡ pos i
 index_of over h v j i none is = positive j (words_of over v) (first_holds _ _ [] (first_holds _ NotASharedArrayBuffer (of_index over v j ∷ []) none).1).0 ∙ ap pos is
 
--- A load
+-- An access
 
-pub load_asks : (b : Book) (c : Command) (o i : ℕ) (v : Value) → DueCommand b c (for_load o i) → asks_did c (values_of (receivers b.plan.jobs) b.history (reads c)) (Gives v) ≡ to_load (Object o) (pos i) v
-load_asks b (Load to x j) o i v d =
-    let m = mapped (λ o. for_load o (unsigned_abs j)) _ _ d.asks in
-    let object : m.0 ≡ o = cc in
-    let place : unsigned_abs j ≡ i = cc in
-    ap (λ u. to_load u j v) (object_at _ o (m.1 ∙ ap Some object)) ∙ ap (λ j. to_load (Object o) j v) (index_of b.over b.history _ j i d.accepted place)
-load_asks b (Store x j n) o i v d = let m = mapped (λ o. for_store o (unsigned_abs j) (to_uint32 n)) _ _ d.asks in cc
-load_asks b (Add to x j n) o i v d = let m = mapped (λ o. for_add o (unsigned_abs j) (to_uint32 n)) _ _ d.asks in cc
-load_asks b (Post a y) o i v d = absurd (no_post a _ d.asks)
-  where
-    no_post : (a : ℕ) (u : Value) → Some (posts_to a u) ≡ Some (for_load o i) → ⊥
-    no_post a (Object p) e = cc
-    no_post a u e = cc
-load_asks b c o i v d = let e = d.asks in cc
+access_asked : (v : Value) (j : ℤ) (c : Access) (o i : ℕ) (a : Access) → access_at v j c ≡ Some (for_access o i a) → (object_of v ≡ Some o) × (unsigned_abs j ≡ i) × (c ≡ a)
+access_asked (Object p) j c o i a e = (cc, cc, cc)
+access_asked _ j c o i a e = cc
 
-pub load_met : (ts : Tickets) (o i w : ℕ) (r : Row) → Some r ≡ at o ts → after ts (to_load (Object o) (pos i) (Number (pos w))) (Loads r.serial i w ∷ []) ≡ Some ts
-load_met ts o i w r here =
-    ap (λ b. some_if (b && (int_eq (pos i) (pos i) && int_eq (pos w) (pos w))) ts) (this_ticket ts o r here)
-    ∙ ap (λ b. some_if (b && int_eq (pos w) (pos w)) ts) ((Decides-int_eq (pos i) (pos i)).1 refl)
-    ∙ ap (λ b. some_if b ts) ((Decides-int_eq (pos w) (pos w)).1 refl)
+-- the access that a command asks for is the one that it makes, at a buffer object, and its index is not negative
+record Accessed (v : Value) (j : ℤ) (c : Access) (o i : ℕ) (a : Access) : Type 0 where
+  pub object : v ≡ Object o
+  pub index : j ≡ pos i
+  pub access : c ≡ a
 
--- A store
+accessed : (over : Buffers) (h : History) (v : Value) (j : ℤ) (c : Access) (o i : ℕ) (a : Access) → first_refusal ((is_buffer (kind_of h v), NotASharedArrayBuffer) ∷ of_index over v j ∷ []) ≡ None → access_at v j c ≡ Some (for_access o i a) → Accessed v j c o i a
+accessed over h v j c o i a none asks =
+    let is = access_asked v j c o i a asks in
+    record { object = object_at v o is.0; index = index_of over h v j i none is.1; access = is.2 }
 
-pub store_asks : (b : Book) (c : Command) (o i w : ℕ) (r : Answer) → DueCommand b c (for_store o i w)
-    → (n : ℤ) × (asks_did c (values_of (receivers b.plan.jobs) b.history (reads c)) r ≡ to_store (Object o) (pos i) n) × (w ≡ to_uint32 n)
-store_asks b (Store x j n) o i w r d =
-    let m = mapped (λ o. for_store o (unsigned_abs j) (to_uint32 n)) _ _ d.asks in
-    let object : m.0 ≡ o = cc in
-    let place : unsigned_abs j ≡ i = cc in
-    let word : w ≡ to_uint32 n = cc in
-    (n, ap (λ u. to_store u j n) (object_at _ o (m.1 ∙ ap Some object)) ∙ ap (λ j. to_store (Object o) j n) (index_of b.over b.history _ j i d.accepted place), word)
-store_asks b (Load to x j) o i w r d = let m = mapped (λ o. for_load o (unsigned_abs j)) _ _ d.asks in cc
-store_asks b (Add to x j n) o i w r d = let m = mapped (λ o. for_add o (unsigned_abs j) (to_uint32 n)) _ _ d.asks in cc
-store_asks b (Post a y) o i w r d = absurd (no_post a _ d.asks)
-  where
-    no_post : (a : ℕ) (u : Value) → Some (posts_to a u) ≡ Some (for_store o i w) → ⊥
-    no_post a (Object p) e = cc
-    no_post a u e = cc
-store_asks b c o i w r d = let e = d.asks in cc
+post_no_access : (t : ℕ) (u : Value) (o i : ℕ) (a : Access) → Some (posts_to t u) ≡ Some (for_access o i a) → ⊥
+post_no_access t (Object p) o i a e = cc
+post_no_access t u o i a e = cc
 
-pub store_met : (ts : Tickets) (o i w : ℕ) (n : ℤ) (r : Row) → Some r ≡ at o ts → w ≡ to_uint32 n → after ts (to_store (Object o) (pos i) n) (Stores r.serial i w ∷ []) ≡ Some ts
-store_met ts o i w n r here is =
-    ap (λ b. some_if (b && (int_eq (pos i) (pos i) && (w == to_uint32 n))) ts) (this_ticket ts o r here)
-    ∙ ap (λ b. some_if (b && (w == to_uint32 n)) ts) ((Decides-int_eq (pos i) (pos i)).1 refl)
-    ∙ ap (λ b. some_if b ts) (eq-eqb w (to_uint32 n) is)
+access_so : (v : Value) (j : ℤ) (c : Access) (o i : ℕ) (a : Access) (u : Value) → Accessed v j c o i a → to_access v j c u ≡ to_access (Object o) (pos i) a u
+access_so v j c o i a u is = ap (λ v. to_access v j c u) is.object ∙ ap (λ j. to_access (Object o) j c u) is.index ∙ ap (λ c. to_access (Object o) (pos i) c u) is.access
 
--- An add
+pub access_asks : (b : Book) (c : Command) (o i : ℕ) (a : Access) (r : Answer) → DueCommand b c (for_access o i a)
+    → asks_did c (values_of (receivers b.plan.jobs) b.history (reads c)) r ≡ to_access (Object o) (pos i) a (given r)
+access_asks b (Load to x j) o i a r d = access_so _ j loads o i a (given r) (accessed b.over b.history _ j loads o i a d.accepted d.asks)
+access_asks b (Store x j n) o i a r d = access_so _ j (stores (to_uint32 n)) o i a (given r) (accessed b.over b.history _ j (stores (to_uint32 n)) o i a d.accepted d.asks)
+access_asks b (Add to x j n) o i a r d = access_so _ j (adds (to_uint32 n)) o i a (given r) (accessed b.over b.history _ j (adds (to_uint32 n)) o i a d.accepted d.asks)
+access_asks b (Post t y) o i a r d = absurd (post_no_access t _ o i a d.asks)
+access_asks b c o i a r d = let e = d.asks in cc
 
-pub add_asks : (b : Book) (c : Command) (o i m : ℕ) (v : Value) → DueCommand b c (for_add o i m)
-    → (n : ℤ) × (asks_did c (values_of (receivers b.plan.jobs) b.history (reads c)) (Gives v) ≡ to_add (Object o) (pos i) n v) × (m ≡ to_uint32 n)
-add_asks b (Add to x j n) o i m v d =
-    let q = mapped (λ o. for_add o (unsigned_abs j) (to_uint32 n)) _ _ d.asks in
-    let object : q.0 ≡ o = cc in
-    let place : unsigned_abs j ≡ i = cc in
-    let word : m ≡ to_uint32 n = cc in
-    (n, ap (λ u. to_add u j n v) (object_at _ o (q.1 ∙ ap Some object)) ∙ ap (λ j. to_add (Object o) j n v) (index_of b.over b.history _ j i d.accepted place), word)
-add_asks b (Load to x j) o i m v d = let q = mapped (λ o. for_load o (unsigned_abs j)) _ _ d.asks in cc
-add_asks b (Store x j n) o i m v d = let q = mapped (λ o. for_store o (unsigned_abs j) (to_uint32 n)) _ _ d.asks in cc
-add_asks b (Post a y) o i m v d = absurd (no_post a _ d.asks)
-  where
-    no_post : (a : ℕ) (u : Value) → Some (posts_to a u) ≡ Some (for_add o i m) → ⊥
-    no_post a (Object p) e = cc
-    no_post a u e = cc
-add_asks b c o i m v d = let e = d.asks in cc
+answered : (a : Access) (w : ℕ) → answers a (given (answer_to a w)) w ≡ true
+answered loads w = (Decides-int_eq (pos w) (pos w)).1 refl
+answered (stores v) w = refl
+answered (adds n) w = (Decides-int_eq (pos w) (pos w)).1 refl
 
-pub add_met : (ts : Tickets) (o i w m : ℕ) (n : ℤ) (r : Row) → Some r ≡ at o ts → m ≡ to_uint32 n → after ts (to_add (Object o) (pos i) n (Number (pos w))) (Adds r.serial i w m ∷ []) ≡ Some ts
-add_met ts o i w m n r here is =
-    ap (λ b. some_if (b && (int_eq (pos i) (pos i) && (int_eq (pos w) (pos w) && (m == to_uint32 n)))) ts) (this_ticket ts o r here)
-    ∙ ap (λ b. some_if (b && (int_eq (pos w) (pos w) && (m == to_uint32 n))) ts) ((Decides-int_eq (pos i) (pos i)).1 refl)
-    ∙ ap (λ b. some_if (b && (m == to_uint32 n)) ts) ((Decides-int_eq (pos w) (pos w)).1 refl)
-    ∙ ap (λ b. some_if b ts) (eq-eqb m (to_uint32 n) is)
+pub access_met : (ts : Tickets) (o i w : ℕ) (a : Access) (r : Row) → Some r ≡ at o ts → after ts (to_access (Object o) (pos i) a (given (answer_to a w))) (Accesses r.serial i a w ∷ []) ≡ Some ts
+access_met ts o i w a r here =
+    ap (λ b. some_if (b && (int_eq (pos i) (pos i) && (is_same_access a a && answers a (given (answer_to a w)) w))) ts) (this_ticket ts o r here)
+    ∙ ap (λ b. some_if (b && (is_same_access a a && answers a (given (answer_to a w)) w)) ts) ((Decides-int_eq (pos i) (pos i)).1 refl)
+    ∙ ap (λ b. some_if (b && answers a (given (answer_to a w)) w) ts) (same_as_itself a)
+    ∙ ap (λ b. some_if b ts) (answered a w)
 
 -- A new block
 
 pub open_asks : (b : Book) (c : Command) (n : ℕ) (v : Value) → DueCommand b c (for_block n) → (vs : List Value) → asks_did c vs (Gives v) ≡ to_open n v
 open_asks b (SharedArrayBuffer to m) n v d vs = let same : m ≡ n = (let e = d.asks in cc) in ap (λ m. to_open m v) same
-open_asks b (Load to x j) n v d vs = let m = mapped (λ o. for_load o (unsigned_abs j)) _ _ d.asks in cc
-open_asks b (Store x j k) n v d vs = let m = mapped (λ o. for_store o (unsigned_abs j) (to_uint32 k)) _ _ d.asks in cc
-open_asks b (Add to x j k) n v d vs = let m = mapped (λ o. for_add o (unsigned_abs j) (to_uint32 k)) _ _ d.asks in cc
+open_asks b (Load to x j) n v d vs = let m = mapped (λ o. for_access o (unsigned_abs j) loads) _ _ d.asks in cc
+open_asks b (Store x j k) n v d vs = let m = mapped (λ o. for_access o (unsigned_abs j) (stores (to_uint32 k))) _ _ d.asks in cc
+open_asks b (Add to x j k) n v d vs = let m = mapped (λ o. for_access o (unsigned_abs j) (adds (to_uint32 k))) _ _ d.asks in cc
 open_asks b (Post a y) n v d vs = absurd (no_post a _ d.asks)
   where
     no_post : (a : ℕ) (u : Value) → Some (posts_to a u) ≡ Some (for_block n) → ⊥
@@ -206,16 +181,16 @@ posted_buffer a r o (Symbol i) e = cc
 
 pub post_asks : (b : Book) (c : Command) (r : ℕ) (v : Value) (a : Answer) → DueCommand b c (for_post r v) → asks_did c (values_of (receivers b.plan.jobs) b.history (reads c)) a ≡ to_post r v
 post_asks b (Post t y) r v a d = let u = var (receivers b.plan.jobs) b.history y in let p = posted t r u v d.asks in ap (λ t. to_post t u) p.0 ∙ ap (to_post r) p.1
-post_asks b (Load to x j) r v a d = let m = mapped (λ o. for_load o (unsigned_abs j)) _ _ d.asks in cc
-post_asks b (Store x j k) r v a d = let m = mapped (λ o. for_store o (unsigned_abs j) (to_uint32 k)) _ _ d.asks in cc
-post_asks b (Add to x j k) r v a d = let m = mapped (λ o. for_add o (unsigned_abs j) (to_uint32 k)) _ _ d.asks in cc
+post_asks b (Load to x j) r v a d = let m = mapped (λ o. for_access o (unsigned_abs j) loads) _ _ d.asks in cc
+post_asks b (Store x j k) r v a d = let m = mapped (λ o. for_access o (unsigned_abs j) (stores (to_uint32 k))) _ _ d.asks in cc
+post_asks b (Add to x j k) r v a d = let m = mapped (λ o. for_access o (unsigned_abs j) (adds (to_uint32 k))) _ _ d.asks in cc
 post_asks b c r v a d = let e = d.asks in cc
 
 pub buffer_asks : (b : Book) (c : Command) (r o : ℕ) (a : Answer) → DueCommand b c (for_buffer_post r o) → asks_did c (values_of (receivers b.plan.jobs) b.history (reads c)) a ≡ to_post r (Object o)
 buffer_asks b (Post t y) r o a d = let u = var (receivers b.plan.jobs) b.history y in let p = posted_buffer t r o u d.asks in ap (λ t. to_post t u) p.0 ∙ ap (to_post r) p.1
-buffer_asks b (Load to x j) r o a d = let m = mapped (λ o. for_load o (unsigned_abs j)) _ _ d.asks in cc
-buffer_asks b (Store x j k) r o a d = let m = mapped (λ o. for_store o (unsigned_abs j) (to_uint32 k)) _ _ d.asks in cc
-buffer_asks b (Add to x j k) r o a d = let m = mapped (λ o. for_add o (unsigned_abs j) (to_uint32 k)) _ _ d.asks in cc
+buffer_asks b (Load to x j) r o a d = let m = mapped (λ o. for_access o (unsigned_abs j) loads) _ _ d.asks in cc
+buffer_asks b (Store x j k) r o a d = let m = mapped (λ o. for_access o (unsigned_abs j) (stores (to_uint32 k))) _ _ d.asks in cc
+buffer_asks b (Add to x j k) r o a d = let m = mapped (λ o. for_access o (unsigned_abs j) (adds (to_uint32 k))) _ _ d.asks in cc
 buffer_asks b c r o a d = let e = d.asks in cc
 
 no_object : (v : Value) → identity v ≡ None → is_some (object_of v) ≡ false

@@ -3,7 +3,7 @@ use Rattle.std.proofs.Common.{◌≡◌, ℕ, ◌==◌, ◌&&◌, ◌||◌, Bool
 use Rattle.std.specs.Option.{option_map_or, option_map}
 use Rattle.std.proofs.lemmas.Bool.{cases_Bool, eqb-true}
 use Rattle.es_event.specs.declared.ledger_event.LedgerEvent.{LedgerEvent}
-use Rattle.es_event.specs.declared.ledger_event.LedgerEvent.TheVariants.{Opened, Posted, Taken, Spent, Loaded, Stored, Added, Waiting, Passed, Ended, Drained}
+use Rattle.es_event.specs.declared.ledger_event.LedgerEvent.TheVariants.{Opened, Posted, Taken, Spent, Accessed, Waiting, Passed, Ended, Drained}
 use Rattle.es_event.specs.declared.row.Row.{Row}
 use Rattle.es_event.specs.Ledger.{Ledger, waits, ended, holder_of}
 use Rattle.es_match.specs.Deeds.{Deed, Owned, deed, is_wait, part, part_of, by_holder}
@@ -55,9 +55,7 @@ waits_other l (Passed r s) n a d is other = ap (λ b. cond b None (waits l a)) (
 waits_other l (Opened b w s r) n a d is other = refl
 waits_other l (Posted t r m) n a d is other = refl
 waits_other l (Spent s) n a d is other = refl
-waits_other l (Loaded s i w) n a d is other = refl
-waits_other l (Stored s i w) n a d is other = refl
-waits_other l (Added s i old m) n a d is other = refl
+waits_other l (Accessed s i m old) n a d is other = refl
 waits_other l (Ended r) n a d is other = refl
 waits_other l (Drained r s) n a d is other = refl
 
@@ -69,9 +67,7 @@ ended_other l (Passed r s) n a d is other = refl
 ended_other l (Opened b w s r) n a d is other = refl
 ended_other l (Posted t r m) n a d is other = refl
 ended_other l (Spent s) n a d is other = refl
-ended_other l (Loaded s i w) n a d is other = refl
-ended_other l (Stored s i w) n a d is other = refl
-ended_other l (Added s i old m) n a d is other = refl
+ended_other l (Accessed s i m old) n a d is other = refl
 ended_other l (Drained r s) n a d is other = refl
 
 -- Many deeds

@@ -5,16 +5,17 @@ use Rattle.std.specs.Prelude.{pos}
 use Rattle.std.specs.List.{Contains}
 use Rattle.es_value.specs.Values.{identity}
 use Rattle.es_value.specs.declared.value.Value.{Value}
-use Rattle.es_value.specs.declared.value.Value.TheVariants.{Number, Object}
+use Rattle.es_value.specs.declared.value.Value.TheVariants.{Object}
+use Rattle.es_event.specs.declared.access.Access.{Access}
 use Rattle.es_event.specs.declared.event.Answer.{Answer}
-use Rattle.es_event.specs.declared.event.Answer.TheVariants.{Nothing, Gives}
+use Rattle.es_event.specs.declared.event.Answer.TheVariants.{Nothing}
 use Rattle.es_event.specs.declared.event.Event.{Event}
 use Rattle.es_event.specs.declared.event.Event.TheVariants.{Received, Refused, Emptied, Skipped, Closed}
 use Rattle.es_event.specs.declared.event.Refusal.TheVariants.{TooManyValues}
 use Rattle.es_event.specs.declared.ledger_event.Body.{Body}
 use Rattle.es_event.specs.declared.ledger_event.Body.TheVariants.{Plain, Block}
 use Rattle.es_event.specs.declared.ledger_event.LedgerEvent.{LedgerEvent}
-use Rattle.es_event.specs.declared.ledger_event.LedgerEvent.TheVariants.{Opened, Posted, Taken, Spent, Loaded, Stored, Added, Passed, Ended}
+use Rattle.es_event.specs.declared.ledger_event.LedgerEvent.TheVariants.{Opened, Posted, Taken, Spent, Accessed, Passed, Ended}
 use Rattle.es_event.specs.declared.row.Row.{Row}
 use Rattle.es_event.specs.Commands.{reads}
 use Rattle.es_event.specs.Jobs.{receivers}
@@ -28,20 +29,20 @@ use Rattle.es_event.specs.Runs.{IsRunOver}
 use Rattle.es_ledger.specs.Books.{Books}
 use Rattle.es_match.specs.Asks.{Asking, to_open, to_receive, to_refuse, to_pass, to_empty, to_close, between_jobs, asks, asks_did}
 use Rattle.es_match.specs.Cluster.{may_do, drained, is_refusal_asked}
-use Rattle.es_match.specs.Deeds.{Deed, Opens, Posts, Takes, Spends, Loads, Stores, Adds, Passes, Ends, by_holder, taking, deed, is_wait}
+use Rattle.es_match.specs.Deeds.{Deed, Opens, Posts, Takes, Spends, Accesses, Passes, Ends, by_holder, taking, deed, is_wait}
 use Rattle.es_match.specs.Meets.{Tickets, after, refused_in, some_if, ticket_in}
 use Rattle.es_ticket.specs.Shares.{Share, at}
 use Rattle.es_record.specs.Book.{Book, Records}
-use Rattle.es_rules.specs.Needs.{Request, for_block, for_post, for_buffer_post, for_load, for_store, for_add, request, Need, asks_nobody, asks_marks, asks_copy, asks_late_marks, asks_ledger, asks_message, asks_closing, asks_nothing, need, need_of, Brings}
+use Rattle.es_rules.specs.Needs.{Request, for_block, for_post, for_buffer_post, for_access, request, Need, asks_nobody, asks_marks, asks_copy, asks_late_marks, asks_ledger, asks_message, asks_closing, asks_nothing, need, need_of, Brings}
 use Rattle.es_rules.proofs.Needs.{message_due}
 use Rattle.es_agent.specs.Tickets.{tickets, RecordsNext, Empties, Collects, Finishes, Admits, RefusesMessage, Receives, DoesWith, Skips}
 use Rattle.es_agent.specs.Later.{opening}
 use Rattle.es_agent.proofs.Racks.{emptied_tickets}
-use Rattle.es_member.specs.Midway.{IsReady, Midway, HasFetched, Fetches}
+use Rattle.es_member.specs.Midway.{IsReady, Midway, HasFetched, Fetches, answer_to}
 use Rattle.es_member.specs.Tied.{AreDeedsOf, GrowsBy, IsSettled, IsTied}
 use Rattle.es_member.specs.Turned.{spent}
 use Rattle.es_member.proofs.Aims.{open_for}
-use Rattle.es_member.proofs.Asking.{due_command, load_asks, load_met, store_asks, store_met, add_asks, add_met, open_asks, open_met, post_asks, post_met, buffer_asks, buffer_met, receive_met, admit_met, skip_met, at_message, awaited_at}
+use Rattle.es_member.proofs.Asking.{due_command, access_asks, access_met, open_asks, open_met, post_asks, post_met, buffer_asks, buffer_met, receive_met, admit_met, skip_met, at_message, awaited_at}
 use Rattle.es_member.proofs.Growing.{by_ticket, grows_one}
 use Rattle.es_member.proofs.Local.{AreNamed, local_met}
 use Rattle.es_member.proofs.Midway.{brings_ticket, begun, did_not_refuse, does, no_ticket, no_ticket_alone, refused_alone, tells, unnamed, free, undrained}
@@ -103,25 +104,11 @@ done_ties old new s l m e d r a ready is more did wait same done none_comes met 
 pub owned : (old : Book) (s : Share) (l : Books) (r : Row) (d : Deed) → s.agent ≡ old.number → ((r : Row) → Contains s.rows r → holder_of l.history r.serial ≡ Some (s.agent, r)) → Contains s.rows r → by_holder l.history r.serial d ≡ Some (old.number, d)
 owned old s l r d same holder here = by_ticket l.history r.serial s.agent r d (holder r here) ∙ ap (λ n. Some (n, d)) same
 
-pub load_ties : (old new : Book) (s : Share) (l : Books) (m : Ledger) (o i w : ℕ) (r : Row) → IsReady old s l → need old ≡ asks_ledger (for_load o i) → Contains s.rows r → Some r ≡ at o (tickets old)
-    → m ≡ Loaded r.serial i w ∷ l.history → DoesWith old (Gives (Number (pos w))) new → IsSettled new m
-load_ties old new s l m o i w r ready is mine here more done =
-    done_ties old new s l m (Loaded r.serial i w) (Loads r.serial i w) (for_load o i) (Gives (Number (pos w))) ready is more (owned old s l r (Loads r.serial i w) ready.held.0 ready.holder mine) refl refl done refl
-    (ap (λ a. after (tickets old) a (Loads r.serial i w ∷ [])) (load_asks old done.1.0 o i (Number (pos w)) (due_command old done.1.0 (for_load o i) done.1.1 is)) ∙ load_met (tickets old) o i w r here)
-
-pub store_ties : (old new : Book) (s : Share) (l : Books) (m : Ledger) (o i w : ℕ) (r : Row) → IsReady old s l → need old ≡ asks_ledger (for_store o i w) → Contains s.rows r → Some r ≡ at o (tickets old)
-    → m ≡ Stored r.serial i w ∷ l.history → DoesWith old Nothing new → IsSettled new m
-store_ties old new s l m o i w r ready is mine here more done =
-    let asked = store_asks old done.1.0 o i w Nothing (due_command old done.1.0 (for_store o i w) done.1.1 is) in
-    done_ties old new s l m (Stored r.serial i w) (Stores r.serial i w) (for_store o i w) Nothing ready is more (owned old s l r (Stores r.serial i w) ready.held.0 ready.holder mine) refl refl done refl
-    (ap (λ a. after (tickets old) a (Stores r.serial i w ∷ [])) asked.1 ∙ store_met (tickets old) o i w asked.0 r here asked.2)
-
-pub add_ties : (old new : Book) (s : Share) (l : Books) (m : Ledger) (o i w n : ℕ) (r : Row) → IsReady old s l → need old ≡ asks_ledger (for_add o i n) → Contains s.rows r → Some r ≡ at o (tickets old)
-    → m ≡ Added r.serial i w n ∷ l.history → DoesWith old (Gives (Number (pos w))) new → IsSettled new m
-add_ties old new s l m o i w n r ready is mine here more done =
-    let asked = add_asks old done.1.0 o i n (Number (pos w)) (due_command old done.1.0 (for_add o i n) done.1.1 is) in
-    done_ties old new s l m (Added r.serial i w n) (Adds r.serial i w n) (for_add o i n) (Gives (Number (pos w))) ready is more (owned old s l r (Adds r.serial i w n) ready.held.0 ready.holder mine) refl refl done refl
-    (ap (λ a. after (tickets old) a (Adds r.serial i w n ∷ [])) asked.1 ∙ add_met (tickets old) o i w n asked.0 r here asked.2)
+pub access_ties : (old new : Book) (s : Share) (l : Books) (m : Ledger) (o i w : ℕ) (a : Access) (r : Row) → IsReady old s l → need old ≡ asks_ledger (for_access o i a) → Contains s.rows r → Some r ≡ at o (tickets old)
+    → m ≡ Accessed r.serial i a w ∷ l.history → DoesWith old (answer_to a w) new → IsSettled new m
+access_ties old new s l m o i w a r ready is mine here more done =
+    done_ties old new s l m (Accessed r.serial i a w) (Accesses r.serial i a w) (for_access o i a) (answer_to a w) ready is more (owned old s l r (Accesses r.serial i a w) ready.held.0 ready.holder mine) refl refl done refl
+    (ap (λ q. after (tickets old) q (Accesses r.serial i a w ∷ [])) (access_asks old done.1.0 o i a (answer_to a w) (due_command old done.1.0 (for_access o i a) done.1.1 is)) ∙ access_met (tickets old) o i w a r here)
 
 pub post_grows : (old : Book) (l m : Ledger) (n a : ℕ) (b : Body) → n ≡ old.number → m ≡ Posted n a b ∷ l → GrowsBy old.number l m
 post_grows old l m n a b same more = grows_one old.number l m (Posted n a b) (Posts a b) more (ap (λ n. Some (n, Posts a b)) same)

@@ -1,8 +1,13 @@
 -- Internal: what stands before a turn, and an agent in the middle of one.
-use Rattle.std.specs.Prelude.{◌≡◌, ◌≢◌, ◌<◌, true, false, List, [], ◌∷◌, ◌++◌, Some, None}
+use Rattle.std.specs.Prelude.{ℕ, pos, ◌≡◌, ◌≢◌, ◌<◌, true, false, if◌then◌else◌, List, [], ◌∷◌, ◌++◌, Some, None}
 use Rattle.std.specs.List.{Contains}
+use Rattle.es_value.specs.declared.value.Value.TheVariants.{Number}
+use Rattle.es_event.specs.declared.access.Access.{Access}
+use Rattle.es_event.specs.declared.event.Answer.{Answer}
+use Rattle.es_event.specs.declared.event.Answer.TheVariants.{Nothing, Gives}
 use Rattle.es_event.specs.declared.ledger_event.Body.TheVariants.{Block}
 use Rattle.es_event.specs.declared.row.Row.{Row}
+use Rattle.es_event.specs.Access.{gives_word}
 use Rattle.es_event.specs.Ledger.{Ledger, ended as has_ended, holder_of, waits}
 use Rattle.es_event.specs.LegalLedger.{LegalLedger}
 use Rattle.es_ledger.specs.Books.{Books}
@@ -53,3 +58,7 @@ pub record HasFetched (b : Book) (r : Row) (l : Ledger) : Type 0 where
   pub fetches : Fetches (need b) r deed
   pub free : waits l b.number ≡ None
   pub undrained : drained l ≡ false
+
+-- the answer of the command that did this to a word, which was this before
+abbrev pub answer_to : Access → ℕ → Answer
+answer_to m old = if gives_word m then Gives (Number (pos old)) else Nothing

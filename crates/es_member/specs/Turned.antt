@@ -12,7 +12,7 @@ use Rattle.es_ledger.specs.declared.turn.Turn.TheVariants.{Stay}
 use Rattle.es_ticket.specs.Shares.{Share}
 use Rattle.es_record.specs.Book.{Book, IsNext, Records, with_row}
 use Rattle.es_record.specs.Graph.{AreMarksOf, AreLateMarks}
-use Rattle.es_rules.specs.Needs.{for_block, for_post, for_buffer_post, for_load, for_store, for_add, Need, asks_nobody, asks_marks, asks_copy, asks_late_marks, asks_ledger, asks_message, asks_closing, asks_nothing, need}
+use Rattle.es_rules.specs.Needs.{for_block, for_post, for_buffer_post, for_access, Need, asks_nobody, asks_marks, asks_copy, asks_late_marks, asks_ledger, asks_message, asks_closing, asks_nothing, need}
 use Rattle.es_agent.specs.Tickets.{is_ended}
 use Rattle.es_member.specs.Seats.{Seat, Holds}
 use Rattle.es_member.specs.Tied.{GrowsBy, IsSettled, IsTied}
@@ -30,9 +30,7 @@ NamesOthers asks_late_marks n agents = ⊤
 NamesOthers (asks_ledger (for_block w)) n agents = ⊤
 NamesOthers (asks_ledger (for_post a v)) n agents = (a < agents) × (n ≢ a)
 NamesOthers (asks_ledger (for_buffer_post a o)) n agents = (a < agents) × (n ≢ a)
-NamesOthers (asks_ledger (for_load o i)) n agents = ⊤
-NamesOthers (asks_ledger (for_store o i w)) n agents = ⊤
-NamesOthers (asks_ledger (for_add o i w)) n agents = ⊤
+NamesOthers (asks_ledger (for_access o i c)) n agents = ⊤
 NamesOthers (asks_message s) n agents = (s < agents) × (n ≢ s)
 NamesOthers asks_closing n agents = ⊤
 NamesOthers asks_nothing n agents = ⊤

@@ -12,7 +12,7 @@ mod hearing;
 
 use crate::member::Progress;
 use crate::spending::spend_all;
-use asking::{add, load, open, post, post_buffer, store};
+use asking::{access_word, open, post, post_buffer};
 use es_agent::{AgentCore, Need, Request};
 use es_ledger::LedgerCore;
 use es_mark::Marks;
@@ -72,17 +72,11 @@ pub(crate) fn ask<L: Run>(
             Request::PostBuffer { receiver, buffer } => {
                 post_buffer(core, stake, ledger, receiver, buffer)
             }
-            Request::Load { buffer, index } => load(core, stake, ledger, buffer, index),
-            Request::Store {
+            Request::Access {
                 buffer,
                 index,
-                word,
-            } => store(core, stake, ledger, buffer, index, word),
-            Request::Add {
-                buffer,
-                index,
-                addend,
-            } => add(core, stake, ledger, buffer, index, addend),
+                access,
+            } => access_word(core, stake, ledger, buffer, index, access),
         },
         Need::Message(sender) => hear(core, stake, ledger, sender),
         Need::Close => close(core, stake, ledger),

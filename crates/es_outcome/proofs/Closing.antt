@@ -23,11 +23,11 @@ use Rattle.es_event.specs.LegalLedger.{all_ended}
 use Rattle.es_event.specs.Order.{ended, nothing as due_nothing, due_at, phase}
 use Rattle.es_event.specs.Runs.{IsRunOver}
 use Rattle.es_ledger.specs.Draining.{drained_one, drained_each, drained_to, drained_below, drained}
-use Rattle.es_match.specs.Asks.{Asking, nothing, to_open, to_measure, to_compare, to_load, to_store, to_add, to_post, to_receive, to_refuse, to_pass, to_empty, to_close, asks, asks_did, between_jobs, wants_room}
+use Rattle.es_match.specs.Asks.{Asking, nothing, to_open, to_measure, to_compare, to_access, to_post, to_receive, to_refuse, to_pass, to_empty, to_close, asks, asks_did, between_jobs, wants_room}
 use Rattle.es_match.specs.Cluster.{IsCluster, Ties, history_of}
 use Rattle.es_match.specs.Deeds.{Deed, Takes, Spends, Ends, deed, part, part_of}
 use Rattle.es_match.proofs.Bridge.{mapped}
-use Rattle.es_match.specs.Meets.{Came, Tickets, after, is_add, is_load, is_one, is_pass, is_post, is_refusal, is_store, opening, pair, receiving, sole, some_if, spends, spends_ticket_in, strike}
+use Rattle.es_match.specs.Meets.{Came, Tickets, after, is_access, is_one, is_pass, is_post, is_refusal, opening, pair, receiving, sole, some_if, spends, spends_ticket_in, strike}
 use Rattle.es_agent.specs.Tickets.{is_ended}
 use Rattle.es_member.proofs.Midway.{ended_where_all, still_over}
 use Rattle.es_record.specs.Book.{Book}
@@ -131,9 +131,7 @@ after_calm t (to_measure b v) [] u other e = refl
 after_calm t (to_measure b v) (d ∷ ds) u other e = cc
 after_calm t (to_compare b c v) [] u other e = refl
 after_calm t (to_compare b c v) (d ∷ ds) u other e = cc
-after_calm t (to_load b i v) ds u other e = one_calm (is_load t b i v) ds t u refl e
-after_calm t (to_store b i n) ds u other e = one_calm (is_store t b i n) ds t u refl e
-after_calm t (to_add b i n v) ds u other e = one_calm (is_add t b i n v) ds t u refl e
+after_calm t (to_access b i m v) ds u other e = one_calm (is_access t b i m v) ds t u refl e
 after_calm t (to_post a v) ds u other e = one_calm (is_post t a v) ds t u refl e
 after_calm t (to_receive s v) ds u other e = sole_calm (receiving t s v) ds u (λ d. receiving_calm t s v d u) e
 after_calm t to_refuse ds u other e = pair_calm ds t u e

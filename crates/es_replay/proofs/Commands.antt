@@ -1,5 +1,5 @@
 -- A command that is done does what the ledger and the agent's tickets say, and hears it.
-use Rattle.std.proofs.Common.{◌≡◌, ℕ, ◌+◌, ◌==◌, ◌&&◌, not, Bool, true, false, sym, ◌∙◌, ap, refl, subst, if◌then◌else◌, List, [], ◌∷◌, ◌++◌, Option, Some, None, eqb-true}
+use Rattle.std.proofs.Common.{◌≡◌, ℕ, ◌+◌, ◌==◌, ◌&&◌, ◌||◌, not, Bool, true, false, sym, ◌∙◌, ap, refl, subst, if◌then◌else◌, List, [], ◌∷◌, ◌++◌, Option, Some, None, eqb-true}
 use Rattle.std.specs.Prelude.{ℤ, pos, unsigned_abs, is_some, slice_get}
 use Rattle.std.specs.Option.{option_and_then, option_map, option_map_or}
 use Rattle.std.specs.Cmp.{booleans_Decides}
@@ -10,6 +10,8 @@ use Rattle.std.proofs.lemmas.Bool.Decides.{Decides-int_eq}
 use Rattle.es_value.specs.Values.{is_same}
 use Rattle.es_value.specs.declared.value.Value.{Value}
 use Rattle.es_value.specs.declared.value.Value.TheVariants.{Undefined, Boolean, Number, Text, Registered, Object, Symbol}
+use Rattle.es_event.specs.declared.access.Access.{Access}
+use Rattle.es_event.specs.declared.access.Access.TheVariants.{Load as loads, Store as stores, Add as adds}
 use Rattle.es_event.specs.declared.command.Command.{Command}
 use Rattle.es_event.specs.declared.command.Command.TheVariants.{SharedArrayBuffer, Length, SameBlock, Load, Store, Add, Post}
 use Rattle.es_event.specs.declared.event.Answer.{Answer}
@@ -17,6 +19,7 @@ use Rattle.es_event.specs.declared.event.Answer.TheVariants.{Nothing, Gives, Lis
 use Rattle.es_event.specs.declared.ledger_event.Body.{Body}
 use Rattle.es_event.specs.declared.ledger_event.Body.TheVariants.{Plain, Block}
 use Rattle.es_event.specs.declared.row.Row.{Row}
+use Rattle.es_event.specs.Access.{gives_word, is_same_access}
 use Rattle.es_event.specs.Commands.{first}
 use Rattle.es_event.specs.Identities.{object_of}
 use Rattle.es_event.specs.Legal.{word_in}
@@ -25,11 +28,12 @@ use Rattle.es_event.specs.LegalLedger.{Reaches}
 use Rattle.es_event.specs.Rows.{row}
 use Rattle.es_event.specs.Runs.{heard_by, a_word}
 use Rattle.es_event.specs.Sharing.{row_of, to_uint32}
+use Rattle.es_event.proofs.Accesses.{same_access}
 use Rattle.es_match.specs.Asks.{asks_did, given}
-use Rattle.es_match.specs.Deeds.{Deed, Opens, Posts, Loads, Stores, Adds}
-use Rattle.es_match.specs.Meets.{Tickets, add_ticket, after, carries, has_ticket, is_add, is_load, is_number, is_object, is_one, is_post, is_store, is_ticket, no_more, opening, opened_ticket, same_index, sole, some_if, ticket_in}
+use Rattle.es_match.specs.Deeds.{Deed, Opens, Posts, Accesses}
+use Rattle.es_match.specs.Meets.{Tickets, add_ticket, after, answers, carries, has_ticket, is_access, is_number, is_object, is_one, is_post, is_ticket, no_more, opening, opened_ticket, same_index, sole, some_if, ticket_in}
 use Rattle.es_replay.specs.Doing.{AllFit, Fits, IsNew}
-use Rattle.es_replay.specs.Settled.{block_at, body_for, came_row, deeds_of, heard_from, row_from, serial_at, word_at}
+use Rattle.es_replay.specs.Settled.{access_by, block_at, body_for, came_row, deeds_of, heard_from, row_from, serial_at, word_at}
 
 -- Parts of what meets what is asked
 
@@ -153,64 +157,54 @@ settles_open n l t left m to k vs a r ds met came fit =
         by_size false size met = cc
     at _ met came fit is = cc
 
-settles_load : (n : ℕ) (l : Ledger) (t : Tickets) (m : ℕ) (to x : List ℕ) (i : ℤ) (vs : List Value) (a : Answer) (r : Option Row) (ds : List Deed)
-    → is_one (is_load t (first vs) i (given a)) ds ≡ true → [] ≡ came_row m r → AllFit n ds l → Settles l t m (Load to x i) vs a r ds
-settles_load n l t m to x i vs a r ds met came fit =
-    let one = one_of (is_load t (first vs) i (given a)) ds met in
+-- an access was done as the command asks, over the word that was there, which it hears where it gives one
+record IsAccessBy (l : Ledger) (t : Tickets) (vs : List Value) (i : ℤ) (m : Access) (a : Answer) (ds : List Deed) : Type 0 where
+  pub deeds : ds ≡ access_by l t vs i m
+  pub word : gives_word m ≡ true → word_in a ≡ word_at l (serial_at t (first vs)) (unsigned_abs i)
+
+answered : (gives right : Bool) → gives ≡ true → (not gives || right) ≡ true → right ≡ true
+answered true right given is = is
+answered false right given is = cc
+
+accessed : (n : ℕ) (l : Ledger) (t : Tickets) (i : ℤ) (m : Access) (vs : List Value) (a : Answer) (ds : List Deed)
+    → is_one (is_access t (first vs) i m (given a)) ds ≡ true → AllFit n ds l → IsAccessBy l t vs i m a ds
+accessed n l t i m vs a ds met fit =
+    let one = one_of (is_access t (first vs) i m (given a)) ds met in
     at one.0 one.2 (subst (λ ds. AllFit n ds l) one.1 fit).0 one.1
   where
-    at : (d : Deed) → is_load t (first vs) i (given a) d ≡ true → Fits l n d → ds ≡ d ∷ [] → Settles l t m (Load to x i) vs a r ds
-    at (Loads s j w) met fit is =
-        let parts = and_parts (is_ticket t (first vs) s) (same_index i j && is_number (given a) w) met in
-        let rest = and_parts (same_index i j) (is_number (given a) w) parts.1 in
-        let serial = its_serial t (first vs) s parts.0 in
-        let index = its_index i j rest.0 in
-        let word_is = its_word l s j w fit ∙ ap (λ s. word_at l s j) serial ∙ ap (word_at l (serial_at t (first vs))) index in
-        record {
-          deeds = is ∙ ap (λ s. Loads s j w ∷ []) serial ∙ ap (λ j. Loads (serial_at t (first vs)) j w ∷ []) index ∙ ap (λ w. Loads (serial_at t (first vs)) (unsigned_abs i) w ∷ []) word_is;
-          hears = ap a_word (its_answer a w rest.1 ∙ word_is);
-          row = no_row m r came;
-        }
-    at _ met fit is = cc
-
-settles_store : (n : ℕ) (l : Ledger) (t : Tickets) (m : ℕ) (x : List ℕ) (i k : ℤ) (vs : List Value) (a : Answer) (r : Option Row) (ds : List Deed)
-    → is_one (is_store t (first vs) i k) ds ≡ true → [] ≡ came_row m r → Settles l t m (Store x i k) vs a r ds
-settles_store n l t m x i k vs a r ds met came = let one = one_of (is_store t (first vs) i k) ds met in at one.0 one.2 one.1
-  where
-    at : (d : Deed) → is_store t (first vs) i k d ≡ true → ds ≡ d ∷ [] → Settles l t m (Store x i k) vs a r ds
-    at (Stores s j w) met is =
-        let parts = and_parts (is_ticket t (first vs) s) (same_index i j && (w == to_uint32 k)) met in
-        let rest = and_parts (same_index i j) (w == to_uint32 k) parts.1 in
-        record {
-          deeds = is ∙ ap (λ s. Stores s j w ∷ []) (its_serial t (first vs) s parts.0) ∙ ap (λ j. Stores (serial_at t (first vs)) j w ∷ []) (its_index i j rest.0)
-              ∙ ap (λ w. Stores (serial_at t (first vs)) (unsigned_abs i) w ∷ []) (eqb-true w (to_uint32 k) rest.1);
-          hears = refl;
-          row = no_row m r came;
-        }
-    at _ met is = cc
-
-settles_add : (n : ℕ) (l : Ledger) (t : Tickets) (m : ℕ) (to x : List ℕ) (i k : ℤ) (vs : List Value) (a : Answer) (r : Option Row) (ds : List Deed)
-    → is_one (is_add t (first vs) i k (given a)) ds ≡ true → [] ≡ came_row m r → AllFit n ds l → Settles l t m (Add to x i k) vs a r ds
-settles_add n l t m to x i k vs a r ds met came fit =
-    let one = one_of (is_add t (first vs) i k (given a)) ds met in
-    at one.0 one.2 (subst (λ ds. AllFit n ds l) one.1 fit).0 one.1
-  where
-    at : (d : Deed) → is_add t (first vs) i k (given a) d ≡ true → Fits l n d → ds ≡ d ∷ [] → Settles l t m (Add to x i k) vs a r ds
-    at (Adds s j old w) met fit is =
-        let parts = and_parts (is_ticket t (first vs) s) (same_index i j && (is_number (given a) old && (w == to_uint32 k))) met in
-        let rest = and_parts (same_index i j) (is_number (given a) old && (w == to_uint32 k)) parts.1 in
-        let last = and_parts (is_number (given a) old) (w == to_uint32 k) rest.1 in
+    at : (d : Deed) → is_access t (first vs) i m (given a) d ≡ true → Fits l n d → ds ≡ d ∷ [] → IsAccessBy l t vs i m a ds
+    at (Accesses s j done old) met fit is =
+        let parts = and_parts (is_ticket t (first vs) s) (same_index i j && (is_same_access m done && answers m (given a) old)) met in
+        let rest = and_parts (same_index i j) (is_same_access m done && answers m (given a) old) parts.1 in
+        let last = and_parts (is_same_access m done) (answers m (given a) old) rest.1 in
         let serial = its_serial t (first vs) s parts.0 in
         let index = its_index i j rest.0 in
         let word_is = its_word l s j old fit ∙ ap (λ s. word_at l s j) serial ∙ ap (word_at l (serial_at t (first vs))) index in
         record {
-          deeds = is ∙ ap (λ s. Adds s j old w ∷ []) serial ∙ ap (λ j. Adds (serial_at t (first vs)) j old w ∷ []) index
-              ∙ ap (λ old. Adds (serial_at t (first vs)) (unsigned_abs i) old w ∷ []) word_is
-              ∙ ap (λ w. Adds (serial_at t (first vs)) (unsigned_abs i) (word_at l (serial_at t (first vs)) (unsigned_abs i)) w ∷ []) (eqb-true w (to_uint32 k) last.1);
-          hears = ap a_word (its_answer a old last.0 ∙ word_is);
-          row = no_row m r came;
+          deeds = is ∙ ap (λ s. Accesses s j done old ∷ []) serial ∙ ap (λ j. Accesses (serial_at t (first vs)) j done old ∷ []) index
+              ∙ ap (λ done. Accesses (serial_at t (first vs)) (unsigned_abs i) done old ∷ []) (same_access m done last.0)
+              ∙ ap (λ old. Accesses (serial_at t (first vs)) (unsigned_abs i) m old ∷ []) word_is;
+          word = λ gives. its_answer a old (answered (gives_word m) (is_number (given a) old) gives last.1) ∙ word_is;
         }
     at _ met fit is = cc
+
+settles_load : (n : ℕ) (l : Ledger) (t : Tickets) (m : ℕ) (to x : List ℕ) (i : ℤ) (vs : List Value) (a : Answer) (r : Option Row) (ds : List Deed)
+    → is_one (is_access t (first vs) i loads (given a)) ds ≡ true → [] ≡ came_row m r → AllFit n ds l → Settles l t m (Load to x i) vs a r ds
+settles_load n l t m to x i vs a r ds met came fit =
+    let is = accessed n l t i loads vs a ds met fit in
+    record { deeds = is.deeds; hears = ap a_word (is.word refl); row = no_row m r came }
+
+settles_store : (n : ℕ) (l : Ledger) (t : Tickets) (m : ℕ) (x : List ℕ) (i k : ℤ) (vs : List Value) (a : Answer) (r : Option Row) (ds : List Deed)
+    → is_one (is_access t (first vs) i (stores (to_uint32 k)) (given a)) ds ≡ true → [] ≡ came_row m r → AllFit n ds l → Settles l t m (Store x i k) vs a r ds
+settles_store n l t m x i k vs a r ds met came fit =
+    let is = accessed n l t i (stores (to_uint32 k)) vs a ds met fit in
+    record { deeds = is.deeds; hears = refl; row = no_row m r came }
+
+settles_add : (n : ℕ) (l : Ledger) (t : Tickets) (m : ℕ) (to x : List ℕ) (i k : ℤ) (vs : List Value) (a : Answer) (r : Option Row) (ds : List Deed)
+    → is_one (is_access t (first vs) i (adds (to_uint32 k)) (given a)) ds ≡ true → [] ≡ came_row m r → AllFit n ds l → Settles l t m (Add to x i k) vs a r ds
+settles_add n l t m to x i k vs a r ds met came fit =
+    let is = accessed n l t i (adds (to_uint32 k)) vs a ds met fit in
+    record { deeds = is.deeds; hears = ap a_word (is.word refl); row = no_row m r came }
 
 settles_post : (n : ℕ) (l : Ledger) (t : Tickets) (m : ℕ) (q : ℕ) (y : List ℕ) (vs : List Value) (a : Answer) (r : Option Row) (ds : List Deed)
     → is_one (is_post t q (first vs)) ds ≡ true → [] ≡ came_row m r → AllFit n ds l → Settles l t m (Post q y) vs a r ds
@@ -235,7 +229,7 @@ pub settles : (n : ℕ) (l : Ledger) (t left : Tickets) (m : ℕ) (c : Command) 
     → after t (asks_did c vs a) ds ≡ Some left → ticket_in (asks_did c vs a) ds ≡ came_row m r → AllFit n ds l → Settles l t m c vs a r ds
 settles n l t left m (SharedArrayBuffer to k) vs a r ds met came fit = settles_open n l t left m to k vs a r ds met came fit
 settles n l t left m (Load to x i) vs a r ds met came fit = settles_load n l t m to x i vs a r ds (some_if_true _ t left met) came fit
-settles n l t left m (Store x i k) vs a r ds met came fit = settles_store n l t m x i k vs a r ds (some_if_true _ t left met) came
+settles n l t left m (Store x i k) vs a r ds met came fit = settles_store n l t m x i k vs a r ds (some_if_true _ t left met) came fit
 settles n l t left m (Add to x i k) vs a r ds met came fit = settles_add n l t m to x i k vs a r ds (some_if_true _ t left met) came fit
 settles n l t left m (Post q y) vs a r ds met came fit = settles_post n l t m q y vs a r ds (some_if_true _ t left met) came fit
 settles n l t left m (Length to x) vs a r ds met came fit = quiet l t m (Length to x) vs a r ds refl refl refl (and_parts (no_more ds) _ (some_if_true _ t left met)).0 came

@@ -5,11 +5,12 @@ use Rattle.std.proofs.lemmas.Bool.{and_parts, not-true}
 use Rattle.es_event.specs.declared.ledger_event.Body.{Body}
 use Rattle.es_event.specs.declared.ledger_event.Body.TheVariants.{Plain, Block}
 use Rattle.es_event.specs.declared.ledger_event.LedgerEvent.{LedgerEvent}
-use Rattle.es_event.specs.declared.ledger_event.LedgerEvent.TheVariants.{Opened, Posted, Taken, Spent, Loaded, Stored, Added, Waiting, Passed, Ended, Drained}
+use Rattle.es_event.specs.declared.ledger_event.LedgerEvent.TheVariants.{Opened, Posted, Taken, Spent, Accessed, Waiting, Passed, Ended, Drained}
 use Rattle.es_event.specs.declared.row.Row.{Row}
+use Rattle.es_event.specs.Access.{IsStorable}
 use Rattle.es_event.specs.Ledger.{Ledger, front, holder_of, word}
 use Rattle.es_event.specs.LegalLedger.{Reaches, has_message, IsPostable, MayCome}
-use Rattle.es_match.specs.Deeds.{Deed, Opens, Posts, Takes, Spends, Loads, Stores, Adds, Waits, Passes, Ends, Owned, deed, is_wait, taking, words_in}
+use Rattle.es_match.specs.Deeds.{Deed, Opens, Posts, Takes, Spends, Accesses, Waits, Passes, Ends, Owned, deed, is_wait, taking, words_in}
 use Rattle.es_replay.specs.Alike.{Alike}
 use Rattle.es_replay.specs.Doing.{event_of, did, IsNew, Fits, AllFit}
 use Rattle.es_replay.proofs.Telling.{same_front, same_message, same_holder, after_one, after_wait}
@@ -39,9 +40,7 @@ fits_same l m n (Opens b w s) a is = (is.0 ∙ ap (λ n. n + 1) a.opened, is.1 �
 fits_same l m n (Posts r b) a is = new_same l m b a is
 fits_same l m n (Takes s b w) a is = (is.0 ∙ same_front l m s n a, is.1 ∙ same_words_in l m b a, sym (same_message l m s n a) ∙ is.2)
 fits_same l m n (Spends s) a is = is
-fits_same l m n (Loads s i w) a is = reaches_same l m s i w a is
-fits_same l m n (Stores s i w) a is = is
-fits_same l m n (Adds s i old k) a is = reaches_same l m s i old a is
+fits_same l m n (Accesses s i done old) a is = reaches_same l m s i old a is
 fits_same l m n (Waits s) a is = is
 fits_same l m n (Passes s) a is = sym (same_message l m s n a) ∙ is
 fits_same l m n Ends a is = is
@@ -95,9 +94,8 @@ meant k l (Opened b w s a) n d may is = meant_here l (Opened b w s a) a n (Opens
 meant k l (Posted a r m) n d may is = meant_here l (Posted a r m) a n (Posts r m) d is refl (postable_new l a m may.3)
 meant k l (Taken r s) n d may is = meant_here l (Taken r s) r n (taking l s (front l s r)) d is refl (refl, refl, may)
 meant k l (Spent s) n d may is = meant_by l (Spent s) n (Spends s) d (holder_of l s) is (λ a. refl) (λ a. tt)
-meant k l (Loaded s i w) n d may is = meant_by l (Loaded s i w) n (Loads s i w) d (holder_of l s) is (λ a. refl) (λ a. may)
-meant k l (Stored s i w) n d may is = meant_by l (Stored s i w) n (Stores s i w) d (holder_of l s) is (λ a. refl) (λ a. tt)
-meant k l (Added s i old m) n d may is = meant_by l (Added s i old m) n (Adds s i old m) d (holder_of l s) is (λ a. refl) (λ a. may)
+meant k l (Accessed s i m old) n d may is =
+    meant_by l (Accessed s i m old) n (Accesses s i m old) d (holder_of l s) is (λ a. refl) (λ a. reaches_so (holder_of l s) i (λ r. (old ≡ word l r.block i) × IsStorable m) (λ r. old ≡ word l r.block i) (λ r e. e.0) may)
 meant k l (Waiting a s) n d may is = meant_here l (Waiting a s) a n (Waits s) d is refl tt
 meant k l (Passed a s) n d may is = meant_here l (Passed a s) a n (Passes s) d is refl (not-true (has_message l s a) (and_parts (not (has_message l s a)) _ may.1).0)
 meant k l (Ended a) n d may is = meant_here l (Ended a) a n Ends d is refl tt

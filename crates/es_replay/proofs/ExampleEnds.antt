@@ -1,10 +1,11 @@
 -- Ledgers that tell the same although an agent waited, or spent its tickets in another order; and such as do not.
 use Rattle.std.proofs.Common.{true, List, [], ◌∷◌, map, length, codes, refl, ap}
 use Rattle.es_value.specs.declared.value.Value.TheVariants.{Undefined, Boolean}
+use Rattle.es_event.specs.declared.access.Access.TheVariants.{Store as stores}
 use Rattle.es_event.specs.declared.event.Event.TheVariants.{JobBegun, JobEnded, Closed}
 use Rattle.es_event.specs.declared.ledger_event.Body.TheVariants.{Plain, Block}
 use Rattle.es_event.specs.declared.ledger_event.LedgerEvent.{LedgerEvent}
-use Rattle.es_event.specs.declared.ledger_event.LedgerEvent.TheVariants.{Opened, Posted, Taken, Spent, Stored, Waiting, Ended, Drained}
+use Rattle.es_event.specs.declared.ledger_event.LedgerEvent.TheVariants.{Opened, Posted, Taken, Spent, Accessed, Waiting, Ended, Drained}
 use Rattle.es_event.specs.declared.event.Event.{Event}
 use Rattle.es_event.specs.declared.outcome.Outcome.{Outcome}
 use Rattle.es_event.specs.Ledger.{Ledger}
@@ -56,7 +57,7 @@ not_taken a = let count = a.taken in cc
 a_drain_more : Alike (Drained 1 0 ∷ []) [] → ⊥
 a_drain_more a = let count = a.drained in cc
 
-another_word : Alike (Stored 1 0 7 ∷ two_blocks) (Stored 1 0 8 ∷ two_blocks) → ⊥
+another_word : Alike (Accessed 1 0 (stores 7) 0 ∷ two_blocks) (Accessed 1 0 (stores 8) 0 ∷ two_blocks) → ⊥
 another_word a = let word = a.words 1 0 in cc
 
 not_ended : Alike (Ended 0 ∷ two_blocks) two_blocks → ⊥

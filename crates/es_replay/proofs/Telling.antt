@@ -1,16 +1,17 @@
 -- Ledgers that tell the same still do after the same event, and after a wait of one alone.
 use Rattle.std.specs.Prelude.{slice_get, is_some, nat_lt, nat_le, codes, decimal, reverse, ◌&&◌, ◌==◌}
 use Rattle.std.specs.List.{range_with_len}
-use Rattle.std.proofs.Common.{◌≡◌, ℕ, ◌+◌, ◌||◌, ◌%◌, ◌^◌, Bool, false, cond, sym, ◌∙◌, ap, refl, arith, List, [], ◌∷◌, ◌++◌}
+use Rattle.std.proofs.Common.{◌≡◌, ℕ, ◌+◌, ◌||◌, Bool, false, cond, sym, ◌∙◌, ap, refl, arith, List, [], ◌∷◌, ◌++◌, Option, None, Some}
 use Rattle.std.specs.Prelude.{count_by}
 use Rattle.std.proofs.lemmas.List.Sums.{sum_by-cons}
 use Rattle.std.specs.Option.{option_and_then, option_map, option_map_or}
 use Rattle.es_event.specs.declared.ledger_event.Body.{Body}
 use Rattle.es_event.specs.declared.ledger_event.Body.TheVariants.{Plain, Block}
 use Rattle.es_event.specs.declared.ledger_event.LedgerEvent.{LedgerEvent}
-use Rattle.es_event.specs.declared.ledger_event.LedgerEvent.TheVariants.{Opened, Posted, Taken, Spent, Loaded, Stored, Added, Waiting, Passed, Ended, Drained}
+use Rattle.es_event.specs.declared.ledger_event.LedgerEvent.TheVariants.{Opened, Posted, Taken, Spent, Accessed, Waiting, Passed, Ended, Drained}
 use Rattle.es_event.specs.declared.row.Entry.{Entry}
 use Rattle.es_event.specs.declared.row.Holder.TheVariants.{Agent, Port}
+use Rattle.es_event.specs.Access.{written}
 use Rattle.es_event.specs.Rows.{count_of, unspent, line_of, row, held_by}
 use Rattle.es_event.specs.Ledger.{Ledger, opened, word, opens, newest_size, issues, queued, front, posted_line, serial_in, moved_if, table, table_after, by_agent, holder_of, writes, written_by, newest_word, is_end_of}
 use Rattle.es_event.specs.LegalLedger.{has_message}
@@ -74,9 +75,7 @@ same_table l m (Posted a r b) t alike = ap (λ x. t ++ x) (same_line l m a r b a
 same_table l m (Taken r s) t alike = ap (λ o. moved_if (option_and_then serial_in o) (Agent r) t) (same_front l m s r alike)
 same_table l m (Opened b w s a) t alike = refl
 same_table l m (Spent s) t alike = refl
-same_table l m (Loaded s i w) t alike = refl
-same_table l m (Stored s i w) t alike = refl
-same_table l m (Added s i old n) t alike = refl
+same_table l m (Accessed s i done old) t alike = refl
 same_table l m (Waiting a s) t alike = refl
 same_table l m (Passed a s) t alike = refl
 same_table l m (Ended a) t alike = refl
@@ -86,13 +85,15 @@ same_written : (l m : Ledger) (s i w : ℕ) → Alike l m → written_by l s i w
 same_written l m s i w alike = ap (λ o. option_map (λ p. (p.1.block, i, w)) o) (same_holder l m s alike)
 
 same_writes : (l m : Ledger) (e : LedgerEvent) → Alike l m → writes l e ≡ writes m e
-same_writes l m (Stored s i w) alike = same_written l m s i w alike
-same_writes l m (Added s i old n) alike = same_written l m s i ((old + n) % 2 ^ 32) alike
+same_writes l m (Accessed s i done old) alike = by_written (written done old)
+  where
+    by_written : (o : Option ℕ) → option_and_then (written_by l s i) o ≡ option_and_then (written_by m s i) o
+    by_written None = refl
+    by_written (Some w) = same_written l m s i w alike
 same_writes l m (Opened b w s a) alike = refl
 same_writes l m (Posted a r b) alike = refl
 same_writes l m (Taken r s) alike = refl
 same_writes l m (Spent s) alike = refl
-same_writes l m (Loaded s i w) alike = refl
 same_writes l m (Waiting a s) alike = refl
 same_writes l m (Passed a s) alike = refl
 same_writes l m (Ended a) alike = refl

@@ -3,7 +3,7 @@ use Rattle.std.proofs.Common.{◌≡◌, ℕ, ◌+◌, Bool, true, false, cond, 
 use Rattle.std.proofs.lemmas.List.{reverse-append}
 use Rattle.es_event.specs.declared.event.Event.{Event}
 use Rattle.es_event.specs.declared.ledger_event.LedgerEvent.{LedgerEvent}
-use Rattle.es_event.specs.declared.ledger_event.LedgerEvent.TheVariants.{Opened, Posted, Taken, Spent, Loaded, Stored, Added, Waiting as WaitingEvent, Passed, Ended as EndedEvent, Drained}
+use Rattle.es_event.specs.declared.ledger_event.LedgerEvent.TheVariants.{Opened, Posted, Taken, Spent, Accessed, Waiting as WaitingEvent, Passed, Ended as EndedEvent, Drained}
 use Rattle.es_event.specs.declared.row.Row.{Row}
 use Rattle.es_event.specs.Identities.{made}
 use Rattle.es_event.specs.Jobs.{job}
@@ -41,9 +41,7 @@ owes_nothing l (Opened b w s a) n d is = refl
 owes_nothing l (Posted a r m) n d is = refl
 owes_nothing l (Taken r s) n d is = refl
 owes_nothing l (Spent s) n d is = refl
-owes_nothing l (Loaded s i w) n d is = refl
-owes_nothing l (Stored s i w) n d is = refl
-owes_nothing l (Added s i old m) n d is = refl
+owes_nothing l (Accessed s i m old) n d is = refl
 owes_nothing l (WaitingEvent a s) n d is = refl
 owes_nothing l (Passed a s) n d is = refl
 owes_nothing l (EndedEvent a) n d is = refl

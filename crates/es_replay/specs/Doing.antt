@@ -4,10 +4,10 @@ use Rattle.std.specs.Option.{option_map_or}
 use Rattle.es_event.specs.declared.ledger_event.Body.{Body}
 use Rattle.es_event.specs.declared.ledger_event.Body.TheVariants.{Plain, Block}
 use Rattle.es_event.specs.declared.ledger_event.LedgerEvent.{LedgerEvent}
-use Rattle.es_event.specs.declared.ledger_event.LedgerEvent.TheVariants.{Opened, Posted, Taken, Spent, Loaded, Stored, Added, Waiting, Passed, Ended}
+use Rattle.es_event.specs.declared.ledger_event.LedgerEvent.TheVariants.{Opened, Posted, Taken, Spent, Accessed, Waiting, Passed, Ended}
 use Rattle.es_event.specs.Ledger.{Ledger, opened, serials, front, holder_of, word}
 use Rattle.es_event.specs.LegalLedger.{Reaches, has_message}
-use Rattle.es_match.specs.Deeds.{Deed, Opens, Posts, Takes, Spends, Loads, Stores, Adds, Waits, Passes, Ends, words_in}
+use Rattle.es_match.specs.Deeds.{Deed, Opens, Posts, Takes, Spends, Accesses, Waits, Passes, Ends, words_in}
 
 -- the event that is this deed of agent n
 abbrev pub event_of : ℕ → Deed → LedgerEvent
@@ -15,9 +15,7 @@ event_of n (Opens b w s) = Opened b w s n
 event_of n (Posts r m) = Posted n r m
 event_of n (Takes s m w) = Taken n s
 event_of n (Spends s) = Spent s
-event_of n (Loads s i w) = Loaded s i w
-event_of n (Stores s i w) = Stored s i w
-event_of n (Adds s i old m) = Added s i old m
+event_of n (Accesses s i m old) = Accessed s i m old
 event_of n (Waits s) = Waiting n s
 event_of n (Passes s) = Passed n s
 event_of n Ends = Ended n
@@ -38,9 +36,7 @@ Fits l n (Opens b w s) = (b ≡ opened l + 1) × (s ≡ serials l + 1)
 Fits l n (Posts r m) = IsNew l m
 Fits l n (Takes s m w) = (m ≡ front l s n) × (w ≡ option_map_or (words_in l) m 0) × (has_message l s n ≡ true)
 Fits l n (Spends s) = ⊤
-Fits l n (Loads s i w) = Reaches (holder_of l s) i (λ r. w ≡ word l r.block i)
-Fits l n (Stores s i w) = ⊤
-Fits l n (Adds s i old m) = Reaches (holder_of l s) i (λ r. old ≡ word l r.block i)
+Fits l n (Accesses s i m old) = Reaches (holder_of l s) i (λ r. old ≡ word l r.block i)
 Fits l n (Waits s) = ⊤
 Fits l n (Passes s) = has_message l s n ≡ false
 Fits l n Ends = ⊤

@@ -1,8 +1,10 @@
 -- Internal: what an agent's next command does in the ledger, what it hears, and which ticket comes, by what the ledger and its tickets say.
-use Rattle.std.specs.Prelude.{ℕ, ◌+◌, List, [], ◌∷◌, Option, Some, None, unsigned_abs}
+use Rattle.std.specs.Prelude.{ℕ, ℤ, ◌+◌, List, [], ◌∷◌, Option, Some, None, unsigned_abs}
 use Rattle.std.specs.Option.{option_map_or}
 use Rattle.es_value.specs.declared.value.Value.{Value}
 use Rattle.es_value.specs.declared.value.Value.TheVariants.{Object}
+use Rattle.es_event.specs.declared.access.Access.{Access}
+use Rattle.es_event.specs.declared.access.Access.TheVariants.{Load as loads, Store as stores, Add as adds}
 use Rattle.es_event.specs.declared.command.Command.{Command}
 use Rattle.es_event.specs.declared.command.Command.TheVariants.{SharedArrayBuffer, Load, Store, Add, Post}
 use Rattle.es_event.specs.declared.ledger_event.Body.{Body}
@@ -13,7 +15,7 @@ use Rattle.es_event.specs.Ledger.{Ledger, opened, serials, holder_of, word}
 use Rattle.es_event.specs.Rows.{row}
 use Rattle.es_event.specs.Runs.{Heard, silence, a_word}
 use Rattle.es_event.specs.Sharing.{row_of, to_uint32}
-use Rattle.es_match.specs.Deeds.{Deed, Opens, Posts, Loads, Stores, Adds}
+use Rattle.es_match.specs.Deeds.{Deed, Opens, Posts, Accesses}
 use Rattle.es_match.specs.Meets.{Tickets}
 
 -- the serial of a buffer's ticket, and the block that it is over
@@ -32,12 +34,16 @@ abbrev pub body_for : Ledger → Tickets → Value → Body
 body_for l t (Object o) = Block (block_at t (Object o)) (serials l + 1)
 body_for l t v = Plain v
 
+-- an access to the word at an index of the first value's block
+abbrev pub access_by : Ledger → Tickets → List Value → ℤ → Access → List Deed
+access_by l t vs i m = Accesses (serial_at t (first vs)) (unsigned_abs i) m (word_at l (serial_at t (first vs)) (unsigned_abs i)) ∷ []
+
 -- what a command with these values does
 abbrev pub deeds_of : Ledger → Tickets → Command → List Value → List Deed
 deeds_of l t (SharedArrayBuffer to n) vs = Opens (opened l + 1) n (serials l + 1) ∷ []
-deeds_of l t (Load to x i) vs = Loads (serial_at t (first vs)) (unsigned_abs i) (word_at l (serial_at t (first vs)) (unsigned_abs i)) ∷ []
-deeds_of l t (Store x i n) vs = Stores (serial_at t (first vs)) (unsigned_abs i) (to_uint32 n) ∷ []
-deeds_of l t (Add to x i n) vs = Adds (serial_at t (first vs)) (unsigned_abs i) (word_at l (serial_at t (first vs)) (unsigned_abs i)) (to_uint32 n) ∷ []
+deeds_of l t (Load to x i) vs = access_by l t vs i loads
+deeds_of l t (Store x i n) vs = access_by l t vs i (stores (to_uint32 n))
+deeds_of l t (Add to x i n) vs = access_by l t vs i (adds (to_uint32 n))
 deeds_of l t (Post a x) vs = Posts a (body_for l t (first vs)) ∷ []
 deeds_of l t _ vs = []
 

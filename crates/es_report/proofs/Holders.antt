@@ -8,7 +8,7 @@ use Rattle.std.proofs.lemmas.List.Folds.{list_any-append}
 use Rattle.es_event.specs.declared.ledger_event.Body.{Body}
 use Rattle.es_event.specs.declared.ledger_event.Body.TheVariants.{Plain, Block}
 use Rattle.es_event.specs.declared.ledger_event.LedgerEvent.{LedgerEvent}
-use Rattle.es_event.specs.declared.ledger_event.LedgerEvent.TheVariants.{Opened, Posted, Taken, Spent, Loaded, Stored, Added, Waiting, Passed, Ended, Drained}
+use Rattle.es_event.specs.declared.ledger_event.LedgerEvent.TheVariants.{Opened, Posted, Taken, Spent, Accessed, Waiting, Passed, Ended, Drained}
 use Rattle.es_event.specs.declared.row.Entry.{Entry}
 use Rattle.es_event.specs.declared.row.Holder.{Holder}
 use Rattle.es_event.specs.declared.row.Holder.TheVariants.{Agent, Port, Nobody}
@@ -125,9 +125,7 @@ next_traced s b (Opened c w k a) l t says = one_more s b l (Opened c w k a ∷ l
 next_traced s b (Posted a r m) l t says = posted_next s b a r m l t says
 next_traced s b (Taken r a) l t says = taken_next s b r a l t (option_and_then serial_in (front l a r)) refl says
 next_traced s b (Spent k) l t says = now_moved s b l (Spent k ∷ l) t k Nobody refl says
-next_traced s b (Loaded k i w) l t says = no_more s b l (Loaded k i w ∷ l) t refl says
-next_traced s b (Stored k i w) l t says = no_more s b l (Stored k i w ∷ l) t refl says
-next_traced s b (Added k i old n) l t says = no_more s b l (Added k i old n ∷ l) t refl says
+next_traced s b (Accessed k i m old) l t says = no_more s b l (Accessed k i m old ∷ l) t refl says
 next_traced s b (Waiting a k) l t says = no_more s b l (Waiting a k ∷ l) t refl says
 next_traced s b (Passed a k) l t says = no_more s b l (Passed a k ∷ l) t refl says
 next_traced s b (Ended a) l t says = no_more s b l (Ended a ∷ l) t refl says
@@ -161,9 +159,7 @@ any_made (e ∷ l) s b =
     any_next (Posted a r m) = posted a r m
     any_next (Taken r a) = taken r a (option_and_then serial_in (front l a r))
     any_next (Spent k) = any_moved k Nobody (table l) s b ∙ sym (or_nothing (any_of (table l) s b))
-    any_next (Loaded k i w) = sym (or_nothing (any_of (table l) s b))
-    any_next (Stored k i w) = sym (or_nothing (any_of (table l) s b))
-    any_next (Added k i old n) = sym (or_nothing (any_of (table l) s b))
+    any_next (Accessed k i m old) = sym (or_nothing (any_of (table l) s b))
     any_next (Waiting a k) = sym (or_nothing (any_of (table l) s b))
     any_next (Passed a k) = sym (or_nothing (any_of (table l) s b))
     any_next (Ended a) = sym (or_nothing (any_of (table l) s b))

@@ -5,7 +5,7 @@ use Rattle.std.specs.Option.{option_and_then, option_map_or}
 use Rattle.es_event.specs.declared.ledger_event.Body.{Body}
 use Rattle.es_event.specs.declared.ledger_event.Body.TheVariants.{Plain, Block}
 use Rattle.es_event.specs.declared.ledger_event.LedgerEvent.{LedgerEvent}
-use Rattle.es_event.specs.declared.ledger_event.LedgerEvent.TheVariants.{Opened, Posted, Taken, Spent, Loaded, Stored, Added, Waiting, Passed, Ended, Drained}
+use Rattle.es_event.specs.declared.ledger_event.LedgerEvent.TheVariants.{Opened, Posted, Taken, Spent, Accessed, Waiting, Passed, Ended, Drained}
 use Rattle.es_event.specs.declared.row.Entry.{Entry}
 use Rattle.es_event.specs.Rows.{is_somebody}
 use Rattle.es_event.specs.Ledger.{Ledger, front, serial_in, table}
@@ -22,9 +22,7 @@ makes (Opened b w s a) = Some (s, b)
 makes (Posted a r m) = ticket_of m
 makes (Taken r a) = None
 makes (Spent s) = None
-makes (Loaded s i w) = None
-makes (Stored s i w) = None
-makes (Added s i old n) = None
+makes (Accessed s i m old) = None
 makes (Waiting a s) = None
 makes (Passed a s) = None
 makes (Ended a) = None
@@ -65,9 +63,7 @@ moved_by l t s (Opened b w k a) = t
 moved_by l t s (Posted a r m) = t
 moved_by l t s (Taken r a) = moved_if t (option_and_then serial_in (front l a r)) s true
 moved_by l t s (Spent k) = moved_to t (k == s) false
-moved_by l t s (Loaded k i w) = t
-moved_by l t s (Stored k i w) = t
-moved_by l t s (Added k i old n) = t
+moved_by l t s (Accessed k i m old) = t
 moved_by l t s (Waiting a k) = t
 moved_by l t s (Passed a k) = t
 moved_by l t s (Ended a) = t

@@ -3,7 +3,7 @@ use Rattle.std.specs.Prelude.{ℕ, ◌≡◌, ◌≤◌, ◌+◌, ◌==◌, ◌&
 use Rattle.std.specs.Option.{option_and_then}
 use Rattle.es_event.specs.declared.ledger_event.Body.{Body}
 use Rattle.es_event.specs.declared.ledger_event.LedgerEvent.{LedgerEvent}
-use Rattle.es_event.specs.declared.ledger_event.LedgerEvent.TheVariants.{Opened, Posted, Taken, Spent, Loaded, Stored, Added, Waiting, Passed, Ended, Drained}
+use Rattle.es_event.specs.declared.ledger_event.LedgerEvent.TheVariants.{Opened, Posted, Taken, Spent, Accessed, Waiting, Passed, Ended, Drained}
 use Rattle.es_event.specs.Ledger.{Ledger, is_at, port_of, serial_in}
 use Rattle.es_report.specs.declared.ports.Counts.{Counts}
 use Rattle.es_report.specs.declared.ports.Search.{Search}
@@ -14,9 +14,7 @@ posted_at (Opened b w k a) s r = []
 posted_at (Posted a u m) s r = if is_at s r a u then m ∷ [] else []
 posted_at (Taken u a) s r = []
 posted_at (Spent k) s r = []
-posted_at (Loaded k i w) s r = []
-posted_at (Stored k i w) s r = []
-posted_at (Added k i old n) s r = []
+posted_at (Accessed k i m old) s r = []
 posted_at (Waiting a t) s r = []
 posted_at (Passed a t) s r = []
 posted_at (Ended a) s r = []

@@ -70,9 +70,7 @@ fn made_by(event: &LedgerEvent) -> Option<(u64, u64)>
         LedgerEvent::Taken { .. }
         | LedgerEvent::Drained { .. }
         | LedgerEvent::Spent { .. }
-        | LedgerEvent::Loaded { .. }
-        | LedgerEvent::Stored { .. }
-        | LedgerEvent::Added { .. }
+        | LedgerEvent::Accessed { .. }
         | LedgerEvent::Waiting { .. }
         | LedgerEvent::Passed { .. }
         | LedgerEvent::Ended { .. } => None,
@@ -131,9 +129,7 @@ fn with_moved(traced: Trace, before: &[LedgerEvent], event: &LedgerEvent, serial
         LedgerEvent::Opened { .. }
         | LedgerEvent::Posted { .. }
         | LedgerEvent::Drained { .. }
-        | LedgerEvent::Loaded { .. }
-        | LedgerEvent::Stored { .. }
-        | LedgerEvent::Added { .. }
+        | LedgerEvent::Accessed { .. }
         | LedgerEvent::Waiting { .. }
         | LedgerEvent::Passed { .. }
         | LedgerEvent::Ended { .. } => traced,

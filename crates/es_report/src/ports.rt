@@ -61,9 +61,7 @@ fn next_counts(counts: Counts, event: &LedgerEvent, sender: usize, receiver: usi
         } => taken_out(counts, is_port(sender, receiver, *from, *to)),
         LedgerEvent::Opened { .. }
         | LedgerEvent::Spent { .. }
-        | LedgerEvent::Loaded { .. }
-        | LedgerEvent::Stored { .. }
-        | LedgerEvent::Added { .. }
+        | LedgerEvent::Accessed { .. }
         | LedgerEvent::Waiting { .. }
         | LedgerEvent::Passed { .. }
         | LedgerEvent::Ended { .. } => counts,
@@ -145,9 +143,7 @@ fn next_search(
         | LedgerEvent::Drained { .. }
         | LedgerEvent::Opened { .. }
         | LedgerEvent::Spent { .. }
-        | LedgerEvent::Loaded { .. }
-        | LedgerEvent::Stored { .. }
-        | LedgerEvent::Added { .. }
+        | LedgerEvent::Accessed { .. }
         | LedgerEvent::Waiting { .. }
         | LedgerEvent::Passed { .. }
         | LedgerEvent::Ended { .. } => search,

@@ -1,10 +1,11 @@
 -- The events of what is answered come next.
-use Rattle.std.proofs.Common.{◌≡◌, ℕ, ◌+◌, ◌<◌, ◌^◌, Bool, true, false, sym, ◌∙◌, ap, refl, subst, arith, List, [], ◌∷◌, Option, Some, None, Ok, Err, eq-eqb, cond}
+use Rattle.std.proofs.Common.{◌≡◌, ℕ, ◌+◌, ◌<◌, ◌^◌, Bool, true, false, sym, ◌∙◌, ap, refl, subst, arith, List, [], ◌∷◌, Option, Some, None, Ok, Err, eq-eqb, cond, not}
 use Rattle.std.specs.Prelude.{pos, nat_lt, is_some, is_none}
 use Rattle.std.specs.Option.{option_map}
 use Rattle.es_value.specs.declared.value.Value.{Value}
 use Rattle.es_value.specs.declared.value.Value.TheVariants.{Number, Object, Symbol}
 use Rattle.es_value.specs.Limits.{most_identities}
+use Rattle.es_event.specs.declared.access.Access.TheVariants.{Load as loads, Store as stores, Add as adds}
 use Rattle.es_event.specs.declared.command.Command.{Command}
 use Rattle.es_event.specs.declared.command.Command.TheVariants.{SharedArrayBuffer, Load, Store, Add, Post, Collect, CollectLater}
 use Rattle.es_event.specs.declared.event.Answer.{Answer}
@@ -13,6 +14,7 @@ use Rattle.es_event.specs.declared.event.Event.TheVariants.{Received, Did, Refus
 use Rattle.es_event.specs.declared.event.Refusal.{Refusal}
 use Rattle.es_event.specs.declared.event.Refusal.TheVariants.{TooManyValues, CollectionOpen}
 use Rattle.es_event.specs.declared.row.Row.{Row}
+use Rattle.es_event.specs.Access.{gives_word}
 use Rattle.es_event.specs.Commands.{reads, first, makes, collects, opens_words}
 use Rattle.es_event.specs.History.{History}
 use Rattle.es_event.specs.Identities.{identity, object_of, made}
@@ -26,7 +28,7 @@ use Rattle.es_event.specs.Follows.{HasRoom, Permits}
 use Rattle.es_event.proofs.Accepted.{accepted}
 use Rattle.es_event.proofs.Extending.{refuses_so}
 use Rattle.es_record.specs.Book.{Book, IsNext, with_buffer}
-use Rattle.es_rules.specs.Needs.{Request, for_block, for_post, for_buffer_post, for_load, for_store, for_add, posts_to, asked, unless_refused, request, Need, asks_copy, asks_ledger, asks_message, need_of, need, TakesTicket, TakesWord, TakesDone}
+use Rattle.es_rules.specs.Needs.{Request, for_block, for_post, for_buffer_post, for_access, posts_to, asked, unless_refused, request, Need, asks_copy, asks_ledger, asks_message, need_of, need, TakesTicket, TakesWord, TakesDone}
 use Rattle.es_rules.specs.Giving.{MayGive}
 use Rattle.es_rules.proofs.Needs.{ledger_due, ledger_command, copy_due, message_due, not_refused}
 
@@ -80,17 +82,13 @@ abbrev is_word : Request → Bool
 is_word (for_block n) = false
 is_word (for_post a v) = false
 is_word (for_buffer_post a o) = false
-is_word (for_load o i) = true
-is_word (for_store o i n) = false
-is_word (for_add o i n) = true
+is_word (for_access o i a) = gives_word a
 
 abbrev is_done : Request → Bool
 is_done (for_block n) = false
 is_done (for_post a v) = true
 is_done (for_buffer_post a o) = true
-is_done (for_load o i) = false
-is_done (for_store o i n) = true
-is_done (for_add o i n) = false
+is_done (for_access o i a) = not (gives_word a)
 
 mapped_is : (test : Request → Bool) (f : ℕ → Request) (o : Option ℕ) (r : Request) (t : Bool) → ((i : ℕ) → test (f i) ≡ t) → option_map f o ≡ Some r → test r ≡ t
 mapped_is test f None r t each e = cc
@@ -115,7 +113,7 @@ word_gives : (over : Buffers) (h : History) (c : Command) (vs : List Value) (r :
 word_gives over h (Load to b i) vs r w is word none small = (ap (λ f. refuse_or f (Gives (number_of_word w))) none ∙ ap (λ n. Ok (Gives (Number (pos n)))) (omega (arith, small)), refl)
 word_gives over h (Add to b i n) vs r w is word none small = (ap (λ f. refuse_or f (Gives (number_of_word w))) none ∙ ap (λ n. Ok (Gives (Number (pos n)))) (omega (arith, small)), refl)
 word_gives over h (SharedArrayBuffer to n) vs r w is word none small = absurd (both_ways (is_word r) word (some_is is_word (for_block n) r false refl is))
-word_gives over h (Store b i n) vs r w is word none small = absurd (both_ways (is_word r) word (mapped_is is_word (λ o. for_store o _ _) (object_of (first vs)) r false (λ o. refl) is))
+word_gives over h (Store b i n) vs r w is word none small = absurd (both_ways (is_word r) word (mapped_is is_word (λ o. for_access o _ (stores _)) (object_of (first vs)) r false (λ o. refl) is))
 word_gives over h (Post a y) vs r w is word none small = absurd (both_ways (is_word r) word (some_is is_word (posts_to a (first vs)) r false (posts_no_word a (first vs)) is))
 word_gives over h _ vs r w is word none small = cc
 
@@ -124,8 +122,8 @@ done_gives : (over : Buffers) (h : History) (c : Command) (vs : List Value) (r :
 done_gives over h (Store b i n) vs r is done none = (ap (λ f. refuse_or f Nothing) none, refl)
 done_gives over h (Post a y) vs r is done none = (ap (λ f. refuse_or f Nothing) none, refl)
 done_gives over h (SharedArrayBuffer to n) vs r is done none = absurd (both_ways (is_done r) done (some_is is_done (for_block n) r false refl is))
-done_gives over h (Load to b i) vs r is done none = absurd (both_ways (is_done r) done (mapped_is is_done (λ o. for_load o _) (object_of (first vs)) r false (λ o. refl) is))
-done_gives over h (Add to b i n) vs r is done none = absurd (both_ways (is_done r) done (mapped_is is_done (λ o. for_add o _ _) (object_of (first vs)) r false (λ o. refl) is))
+done_gives over h (Load to b i) vs r is done none = absurd (both_ways (is_done r) done (mapped_is is_done (λ o. for_access o _ loads) (object_of (first vs)) r false (λ o. refl) is))
+done_gives over h (Add to b i n) vs r is done none = absurd (both_ways (is_done r) done (mapped_is is_done (λ o. for_access o _ (adds _)) (object_of (first vs)) r false (λ o. refl) is))
 done_gives over h _ vs r is done none = cc
 
 word_may : (b : Book) (w : ℕ) (r : Request) → need b ≡ asks_ledger r → is_word r ≡ true → w < 2 ^ 32 → MayGive b (Gives (Number (pos w)))
@@ -145,8 +143,7 @@ done_may b r is done =
     record { command = at.0; is_due = at.1; gives = gives.0; no_collection = at.2; no_block = gives.1 }
 
 word_at : (b : Book) (w : ℕ) (n : Need) → need b ≡ n → TakesWord n → w < 2 ^ 32 → MayGive b (Gives (Number (pos w)))
-word_at b w (asks_ledger (for_load o i)) is takes small = word_may b w (for_load o i) is refl small
-word_at b w (asks_ledger (for_add o i n)) is takes small = word_may b w (for_add o i n) is refl small
+word_at b w (asks_ledger (for_access o i a)) is takes small = word_may b w (for_access o i a) is takes small
 word_at b w _ is takes small = absurd takes
 
 pub may_give_word : (b : Book) (w : ℕ) → TakesWord (need b) → w < 2 ^ 32 → MayGive b (Gives (Number (pos w)))
@@ -155,7 +152,7 @@ may_give_word b w takes small = word_at b w (need b) refl takes small
 done_at : (b : Book) (n : Need) → need b ≡ n → TakesDone n → MayGive b Nothing
 done_at b (asks_ledger (for_post a v)) is takes = done_may b (for_post a v) is refl
 done_at b (asks_ledger (for_buffer_post a o)) is takes = done_may b (for_buffer_post a o) is refl
-done_at b (asks_ledger (for_store o i n)) is takes = done_may b (for_store o i n) is refl
+done_at b (asks_ledger (for_access o i a)) is takes = done_may b (for_access o i a) is (ap not takes)
 done_at b _ is takes = absurd takes
 
 pub may_give_nothing : (b : Book) → TakesDone (need b) → MayGive b Nothing
@@ -177,9 +174,7 @@ abbrev is_block : Request → Bool
 is_block (for_block n) = true
 is_block (for_post a v) = false
 is_block (for_buffer_post a o) = false
-is_block (for_load o i) = false
-is_block (for_store o i n) = false
-is_block (for_add o i n) = false
+is_block (for_access o i a) = false
 
 posts_no_block : (a : ℕ) (v : Value) → is_block (posts_to a v) ≡ false
 posts_no_block a (Object o) = refl
@@ -188,9 +183,9 @@ posts_no_block a _ = refl
 -- a block is asked for by the command that makes a buffer object
 block_asked : (c : Command) (n : ℕ) (vs : List Value) → asked c vs ≡ Some (for_block n) → (to : List ℕ) × (c ≡ SharedArrayBuffer to n)
 block_asked (SharedArrayBuffer to m) n vs e = let same : m ≡ n = cc in (to, ap (λ n. SharedArrayBuffer to n) same)
-block_asked (Load to x i) n vs e = absurd (both_ways true refl (mapped_is is_block (λ o. for_load o _) (object_of (first vs)) (for_block n) false (λ o. refl) e))
-block_asked (Store x i m) n vs e = absurd (both_ways true refl (mapped_is is_block (λ o. for_store o _ _) (object_of (first vs)) (for_block n) false (λ o. refl) e))
-block_asked (Add to x i m) n vs e = absurd (both_ways true refl (mapped_is is_block (λ o. for_add o _ _) (object_of (first vs)) (for_block n) false (λ o. refl) e))
+block_asked (Load to x i) n vs e = absurd (both_ways true refl (mapped_is is_block (λ o. for_access o _ loads) (object_of (first vs)) (for_block n) false (λ o. refl) e))
+block_asked (Store x i m) n vs e = absurd (both_ways true refl (mapped_is is_block (λ o. for_access o _ (stores _)) (object_of (first vs)) (for_block n) false (λ o. refl) e))
+block_asked (Add to x i m) n vs e = absurd (both_ways true refl (mapped_is is_block (λ o. for_access o _ (adds _)) (object_of (first vs)) (for_block n) false (λ o. refl) e))
 block_asked (Post a y) n vs e = absurd (both_ways true refl (some_is is_block (posts_to a (first vs)) (for_block n) false (posts_no_block a (first vs)) e))
 block_asked _ n vs e = cc
 

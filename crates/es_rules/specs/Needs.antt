@@ -1,8 +1,10 @@
 -- To believe: what an agent asks for next, and what the ledger is asked for by a command.
-use Rattle.std.specs.Prelude.{ℕ, ◌≡◌, ⊤, Bool, ◌&&◌, List, [], Option, Some, None, is_none, unsigned_abs, if◌then◌else◌}
+use Rattle.std.specs.Prelude.{ℕ, ℤ, ◌≡◌, ⊤, Bool, true, false, ◌&&◌, List, [], Option, Some, None, is_none, unsigned_abs, if◌then◌else◌}
 use Rattle.std.specs.Option.{option_map}
 use Rattle.es_value.specs.declared.value.Value.{Value}
 use Rattle.es_value.specs.declared.value.Value.TheVariants.{Object}
+use Rattle.es_event.specs.declared.access.Access.{Access}
+use Rattle.es_event.specs.declared.access.Access.TheVariants.{Load as loads, Store as stores, Add as adds}
 use Rattle.es_event.specs.declared.event.Answer.{Answer}
 use Rattle.es_event.specs.declared.event.Answer.TheVariants.{Gives}
 use Rattle.es_event.specs.declared.command.Command.{Command}
@@ -11,6 +13,7 @@ use Rattle.es_event.specs.declared.event.Event.{Event}
 use Rattle.es_event.specs.declared.event.Event.TheVariants.{Received, Did}
 use Rattle.es_event.specs.declared.event.Refusal.{Refusal}
 use Rattle.es_event.specs.declared.row.Row.{Row}
+use Rattle.es_event.specs.Access.{gives_word}
 use Rattle.es_event.specs.Commands.{reads, first}
 use Rattle.es_event.specs.History.{History}
 use Rattle.es_event.specs.Identities.{object_of}
@@ -22,27 +25,29 @@ use Rattle.es_event.specs.Legal.{values_of}
 use Rattle.es_event.specs.Order.{Due, begin, receive, run, clean, take_cell, finish, end_job, close, nothing, due}
 use Rattle.es_record.specs.Book.{Book}
 
--- what the ledger is asked for: a new block of so many words; to post to a receiver a value, or the block of a buffer object;
--- to load the word at an index of a buffer object's block, or to store or add one there
+-- what the ledger is asked for: a new block of so many words; to post to a receiver a value, or the block of a buffer object; or
+-- an access to the word at an index of a buffer object's block
 pub data Request : Type 0 where
   for_block : ℕ → Request
   for_post : ℕ → Value → Request
   for_buffer_post : ℕ → ℕ → Request
-  for_load : ℕ → ℕ → Request
-  for_store : ℕ → ℕ → ℕ → Request
-  for_add : ℕ → ℕ → ℕ → Request
+  for_access : ℕ → ℕ → Access → Request
 
 abbrev pub posts_to : ℕ → Value → Request
 posts_to a (Object o) = for_buffer_post a o
 posts_to a v = for_post a v
 
+-- an access to the word at this index of the block of a value, where it is an object
+abbrev pub access_at : Value → ℤ → Access → Option Request
+access_at v i a = option_map (λ o. for_access o (unsigned_abs i) a) (object_of v)
+
 -- what a command asks for with these values; a number is stored and added modulo 2^32, and no other command asks for anything
 -- (SharedArrayBuffer ( length ), Atomics.load, store and add)
 abbrev pub asked : Command → List Value → Option Request
 asked (SharedArrayBuffer to n) vs = Some (for_block n)
-asked (Load to b i) vs = option_map (λ o. for_load o (unsigned_abs i)) (object_of (first vs))
-asked (Store b i n) vs = option_map (λ o. for_store o (unsigned_abs i) (to_uint32 n)) (object_of (first vs))
-asked (Add to b i n) vs = option_map (λ o. for_add o (unsigned_abs i) (to_uint32 n)) (object_of (first vs))
+asked (Load to b i) vs = access_at (first vs) i loads
+asked (Store b i n) vs = access_at (first vs) i (stores (to_uint32 n))
+asked (Add to b i n) vs = access_at (first vs) i (adds (to_uint32 n))
 asked (Post a y) vs = Some (posts_to a (first vs))
 asked _ vs = None
 
@@ -102,14 +107,12 @@ TakesTicket asks_late_marks r = ⊥
 TakesTicket (asks_ledger (for_block n)) r = r.words ≡ n
 TakesTicket (asks_ledger (for_post a v)) r = ⊥
 TakesTicket (asks_ledger (for_buffer_post a o)) r = ⊥
-TakesTicket (asks_ledger (for_load o i)) r = ⊥
-TakesTicket (asks_ledger (for_store o i n)) r = ⊥
-TakesTicket (asks_ledger (for_add o i n)) r = ⊥
+TakesTicket (asks_ledger (for_access o i a)) r = ⊥
 TakesTicket (asks_message s) r = ⊤
 TakesTicket asks_closing r = ⊥
 TakesTicket asks_nothing r = ⊥
 
--- a word does: of a load or an add
+-- a word does: of an access that gives the word that was there
 abbrev pub TakesWord : Need → Type 0
 TakesWord asks_nobody = ⊥
 TakesWord asks_marks = ⊥
@@ -118,14 +121,12 @@ TakesWord asks_late_marks = ⊥
 TakesWord (asks_ledger (for_block n)) = ⊥
 TakesWord (asks_ledger (for_post a v)) = ⊥
 TakesWord (asks_ledger (for_buffer_post a o)) = ⊥
-TakesWord (asks_ledger (for_load o i)) = ⊤
-TakesWord (asks_ledger (for_store o i n)) = ⊥
-TakesWord (asks_ledger (for_add o i n)) = ⊤
+TakesWord (asks_ledger (for_access o i a)) = gives_word a ≡ true
 TakesWord (asks_message s) = ⊥
 TakesWord asks_closing = ⊥
 TakesWord asks_nothing = ⊥
 
--- that it was done does: of a store or a post
+-- that it was done does: of an access that gives nothing, or of a post
 abbrev pub TakesDone : Need → Type 0
 TakesDone asks_nobody = ⊥
 TakesDone asks_marks = ⊥
@@ -134,9 +135,7 @@ TakesDone asks_late_marks = ⊥
 TakesDone (asks_ledger (for_block n)) = ⊥
 TakesDone (asks_ledger (for_post a v)) = ⊤
 TakesDone (asks_ledger (for_buffer_post a o)) = ⊤
-TakesDone (asks_ledger (for_load o i)) = ⊥
-TakesDone (asks_ledger (for_store o i n)) = ⊤
-TakesDone (asks_ledger (for_add o i n)) = ⊥
+TakesDone (asks_ledger (for_access o i a)) = gives_word a ≡ false
 TakesDone (asks_message s) = ⊥
 TakesDone asks_closing = ⊥
 TakesDone asks_nothing = ⊥

@@ -7,9 +7,9 @@ ghost use Rattle.es_event.specs.Order.{run, due_end};
 ghost use Rattle.es_rules.specs.Needs.{asks_nobody, need, need_of, request};
 ghost use Rattle.es_rules.specs.Shown.{requested, shown};
 
-use crate::requests::{add_request, block_request, load_request, post_request, store_request};
+use crate::requests::{access_request, block_request, post_request, word_of};
 use es_cursor::Due;
-use es_event::Command;
+use es_event::{Access, Command};
 use es_record::AgentRecord;
 use es_value::{Id, Value};
 
@@ -30,22 +30,11 @@ pub enum Request<'a> {
         receiver: usize,
         buffer: Id,
     },
-    /// The word at an index of a buffer object's block (Atomics.load).
-    Load {
+    /// What is done to the word at an index of a buffer object's block.
+    Access {
         buffer: Id,
         index: usize,
-    },
-    /// To write a word there (Atomics.store).
-    Store {
-        buffer: Id,
-        index: usize,
-        word: u32,
-    },
-    /// To add a word to the one there, modulo 2^32, and to have the one that was there (Atomics.add).
-    Add {
-        buffer: Id,
-        index: usize,
-        addend: u32,
+        access: Access,
     },
 }
 
@@ -160,18 +149,18 @@ fn request_of<'a>(agent: &'a AgentRecord, command: &Command) -> Option<Request<'
 {
     match command {
         Command::SharedArrayBuffer { words, .. } => block_request(agent, *words),
-        Command::Load { buffer, index, .. } => load_request(agent, buffer, *index),
+        Command::Load { buffer, index, .. } => access_request(agent, buffer, *index, Access::Load),
         Command::Store {
             buffer,
             index,
             number,
-        } => store_request(agent, buffer, *index, *number),
+        } => access_request(agent, buffer, *index, Access::Store(word_of(*number))),
         Command::Add {
             buffer,
             index,
             number,
             ..
-        } => add_request(agent, buffer, *index, *number),
+        } => access_request(agent, buffer, *index, Access::Add(word_of(*number))),
         Command::Post { receiver, from } => post_request(agent, *receiver, from),
         // no other command asks the ledger
         _ => None,

@@ -7,12 +7,13 @@ ghost use Rattle.es_event.specs.Jobs.{receivers};
 ghost use Rattle.es_event.specs.Variables.{var};
 ghost use Rattle.es_event.specs.Sharing.{to_uint32};
 ghost use Rattle.es_event.specs.Rules.{first_refusal, room, room_for_block, room_for_post, of_buffer, of_index, of_postable};
-ghost use Rattle.es_rules.specs.Needs.{unless_refused, for_block, for_load, for_store, for_add, posts_to};
+ghost use Rattle.es_rules.specs.Needs.{unless_refused, for_block, access_at, posts_to};
 ghost use Rattle.es_rules.specs.Shown.{requested};
 
 use crate::buffers::{may_open, may_post, place, postable};
 use crate::decide::fresh;
 use crate::need::Request;
+use es_event::Access;
 use es_record::AgentRecord;
 use es_value::{Id, Name, Value};
 
@@ -29,7 +30,7 @@ fn word_at(agent: &AgentRecord, buffer: &Name, index: i64) -> Option<(Id, usize)
 }
 
 /// The word of 32 bits that is written for a number (ToUint32).
-fn word_of(number: i64) -> u32
+pub(crate) fn word_of(number: i64) -> u32
     ensures { result ≡ to_uint32 number }
 {
     number.rem_euclid(4_294_967_296).unsigned_abs() as u32
@@ -45,48 +46,20 @@ pub(crate) fn block_request<'a>(agent: &'a AgentRecord, words: u32) -> Option<Re
     }
 }
 
-pub(crate) fn load_request<'a>(
+/// An access to the word at an index of a buffer object's block.
+pub(crate) fn access_request<'a>(
     agent: &'a AgentRecord,
     buffer: &Name,
     index: i64,
+    access: Access,
 ) -> Option<Request<'a>>
-    ensures { option_map requested result ≡ unless_refused (first_refusal (of_buffer agent.now.history (var (receivers agent.now.plan.jobs) agent.now.history buffer.now) ∷ of_index agent.now.over (var (receivers agent.now.plan.jobs) agent.now.history buffer.now) index ∷ [])) (option_map (λ o. for_load o (unsigned_abs index)) (object_of (var (receivers agent.now.plan.jobs) agent.now.history buffer.now))) }
+    ensures { option_map requested result ≡ unless_refused (first_refusal (of_buffer agent.now.history (var (receivers agent.now.plan.jobs) agent.now.history buffer.now) ∷ of_index agent.now.over (var (receivers agent.now.plan.jobs) agent.now.history buffer.now) index ∷ [])) (access_at (var (receivers agent.now.plan.jobs) agent.now.history buffer.now) index access) }
 {
     let (buffer, index) = word_at(agent, buffer, index)?;
-    Some(Request::Load { buffer, index })
-}
-
-pub(crate) fn store_request<'a>(
-    agent: &'a AgentRecord,
-    buffer: &Name,
-    index: i64,
-    number: i64,
-) -> Option<Request<'a>>
-    ensures { option_map requested result ≡ unless_refused (first_refusal (of_buffer agent.now.history (var (receivers agent.now.plan.jobs) agent.now.history buffer.now) ∷ of_index agent.now.over (var (receivers agent.now.plan.jobs) agent.now.history buffer.now) index ∷ [])) (option_map (λ o. for_store o (unsigned_abs index) (to_uint32 number)) (object_of (var (receivers agent.now.plan.jobs) agent.now.history buffer.now))) }
-{
-    let (buffer, index) = word_at(agent, buffer, index)?;
-    let word = word_of(number);
-    Some(Request::Store {
+    Some(Request::Access {
         buffer,
         index,
-        word,
-    })
-}
-
-pub(crate) fn add_request<'a>(
-    agent: &'a AgentRecord,
-    buffer: &Name,
-    index: i64,
-    number: i64,
-) -> Option<Request<'a>>
-    ensures { option_map requested result ≡ unless_refused (first_refusal (of_buffer agent.now.history (var (receivers agent.now.plan.jobs) agent.now.history buffer.now) ∷ of_index agent.now.over (var (receivers agent.now.plan.jobs) agent.now.history buffer.now) index ∷ [])) (option_map (λ o. for_add o (unsigned_abs index) (to_uint32 number)) (object_of (var (receivers agent.now.plan.jobs) agent.now.history buffer.now))) }
-{
-    let (buffer, index) = word_at(agent, buffer, index)?;
-    let addend = word_of(number);
-    Some(Request::Add {
-        buffer,
-        index,
-        addend,
+        access,
     })
 }
 

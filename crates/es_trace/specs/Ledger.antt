@@ -2,10 +2,12 @@
 use Rattle.std.specs.Prelude.{ℕ, Bool, true, false, List, [], ◌++◌, codes, decimal}
 use Rattle.std.specs.List.{flat_map}
 use Rattle.es_value.specs.Printed.{value_text}
+use Rattle.es_event.specs.declared.access.Access.{Access}
+use Rattle.es_event.specs.declared.access.Access.TheVariants.{Load, Store, Add}
 use Rattle.es_event.specs.declared.ledger_event.Body.{Body}
 use Rattle.es_event.specs.declared.ledger_event.Body.TheVariants.{Plain, Block}
 use Rattle.es_event.specs.declared.ledger_event.LedgerEvent.{LedgerEvent}
-use Rattle.es_event.specs.declared.ledger_event.LedgerEvent.TheVariants.{Opened, Posted, Taken, Spent, Loaded, Stored, Added, Waiting, Passed, Ended, Drained}
+use Rattle.es_event.specs.declared.ledger_event.LedgerEvent.TheVariants.{Opened, Posted, Taken, Spent, Accessed, Waiting, Passed, Ended, Drained}
 use Rattle.es_trace.specs.Columns.{label, row, widest}
 use Rattle.es_trace.specs.Commands.{name_at}
 
@@ -19,14 +21,17 @@ message_text names s r what = codes "message " ++ (name_at names s ++ (codes " t
 abbrev pub word_text : ℕ → ℕ → List ℕ → List ℕ
 word_text i s what = codes "word " ++ (decimal i ++ (what ++ (codes " by ticket " ++ decimal s)))
 
+abbrev pub access_text : Access → List ℕ
+access_text Load = codes " loaded"
+access_text (Store w) = codes " stored"
+access_text (Add n) = codes " added to"
+
 abbrev pub ledger_text : List (List ℕ) → LedgerEvent → List ℕ
 ledger_text names (Opened b w s a) = codes "block " ++ (decimal b ++ codes " opened")
 ledger_text names (Posted a r m) = message_text names a r (codes " posted")
 ledger_text names (Taken r a) = message_text names a r (codes " taken")
 ledger_text names (Spent s) = codes "ticket " ++ (decimal s ++ codes " spent")
-ledger_text names (Loaded s i w) = word_text i s (codes " loaded")
-ledger_text names (Stored s i w) = word_text i s (codes " stored")
-ledger_text names (Added s i old n) = word_text i s (codes " added to")
+ledger_text names (Accessed s i m old) = word_text i s (access_text m)
 ledger_text names (Waiting a s) = name_at names a ++ (codes " waits for " ++ name_at names s)
 ledger_text names (Passed a s) = name_at names a ++ (codes " waits no more for " ++ name_at names s)
 ledger_text names (Ended a) = name_at names a ++ codes " ended"
@@ -39,9 +44,7 @@ tells (Opened b w s a) = true
 tells (Posted a r m) = true
 tells (Taken r a) = false
 tells (Spent s) = false
-tells (Loaded s i w) = true
-tells (Stored s i w) = true
-tells (Added s i old n) = true
+tells (Accessed s i m old) = true
 tells (Waiting a s) = false
 tells (Passed a s) = false
 tells (Ended a) = false
@@ -51,15 +54,19 @@ abbrev pub body_text : Body → List ℕ
 body_text (Plain v) = value_text v ++ codes "\n"
 body_text (Block b s) = codes "block " ++ (decimal b ++ (codes ", ticket " ++ (decimal s ++ codes "\n")))
 
+-- the word that was read or written, or what was there before and what was added
+abbrev pub told_of : Access → ℕ → List ℕ
+told_of Load old = decimal old ++ codes "\n"
+told_of (Store w) old = decimal w ++ codes "\n"
+told_of (Add n) old = decimal old ++ (codes " + " ++ (decimal n ++ codes "\n"))
+
 -- the ticket that was made and the block's number of words, what a message carries, or the word; of an added number, what was there before
 abbrev pub told_text : List (List ℕ) → LedgerEvent → List ℕ
 told_text names (Opened b w s a) = codes "ticket " ++ (decimal s ++ (codes " of " ++ (name_at names a ++ (codes ", words " ++ (decimal w ++ codes "\n")))))
 told_text names (Posted a r m) = body_text m
 told_text names (Taken r a) = []
 told_text names (Spent s) = []
-told_text names (Loaded s i w) = decimal w ++ codes "\n"
-told_text names (Stored s i w) = decimal w ++ codes "\n"
-told_text names (Added s i old n) = decimal old ++ (codes " + " ++ (decimal n ++ codes "\n"))
+told_text names (Accessed s i m old) = told_of m old
 told_text names (Waiting a s) = []
 told_text names (Passed a s) = []
 told_text names (Ended a) = []

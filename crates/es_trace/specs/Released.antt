@@ -7,7 +7,7 @@ use Rattle.es_value.specs.Ids.{is_in}
 use Rattle.es_event.specs.declared.ledger_event.Body.{Body}
 use Rattle.es_event.specs.declared.ledger_event.Body.TheVariants.{Plain, Block}
 use Rattle.es_event.specs.declared.ledger_event.LedgerEvent.{LedgerEvent}
-use Rattle.es_event.specs.declared.ledger_event.LedgerEvent.TheVariants.{Opened, Posted, Taken, Spent, Loaded, Stored, Added, Waiting, Passed, Ended, Drained}
+use Rattle.es_event.specs.declared.ledger_event.LedgerEvent.TheVariants.{Opened, Posted, Taken, Spent, Accessed, Waiting, Passed, Ended, Drained}
 use Rattle.es_event.specs.Ledger.{Ledger, is_released}
 use Rattle.es_trace.specs.declared.released.TicketBlocks.{TicketBlocks}
 
@@ -22,9 +22,7 @@ ticket_made (Opened b w s a) = Some (s, b)
 ticket_made (Posted a r m) = ticket_in m
 ticket_made (Taken r a) = None
 ticket_made (Spent s) = None
-ticket_made (Loaded s i w) = None
-ticket_made (Stored s i w) = None
-ticket_made (Added s i old n) = None
+ticket_made (Accessed s i m old) = None
 ticket_made (Waiting a s) = None
 ticket_made (Passed a s) = None
 ticket_made (Ended a) = None
@@ -45,9 +43,7 @@ spends (Opened b w s a) = None
 spends (Posted a r m) = None
 spends (Taken r a) = None
 spends (Spent s) = Some s
-spends (Loaded s i w) = None
-spends (Stored s i w) = None
-spends (Added s i old n) = None
+spends (Accessed s i m old) = None
 spends (Waiting a s) = None
 spends (Passed a s) = None
 spends (Ended a) = None

@@ -4,12 +4,12 @@ ghost use Rattle.std.specs.Prelude.{◌≡◌, ◌++◌, codes, decimal, IfOk, O
 ghost use Rattle.std.specs.List.{flat_map};
 ghost use Rattle.std.specs.Io.KnownBytes.{Appends};
 ghost use Rattle.es_trace.specs.Commands.{name_at as name_said};
-ghost use Rattle.es_trace.specs.Ledger.{ledger_row, ledger_rows, ledger_text, message_text, released_row, word_text};
+ghost use Rattle.es_trace.specs.Ledger.{access_text, ledger_row, ledger_rows, ledger_text, message_text, released_row, word_text};
 
 use crate::names::{name_at, width_of};
 use crate::row::{empty_text, label_of, write_row};
 use crate::told::{tells, write_told};
-use es_event::LedgerEvent;
+use es_event::{Access, LedgerEvent};
 use es_value::Name;
 use std::alloc::Global;
 use std::io;
@@ -124,15 +124,12 @@ fn write_event<W: Write>(
             write_message(names, *sender, *receiver, " taken", writer)
         }
         LedgerEvent::Spent { serial } => write!(writer, "ticket {serial} spent"),
-        LedgerEvent::Loaded { serial, index, .. } => {
-            write_word(*index, *serial, " loaded", writer)
-        }
-        LedgerEvent::Stored { serial, index, .. } => {
-            write_word(*index, *serial, " stored", writer)
-        }
-        LedgerEvent::Added { serial, index, .. } => {
-            write_word(*index, *serial, " added to", writer)
-        }
+        LedgerEvent::Accessed {
+            serial,
+            index,
+            access,
+            ..
+        } => write_access(*index, *serial, *access, writer),
         LedgerEvent::Waiting { agent, sender } => {
             write_wait(names, *agent, *sender, " waits for ", writer)
         }
@@ -143,6 +140,22 @@ fn write_event<W: Write>(
         LedgerEvent::Drained { receiver, sender } => {
             write_message(names, *sender, *receiver, " drained", writer)
         }
+    }
+}
+
+/// Writes what was done to the word at an index through the ticket of a serial.
+fn write_access<W: Write>(
+    index: usize,
+    serial: u64,
+    access: Access,
+    writer: &mut W,
+) -> Result<(), io::Error>
+    ensures { OnOk result (Appends (W.contents writer.old) (W.contents writer.new) (word_text index serial (access_text access))) }
+{
+    match access {
+        Access::Load => write_word(index, serial, " loaded", writer),
+        Access::Store(_) => write_word(index, serial, " stored", writer),
+        Access::Add(_) => write_word(index, serial, " added to", writer),
     }
 }
 

@@ -62,9 +62,7 @@ impl TicketBlocks {
             LedgerEvent::Opened { .. }
             | LedgerEvent::Posted { .. }
             | LedgerEvent::Taken { .. }
-            | LedgerEvent::Loaded { .. }
-            | LedgerEvent::Stored { .. }
-            | LedgerEvent::Added { .. }
+            | LedgerEvent::Accessed { .. }
             | LedgerEvent::Waiting { .. }
             | LedgerEvent::Passed { .. }
             | LedgerEvent::Ended { .. }
@@ -109,9 +107,7 @@ fn ticket_made(event: &LedgerEvent) -> Option<(u64, u64)>
         LedgerEvent::Posted { body, .. } => ticket_in(body),
         LedgerEvent::Taken { .. }
         | LedgerEvent::Spent { .. }
-        | LedgerEvent::Loaded { .. }
-        | LedgerEvent::Stored { .. }
-        | LedgerEvent::Added { .. }
+        | LedgerEvent::Accessed { .. }
         | LedgerEvent::Waiting { .. }
         | LedgerEvent::Passed { .. }
         | LedgerEvent::Ended { .. }

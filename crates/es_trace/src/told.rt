@@ -4,10 +4,10 @@ ghost use Rattle.std.specs.Prelude.{◌≡◌, ◌++◌, codes, decimal, OnOk};
 ghost use Rattle.std.specs.Io.KnownBytes.{Appends};
 ghost use Rattle.es_value.specs.Printed.{value_text};
 ghost use Rattle.es_trace.specs.Commands.{name_at as name_said};
-ghost use Rattle.es_trace.specs.Ledger.{body_text, tells as tells_said, told_text};
+ghost use Rattle.es_trace.specs.Ledger.{body_text, tells as tells_said, told_of, told_text};
 
 use crate::names::name_at;
-use es_event::{Body, LedgerEvent};
+use es_event::{Access, Body, LedgerEvent};
 use es_value::{Name, Value, write_value};
 use std::io;
 use std::io::Write;
@@ -17,11 +17,8 @@ pub(crate) fn tells(event: &LedgerEvent) -> bool
     ensures { result ≡ tells_said event.now }
 {
     match event {
-        LedgerEvent::Opened { .. }
-        | LedgerEvent::Posted { .. }
-        | LedgerEvent::Loaded { .. }
-        | LedgerEvent::Stored { .. }
-        | LedgerEvent::Added { .. } => true,
+        LedgerEvent::Opened { .. } | LedgerEvent::Posted { .. } | LedgerEvent::Accessed { .. } =>
+            true,
         LedgerEvent::Taken { .. }
         | LedgerEvent::Spent { .. }
         | LedgerEvent::Waiting { .. }
@@ -47,10 +44,7 @@ pub(crate) fn write_told<W: Write>(
             ..
         } => write_ticket(names, *serial, *agent, *words, writer),
         LedgerEvent::Posted { body, .. } => write_body(body, writer),
-        LedgerEvent::Loaded { word, .. } | LedgerEvent::Stored { word, .. } => {
-            writeln!(writer, "{word}")
-        }
-        LedgerEvent::Added { old, addend, .. } => writeln!(writer, "{old} + {addend}"),
+        LedgerEvent::Accessed { access, old, .. } => write_word(*access, *old, writer),
         LedgerEvent::Taken { .. }
         | LedgerEvent::Spent { .. }
         | LedgerEvent::Waiting { .. }
@@ -87,4 +81,15 @@ fn write_plain<W: Write>(value: &Value, writer: &mut W) -> Result<(), io::Error>
 {
     write_value(value, writer)?;
     writer.write_all(b"\n")
+}
+
+/// Writes the word that was read or written, or the one that was there and what was added to it.
+fn write_word<W: Write>(access: Access, old: u32, writer: &mut W) -> Result<(), io::Error>
+    ensures { OnOk result (Appends (W.contents writer.old) (W.contents writer.new) (told_of access old)) }
+{
+    match access {
+        Access::Load => writeln!(writer, "{old}"),
+        Access::Store(word) => writeln!(writer, "{word}"),
+        Access::Add(addend) => writeln!(writer, "{old} + {addend}"),
+    }
 }

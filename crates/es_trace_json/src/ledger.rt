@@ -4,11 +4,11 @@ ghost use Rattle.std.specs.Prelude.{◌≡◌, ◌++◌, codes, decimal, OnOk};
 ghost use Rattle.std.specs.List.{flat_map};
 ghost use Rattle.std.specs.Io.KnownBytes.{Appends};
 ghost use Rattle.es_value.specs.Printed.{quoted};
-ghost use Rattle.es_trace_json.specs.Ledger.{body_json, ends_json, ledger_line, ledger_lines, ledger_members, name_json, place_json, released_line};
+ghost use Rattle.es_trace_json.specs.Ledger.{access_members, body_json, ends_json, ledger_line, ledger_lines, ledger_members, name_json, place_json, released_line};
 
 use crate::member::write_agent;
 use crate::value::{write_quoted, write_value};
-use es_event::{Body, LedgerEvent};
+use es_event::{Access, Body, LedgerEvent};
 use es_trace::name_at;
 use es_value::Name;
 use std::io;
@@ -94,22 +94,12 @@ fn write_members<W: Write>(
             write_message("taken", names, *sender, *receiver, writer)
         }
         LedgerEvent::Spent { serial } => write_spent(*serial, writer),
-        LedgerEvent::Loaded {
+        LedgerEvent::Accessed {
             serial,
             index,
-            word,
-        } => write_word("loaded", *serial, *index, *word, writer),
-        LedgerEvent::Stored {
-            serial,
-            index,
-            word,
-        } => write_word("stored", *serial, *index, *word, writer),
-        LedgerEvent::Added {
-            serial,
-            index,
+            access,
             old,
-            addend,
-        } => write_added(*serial, *index, *old, *addend, writer),
+        } => write_access(*serial, *index, *old, *access, writer),
         LedgerEvent::Waiting { agent, sender } => {
             write_wait("waiting", names, *agent, *sender, writer)
         }
@@ -120,6 +110,23 @@ fn write_members<W: Write>(
         LedgerEvent::Drained { receiver, sender } => {
             write_message("drained", names, *sender, *receiver, writer)
         }
+    }
+}
+
+/// Writes what was done to a word, over the old one.
+fn write_access<W: Write>(
+    serial: u64,
+    index: usize,
+    old: u32,
+    access: Access,
+    writer: &mut W,
+) -> Result<(), io::Error>
+    ensures { OnOk result (Appends (W.contents writer.old) (W.contents writer.new) (access_members serial index old access)) }
+{
+    match access {
+        Access::Load => write_word("loaded", serial, index, old, writer),
+        Access::Store(word) => write_word("stored", serial, index, word, writer),
+        Access::Add(addend) => write_added(serial, index, old, addend, writer),
     }
 }
 

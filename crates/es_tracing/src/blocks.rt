@@ -105,9 +105,7 @@ fn blocks_opened(event: &LedgerEvent) -> u64
         LedgerEvent::Posted { .. }
         | LedgerEvent::Taken { .. }
         | LedgerEvent::Spent { .. }
-        | LedgerEvent::Loaded { .. }
-        | LedgerEvent::Stored { .. }
-        | LedgerEvent::Added { .. }
+        | LedgerEvent::Accessed { .. }
         | LedgerEvent::Waiting { .. }
         | LedgerEvent::Passed { .. }
         | LedgerEvent::Ended { .. }

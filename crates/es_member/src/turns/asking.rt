@@ -1,14 +1,16 @@
 //! What an agent asks the ledger for: blocks, words, and that something is posted.
 
-ghost use Rattle.std.specs.Prelude.{◌≡◌, ◌≢◌, ◌<◌, OnOk, OnErr, IfOk};
-ghost use Rattle.es_rules.specs.Needs.{need, asks_ledger, for_block, for_post, for_buffer_post, for_load, for_store, for_add, TakesTicket};
+ghost use Rattle.std.specs.Prelude.{ℕ, ◌≡◌, ◌≢◌, ◌<◌, OnOk, OnErr, IfOk};
+ghost use Rattle.es_rules.specs.Needs.{need, asks_ledger, for_block, for_post, for_buffer_post, for_access, TakesTicket};
 ghost use Rattle.es_member.specs.Seats.{HoldsBeside, seat};
 ghost use Rattle.es_member.specs.Tied.{IsSettled};
 ghost use Rattle.es_member.specs.Turned.{Heard, Keeps, Moves, Proceeds, StaysTied};
-ghost use Rattle.es_member.specs.Midway.{IsHeld, HasFetched};
+ghost use Rattle.es_agent.specs.Tickets.{DoesWith};
+ghost use Rattle.es_member.specs.Midway.{IsHeld, HasFetched, answer_to};
 
 use crate::member::Progress;
 use es_agent::{AdmitFault, AgentCore};
+use es_event::Access;
 use es_ledger::LedgerCore;
 use es_ticket::{Run, Stake, Ticket};
 use es_value::{Id, NoMemory, Value};
@@ -106,15 +108,16 @@ pub(crate) fn post_buffer<L: Run>(
     Ok(Progress::Moved)
 }
 
-/// The agent takes the word at an index of a buffer object's block.
-pub(crate) fn load<L: Run>(
+/// The agent does this to the word at an index of a buffer object's block.
+pub(crate) fn access_word<L: Run>(
     core: &mut AgentCore<L>,
     stake: &mut Stake<L>,
     ledger: &mut LedgerCore<L>,
     buffer: Id,
     index: usize,
+    access: Access,
 ) -> Result<Progress, NoMemory>
-    requires due { need core.old ≡ asks_ledger (for_load buffer index) }
+    requires due { need core.old ≡ asks_ledger (for_access buffer index access) }
     requires ready { IsHeld core.old stake.old ledger.old }
     ensures ok { IfOk result (λ p. Proceeds p (seat core.old stake.old) (seat core.new stake.new)) }
     ensures told { IfOk result (λ p. Heard p core.old ledger.old ledger.new) }
@@ -123,53 +126,20 @@ pub(crate) fn load<L: Run>(
     ensures keeps { Keeps core.old ledger.old core.new stake.new ledger.new }
 {
     let _ = core.history();
-    let word = ledger.load(stake, core.ticket(buffer), index)?;
-    core.answer_word(word)?;
+    let old = ledger.access(stake, core.ticket(buffer), index, access)?;
+    answer(core, access, old)?;
     Ok(Progress::Moved)
 }
 
-/// A word is written there.
-pub(crate) fn store<L: Run>(
-    core: &mut AgentCore<L>,
-    stake: &mut Stake<L>,
-    ledger: &mut LedgerCore<L>,
-    buffer: Id,
-    index: usize,
-    word: u32,
-) -> Result<Progress, NoMemory>
-    requires due { need core.old ≡ asks_ledger (for_store buffer index word) }
-    requires ready { IsHeld core.old stake.old ledger.old }
-    ensures ok { IfOk result (λ p. Proceeds p (seat core.old stake.old) (seat core.new stake.new)) }
-    ensures told { IfOk result (λ p. Heard p core.old ledger.old ledger.new) }
+/// The agent takes the word that was there, where its command gives it.
+fn answer<L: Run>(core: &mut AgentCore<L>, access: Access, old: u32) -> Result<(), NoMemory>
+    requires due { (o i : ℕ) × (need core.old ≡ asks_ledger (for_access o i access)) }
+    ensures ok { OnOk result (DoesWith core.old (answer_to access old) core.new) }
     ensures err { OnErr result (core.new ≡ core.old) }
-    ensures tied { IfOk result (λ p. StaysTied p core.old ledger.old core.new ledger.new) }
-    ensures keeps { Keeps core.old ledger.old core.new stake.new ledger.new }
 {
-    let _ = core.history();
-    ledger.store(stake, core.ticket(buffer), index, word)?;
-    core.answer_done()?;
-    Ok(Progress::Moved)
-}
-
-/// A word is added to the one there, which the agent takes.
-pub(crate) fn add<L: Run>(
-    core: &mut AgentCore<L>,
-    stake: &mut Stake<L>,
-    ledger: &mut LedgerCore<L>,
-    buffer: Id,
-    index: usize,
-    addend: u32,
-) -> Result<Progress, NoMemory>
-    requires due { need core.old ≡ asks_ledger (for_add buffer index addend) }
-    requires ready { IsHeld core.old stake.old ledger.old }
-    ensures ok { IfOk result (λ p. Proceeds p (seat core.old stake.old) (seat core.new stake.new)) }
-    ensures told { IfOk result (λ p. Heard p core.old ledger.old ledger.new) }
-    ensures err { OnErr result (core.new ≡ core.old) }
-    ensures tied { IfOk result (λ p. StaysTied p core.old ledger.old core.new ledger.new) }
-    ensures keeps { Keeps core.old ledger.old core.new stake.new ledger.new }
-{
-    let _ = core.history();
-    let old = ledger.add(stake, core.ticket(buffer), index, addend)?;
-    core.answer_word(old)?;
-    Ok(Progress::Moved)
+    if access.gives_word() {
+        core.answer_word(old)
+    } else {
+        core.answer_done()
+    }
 }

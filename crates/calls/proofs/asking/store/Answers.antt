@@ -1,21 +1,22 @@
 use Rattle.std.proofs.Common.{refl, sym, subst}
-use Rattle.es_rules.specs.Needs.{for_store, TakesDone}
+use Rattle.es_event.specs.declared.access.Access.TheVariants.{Store as stores}
+use Rattle.es_rules.specs.Needs.{for_access, TakesDone}
 use Rattle.es_member.specs.Seats.{Holds}
 use Rattle.es_member.proofs.Aims.{aims_at_ticket, aims_inside}
 use Rattle.es_member.proofs.Counting.{ticket_held}
 use Rattle.calls.proofs.asking.store.Goals as goal
 
 pub ticket-requires : goal.ticket-requires
-ticket-requires g c = aims_at_ticket c.args.core.now (for_store c.args.buffer c.args.index c.args.word) c.args.buffer c.history.ensures.run c.requires.due refl
+ticket-requires g c = aims_at_ticket c.args.core.now (for_access c.args.buffer c.args.index (stores c.args.word)) c.args.buffer c.history.ensures.run c.requires.due refl
 
 pub store-requires-clause-here : goal.store-requires-clause-here
 store-requires-clause-here g c = ticket_held c.args.core.now c.args.stake.now c.args.buffer c.ticket.result.now c.requires.held c.ticket.ensures.here
 
 pub store-requires-clause-inside : goal.store-requires-clause-inside
-store-requires-clause-inside g c = aims_inside c.args.core.now (for_store c.args.buffer c.args.index c.args.word) c.args.buffer c.args.index c.requires.due refl refl c.ticket.result.now c.ticket.ensures.named
+store-requires-clause-inside g c = aims_inside c.args.core.now (for_access c.args.buffer c.args.index (stores c.args.word)) c.args.buffer c.args.index c.requires.due refl refl c.ticket.result.now c.ticket.ensures.named
 
 pub returns-clause-ok : goal.returns-clause-ok
 returns-clause-ok g c = record {
-  asked = subst (λ n. TakesDone n) (sym c.requires.due) tt;
+  asked = subst (λ n. TakesDone n) (sym c.requires.due) refl;
   held = subst (Holds c.args.core.now) (sym c.store.ensures.stake) c.requires.held;
 }

@@ -6,14 +6,14 @@ use Rattle.es_rules.proofs.need.request_of.Goals as goal
 pub returns-in-Load : goal.returns-in-Load
 returns-in-Load c =
     let index : FitsSigned w64 c.in-Load.index = search rules in
-    let asks = simp to_z-of_z at c.load_request.ensures in
+    let asks = simp to_z-of_z at c.access_request.ensures in
     rw c.in-Load.is asks
 
 pub returns-in-Add : goal.returns-in-Add
 returns-in-Add c =
     let index : FitsSigned w64 c.in-Add.index = search rules in
     let number : FitsSigned w64 c.in-Add.number = search rules in
-    let asks = simp to_z-of_z at c.add_request.ensures in
+    let asks = simp to_z-of_z at (rw c.word_of-in-Add.ensures at c.access_request-in-Add.ensures) in
     rw c.in-Add.is asks
 
 pub returns-in-Post : goal.returns-in-Post
