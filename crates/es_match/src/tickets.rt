@@ -1,7 +1,7 @@
 //! The tickets of an agent's buffers.
 
 ghost use Rattle.std.specs.Prelude.{◌≡◌, ◌++◌, ◌∷◌, [], ℕ, IfOk, OnOk, OnErr, Some, None, nat_eq, if◌then◌else◌};
-ghost use Rattle.std.specs.Option.{option_or};
+ghost use Rattle.std.specs.Option.{option_copied, option_or};
 ghost use Rattle.std.specs.HashMap.{get};
 ghost use Rattle.es_event.specs.Identities.{object_of};
 ghost use Rattle.es_event.specs.Sharing.{row_at, row_of};
@@ -80,21 +80,20 @@ impl Rack {
     }
 
     /// What the object's oldest ticket names.
-    fn row(&self, object: Id) -> Option<Row>
-        ensures { result ≡ row_at self.now object }
+    #[inline(always)]
+    fn row(&self, object: Id) -> Option<&Row>
+        ensures { option_copied result ≡ row_at self.now object }
     {
         if self.all.len() <= MOST_FEW {
             return first_row(self.all.as_slice(), object);
         }
-        match self.rows.get(&object) {
-            Some(row) => Some(*row),
-            None => None,
-        }
+        self.rows.get(&object)
     }
 
     /// What the buffer's ticket names, if the value is a buffer with a ticket.
-    pub fn find(&self, value: Option<&Value>) -> Option<Row>
-        ensures { result ≡ row_of self.now (said value.entry) }
+    #[inline(always)]
+    pub fn find(&self, value: Option<&Value>) -> Option<&Row>
+        ensures { option_copied result ≡ row_of self.now (said value.entry) }
     {
         match object_in(value) {
             Some(object) => self.row(object),
@@ -129,13 +128,13 @@ fn put_new(rows: &mut HashMap<Id, Row>, object: Id, row: Row) -> Result<(), NoMe
 }
 
 /// What the first ticket of the object names, by a look at each.
-fn first_row(tickets: &[(Id, Row)], object: Id) -> Option<Row>
-    ensures { result ≡ row_at tickets.now object }
+fn first_row(tickets: &[(Id, Row)], object: Id) -> Option<&Row>
+    ensures { option_copied result ≡ row_at tickets.now object }
 {
     match tickets {
         [(first, row), rest @ ..] => {
             if *first == object {
-                Some(*row)
+                Some(row)
             } else {
                 first_row(rest, object)
             }
