@@ -84,10 +84,12 @@ impl Rack {
     fn row(&self, object: Id) -> Option<&Row>
         ensures { option_copied result ≡ row_at self.now object }
     {
-        if self.all.len() <= MOST_FEW {
-            return first_row(self.all.as_slice(), object);
+        match self.all.as_slice() {
+            // most agents have one
+            [(first, row), ..] if *first == object => Some(row),
+            tickets if tickets.len() <= MOST_FEW => first_row(tickets, object),
+            _ => self.rows.get(&object),
         }
-        self.rows.get(&object)
     }
 
     /// What the buffer's ticket names, if the value is a buffer with a ticket.
