@@ -2,6 +2,7 @@
 
 ghost use Rattle.std.specs.Prelude.{◌≡◌};
 ghost use Rattle.es_event.specs.Access.{gives_word, is_same_access};
+ghost use Rattle.es_event.specs.Sharing.{to_uint32};
 
 /// What is done to a word of a Shared Data Block, in one step (ECMA-262, The Atomics Object).
 #[derive(Clone, Copy, Debug)]
@@ -36,4 +37,11 @@ impl Access {
             _ => false,
         }
     }
+}
+
+/// The word of 32 bits that is written for a number (ECMA-262, ToUint32).
+pub fn to_uint32(number: i64) -> u32
+    ensures { result ≡ to_uint32 number }
+{
+    number.rem_euclid(4_294_967_296).unsigned_abs() as u32
 }

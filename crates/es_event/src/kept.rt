@@ -150,7 +150,7 @@ fn read_gave(alloc: Global, place: u32, values: Operands, given: Value) -> Resul
     }
 }
 
-/// The same, of which no two values lie in place.
+/// The same, where three values or more were read: with the one that it gave they do not lie in place.
 #[inline(never)]
 fn read_more_gave(
     alloc: Global,

@@ -19,7 +19,7 @@ mod row;
 mod sequence;
 mod shared_list;
 
-pub use access::Access;
+pub use access::{Access, to_uint32};
 pub use command::{Command, OperandNames};
 pub use done::{AnswerRef, Done};
 pub use event::{Answer, Event, Refusal};

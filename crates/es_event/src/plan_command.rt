@@ -27,7 +27,8 @@ impl Model for PlanCommand {
 }
 
 impl PlanCommand {
-    /// The command at this place.
+    /// The command at this place. An error where the place is past 2^32, or the list has more owners than can be
+    /// counted.
     pub fn at(commands: &SharedList<Command>, place: usize) -> Result<PlanCommand, NoMemory>
         requires { place < length commands.now }
         ensures { IfOk result (λ c. slice_get commands.now place ≡ Some c) }

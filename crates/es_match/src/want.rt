@@ -3,13 +3,12 @@
 ghost use Rattle.std.specs.Prelude.{◌≡◌, Bool, List, false, IsTrue};
 ghost use Rattle.es_value.specs.declared.value.Value.{Value as ValueSaid};
 ghost use Rattle.es_event.specs.Commands.{first, second};
-ghost use Rattle.es_event.specs.Sharing.{to_uint32};
 ghost use Rattle.es_match.specs.Asks.{nothing, asks, asks_did, ends_job, given, wants_room};
 ghost use Rattle.es_match.specs.Shown.{asking, said};
 ghost use Rattle.es_event.specs.declared.event.Answer.{Answer as Answered};
 ghost use Rattle.es_event.specs.Answers.{answer_said};
 
-use es_event::{Access, AnswerRef, Command, Event, Refusal};
+use es_event::{Access, AnswerRef, Command, Event, Refusal, to_uint32};
 use es_value::{Id, Value};
 
 /// What an event asks of the ledger. An answer is the value that the command gave; none stands for
@@ -159,13 +158,6 @@ fn second(values: &[Value]) -> Option<&Value>
     values.get(1)
 }
 
-/// The word of 32 bits that is written for a number (ToUint32).
-fn word_of(number: i64) -> u32
-    ensures { result ≡ to_uint32 number }
-{
-    number.rem_euclid(4294967296) as u32
-}
-
 fn want_of<'a>(command: &Command, values: &'a [Value], answer: Option<&'a Value>) -> Want<'a>
     ensures { (r : Answered) → said answer.entry ≡ given r → asking result ≡ asks_did command.now values.now r }
 {
@@ -192,13 +184,13 @@ fn want_of<'a>(command: &Command, values: &'a [Value], answer: Option<&'a Value>
         Command::Store { index, number, .. } => Want::Accessing {
             buffer: first(values),
             index: *index,
-            access: Access::Store(word_of(*number)),
+            access: Access::Store(to_uint32(*number)),
             answer,
         },
         Command::Add { index, number, .. } => Want::Accessing {
             buffer: first(values),
             index: *index,
-            access: Access::Add(word_of(*number)),
+            access: Access::Add(to_uint32(*number)),
             answer,
         },
         Command::Post { receiver, .. } => Want::Posting {

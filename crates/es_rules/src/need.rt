@@ -7,9 +7,9 @@ ghost use Rattle.es_event.specs.Order.{run, due_end};
 ghost use Rattle.es_rules.specs.Needs.{asks_nobody, need, need_of, request};
 ghost use Rattle.es_rules.specs.Shown.{requested, shown};
 
-use crate::requests::{access_request, block_request, post_request, word_of};
+use crate::requests::{access_request, block_request, post_request};
 use es_cursor::Due;
-use es_event::{Access, Command};
+use es_event::{Access, Command, to_uint32};
 use es_record::AgentRecord;
 use es_value::{Id, Value};
 
@@ -154,13 +154,13 @@ fn request_of<'a>(agent: &'a AgentRecord, command: &Command) -> Option<Request<'
             buffer,
             index,
             number,
-        } => access_request(agent, buffer, *index, Access::Store(word_of(*number))),
+        } => access_request(agent, buffer, *index, Access::Store(to_uint32(*number))),
         Command::Add {
             buffer,
             index,
             number,
             ..
-        } => access_request(agent, buffer, *index, Access::Add(word_of(*number))),
+        } => access_request(agent, buffer, *index, Access::Add(to_uint32(*number))),
         Command::Post { receiver, from } => post_request(agent, *receiver, from),
         // no other command asks the ledger
         _ => None,

@@ -5,7 +5,6 @@ ghost use Rattle.std.specs.Option.{option_map};
 ghost use Rattle.es_event.specs.Identities.{object_of};
 ghost use Rattle.es_event.specs.Jobs.{receivers};
 ghost use Rattle.es_event.specs.Variables.{var};
-ghost use Rattle.es_event.specs.Sharing.{to_uint32};
 ghost use Rattle.es_event.specs.Rules.{first_refusal, room, room_for_block, room_for_post, of_buffer, of_index, of_postable};
 ghost use Rattle.es_rules.specs.Needs.{unless_refused, for_block, access_at, posts_to};
 ghost use Rattle.es_rules.specs.Shown.{requested};
@@ -27,13 +26,6 @@ fn word_at(agent: &AgentRecord, buffer: &Name, index: i64) -> Option<(Id, usize)
         Ok(place) => Some(place),
         Err(_) => None,
     }
-}
-
-/// The word of 32 bits that is written for a number (ToUint32).
-pub(crate) fn word_of(number: i64) -> u32
-    ensures { result ≡ to_uint32 number }
-{
-    number.rem_euclid(4_294_967_296).unsigned_abs() as u32
 }
 
 pub(crate) fn block_request<'a>(agent: &'a AgentRecord, words: u32) -> Option<Request<'a>>

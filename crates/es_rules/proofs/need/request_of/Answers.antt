@@ -13,7 +13,7 @@ pub returns-in-Add : goal.returns-in-Add
 returns-in-Add c =
     let index : FitsSigned w64 c.in-Add.index = search rules in
     let number : FitsSigned w64 c.in-Add.number = search rules in
-    let asks = simp to_z-of_z at (rw c.word_of-in-Add.ensures at c.access_request-in-Add.ensures) in
+    let asks = simp to_z-of_z at (rw c.to_uint32-in-Add.ensures at c.access_request-in-Add.ensures) in
     rw c.in-Add.is asks
 
 pub returns-in-Post : goal.returns-in-Post
