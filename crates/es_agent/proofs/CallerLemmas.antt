@@ -1,19 +1,18 @@
 -- The marks of the copy of an open later collection, for whoever makes them.
-use Rattle.std.proofs.Common.{◌≡◌, ℕ, ◌==◌, ◌&&◌, Bool, true, false, sym, ◌∙◌, ap, refl, subst, List, [], ◌∷◌, reverse, Option, Some, None, inl, inr}
+use Rattle.std.proofs.Common.{◌≡◌, ℕ, ◌==◌, ◌&&◌, Bool, true, sym, ◌∙◌, ap, refl, subst, List, [], ◌∷◌, reverse, Option, Some, None, inl, inr}
 use Rattle.std.specs.Prelude.{is_some}
 use Rattle.std.specs.List.{filter, AllByRecursion}
 use Rattle.std.proofs.lemmas.Bool.{and_parts, and_from, or_cases, or_left, or_right, eqb-true, eq-eqb}
 use Rattle.std.proofs.lemmas.List.Sorted.{list_any-IsPermutation, IsPermutation-reverse}
 use Rattle.es_event.specs.History.{History}
-use Rattle.es_event.specs.Identities.{is_in, is_made, made}
+use Rattle.es_event.specs.Identities.{is_in, is_made}
 use Rattle.es_event.specs.Later.{snapshot, derefed_since}
 use Rattle.es_event.proofs.Rising.{in_filter}
 use Rattle.es_mark.specs.Graph.{HasAll}
-use Rattle.es_mark.specs.Marks.{IsLeast}
 use Rattle.es_parmark.specs.Snapshot.{Copied, are_made, AreMarksWith}
 use Rattle.es_parmark.proofs.CallerLemmas.{more_serve}
 use Rattle.es_record.specs.Book.{Book}
-use Rattle.es_record.specs.Graph.{HasRoots, HasEdges, HasEntries, as_at, HasDerefed, AreLateMarks}
+use Rattle.es_record.specs.Graph.{HasDerefed, AreLateMarks}
 use Rattle.es_agent.specs.Later.{IsLaterCopy, AreDerefed, AreThen}
 
 -- Lists

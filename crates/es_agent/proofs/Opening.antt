@@ -1,5 +1,5 @@
 -- Which events open a later collection: none but the command's that asks for a copy.
-use Rattle.std.proofs.Common.{◌≡◌, ℕ, Bool, true, false, cond, sym, ◌∙◌, ap, refl, subst, List, [], Option, Some, None}
+use Rattle.std.proofs.Common.{◌≡◌, ℕ, Bool, true, false, cond, sym, refl, subst, List, [], Option, Some, None}
 use Rattle.std.specs.Prelude.{is_none}
 use Rattle.es_value.specs.declared.value.Value.{Value}
 use Rattle.es_event.specs.declared.event.Answer.{Answer}

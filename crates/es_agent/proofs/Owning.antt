@@ -9,7 +9,7 @@ use Rattle.es_event.specs.declared.row.Row.{Row}
 use Rattle.es_event.specs.Identities.{is_in, gone, made, empties}
 use Rattle.es_event.specs.Order.{phase}
 use Rattle.es_ticket.specs.Owned.{Owns}
-use Rattle.es_ticket.specs.Shares.{among, besides}
+use Rattle.es_ticket.specs.Shares.{besides}
 use Rattle.es_ticket.proofs.Counted.{owned_parts}
 use Rattle.es_record.specs.Book.{Book, IsNext, Records, with_buffer}
 use Rattle.es_agent.specs.Tickets.{is_ended, tickets, Admits, Empties}

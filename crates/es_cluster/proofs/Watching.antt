@@ -1,5 +1,5 @@
 -- A watcher is told of one turn after the other.
-use Rattle.std.proofs.Common.{◌≡◌, ℕ, refl, subst, List, [], ◌∷◌, ◌++◌, Result, Ok, Err}
+use Rattle.std.proofs.Common.{ℕ, refl, subst, List, [], ◌∷◌, ◌++◌, Result, Ok, Err}
 use Rattle.std.specs.Prelude.{OnOk}
 use Rattle.es_member.specs.declared.member.Progress.{Progress}
 use Rattle.es_cluster.specs.State.{Cluster}

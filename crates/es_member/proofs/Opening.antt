@@ -1,7 +1,6 @@
 -- A member that opens a later collection, or for want of memory does not.
 use Rattle.std.proofs.Common.{◌≡◌, sym, subst, Result, Ok, Err}
 use Rattle.std.specs.Prelude.{OnOk, OnErr}
-use Rattle.std.proofs.lemmas.Result.{on_ok_weaker}
 use Rattle.es_event.specs.declared.plan.Plan.{Plan}
 use Rattle.es_ticket.specs.Shares.{Share}
 use Rattle.es_record.specs.Book.{Book, Records}

@@ -1,7 +1,6 @@
 -- What an agent did in the ledger, told by its event: history, tickets and part go together again.
-use Rattle.std.proofs.Common.{◌≡◌, ℕ, ◌+◌, Bool, true, false, cond, eq-eqb, sym, ◌∙◌, ap, refl, subst, List, [], ◌∷◌, ◌++◌, append-nil, map, reverse, Option, Some, None}
+use Rattle.std.proofs.Common.{◌≡◌, ℕ, ◌+◌, true, false, cond, eq-eqb, sym, ◌∙◌, ap, refl, subst, List, [], ◌∷◌, ◌++◌, append-nil, map, reverse, Option, Some, None}
 use Rattle.std.proofs.lemmas.List.{reverse-append}
-use Rattle.std.specs.Prelude.{pos}
 use Rattle.std.specs.List.{Contains}
 use Rattle.es_value.specs.Values.{identity}
 use Rattle.es_value.specs.declared.value.Value.{Value}
@@ -33,7 +32,7 @@ use Rattle.es_match.specs.Deeds.{Deed, Opens, Posts, Takes, Spends, Accesses, Pa
 use Rattle.es_match.specs.Meets.{Tickets, after, refused_in, some_if, ticket_in}
 use Rattle.es_ticket.specs.Shares.{Share, at}
 use Rattle.es_record.specs.Book.{Book, Records}
-use Rattle.es_rules.specs.Needs.{Request, for_block, for_post, for_buffer_post, for_access, request, Need, asks_nobody, asks_marks, asks_copy, asks_late_marks, asks_ledger, asks_message, asks_closing, asks_nothing, need, need_of, Brings}
+use Rattle.es_rules.specs.Needs.{Request, for_block, for_post, for_buffer_post, for_access, Need, asks_nobody, asks_marks, asks_copy, asks_late_marks, asks_ledger, asks_message, asks_closing, asks_nothing, need, need_of, Brings}
 use Rattle.es_rules.proofs.Needs.{message_due}
 use Rattle.es_agent.specs.Tickets.{tickets, RecordsNext, Empties, Collects, Finishes, Admits, RefusesMessage, Receives, DoesWith, Skips}
 use Rattle.es_agent.specs.Later.{opening}

@@ -1,4 +1,3 @@
-use Rattle.std.proofs.Common.{ℕ}
 use Rattle.es_agent.proofs.Racks.{ticket_named}
 use Rattle.es_agent.proofs.agent.AgentCore.history.Goals as goal
 

@@ -1,4 +1,3 @@
-use Rattle.std.proofs.Common.{sym, ap, ◌∙◌}
 use Rattle.std.specs.Arc.{arc_value}
 use Rattle.es_agent.proofs.Keeping.{begun_kept, begun_copy}
 use Rattle.es_agent.proofs.recorder.Recorder.begin.Goals as goal
