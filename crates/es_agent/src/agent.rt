@@ -9,7 +9,8 @@ ghost use Rattle.es_event.specs.declared.row.Row.{Row as RowSaid};
 ghost use Rattle.es_event.specs.Sharing.{row_at};
 ghost use Rattle.es_event.specs.Registrations.{live, awaiting, unregistered, taken, tally as tally_said};
 ghost use Rattle.es_event.specs.Live.{Honest};
-ghost use Rattle.es_event.specs.Order.{due, is_cleaning_up};
+ghost use Rattle.es_event.specs.Order.{due, run, is_cleaning_up};
+ghost use Rattle.es_event.specs.declared.command.Command.{Command as CommandSaid};
 ghost use Rattle.es_event.specs.Runs.{IsRunOver};
 ghost use Rattle.es_ticket.specs.Shares.{at};
 ghost use Rattle.es_record.specs.Book.{Records};
@@ -33,8 +34,8 @@ use es_parmark::Snapshot;
 use es_record::AgentRecord;
 use es_registry::Tally;
 use es_rules::{
-    Need, answered_done, answered_word, asks, asks_nobody, asks_somebody, next_event, own_event,
-    received, skipped,
+    Need, Stop, answered_done, answered_word, asks, asks_nobody, asks_somebody, begun, do_alone,
+    next_event, received, skipped,
 };
 use es_ticket::{Rack, Run, Ticket};
 use es_value::{Id, NoMemory, Value};
@@ -190,14 +191,13 @@ impl<L: Run> AgentCore<L> {
 
     /// Takes the next step that asks nobody else, and records its one event; where there is no
     /// memory nothing has changed.
-    #[inline(always)]
     pub fn perform(&mut self) -> Result<(), NoMemory>
         requires { need self.old ≡ asks_nobody }
         ensures ok { OnOk result (RecordsNext self.old self.new) }
         ensures err { OnErr result (self.new ≡ self.old) }
     {
-        let event = next_event(self.record.read())?;
-        self.record.record(event)
+        let _ = self.perform_alone()?;
+        Ok(())
     }
 
     /// Takes the next step, where it asks nobody else, and records its one event: whether it did. Where it asks
@@ -213,8 +213,15 @@ impl<L: Run> AgentCore<L> {
             if asks_somebody(record, command) {
                 return Ok(false);
             }
-            let event = own_event(record, command)?;
-            self.record.record(event)?;
+            let mut done = begun(record, command)?;
+            match do_alone(record, command, &mut done) {
+                Ok(()) => self.record.record_done(done)?,
+                Err(Stop::Refused(code)) => {
+                    drop(done);
+                    self.record.record(Event::Refused { code })?;
+                }
+                Err(Stop::NoMemory) => return Err(NoMemory),
+            }
             return Ok(true);
         }
         self.perform_between()
@@ -223,6 +230,7 @@ impl<L: Run> AgentCore<L> {
     /// The same, where no command is due.
     #[inline(never)]
     fn perform_between(&mut self) -> Result<bool, NoMemory>
+        requires { (c : CommandSaid) → due self.old.plan self.old.history ≡ run c → ⊥ }
         ensures asks { IfOk result (λ done. IsTrue done ↔ (need self.old ≡ asks_nobody)) }
         ensures done { IfOk result (λ done. IsTrue done → RecordsNext self.old self.new) }
         ensures left { IfOk result (λ done. done ≡ false → self.new ≡ self.old) }
@@ -231,7 +239,8 @@ impl<L: Run> AgentCore<L> {
         if !asks_nobody(self.record.read()) {
             return Ok(false);
         }
-        self.perform()?;
+        let event = next_event(self.record.read())?;
+        self.record.record(event)?;
         Ok(true)
     }
 
@@ -343,8 +352,8 @@ impl<L: Run> AgentCore<L> {
         ensures ok { OnOk result (DoesWith self.old (Answer.Gives (Value.Number (pos word))) self.new) }
         ensures err { OnErr result (self.new ≡ self.old) }
     {
-        let event = answered_word(self.record.read(), word)?;
-        self.record.record(event)
+        let done = answered_word(self.record.read(), word)?;
+        self.record.record_done(done)
     }
 
     /// Takes note that its next command, a store or a post, was done. Where there is no memory nothing
@@ -354,8 +363,8 @@ impl<L: Run> AgentCore<L> {
         ensures ok { OnOk result (DoesWith self.old Answer.Nothing self.new) }
         ensures err { OnErr result (self.new ≡ self.old) }
     {
-        let event = answered_done(self.record.read())?;
-        self.record.record(event)
+        let done = answered_done(self.record.read())?;
+        self.record.record_done(done)
     }
 
     /// Skips the job that waits for a message: none comes any more. Where there is no memory nothing has

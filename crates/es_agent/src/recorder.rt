@@ -14,7 +14,7 @@ ghost use Rattle.es_tables.specs.Effects.{IsQuiet};
 ghost use Rattle.es_agent.specs.Keeping.{kept_of, HasRoom, noted};
 ghost use Rattle.es_agent.specs.Later.{opening, IsLaterCopy, AreDerefed, AreThen};
 
-use es_event::{AnswerRef, Command, Event, Log, Row};
+use es_event::{AnswerRef, Command, Done, Event, Log, Row};
 use es_mark::Graph;
 use es_parmark::Snapshot;
 use es_record::AgentRecord;
@@ -85,9 +85,23 @@ impl Recorder {
         record
     }
 
+    /// Records a command that was done, which comes next and opens no later collection. Where there is no memory
+    /// nothing has changed.
+    #[inline(always)]
+    pub(crate) fn record_done(&mut self, done: Done) -> Result<(), NoMemory>
+        requires next { IsNext self.old (Event.Did done) }
+        requires opens { begins_later (Event.Did done) ≡ false }
+        ensures ok { OnOk result (Records self.old (Event.Did done) self.new) }
+        ensures err { OnErr result (self.new ≡ self.old) }
+    {
+        if self.kept.is_none() {
+            return self.record.record_done(done);
+        }
+        self.record_noting(Event::Did(done))
+    }
+
     /// Records an event that comes next, is no emptying and opens no later collection. Where there is no
     /// memory nothing has changed.
-    #[inline(always)]
     pub(crate) fn record(&mut self, event: Event) -> Result<(), NoMemory>
         requires next { IsNext self.old event }
         requires quiet { IsQuiet event }

@@ -1,6 +1,8 @@
 //! Where an agent is in its plan.
 
-ghost use Rattle.std.specs.Prelude.{◌≡◌, ◌∷◌, ◌<◌, ℕ, true, length, [], slice_get, IfOk};
+ghost use Rattle.std.specs.Prelude.{◌≡◌, ◌∷◌, ◌<◌, ℕ, List, true, length, [], slice_get, IfOk};
+ghost use Rattle.es_event.specs.declared.command.Command.{Command as CommandSaid};
+ghost use Rattle.es_event.specs.declared.event.Answer.{Answer as AnswerSaid};
 ghost use Rattle.es_event.specs.History.{History};
 ghost use Rattle.std.specs.Option.{option_and_then};
 ghost use Rattle.es_value.specs.declared.value.Value.{Value as HeldValue};
@@ -106,10 +108,11 @@ impl Cursor {
                 job,
                 position: Position::Handed,
             },
-            Event::Did(_) | Event::Emptied { .. } => Cursor {
-                job,
-                position: self.position.after_command(plan, job),
-            },
+            Event::Did(_) | Event::Emptied { .. } => {
+                let mut position = self.position;
+                position.pass_command(plan, job);
+                Cursor { job, position }
+            }
             Event::Refused { .. } => Cursor {
                 job,
                 position: self.position.after_refusal(),
@@ -131,6 +134,15 @@ impl Cursor {
                 position: Position::Ended,
             },
         }
+    }
+
+    /// Goes past a command that was done.
+    #[inline(always)]
+    pub fn pass_command(&mut self, plan: &AgentPlan)
+        requires { 0 < self.old.job }
+        ensures { (h : History) → IsCursorOf plan.now h self.old → (c : CommandSaid) (values : List HeldValue) (answer : AnswerSaid) → IsCursorOf plan.now (Event.Did (c, values, answer) ∷ h) self.new }
+    {
+        self.position.pass_command(plan, self.job);
     }
 
     /// The job that comes next after the end of a job: the end of a cleanup job passes none.
@@ -227,21 +239,27 @@ fn commands_of_callback(plan: &AgentPlan, n: usize) -> &[Command]
     }
 }
 
+impl Cleanup {
+    /// One more command of the running callback is done.
+    fn pass_command(&mut self, plan: &AgentPlan)
+        ensures { self.new ≡ record self.old { at = at_after self.old.at (length (commands_of plan.now self.old.callback)) } }
+    {
+        let commands = callback_commands(plan, self.callback);
+        self.at = next_below(self.at, commands.len());
+    }
+}
+
 impl Position {
-    /// After one more command of job n, or of the running callback.
+    /// One more command of job n, or of the running callback, is done.
     #[inline(always)]
-    fn after_command(self, plan: &AgentPlan, n: usize) -> Position
+    fn pass_command(&mut self, plan: &AgentPlan, n: usize)
         requires { 0 < n }
-        ensures { result ≡ position_after plan.now n self }
+        ensures { self.new ≡ position_after plan.now n self.old }
     {
         match self {
-            Position::Inside(at) => Position::Inside(next_below(at, commands(plan, n).len())),
-            Position::Cleaning(cleanup) => Position::Cleaning(Cleanup {
-                registry: cleanup.registry,
-                callback: cleanup.callback,
-                at: next_below(cleanup.at, callback_commands(plan, cleanup.callback).len()),
-            }),
-            _ => self,
+            Position::Inside(at) => *at = next_below(*at, commands(plan, n).len()),
+            Position::Cleaning(cleanup) => cleanup.pass_command(plan),
+            _ => {}
         }
     }
 

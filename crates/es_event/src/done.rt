@@ -1,10 +1,10 @@
 //! A command that was done, as the event that did it has it.
 
-ghost use Rattle.std.specs.Prelude.{◌≡◌, IfOk};
+ghost use Rattle.std.specs.Prelude.{◌≡◌, ◌∷◌, [], OnOk};
 ghost use Rattle.es_event.specs.Answers.{answer_said};
 
 use crate::kept::Kept;
-use crate::{Answer, Command, Operands, PlanCommand, SharedList};
+use crate::{Answer, Command, PlanCommand, Sequence, SharedList};
 use es_value::{Name, NoMemory, Value};
 use std::alloc::Global;
 use std::marker::Model;
@@ -46,19 +46,55 @@ pub enum AnswerRef<'a> {
 }
 
 impl Done {
-    /// What was done. It takes memory where more than three values are read and given, or keys.
+    /// A command that is done, which read nothing; it gave nothing yet.
     #[inline(always)]
-    pub fn of(
-        alloc: Global,
-        command: PlanCommand,
-        values: Operands,
-        answer: Answer,
-    ) -> Result<Done, NoMemory>
-        ensures { IfOk result (λ d. d ≡ (command, values, answer)) }
+    pub fn of(command: PlanCommand) -> Done
+        ensures { result ≡ (command, [], Answer.Nothing) }
     {
         let PlanCommand { commands, place } = command;
-        let kept = Kept::of(alloc, place, values, answer)?;
-        Ok(Done { commands, kept })
+        let kept = Kept::none(place);
+        Done { commands, kept }
+    }
+
+    /// One that read this value.
+    #[inline(always)]
+    pub fn of_one(command: PlanCommand, value: Value) -> Done
+        ensures { result ≡ (command, value ∷ [], Answer.Nothing) }
+    {
+        let PlanCommand { commands, place } = command;
+        let kept = Kept::few(place, 1, [value, Value::Undefined, Value::Undefined]);
+        Done { commands, kept }
+    }
+
+    /// One that read these two values, in this order.
+    #[inline(always)]
+    pub fn of_two(command: PlanCommand, first: Value, second: Value) -> Done
+        ensures { result ≡ (command, first ∷ second ∷ [], Answer.Nothing) }
+    {
+        let PlanCommand { commands, place } = command;
+        let kept = Kept::few(place, 2, [first, second, Value::Undefined]);
+        Done { commands, kept }
+    }
+
+    /// One that read these three values, in this order.
+    #[inline(always)]
+    pub fn of_three(command: PlanCommand, first: Value, second: Value, third: Value) -> Done
+        ensures { result ≡ (command, first ∷ second ∷ third ∷ [], Answer.Nothing) }
+    {
+        let PlanCommand { commands, place } = command;
+        let kept = Kept::few(place, 3, [first, second, third]);
+        Done { commands, kept }
+    }
+
+    /// One that read all these values, in order.
+    pub fn of_all(command: PlanCommand, values: Sequence<Value>) -> Done
+        ensures { result ≡ (command, values, Answer.Nothing) }
+    {
+        let PlanCommand { commands, place } = command;
+        Done {
+            commands,
+            kept: Kept::More(place, values),
+        }
     }
 
     /// The command.
@@ -66,7 +102,7 @@ impl Done {
     pub fn command(&self) -> &Command
         ensures { result.now ≡ self.now.0 }
     {
-        let place = self.kept.place();
+        let place = self.kept.place() as usize;
         &self.commands.as_slice()[place]
     }
 
@@ -84,5 +120,19 @@ impl Done {
         ensures { answer_said result ≡ self.now.2 }
     {
         self.kept.answer()
+    }
+
+    /// It gives this answer. That takes memory where more than three values are read and given, or keys; where there
+    /// is none, nothing is said of what it read and gave.
+    #[inline(always)]
+    pub fn give(&mut self, alloc: Global, answer: Answer) -> Result<(), NoMemory>
+        requires { self.old.2 ≡ Answer.Nothing }
+        ensures { OnOk result (self.new ≡ (self.old.0, self.old.1, answer)) }
+    {
+        match answer {
+            Answer::Nothing => Ok(()),
+            Answer::Gives(value) => self.kept.give(alloc, value),
+            Answer::Listed(keys) => self.kept.list(alloc, keys),
+        }
     }
 }

@@ -1,37 +1,33 @@
 //! What was done, less the list of its command.
 
-ghost use Rattle.std.specs.Prelude.{◌≡◌, IfOk};
+ghost use Rattle.std.specs.Prelude.{◌≡◌, [], true, take, OnOk};
 ghost use Rattle.es_event.specs.Answers.{answer_said};
 ghost use Rattle.es_event.specs.declared.event.Answer.TheVariants.{Nothing as NothingSaid, Gives as GivesSaid, Listed as ListedSaid};
-ghost use Rattle.es_event.specs.Kept.{place_in, values_in, answer_in};
+ghost use Rattle.es_event.specs.Held.{values_of};
+ghost use Rattle.es_event.specs.Kept.{place_in, values_in, answer_in, has_room};
 
 use crate::done::AnswerRef;
-use crate::operands::{Held, Operands};
-use crate::{Answer, Sequence, SharedList};
+use crate::held::{Held, first_of};
+use crate::{Sequence, SharedList};
 use es_value::{Name, NoMemory, Value};
 use std::alloc::Global;
+use std::mem;
 
 /// The place of a command in its list, what it read and what it gave.
 #[derive(Drop)]
 pub(crate) enum Kept {
-    /// It read nothing, and gave nothing.
-    Bare(u32),
-    /// It gave a value.
-    Gave(u32, Value),
-    /// It read a value.
-    Read(u32, [Value; 1]),
-    /// It read a value, and gave one.
-    ReadGave(u32, [Value; 1], Value),
-    /// It read two values.
-    ReadTwo(u32, [Value; 2]),
-    /// It read two values, and gave one.
-    ReadTwoGave(u32, [Value; 2], Value),
-    /// It read three values.
-    ReadThree(u32, [Value; 3]),
+    /// It read up to three values, the first of these. Where it gave one, that is the last of these, and it read
+    /// up to two.
+    Few {
+        read: u8,
+        gave: bool,
+        place: u32,
+        values: [Value; 3],
+    },
     /// It read more values.
-    ReadMore(u32, Sequence<Value>),
-    /// It read more values, and gave one.
-    ReadMoreGave(u32, Box<Giving>),
+    More(u32, Sequence<Value>),
+    /// It read more values than lie beside the one that it gave.
+    MoreGave(u32, Box<Giving>),
     /// It gave keys.
     Listed(u32, Box<Listing>),
 }
@@ -39,50 +35,52 @@ pub(crate) enum Kept {
 /// The values that a command read, and the one that it gave.
 #[derive(Drop)]
 pub(crate) struct Giving {
-    values: Operands,
+    values: Held,
     given: Value,
 }
 
 /// The values that a command read, and the keys that it gave.
 #[derive(Drop)]
 pub(crate) struct Listing {
-    values: Operands,
+    values: Held,
     keys: SharedList<Name>,
 }
 
 impl Kept {
+    /// Of the command at this place, which read so many values, up to three, the first of these.
     #[inline(always)]
-    pub(crate) fn of(
-        alloc: Global,
-        place: u32,
-        values: Operands,
-        answer: Answer,
-    ) -> Result<Kept, NoMemory>
-        ensures { IfOk result (λ k. (place_in k ≡ place) × (values_in k ≡ values) × (answer_in k ≡ answer)) }
+    pub(crate) fn few(place: u32, read: u8, values: [Value; 3]) -> Kept
+        ensures place { place_in result ≡ place }
+        ensures values { values_in result ≡ take read values }
+        ensures answer { answer_in result ≡ NothingSaid }
     {
-        match answer {
-            Answer::Nothing => Ok(read(place, values)),
-            Answer::Gives(given) => read_gave(alloc, place, values, given),
-            Answer::Listed(keys) => listed(alloc, place, values, keys),
+        Kept::Few {
+            read,
+            gave: false,
+            place,
+            values,
         }
+    }
+
+    /// Of the command at this place, which read nothing.
+    #[inline(always)]
+    pub(crate) fn none(place: u32) -> Kept
+        ensures place { place_in result ≡ place }
+        ensures values { values_in result ≡ [] }
+        ensures answer { answer_in result ≡ NothingSaid }
+    {
+        let values = [Value::Undefined, Value::Undefined, Value::Undefined];
+        Kept::few(place, 0, values)
     }
 
     /// Where the command stands in its list.
     #[inline(always)]
-    pub(crate) fn place(&self) -> usize
+    pub(crate) fn place(&self) -> u32
         ensures { result ≡ place_in self.now }
     {
         match self {
-            Kept::Bare(place)
-            | Kept::Gave(place, _)
-            | Kept::Read(place, _)
-            | Kept::ReadGave(place, _, _)
-            | Kept::ReadTwo(place, _)
-            | Kept::ReadTwoGave(place, _, _)
-            | Kept::ReadThree(place, _)
-            | Kept::ReadMore(place, _)
-            | Kept::ReadMoreGave(place, _)
-            | Kept::Listed(place, _) => *place as usize,
+            Kept::Few { place, .. } => *place,
+            Kept::More(place, _) | Kept::MoreGave(place, _) | Kept::Listed(place, _) => *place,
         }
     }
 
@@ -92,12 +90,9 @@ impl Kept {
         ensures { result.now ≡ values_in self.now }
     {
         match self {
-            Kept::Bare(_) | Kept::Gave(_, _) => &[],
-            Kept::Read(_, values) | Kept::ReadGave(_, values, _) => values.as_slice(),
-            Kept::ReadTwo(_, values) | Kept::ReadTwoGave(_, values, _) => values.as_slice(),
-            Kept::ReadThree(_, values) => values.as_slice(),
-            Kept::ReadMore(_, values) => values.as_slice(),
-            Kept::ReadMoreGave(_, giving) => giving.values.as_slice(),
+            Kept::Few { read, values, .. } => first_of(values.as_slice(), *read as usize),
+            Kept::More(_, values) => values.as_slice(),
+            Kept::MoreGave(_, giving) => giving.values.as_slice(),
             Kept::Listed(_, listing) => listing.values.as_slice(),
         }
     }
@@ -108,72 +103,102 @@ impl Kept {
         ensures { answer_said result ≡ answer_in self.now }
     {
         match self {
-            Kept::Bare(_)
-            | Kept::Read(_, _)
-            | Kept::ReadTwo(_, _)
-            | Kept::ReadThree(_, _)
-            | Kept::ReadMore(_, _) => AnswerRef::Nothing,
-            Kept::Gave(_, given) | Kept::ReadGave(_, _, given) | Kept::ReadTwoGave(_, _, given) =>
-                AnswerRef::Gives(given),
-            Kept::ReadMoreGave(_, giving) => AnswerRef::Gives(&giving.given),
+            Kept::Few { gave, values, .. } => {
+                if *gave {
+                    AnswerRef::Gives(&values[2])
+                } else {
+                    AnswerRef::Nothing
+                }
+            }
+            Kept::More(_, _) => AnswerRef::Nothing,
+            Kept::MoreGave(_, giving) => AnswerRef::Gives(&giving.given),
             Kept::Listed(_, listing) => AnswerRef::Listed(listing.keys.as_slice()),
         }
     }
-}
 
-/// Of a command that read these values and gave nothing.
-#[inline(always)]
-fn read(place: u32, values: Operands) -> Kept
-    ensures place { place_in result ≡ place }
-    ensures values { values_in result ≡ values }
-    ensures answer { answer_in result ≡ NothingSaid }
-{
-    match values.held {
-        Held::Nothing => Kept::Bare(place),
-        Held::One(values) => Kept::Read(place, values),
-        Held::Two(values) => Kept::ReadTwo(place, values),
-        Held::Three(values) => Kept::ReadThree(place, values),
-        Held::More(values) => Kept::ReadMore(place, values),
+    /// It gave this value. Where there is no memory, its place alone is left.
+    #[inline(always)]
+    pub(crate) fn give(&mut self, alloc: Global, given: Value) -> Result<(), NoMemory>
+        requires { answer_in self.old ≡ NothingSaid }
+        ensures place { place_in self.new ≡ place_in self.old }
+        ensures values { OnOk result (values_in self.new ≡ values_in self.old) }
+        ensures answer { OnOk result (answer_in self.new ≡ GivesSaid given) }
+    {
+        if self.has_room() {
+            self.give_last(given);
+            return Ok(());
+        }
+        self.give_beside(alloc, given)
+    }
+
+    /// Whether one value more lies beside those that it read.
+    #[inline(always)]
+    fn has_room(&self) -> bool
+        ensures { result ≡ has_room self.now }
+    {
+        match self {
+            Kept::Few { read, .. } => *read < 3,
+            Kept::More(_, _) | Kept::MoreGave(_, _) | Kept::Listed(_, _) => false,
+        }
+    }
+
+    /// It gave this value, which lies beside those that it read.
+    #[inline(always)]
+    fn give_last(&mut self, given: Value)
+        requires { has_room self.old ≡ true }
+        ensures place { place_in self.new ≡ place_in self.old }
+        ensures values { values_in self.new ≡ values_in self.old }
+        ensures answer { answer_in self.new ≡ GivesSaid given }
+    {
+        match self {
+            Kept::Few { values, .. } => values[2] = given,
+            _ => unreachable!(),
+        }
+        match self {
+            Kept::Few { gave, .. } => *gave = true,
+            _ => unreachable!(),
+        }
+    }
+
+    /// The same, where what it gave does not lie beside what it read.
+    #[inline(never)]
+    fn give_beside(&mut self, alloc: Global, given: Value) -> Result<(), NoMemory>
+        requires { answer_in self.old ≡ NothingSaid }
+        ensures place { place_in self.new ≡ place_in self.old }
+        ensures values { OnOk result (values_in self.new ≡ values_in self.old) }
+        ensures answer { OnOk result (answer_in self.new ≡ GivesSaid given) }
+    {
+        let place = self.place();
+        let values = held(mem::replace(self, Kept::none(place)));
+        let giving = Box::new(alloc, Giving { values, given })?;
+        *self = Kept::MoreGave(place, giving);
+        Ok(())
+    }
+
+    /// It gave these keys. Where there is no memory, its place alone is left.
+    #[inline(never)]
+    pub(crate) fn list(&mut self, alloc: Global, keys: SharedList<Name>) -> Result<(), NoMemory>
+        requires { answer_in self.old ≡ NothingSaid }
+        ensures place { place_in self.new ≡ place_in self.old }
+        ensures values { OnOk result (values_in self.new ≡ values_in self.old) }
+        ensures answer { OnOk result (answer_in self.new ≡ ListedSaid keys) }
+    {
+        let place = self.place();
+        let values = held(mem::replace(self, Kept::none(place)));
+        let listing = Box::new(alloc, Listing { values, keys })?;
+        *self = Kept::Listed(place, listing);
+        Ok(())
     }
 }
 
-/// Of a command that read these values and gave this one.
-#[inline(always)]
-fn read_gave(alloc: Global, place: u32, values: Operands, given: Value) -> Result<Kept, NoMemory>
-    ensures { IfOk result (λ k. (place_in k ≡ place) × (values_in k ≡ values) × (answer_in k ≡ GivesSaid given)) }
+/// The values of what gave nothing.
+fn held(kept: Kept) -> Held
+    requires { answer_in kept ≡ NothingSaid }
+    ensures { values_of result ≡ values_in kept }
 {
-    match values.held {
-        Held::Nothing => Ok(Kept::Gave(place, given)),
-        Held::One(values) => Ok(Kept::ReadGave(place, values, given)),
-        Held::Two(values) => Ok(Kept::ReadTwoGave(place, values, given)),
-        held => read_more_gave(alloc, place, Operands { held }, given),
+    match kept {
+        Kept::Few { read, values, .. } => Held::Few(read, values),
+        Kept::More(_, values) => Held::More(values),
+        Kept::MoreGave(_, _) | Kept::Listed(_, _) => unreachable!(),
     }
-}
-
-/// The same, where three values or more were read: with the one that it gave they do not lie in place.
-#[inline(never)]
-fn read_more_gave(
-    alloc: Global,
-    place: u32,
-    values: Operands,
-    given: Value,
-) -> Result<Kept, NoMemory>
-    ensures { IfOk result (λ k. (place_in k ≡ place) × (values_in k ≡ values) × (answer_in k ≡ GivesSaid given)) }
-{
-    let giving = Box::new(alloc, Giving { values, given })?;
-    Ok(Kept::ReadMoreGave(place, giving))
-}
-
-/// Of a command that read these values and gave these keys.
-#[inline(never)]
-fn listed(
-    alloc: Global,
-    place: u32,
-    values: Operands,
-    keys: SharedList<Name>,
-) -> Result<Kept, NoMemory>
-    ensures { IfOk result (λ k. (place_in k ≡ place) × (values_in k ≡ values) × (answer_in k ≡ ListedSaid keys)) }
-{
-    let listing = Box::new(alloc, Listing { values, keys })?;
-    Ok(Kept::Listed(place, listing))
 }

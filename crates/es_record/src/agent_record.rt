@@ -16,7 +16,7 @@ ghost use Rattle.es_record.specs.Newest.{newest};
 ghost use Rattle.es_cursor.specs.Cursor.{IsAt};
 ghost use Rattle.es_cursor.specs.Due.{shown};
 ghost use Rattle.es_event.specs.Later.{snapshot};
-ghost use Rattle.es_tables.specs.Plain.{IsPlainEvent};
+ghost use Rattle.es_tables.specs.Plain.{IsPlain};
 ghost use Rattle.es_tables.specs.Effects.{Advances, IsQuiet};
 ghost use Rattle.es_tables.specs.Changes.{table_change};
 ghost use Rattle.es_tables.specs.Ready.{CanApply};
@@ -33,7 +33,7 @@ use es_cursor::{
     Cleanup, Cursor, Due, Position, callback_command, callback_commands, commands, due_command,
     job_command,
 };
-use es_event::{AgentPlan, Event, Log, PlanCommand, Row, Sequence};
+use es_event::{AgentPlan, Done, Event, Log, PlanCommand, Row, Sequence};
 use es_tables::{Tables, is_plain};
 use es_value::{Id, Name, NameFault, NoMemory, Value};
 use std::alloc::Global;
@@ -216,34 +216,43 @@ impl AgentRecord {
 
     /// Records an event that comes next and is no emptying; where there is no memory nothing has
     /// changed.
-    #[inline(always)]
     pub fn record(&mut self, event: Event) -> Result<(), NoMemory>
         requires next { IsNext self.old event }
         requires quiet { IsQuiet event }
         ensures ok { OnOk result (Records self.old event self.new) }
         ensures err { OnErr result (self.new ≡ self.old) }
     {
-        if is_plain(&event) {
-            return self.record_plain(event);
-        }
         self.record_with(event, None)
+    }
+
+    /// Records a command that was done, which comes next; where there is no memory nothing has changed.
+    #[inline(always)]
+    pub fn record_done(&mut self, done: Done) -> Result<(), NoMemory>
+        requires { IsNext self.old (Event.Did done) }
+        ensures ok { OnOk result (Records self.old (Event.Did done) self.new) }
+        ensures err { OnErr result (self.new ≡ self.old) }
+    {
+        if !is_plain(done.command()) {
+            return self.record_with(Event::Did(done), None);
+        }
+        self.record_plain(done)
     }
 
     /// The same, of a command that opens no block, posts nothing and opens no later collection, as most do: it
     /// moves the tables and the cursor alone.
     #[inline(always)]
-    fn record_plain(&mut self, event: Event) -> Result<(), NoMemory>
-        requires next { IsNext self.old event }
-        requires plain { IsPlainEvent event }
-        ensures ok { OnOk result (Records self.old event self.new) }
+    fn record_plain(&mut self, done: Done) -> Result<(), NoMemory>
+        requires next { IsNext self.old (Event.Did done) }
+        requires plain { IsPlain done.0 }
+        ensures ok { OnOk result (Records self.old (Event.Did done) self.new) }
         ensures err { OnErr result (self.new ≡ self.old) }
     {
-        if let Err(error) = advance_plain(&mut self.events, &mut self.tables, &event) {
-            drop(event);
+        if let Err(error) = advance_done(&mut self.events, &mut self.tables, &done) {
+            drop(done);
             return Err(error);
         }
-        self.cursor = self.cursor.after(&event, &self.plan, None);
-        self.events.append(event);
+        self.cursor.pass_command(&self.plan);
+        self.events.append(Event::Did(done));
         Ok(())
     }
 
@@ -399,23 +408,18 @@ fn advance(
     tables.advance(event, held, received, again)
 }
 
-/// Makes room for an event and for the closing one after it, and applies the event to the tables.
+/// Makes room for an event and for the closing one after it, and applies a command that was done to the tables.
 #[inline(always)]
-fn advance_plain(
-    events: &mut Log<Event>,
-    tables: &mut Tables,
-    event: &Event,
-) -> Result<(), NoMemory>
-    requires plain { IsPlainEvent event.now }
-    requires can { CanApply tables.old (table_change None event.now) }
+fn advance_done(events: &mut Log<Event>, tables: &mut Tables, done: &Done) -> Result<(), NoMemory>
+    requires { CanApply tables.old (table_change None (Event.Did done.now)) }
     ensures events { events.new.events ≡ events.old.events }
     ensures kept { events.old.room ≤ events.new.room }
-    ensures ok { OnOk result ((received : List ℕ) (again : Option ℕ) → Advances received again event.now tables.old tables.new) }
+    ensures ok { OnOk result ((received : List ℕ) (again : Option ℕ) → Advances received again (Event.Did done.now) tables.old tables.new) }
     ensures err { OnErr result (SameState tables.old tables.new) }
     ensures room { OnOk result (2 ≤ events.new.room) }
 {
     events.reserve(2)?;
-    tables.advance_plain(event)
+    tables.advance_done(done)
 }
 
 /// Adds a buffer object, where one comes.

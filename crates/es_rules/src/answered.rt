@@ -5,44 +5,48 @@ ghost use Rattle.es_value.specs.Limits.{most_identities};
 ghost use Rattle.es_value.specs.Values.{identity};
 ghost use Rattle.es_event.specs.Identities.{made};
 ghost use Rattle.es_event.specs.Order.{due, receive, run};
-ghost use Rattle.es_record.specs.Book.{IsNext, with_buffer};
+ghost use Rattle.es_event.specs.Commands.{reads};
+ghost use Rattle.es_event.specs.Jobs.{receivers};
+ghost use Rattle.es_event.specs.Legal.{values_of};
+ghost use Rattle.es_record.specs.Book.{IsNext, AreThere, with_buffer};
 ghost use Rattle.es_rules.specs.Needs.{need, asks_message, asks_copy, TakesTicket, TakesWord, TakesDone, IsDone, Brings};
 ghost use Rattle.es_rules.specs.Giving.{MayGive};
 
 use es_cursor::Due;
-use es_event::{Answer, Command, Done, Event, Operands, PlanCommand, Refusal, Row};
+use es_event::{Answer, Command, Done, Event, PlanCommand, Refusal, Row};
 use es_record::AgentRecord;
 use es_value::{NoMemory, Value};
 
 /// The due command, done with this word of shared memory (Atomics.load and add). It fails for want of
 /// memory alone.
-pub fn answered_word(agent: &AgentRecord, word: u32) -> Result<Event, NoMemory>
+pub fn answered_word(agent: &AgentRecord, word: u32) -> Result<Done, NoMemory>
     requires { TakesWord (need agent.now) }
-    ensures done { IfOk result (IsDone agent.now (Answer.Gives (Value.Number (pos word)))) }
-    ensures next { IfOk result (IsNext agent.now) }
+    ensures done { IfOk result (λ d. IsDone agent.now (Answer.Gives (Value.Number (pos word))) (Event.Did d)) }
+    ensures next { IfOk result (λ d. IsNext agent.now (Event.Did d)) }
 {
     done(agent, Answer::Gives(Value::Number(i64::from(word))))
 }
 
 /// The due command, a store or a post, done. It fails for want of memory alone.
-pub fn answered_done(agent: &AgentRecord) -> Result<Event, NoMemory>
+pub fn answered_done(agent: &AgentRecord) -> Result<Done, NoMemory>
     requires { TakesDone (need agent.now) }
-    ensures done { IfOk result (IsDone agent.now Answer.Nothing) }
-    ensures next { IfOk result (IsNext agent.now) }
+    ensures done { IfOk result (λ d. IsDone agent.now Answer.Nothing (Event.Did d)) }
+    ensures next { IfOk result (λ d. IsNext agent.now (Event.Did d)) }
 {
     done(agent, Answer::Nothing)
 }
 
 /// The due command, done with this answer.
-fn done(agent: &AgentRecord, answer: Answer) -> Result<Event, NoMemory>
+fn done(agent: &AgentRecord, answer: Answer) -> Result<Done, NoMemory>
     requires { MayGive agent.now answer }
-    ensures done { IfOk result (IsDone agent.now answer) }
-    ensures next { IfOk result (IsNext agent.now) }
+    ensures done { IfOk result (λ d. IsDone agent.now answer (Event.Did d)) }
+    ensures next { IfOk result (λ d. IsNext agent.now (Event.Did d)) }
 {
     match agent.due() {
         Due::Run(command) => {
-            let values = agent.values(command)?;
-            did(agent, command, values, answer)
+            let mut done = begun(agent, command)?;
+            done.give(agent.alloc(), answer)?;
+            Ok(done)
         }
         _ => unreachable!(),
     }
@@ -60,7 +64,7 @@ pub fn brought(agent: &AgentRecord, row: Row) -> Result<Event, NoMemory>
 {
     let object = Value::Object(agent.next_identity());
     match agent.due() {
-        Due::Run(command) => { did(agent, command, Operands::of_none(), Answer::Gives(object)) }
+        Due::Run(command) => giving(agent, command, Answer::Gives(object)),
         Due::Receive { sender, .. } => Ok(Event::Received {
             sender,
             value: object,
@@ -113,25 +117,30 @@ pub fn opened(agent: &AgentRecord) -> Result<Event, NoMemory>
     ensures next { IfOk result (IsNext agent.now) }
 {
     match agent.due() {
-        Due::Run(command) => did(agent, command, Operands::of_none(), Answer::Nothing),
+        Due::Run(command) => giving(agent, command, Answer::Nothing),
         _ => unreachable!(),
     }
 }
 
-/// The event of the due command, of what it read and gave. It fails for want of memory alone.
-#[inline(always)]
-pub(crate) fn did(
-    agent: &AgentRecord,
-    command: &Command,
-    values: Operands,
-    answer: Answer,
-) -> Result<Event, NoMemory>
+/// The event of the due command, which read nothing and gave this. It fails for want of memory alone.
+fn giving(agent: &AgentRecord, command: &Command, answer: Answer) -> Result<Event, NoMemory>
     requires { due agent.now.plan agent.now.history ≡ run command.now }
-    ensures { IfOk result (λ e. e ≡ Event.Did (command.now, values, answer)) }
+    ensures { IfOk result (λ e. e ≡ Event.Did (command.now, [], answer)) }
 {
-    let command = planned(agent, command)?;
-    let done = Done::of(agent.alloc(), command, values, answer)?;
+    let mut done = Done::of(planned(agent, command)?);
+    done.give(agent.alloc(), answer)?;
     Ok(Event::Did(done))
+}
+
+/// The due command, done as far as that it read its variables. It fails for want of memory alone.
+#[inline(always)]
+pub fn begun(agent: &AgentRecord, command: &Command) -> Result<Done, NoMemory>
+    requires { due agent.now.plan agent.now.history ≡ run command.now }
+    ensures read { IfOk result (λ d. d ≡ (command.now, values_of (receivers agent.now.plan.jobs) agent.now.history (reads command.now), Answer.Nothing)) }
+    ensures there { IfOk result (λ d. AreThere agent.now d.1) }
+{
+    let planned = planned(agent, command)?;
+    agent.reading(command, planned)
 }
 
 /// The due command, as its event has it. It fails for want of memory alone.

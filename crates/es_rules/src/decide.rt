@@ -1,6 +1,7 @@
 //! The next event of an agent, decided from its record alone.
 
-ghost use Rattle.std.specs.Prelude.{◌≡◌, ◌+◌, ◌∷◌, ◌↔◌, [], false, None, Ok, Err, nat_lt, IfOk, IsTrue, if◌then◌else◌};
+ghost use Rattle.std.specs.Prelude.{◌≡◌, ◌+◌, ◌∷◌, ◌↔◌, [], false, None, Ok, Err, nat_lt, IfOk, IfErr, OnOk, IsTrue, if◌then◌else◌};
+ghost use Rattle.es_event.specs.declared.command.Command.{Command as CommandSaid};
 ghost use Rattle.es_value.specs.Limits.{most_identities};
 ghost use Rattle.es_event.specs.Commands.{reads};
 ghost use Rattle.es_event.specs.Later.{collects_now};
@@ -10,18 +11,17 @@ ghost use Rattle.es_event.specs.Rules.{completion, refuse_or, first_refusal, non
 ghost use Rattle.es_event.specs.Legal.{values_of};
 ghost use Rattle.es_event.specs.Order.{due, run};
 ghost use Rattle.es_record.specs.Book.{IsNext, AreThere};
-ghost use Rattle.es_rules.specs.Completion.{Completes};
+ghost use Rattle.es_rules.specs.Completion.{Completes, Refuses};
 ghost use Rattle.es_rules.specs.Needs.{asks_nobody, need, request};
 
-use crate::answered::did;
 use crate::buffers::{length, new_buffer, post, same_block, store, word};
 use crate::ephemerons::{weakmap_get, weakmap_has, weakmap_set, weakset_add, weakset_has};
 use crate::need::asks_somebody;
-use crate::operand::{held_weakly, object_in};
+use crate::operand::{four, held_weakly, object_in, one, three, two};
 use crate::registries::{cleaning, register, taking, unregister};
 use crate::stop::Stop;
 use es_cursor::Due;
-use es_event::{Answer, Command, Event, Operands, Refusal, Sequence, SharedList};
+use es_event::{Answer, Command, Done, Event, Refusal, Sequence, SharedList};
 use es_record::AgentRecord;
 use es_tables::Tag;
 use es_value::{Id, MOST_IDENTITIES, Name, NoMemory, Value, same_value};
@@ -39,44 +39,43 @@ pub fn asks_nobody(agent: &AgentRecord) -> bool
     }
 }
 
-/// The event that comes next, where the agent asks nobody for it (ECMA-262, Jobs and Host Operations
-/// to Enqueue Jobs). It fails for want of memory alone.
-#[inline(always)]
+/// The event that comes next, where the agent asks nobody for it and no command is due (ECMA-262, Jobs and Host
+/// Operations to Enqueue Jobs). It fails for want of memory alone.
 pub fn next_event(agent: &AgentRecord) -> Result<Event, NoMemory>
-    requires { need agent.now ≡ asks_nobody }
+    requires alone { need agent.now ≡ asks_nobody }
+    requires idle { (c : CommandSaid) → due agent.now.plan agent.now.history ≡ run c → ⊥ }
     ensures { IfOk result (IsNext agent.now) }
 {
     match agent.due() {
-        Due::Run(command) => own_event(agent, command),
         Due::Begin(job) => Ok(Event::JobBegun { job }),
         Due::Clean(_) => cleaning(agent),
         Due::Take(registration) => taking(agent, registration),
         Due::EndJob => Ok(Event::JobEnded),
-        Due::Receive { .. } | Due::Close | Due::Nothing => unreachable!(),
+        Due::Run(_) | Due::Receive { .. } | Due::Close | Due::Nothing => unreachable!(),
     }
 }
 
-/// The event of a command that is due and asks nobody: it empties nothing, and asks the ledger for nothing. It
-/// fails for want of memory alone.
+/// Does the command that is due and asks nobody, which read what `done` has: it gives what the rules answer, and
+/// empties nothing. It fails where a rule refuses it, and for want of memory.
 #[inline(always)]
-pub fn own_event(agent: &AgentRecord, command: &Command) -> Result<Event, NoMemory>
+pub fn do_alone(agent: &AgentRecord, command: &Command, done: &mut Done) -> Result<(), Stop>
     requires due { due agent.now.plan agent.now.history ≡ run command.now }
     requires here { collects_now agent.now.history command.now ≡ false }
     requires local { request agent.now command.now ≡ None }
-    ensures { IfOk result (IsNext agent.now) }
+    requires read { done.old ≡ (command.now, values_of (receivers agent.now.plan.jobs) agent.now.history (reads command.now), Answer.Nothing) }
+    requires there { AreThere agent.now done.old.1 }
+    ensures next { OnOk result (IsNext agent.now (Event.Did done.new)) }
+    ensures refused { IfErr result (Refuses agent.now) }
 {
-    let values = agent.values(command)?;
-    match completion(agent, command, &values) {
-        Ok(answer) => did(agent, command, values, answer),
-        Err(Stop::Refused(code)) => Ok(Event::Refused { code }),
-        Err(Stop::NoMemory) => Err(NoMemory),
-    }
+    let answer = completion(agent, command, done.values())?;
+    done.give(agent.alloc(), answer)?;
+    Ok(())
 }
 
 /// What the rules answer to a command, were the word 0 that it reads of shared memory. Nothing that a
 /// variable holds is emptied, so each object that is read is there.
 #[inline(always)]
-fn completion(agent: &AgentRecord, command: &Command, values: &Operands) -> Result<Answer, Stop>
+fn completion(agent: &AgentRecord, command: &Command, values: &[Value]) -> Result<Answer, Stop>
     requires said { values.now ≡ values_of (receivers agent.now.plan.jobs) agent.now.history (reads command.now) }
     requires there { AreThere agent.now values.now }
     ensures { Completes (completion agent.now.over agent.now.history command.now values.now 0) result }
@@ -86,73 +85,73 @@ fn completion(agent: &AgentRecord, command: &Command, values: &Operands) -> Resu
         Command::New { .. } => new_object(agent),
         Command::Symbol { .. } => Ok(Answer::Gives(Value::Symbol(fresh(agent)?))),
         Command::SymbolFor { text, .. } => Ok(Answer::Gives(Value::Registered(text.copy()?))),
-        Command::Copy { .. } => Ok(Answer::Gives(values.one().copy()?)),
+        Command::Copy { .. } => Ok(Answer::Gives(one(values).copy()?)),
         Command::Same { .. } => {
-            let (left, right) = values.two();
+            let (left, right) = two(values);
             Ok(Answer::Gives(Value::Boolean(same_value(left, right))))
         }
         Command::Say { .. } => Ok(Answer::Nothing),
         Command::Collect | Command::CollectLater => collection(agent),
         Command::Set { .. } => {
-            let (object, _) = values.two();
+            let (object, _) = two(values);
             object_in(object)?;
             Ok(Answer::Nothing)
         }
-        Command::Get { key, .. } => get(agent, values.one(), key),
+        Command::Get { key, .. } => get(agent, one(values), key),
         Command::Delete { .. } => {
-            object_in(values.one())?;
+            object_in(one(values))?;
             Ok(Answer::Gives(Value::Boolean(true)))
         }
-        Command::Keys { .. } => keys(agent, values.one()),
-        Command::WeakRef { .. } => weakref(agent, values.one()),
-        Command::Deref { .. } => deref(agent, values.one()),
+        Command::Keys { .. } => keys(agent, one(values)),
+        Command::WeakRef { .. } => weakref(agent, one(values)),
+        Command::Deref { .. } => deref(agent, one(values)),
         Command::WeakMap { .. } | Command::WeakSet { .. } | Command::FinalizationRegistry { .. } =>
             new_object(agent),
         Command::WeakMapSet { .. } => {
-            let (map, key, _) = values.three();
+            let (map, key, _) = three(values);
             weakmap_set(agent, map, key)
         }
         Command::WeakMapGet { .. } => {
-            let (map, key) = values.two();
+            let (map, key) = two(values);
             weakmap_get(agent, map, key)
         }
         Command::WeakMapHas { .. } | Command::WeakMapDelete { .. } => {
-            let (map, key) = values.two();
+            let (map, key) = two(values);
             weakmap_has(agent, map, key)
         }
         Command::WeakSetAdd { .. } => {
-            let (set, member) = values.two();
+            let (set, member) = two(values);
             weakset_add(agent, set, member)
         }
         Command::WeakSetHas { .. } | Command::WeakSetDelete { .. } => {
-            let (set, member) = values.two();
+            let (set, member) = two(values);
             weakset_has(agent, set, member)
         }
         Command::Register { token, .. } => match token.get() {
             None => {
-                let (registry, target, held) = values.three();
+                let (registry, target, held) = three(values);
                 register(agent, registry, target, held, &Value::Undefined)
             }
             Some(_) => {
-                let (registry, target, held, token) = values.four();
+                let (registry, target, held, token) = four(values);
                 register(agent, registry, target, held, token)
             }
         },
         Command::Unregister { .. } => {
-            let (registry, token) = values.two();
+            let (registry, token) = two(values);
             unregister(agent, registry, token)
         }
         Command::SharedArrayBuffer { .. } => new_buffer(agent),
-        Command::Length { .. } => length(agent, values.one()),
+        Command::Length { .. } => length(agent, one(values)),
         Command::SameBlock { .. } => {
-            let (left, right) = values.two();
+            let (left, right) = two(values);
             same_block(agent, left, right)
         }
         Command::Load { index, .. } | Command::Add { index, .. } => {
-            word(agent, values.one(), *index)
+            word(agent, one(values), *index)
         }
-        Command::Store { index, .. } => store(agent, values.one(), *index),
-        Command::Post { .. } => post(agent, values.one()),
+        Command::Store { index, .. } => store(agent, one(values), *index),
+        Command::Post { .. } => post(agent, one(values)),
     }
 }
 

@@ -1,6 +1,6 @@
-//! Operands that have to be objects, or to be held weakly.
+//! The values that a command read: how many there are, and which have to be objects, or to be held weakly.
 
-ghost use Rattle.std.specs.Prelude.{◌≡◌, Some, Ok, Err, true, false, IfOk, IfErr};
+ghost use Rattle.std.specs.Prelude.{◌≡◌, ◌∷◌, [], length, Some, Ok, Err, true, false, IfOk, IfErr};
 ghost use Rattle.es_value.specs.Values.{is_held_weakly, is_same};
 ghost use Rattle.es_event.specs.Rules.{of_token};
 ghost use Rattle.es_event.specs.Identities.{object_of};
@@ -8,6 +8,38 @@ ghost use Rattle.es_rules.specs.Completion.{object_or_refusal};
 
 use es_event::Refusal;
 use es_value::{Id, Value, can_be_held_weakly, same_value};
+
+/// The value that a command read, where it read one.
+pub fn one(values: &[Value]) -> &Value
+    requires { length values.now ≡ 1 }
+    ensures { values.now ≡ result.now ∷ [] }
+{
+    &values[0]
+}
+
+/// The values that a command read, where it read two.
+pub fn two(values: &[Value]) -> (&Value, &Value)
+    requires { length values.now ≡ 2 }
+    ensures { values.now ≡ result.0.now ∷ result.1.now ∷ [] }
+{
+    (&values[0], &values[1])
+}
+
+/// The values that a command read, where it read three.
+pub fn three(values: &[Value]) -> (&Value, &Value, &Value)
+    requires { length values.now ≡ 3 }
+    ensures { values.now ≡ result.0.now ∷ result.1.now ∷ result.2.now ∷ [] }
+{
+    (&values[0], &values[1], &values[2])
+}
+
+/// The values that a command read, where it read four.
+pub fn four(values: &[Value]) -> (&Value, &Value, &Value, &Value)
+    requires { length values.now ≡ 4 }
+    ensures { values.now ≡ result.0.now ∷ result.1.now ∷ result.2.now ∷ result.3.now ∷ [] }
+{
+    (&values[0], &values[1], &values[2], &values[3])
+}
 
 /// The object that the value is, or the refusal of a value that is none.
 pub fn object_in(value: &Value) -> Result<Id, Refusal>

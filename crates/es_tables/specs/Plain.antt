@@ -1,10 +1,8 @@
 -- Internal: commands that leave an agent's counts as they are, and of those the ones that change no table.
-use Rattle.std.specs.Prelude.{◌≡◌, false, List, Option, None}
+use Rattle.std.specs.Prelude.{◌≡◌, false, List, None}
 use Rattle.es_value.specs.declared.value.Value.{Value}
 use Rattle.es_event.specs.declared.command.Command.{Command}
 use Rattle.es_event.specs.declared.event.Answer.{Answer}
-use Rattle.es_event.specs.declared.event.Event.{Event}
-use Rattle.es_event.specs.declared.event.Event.TheVariants.{JobBegun, CleanupBegun, Received, Did, Refused, Emptied, Taken, JobEnded, Skipped, Closed}
 use Rattle.es_event.specs.History.{History}
 use Rattle.es_event.specs.Later.{taken_by}
 use Rattle.es_event.specs.Commands.{opens_words, posts}
@@ -20,16 +18,3 @@ pub record IsPlain (c : Command) : Type 0 where
   pub block : opens_words c ≡ None
   pub post : posts c ≡ false
   pub later : (h : History) → taken_by c h ≡ None
-
--- the event is such a command, done
-abbrev pub IsPlainEvent : Event → Type 0
-IsPlainEvent (JobBegun j) = ⊥
-IsPlainEvent (CleanupBegun q) = ⊥
-IsPlainEvent (Received t v) = ⊥
-IsPlainEvent (Did (c, vs, r)) = IsPlain c
-IsPlainEvent (Refused code) = ⊥
-IsPlainEvent (Emptied ids) = ⊥
-IsPlainEvent (Taken n held) = ⊥
-IsPlainEvent JobEnded = ⊥
-IsPlainEvent (Skipped j t) = ⊥
-IsPlainEvent Closed = ⊥

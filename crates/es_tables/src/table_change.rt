@@ -6,7 +6,7 @@ ghost use Rattle.es_event.specs.Ephemerons.{entered_by, joined_by};
 ghost use Rattle.es_event.specs.Identities.{identity, object_of, object_given};
 ghost use Rattle.es_event.specs.Properties.{put_by};
 ghost use Rattle.es_event.specs.Answers.{answer_said};
-ghost use Rattle.es_tables.specs.Plain.{IsAssignment, IsPlain, IsPlainEvent};
+ghost use Rattle.es_tables.specs.Plain.{IsAssignment, IsPlain};
 ghost use Rattle.es_tables.specs.Changes.{table_change, table_change_by, identity_kept, pointing};
 ghost use Rattle.es_tables.specs.Registries.{change_by};
 ghost use Rattle.es_tables.specs.Tags.{tag_made, tag_received};
@@ -77,19 +77,9 @@ pub(crate) fn table_change(event: &Event, again: Option<Id>) -> Result<TableChan
     }
 }
 
-/// Whether the event is a command, done, that opens no block, posts nothing and opens no later collection.
+/// Whether the command opens no block, posts nothing and opens no later collection, as most do not.
 #[inline(always)]
-pub fn is_plain(event: &Event) -> bool
-    ensures { IsTrue result → IsPlainEvent event.now }
-{
-    match event {
-        Event::Did(done) => is_plain_command(done.command()),
-        _ => false,
-    }
-}
-
-#[inline(always)]
-fn is_plain_command(command: &Command) -> bool
+pub fn is_plain(command: &Command) -> bool
     ensures { IsTrue result → IsPlain command.now }
 {
     !matches!(

@@ -10,7 +10,6 @@ ghost use Rattle.es_weakref.specs.WeakRefs.{target as target_of};
 ghost use Rattle.es_event.specs.Commands.{assigns};
 ghost use Rattle.es_event.specs.Variables.{gives_to};
 ghost use Rattle.es_event.specs.Answers.{answer_said};
-ghost use Rattle.es_tables.specs.Plain.{IsPlainEvent};
 ghost use Rattle.es_tables.specs.Effects.{Advances, Changed, Takes, said};
 ghost use Rattle.es_tables.specs.Changes.{table_change, table_change_by};
 ghost use Rattle.es_ephemeron.specs.Ephemerons.{holders, record_at, records_at};
@@ -29,7 +28,7 @@ use crate::table_change::{TableChange, is_assignment, table_change, table_change
 use crate::tags::{Tag, Tags};
 use crate::variables::Variables;
 use es_ephemeron::WeakTables;
-use es_event::{AnswerRef, Command, Event};
+use es_event::{AnswerRef, Command, Done, Event};
 use es_mark::Marks;
 use es_props::Heap;
 use es_registry::{Cell, Registration, Registries, Tally};
@@ -287,19 +286,14 @@ impl Tables {
         Ok(())
     }
 
-    /// Applies a command that was done, as `advance` does, of those that open no block, post nothing and open no
-    /// later collection.
+    /// Applies a command that was done, as `advance` does.
     #[inline(always)]
-    pub fn advance_plain(&mut self, event: &Event) -> Result<(), NoMemory>
-        requires plain { IsPlainEvent event.now }
-        requires can { CanApply self.old (table_change None event.now) }
-        ensures ok { OnOk result ((received : List ℕ) (again : Option ℕ) → Advances received again event.now self.old self.new) }
+    pub fn advance_done(&mut self, done: &Done) -> Result<(), NoMemory>
+        requires { CanApply self.old (table_change None (Event.Did done.now)) }
+        ensures ok { OnOk result ((received : List ℕ) (again : Option ℕ) → Advances received again (Event.Did done.now) self.old self.new) }
         ensures err { OnErr result (SameState self.old self.new) }
     {
-        match event {
-            Event::Did(done) => self.take_command(done.command(), done.values(), done.answer()),
-            _ => unreachable!(),
-        }
+        self.take_command(done.command(), done.values(), done.answer())
     }
 
     /// Applies a command, by what it read and gave. Most change no table.

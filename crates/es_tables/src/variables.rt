@@ -59,8 +59,17 @@ impl Variables {
     {
         match self.values.get_index(self.guess(name)) {
             Some((key, value)) if *key == *name => Some(value),
-            _ => self.values.get(name),
+            _ => self.look_up(name),
         }
+    }
+
+    /// The same, where it does not stand where it was guessed to. It stands alone, so that a right guess saves no
+    /// registers.
+    #[inline(never)]
+    fn look_up(&self, name: &Name) -> Option<&Value>
+        ensures { unwrap_or (option_copied result) Undefined ≡ bound self.now name.now }
+    {
+        self.values.get(name)
     }
 
     /// Where the variable may stand.

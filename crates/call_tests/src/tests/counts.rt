@@ -2,8 +2,8 @@
 //! gives, and histories that no plan has.
 
 use es_event::{
-    Answer, Body, Command, Done, Event, LedgerEvent, Operands, OptionalName, Outcome, PlanCommand,
-    Sequence, SharedList,
+    Body, Command, Done, Event, LedgerEvent, OptionalName, Outcome, PlanCommand, Sequence,
+    SharedList,
 };
 use es_report::{Counts, write_report, write_report_counted};
 use es_script::read_plan;
@@ -109,12 +109,6 @@ fn planned(alloc: Global, command: Command) -> Result<PlanCommand, Fail> {
     Ok(PlanCommand::at(&commands, 0)?)
 }
 
-/// The command, done with these values; it gave nothing.
-fn done(alloc: Global, command: Command, values: Operands) -> Result<Event, Fail> {
-    let done = Done::of(alloc, planned(alloc, command)?, values, Answer::Nothing)?;
-    Ok(Event::Did(done))
-}
-
 /// A registration of object 2 in registry 1, with object 3 as its token.
 fn registered(alloc: Global) -> Result<Event, Fail> {
     let values = Vec::from_array(alloc, [object(1), object(2), Value::Undefined, object(3)])?;
@@ -124,8 +118,8 @@ fn registered(alloc: Global) -> Result<Event, Fail> {
         held: name(alloc)?,
         token: OptionalName::some(alloc, name(alloc)?)?,
     };
-    let values = Operands::of_sequence(Sequence::from_vec(values));
-    done(alloc, command, values)
+    let values = Sequence::from_vec(values);
+    Ok(Event::Did(Done::of_all(planned(alloc, command)?, values)))
 }
 
 /// What is registered in registry 1 with object 3 as its token is taken out.
@@ -135,7 +129,8 @@ fn unregistered(alloc: Global) -> Result<Event, Fail> {
         registry: name(alloc)?,
         token: name(alloc)?,
     };
-    done(alloc, command, Operands::of_two(object(1), object(3)))
+    let planned = planned(alloc, command)?;
+    Ok(Event::Did(Done::of_two(planned, object(1), object(3))))
 }
 
 fn taken(registration: usize) -> Event {

@@ -19,7 +19,9 @@ ghost use Rattle.es_record.specs.Book.{AreThere};
 ghost use Rattle.es_record.specs.Tagged.{is_of};
 
 use super::AgentRecord;
-use es_event::{AgentPlan, Command, OperandNames, Operands, Refusal, Row, Sequence};
+use es_event::{
+    AgentPlan, Answer, Command, Done, OperandNames, PlanCommand, Refusal, Row, Sequence,
+};
 use es_tables::Tag;
 use es_value::{Id, Name, NoMemory, Value};
 use std::alloc::Global;
@@ -95,18 +97,20 @@ impl AgentRecord {
         }
     }
 
-    /// The values that the command reads, none of which is emptied. It fails for want of memory alone.
+    /// The command, done as far as that it read the values of its variables, none of which is emptied. `planned` is
+    /// the command again, as its event has it. It fails for want of memory alone.
     #[inline(always)]
-    pub fn values(&self, command: &Command) -> Result<Operands, NoMemory>
-        ensures said { IfOk result (λ vs. vs ≡ values_of (receivers self.now.plan.jobs) self.now.history (reads command.now)) }
-        ensures there { IfOk result (AreThere self.now) }
+    pub fn reading(&self, command: &Command, planned: PlanCommand) -> Result<Done, NoMemory>
+        requires { planned ≡ command.now }
+        ensures said { IfOk result (λ d. d ≡ (command.now, values_of (receivers self.now.plan.jobs) self.now.history (reads command.now), Answer.Nothing)) }
+        ensures there { IfOk result (λ d. AreThere self.now d.1) }
     {
         match command.reads() {
-            OperandNames::Nothing => Ok(Operands::of_none()),
-            OperandNames::One(a) => self.one(a),
-            OperandNames::Two(a, b) => self.two(a, b),
-            OperandNames::Three(a, b, c) => self.three(a, b, c),
-            OperandNames::Four(a, b, c, d) => self.four(a, b, c, d),
+            OperandNames::Nothing => Ok(Done::of(planned)),
+            OperandNames::One(a) => self.one(planned, a),
+            OperandNames::Two(a, b) => self.two(planned, a, b),
+            OperandNames::Three(a, b, c) => self.three(planned, a, b, c),
+            OperandNames::Four(a, b, c, d) => self.four(planned, a, b, c, d),
         }
     }
 
@@ -118,52 +122,59 @@ impl AgentRecord {
         self.tables.variable(name)
     }
 
-    /// The value of one variable. It and those below stand alone, so that a command makes place for no more
+    /// A command that read one variable. This and those below stand alone, so that a command makes place for no more
     /// values than it reads.
     #[inline(never)]
-    fn one(&self, a: &Name) -> Result<Operands, NoMemory>
-        ensures said { IfOk result (λ vs. vs ≡ values_of (receivers self.now.plan.jobs) self.now.history (a.now ∷ [])) }
-        ensures there { IfOk result (AreThere self.now) }
+    fn one(&self, planned: PlanCommand, a: &Name) -> Result<Done, NoMemory>
+        ensures said { IfOk result (λ d. d ≡ (planned, values_of (receivers self.now.plan.jobs) self.now.history (a.now ∷ []), Answer.Nothing)) }
+        ensures there { IfOk result (λ d. AreThere self.now d.1) }
     {
         let a = self.variable(a)?;
-        Ok(Operands::of_one(a))
+        Ok(Done::of_one(planned, a))
     }
 
-    /// The values of two.
+    /// Of two.
     #[inline(never)]
-    fn two(&self, a: &Name, b: &Name) -> Result<Operands, NoMemory>
-        ensures said { IfOk result (λ vs. vs ≡ values_of (receivers self.now.plan.jobs) self.now.history (a.now ∷ b.now ∷ [])) }
-        ensures there { IfOk result (AreThere self.now) }
+    fn two(&self, planned: PlanCommand, a: &Name, b: &Name) -> Result<Done, NoMemory>
+        ensures said { IfOk result (λ d. d ≡ (planned, values_of (receivers self.now.plan.jobs) self.now.history (a.now ∷ b.now ∷ []), Answer.Nothing)) }
+        ensures there { IfOk result (λ d. AreThere self.now d.1) }
     {
         let a = self.variable(a)?;
         let b = self.variable(b)?;
-        Ok(Operands::of_two(a, b))
+        Ok(Done::of_two(planned, a, b))
     }
 
-    /// The values of three.
+    /// Of three.
     #[inline(never)]
-    fn three(&self, a: &Name, b: &Name, c: &Name) -> Result<Operands, NoMemory>
-        ensures said { IfOk result (λ vs. vs ≡ values_of (receivers self.now.plan.jobs) self.now.history (a.now ∷ b.now ∷ c.now ∷ [])) }
-        ensures there { IfOk result (AreThere self.now) }
+    fn three(&self, planned: PlanCommand, a: &Name, b: &Name, c: &Name) -> Result<Done, NoMemory>
+        ensures said { IfOk result (λ d. d ≡ (planned, values_of (receivers self.now.plan.jobs) self.now.history (a.now ∷ b.now ∷ c.now ∷ []), Answer.Nothing)) }
+        ensures there { IfOk result (λ d. AreThere self.now d.1) }
     {
         let a = self.variable(a)?;
         let b = self.variable(b)?;
         let c = self.variable(c)?;
-        Ok(Operands::of_three(a, b, c))
+        Ok(Done::of_three(planned, a, b, c))
     }
 
-    /// The values of four.
+    /// Of four.
     #[inline(never)]
-    fn four(&self, a: &Name, b: &Name, c: &Name, d: &Name) -> Result<Operands, NoMemory>
-        ensures said { IfOk result (λ vs. vs ≡ values_of (receivers self.now.plan.jobs) self.now.history (a.now ∷ b.now ∷ c.now ∷ d.now ∷ [])) }
-        ensures there { IfOk result (AreThere self.now) }
+    fn four(
+        &self,
+        planned: PlanCommand,
+        a: &Name,
+        b: &Name,
+        c: &Name,
+        d: &Name,
+    ) -> Result<Done, NoMemory>
+        ensures said { IfOk result (λ d'. d' ≡ (planned, values_of (receivers self.now.plan.jobs) self.now.history (a.now ∷ b.now ∷ c.now ∷ d.now ∷ []), Answer.Nothing)) }
+        ensures there { IfOk result (λ d'. AreThere self.now d'.1) }
     {
         let a = self.variable(a)?;
         let b = self.variable(b)?;
         let c = self.variable(c)?;
         let d = self.variable(d)?;
         let values = Vec::from_array(self.alloc, [a, b, c, d])?;
-        Ok(Operands::of_sequence(Sequence::from_vec(values)))
+        Ok(Done::of_all(planned, Sequence::from_vec(values)))
     }
 
     /// The value under a key of an object, if the object has it (OrdinaryGet).
