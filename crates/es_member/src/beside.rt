@@ -1,27 +1,29 @@
 //! An agent beside others, each of which has a thread: it has the ledger only where it asks the ledger,
 //! and does not know what the ledger says of it.
 
-ghost use Rattle.std.specs.Prelude.{◌≡◌, ◌↔◌, ◌||◌, false, IsTrue, IfOk, IfSome, IfNone, OnOk, OnErr};
+ghost use Rattle.std.specs.Prelude.{◌≡◌, ◌↔◌, ◌||◌, ⊤, false, IsTrue, IfOk, IfSome, IfNone, OnOk, OnErr};
 ghost use Rattle.std.specs.Arc.{arc_value};
 ghost use Rattle.es_event.specs.Commands.{collects, posts};
 ghost use Rattle.es_event.specs.Later.{is_later};
 ghost use Rattle.es_agent.specs.Later.{IsLaterCopy};
+ghost use Rattle.es_agent.specs.Tickets.{Empties};
 ghost use Rattle.es_rules.specs.Needs.{need, asks_nobody, asks_copy, asks_nothing};
 ghost use Rattle.es_rules.specs.Shown.{shown};
 ghost use Rattle.es_member.specs.Turned.{AreAskedFor, AsksMarks, beforehand, Heard, IsSeated, Moves, Proceeds, NamesOthers, OthersStay, ProceedsBeside};
 
 use crate::member::{Member, Progress};
 use crate::planned::Planned;
-use crate::turns::{ask, empty_by};
+use crate::spending::spend_shared;
+use crate::turns::ask;
 use es_agent::{AgentCore, Need, Request};
 use es_cursor::Due;
 use es_event::Command;
 use es_ledger::LedgerCore;
 use es_mark::Marks;
 use es_parmark::Snapshot;
-use es_ticket::Run;
+use es_ticket::{Rack, Run};
 use es_value::NoMemory;
-use std::sync::Arc;
+use std::sync::{Arc, Mutex, Wait};
 
 /// What an agent's next event needs before it has the ledger, so that no other agent waits for it.
 #[derive(Clone, Copy, Debug, PartialEq, Eq)]
@@ -71,6 +73,7 @@ impl<L: Planned> Member<L> {
     pub fn beforehand(&self) -> Beforehand
         ensures said { result ≡ beforehand (need self.now.book) }
         ensures copy { result ≡ Beforehand.Copy → need self.now.book ≡ asks_copy }
+        ensures marks { result ≡ Beforehand.Marks → AsksMarks (need self.now.book) }
     {
         match self.core.record().due() {
             Due::EndJob => asked_beforehand(&self.core.next()),
@@ -97,15 +100,28 @@ impl<L: Planned> Member<L> {
         self.core.begin_later()
     }
 
-    /// One turn, beside other agents, by the marks that `marks` gave where it empties. Where the
-    /// agent has its place and names other agents alone, it proceeds as by `step`, and waits where the rule
-    /// says so and nowhere else; else it may end, and then nothing has changed.
-    pub fn turn_beside(
+    /// Its next event, which empties, by the marks that `marks` gave. Its tables are emptied while others may
+    /// have the ledger, whose lock is taken only to spend the tickets of buffer objects among what was emptied.
+    /// Where there is no memory nothing has changed.
+    pub fn empty<R: Wait>(
         &mut self,
-        ledger: &mut LedgerCore<L>,
-        marks: Option<Marks>,
-    ) -> Result<Progress, NoMemory>
-        requires { IfSome marks (AreAskedFor (need self.old.book) self.old.book) }
+        rt: &R,
+        marks: &Marks,
+        ledger: &Mutex<LedgerCore<L>>,
+    ) -> Result<(), NoMemory>
+        requires { AreAskedFor (need self.old.book) self.old.book marks.now }
+        ensures ok { OnOk result (Moves self.old.book self.new.book) }
+        ensures err { OnErr result (self.new ≡ self.old) }
+    {
+        let rack = take_out(&mut self.core, marks)?;
+        spend_shared(rt, ledger, &mut self.stake, rack);
+        Ok(())
+    }
+
+    /// One turn, beside other agents. Where the agent has its place and names other agents alone, it proceeds
+    /// as by `step`, and waits where the rule says so and nowhere else; else it may end, and then nothing has
+    /// changed.
+    pub fn turn_beside(&mut self, ledger: &mut LedgerCore<L>) -> Result<Progress, NoMemory>
         ensures ok { IfOk result (λ p. ProceedsBeside p self.old self.new) }
         ensures placed { IsSeated self.old.book ledger.old → NamesOthers (need self.old.book) self.old.book.number ledger.old.agents → IfOk result (λ p. Proceeds p self.old self.new) }
         ensures heard { IsSeated self.old.book ledger.old → NamesOthers (need self.old.book) self.old.book.number ledger.old.agents → IfOk result (λ p. Heard p self.old.book ledger.old ledger.new) }
@@ -121,10 +137,20 @@ impl<L: Planned> Member<L> {
             return Ok(Progress::Ended);
         }
         ledger.look(&mut self.stake);
-        match marks {
-            Some(marks) => empty_by(&mut self.core, &mut self.stake, ledger, &marks),
-            None => ask(&mut self.core, &mut self.stake, ledger),
-        }
+        ask(&mut self.core, &mut self.stake, ledger)
+    }
+}
+
+// Empties what the marks that the agent asks for lack, and hands out the tickets of buffer objects among it.
+fn take_out<L: Run>(core: &mut AgentCore<L>, marks: &Marks) -> Result<Rack<L>, NoMemory>
+    requires { AreAskedFor (need core.old) core.old marks.now }
+    ensures ok { IfOk result (λ r. Empties (λ _. ⊤) core.old r.tickets core.new) }
+    ensures err { OnErr result (core.new ≡ core.old) }
+{
+    match core.next() {
+        Need::Collect => core.collect(marks),
+        Need::Finish => core.finish_later(marks),
+        _ => unreachable!(),
     }
 }
 

@@ -9,6 +9,7 @@ ghost use Rattle.es_member.specs.Turned.{spent};
 
 use es_ledger::LedgerCore;
 use es_ticket::{Rack, Run, Stake};
+use std::sync::{Mutex, Wait};
 
 /// Spends all tickets of a rack, the newest buffer object's first. It takes no memory.
 pub(crate) fn spend_all<L: Run>(ledger: &mut LedgerCore<L>, stake: &mut Stake<L>, mut rack: Rack<L>)
@@ -25,4 +26,25 @@ pub(crate) fn spend_all<L: Run>(ledger: &mut LedgerCore<L>, stake: &mut Stake<L>
         let _ = ledger.spend(stake, ticket);
     }
     rack.end();
+}
+
+/// Spends all tickets of a rack, as above, in a ledger that several agents share. Its lock is taken where there is a
+/// ticket.
+pub(crate) fn spend_shared<L: Run, R: Wait>(
+    rt: &R,
+    ledger: &Mutex<LedgerCore<L>>,
+    stake: &mut Stake<L>,
+    rack: Rack<L>,
+)
+    requires { Owns stake.old.rows rack.tickets }
+    ensures agent { stake.new.agent ≡ stake.old.agent }
+    ensures counts { (p : Row → Bool) → count_by p stake.old.rows ≡ count_by p stake.new.rows + count_by (λ t. p t.1) rack.tickets }
+{
+    if rack.len() == 0 {
+        rack.end();
+        return;
+    }
+    let mut guard = ledger.lock(rt);
+    let ledger: &mut LedgerCore<L> = &mut guard;
+    spend_all(ledger, stake, rack);
 }

@@ -4,7 +4,7 @@ ghost use Rattle.std.specs.Prelude.{◌≡◌, ◌<◌, ◌↔◌, false, IsTrue
 ghost use Rattle.es_record.specs.Graph.{AreMarksOf, AreLateMarks};
 ghost use Rattle.es_rules.specs.Needs.{need, asks_nobody, asks_marks, asks_copy, asks_late_marks, asks_closing};
 ghost use Rattle.es_member.specs.Seats.{seat};
-ghost use Rattle.es_member.specs.Turned.{AreAskedFor, Heard, Keeps, NamesOthers, Proceeds, StaysTied};
+ghost use Rattle.es_member.specs.Turned.{Heard, Keeps, NamesOthers, Proceeds, StaysTied};
 ghost use Rattle.es_member.specs.Midway.{IsHeld};
 
 mod asking;
@@ -119,28 +119,6 @@ fn collect<L: Run>(
 {
     let marks = core.marks()?;
     empty(core, stake, ledger, &marks)
-}
-
-/// An emptying by the marks that the agent asks for.
-pub(crate) fn empty_by<L: Run>(
-    core: &mut AgentCore<L>,
-    stake: &mut Stake<L>,
-    ledger: &mut LedgerCore<L>,
-    marks: &Marks,
-) -> Result<Progress, NoMemory>
-    requires marks { AreAskedFor (need core.old) core.old marks.now }
-    requires ready { IsHeld core.old stake.old ledger.old }
-    ensures ok { IfOk result (λ p. Proceeds p (seat core.old stake.old) (seat core.new stake.new)) }
-    ensures told { IfOk result (λ p. Heard p core.old ledger.old ledger.new) }
-    ensures err { OnErr result (core.new ≡ core.old) }
-    ensures tied { IfOk result (λ p. StaysTied p core.old ledger.old core.new ledger.new) }
-    ensures keeps { Keeps core.old ledger.old core.new stake.new ledger.new }
-{
-    match core.next() {
-        Need::Collect => empty(core, stake, ledger, marks),
-        Need::Finish => empty_late(core, stake, ledger, marks),
-        _ => unreachable!(),
-    }
 }
 
 /// A collection by these marks: the tickets of emptied buffer objects are spent.

@@ -1,9 +1,9 @@
 //! The helpers that mark for a run.
 
-ghost use Rattle.std.specs.Prelude.{◌≡◌, ◌<◌, ◌≤◌, IfOk, IfSome};
+ghost use Rattle.std.specs.Prelude.{◌≡◌, ◌<◌, ◌≤◌, IfOk};
 ghost use Rattle.es_record.specs.Graph.{AreMarksOf, AreLateMarks};
 ghost use Rattle.es_rules.specs.Needs.{need, asks_late_marks};
-ghost use Rattle.es_member.specs.Turned.{AreAskedFor};
+ghost use Rattle.es_member.specs.Turned.{AreAskedFor, AsksMarks};
 
 use crate::marked::{Marked, Pending};
 use es_agent::{AgentCore, Need};
@@ -43,7 +43,7 @@ impl Helpers {
         Pending::begin(rt, self.alloc, scope, copy, self.number)
     }
 
-    /// The marks for the agent's next event, where that empties. The helpers read the agent itself, which
+    /// The marks for the agent's next event, which empties. The helpers read the agent itself, which
     /// nobody changes meanwhile, since its lock is held; or, to finish a later collection, its copy, where
     /// the marking that is under way is not of this copy.
     pub(crate) fn marks<L: Planned + Sync, R: Threads + Sync>(
@@ -51,13 +51,14 @@ impl Helpers {
         rt: &R,
         member: &Member<L>,
         open: &mut Option<Pending>,
-    ) -> Result<Option<Marks>, NoMemory>
-        ensures { IfOk result (λ o. IfSome o (AreAskedFor (need member.now.book) member.now.book)) }
+    ) -> Result<Marks, NoMemory>
+        requires { AsksMarks (need member.now.book) }
+        ensures { IfOk result (AreAskedFor (need member.now.book) member.now.book) }
     {
         match member.core().next() {
             Need::Collect => self.collected(rt, member),
-            Need::Finish => Ok(Some(self.finished(rt, member.core(), open.take())?)),
-            _ => Ok(None),
+            Need::Finish => self.finished(rt, member.core(), open.take()),
+            _ => unreachable!(),
         }
     }
 
@@ -89,21 +90,12 @@ impl Helpers {
         &self,
         rt: &R,
         member: &Member<L>,
-    ) -> Result<Option<Marks>, NoMemory>
-        ensures own { IfOk result (λ o. IfSome o (AreMarksOf member.now.book)) }
+    ) -> Result<Marks, NoMemory>
+        ensures own { IfOk result (AreMarksOf member.now.book) }
     {
         if self.number == 1 {
-            return self.alone(member);
+            return member.core().marks();
         }
-        let marks = mark_with(rt, self.alloc, member.core(), self.number)?;
-        Ok(Some(marks))
-    }
-
-    /// The agent's marks, by its own marker.
-    fn alone<L: Planned>(&self, member: &Member<L>) -> Result<Option<Marks>, NoMemory>
-        ensures own { IfOk result (λ o. IfSome o (AreMarksOf member.now.book)) }
-    {
-        let marks = member.core().marks()?;
-        Ok(Some(marks))
+        mark_with(rt, self.alloc, member.core(), self.number)
     }
 }

@@ -1,8 +1,6 @@
 //! The threads of a run: each agent's, and that of the watcher.
 
-ghost use Rattle.std.specs.Prelude.{◌<◌, vec_len, IfSome};
-ghost use Rattle.es_rules.specs.Needs.{need};
-ghost use Rattle.es_member.specs.Turned.{AreAskedFor};
+ghost use Rattle.std.specs.Prelude.{◌<◌, vec_len};
 ghost use Rattle.std.specs.Thread.{IsSync};
 
 use crate::cluster::Cluster;
@@ -13,7 +11,6 @@ use es_cluster::{Member, Planned, Progress};
 use es_cursor::Due;
 use es_event::{Command, LedgerEvent};
 use es_ledger::LedgerCore;
-use es_mark::Marks;
 use es_member::Beforehand;
 use es_value::NoMemory;
 use std::alloc::Global;
@@ -198,23 +195,36 @@ impl<L: Planned + Sync> Cluster<L> {
         open: &mut Option<Pending>,
         gate: &G,
     ) -> Result<Pause, NoMemory> {
-        let marks = match member.beforehand() {
+        match member.beforehand() {
             Beforehand::Copy => {
                 let copy = member.begin_later()?;
                 *open = Some(helpers.begin(rt, scope, copy)?);
-                return Ok(Pause::NONE);
+                Ok(Pause::NONE)
             }
-            Beforehand::Marks => helpers.marks(rt, member, open)?,
-            Beforehand::Nothing => None,
-        };
+            Beforehand::Marks => {
+                let marks = helpers.marks(rt, member, open)?;
+                member.empty(rt, &marks, &self.ledger)?;
+                Ok(Pause::NONE)
+            }
+            Beforehand::Nothing => self.ask_ledger(rt, member, gate),
+        }
+    }
+
+    /// The same, of an agent that asks the ledger.
+    fn ask_ledger<G: Gate, R: Wait>(
+        &self,
+        rt: &R,
+        member: &mut Member<L>,
+        gate: &G,
+    ) -> Result<Pause, NoMemory> {
         let mut ledger = self.ledger.lock(rt);
         let core: &mut LedgerCore<L> = &mut ledger;
-        let mut pause = turn_with(member, core, marks)?;
+        let mut pause = turn_with(member, core)?;
         for _ in 0..WORDS {
             if pause.ends() || gate.holds() || !is_at_word(member) {
                 break;
             }
-            pause = turn_with(member, core, None)?;
+            pause = turn_with(member, core)?;
         }
         Ok(pause)
     }
@@ -263,16 +273,13 @@ impl<L: Planned + Sync> Cluster<L> {
     }
 }
 
-// One event of an agent, which has the ledger, by these marks where it empties.
+// One event of an agent, which has the ledger.
 fn turn_with<L: Planned>(
     member: &mut Member<L>,
     ledger: &mut LedgerCore<L>,
-    marks: Option<Marks>,
-) -> Result<Pause, NoMemory>
-    requires { IfSome marks (AreAskedFor (need member.old.book) member.old.book) }
-{
+) -> Result<Pause, NoMemory> {
     let before = ledger.history().len();
-    let progress = member.turn_beside(ledger, marks)?;
+    let progress = member.turn_beside(ledger)?;
     Ok(Pause {
         progress,
         wakes: wakes(ledger, before),
