@@ -3,7 +3,7 @@ use Rattle.std.specs.Prelude.{ℕ, List, [], ◌∷◌, ◌-◌, ◌+◌, Option
 use Rattle.std.specs.Option.{option_map_or}
 use Rattle.indexmap.specs.IndexMap.{spare}
 use Rattle.es_props.specs.declared.slot.Held.{Held}
-use Rattle.es_props.specs.declared.slot.Held.TheVariants.{Nothing, Bare, Few, Many}
+use Rattle.es_props.specs.declared.slot.Held.TheVariants.{Nothing, Bare, Room, One, Few, Many}
 use Rattle.es_props.specs.Heap.{Properties, Store}
 
 -- the place of an identity: the properties of its object, none where no object stands there, and for how many more properties it has room
@@ -14,6 +14,8 @@ pub record Place : Type 0 where
 abbrev pub place_of : Held → Place
 place_of Nothing = record { object = None; room = 0 }
 place_of Bare = record { object = Some []; room = 0 }
+place_of (Room r) = record { object = Some []; room = 1 }
+place_of (One p) = record { object = Some (p.value ∷ []); room = 0 }
 place_of (Few f) = record { object = Some f.value.entries; room = f.value.room }
 place_of (Many t) = record { object = Some t.value.entries; room = spare t.value }
 

@@ -1,6 +1,6 @@
 //! The properties of an object that has few.
 
-ghost use Rattle.std.specs.Prelude.{◌≡◌, ◌<◌, ◌≤◌, ◌++◌, ◌∷◌, [], true, None, set, remove, slice_index_or, vec_len, vec_capacity, nat_lt, IfOk, OnOk, OnErr, IfSome, IfNone, is_some};
+ghost use Rattle.std.specs.Prelude.{◌≡◌, ◌<◌, ◌≤◌, ◌++◌, ◌+◌, ◌∷◌, [], true, None, set, remove, slice_index_or, vec_len, vec_capacity, nat_lt, IfOk, OnOk, OnErr, IfSome, IfNone, is_some};
 ghost use Rattle.std.specs.List.{IsDistinct, flat_map};
 ghost use Rattle.std.specs.Option.{option_copied, option_to_list};
 ghost use Rattle.std.specs.Str.{bytes_eq};
@@ -13,7 +13,7 @@ use std::alloc::Global;
 use std::marker::Model;
 
 /// The properties of an object that has few, in order of creation, looked through from the first. It
-/// grows from one place on, where a table begins with nine.
+/// grows from two places on, where a table begins with nine.
 #[derive(Drop)]
 pub(crate) struct Few {
     entries: Vec<(Name, Value)>,
@@ -34,12 +34,14 @@ impl Model for Few {
 }
 
 impl Few {
-    /// No properties, with room for one.
-    pub(crate) fn new(alloc: Global) -> Result<Few, NoMemory>
-        ensures none { IfOk result (λ f. f.entries ≡ []) }
+    /// This property alone, with room for one more.
+    pub(crate) fn new(alloc: Global, first: &(Name, Value)) -> Result<Few, NoMemory>
+        ensures first { IfOk result (λ f. f.entries ≡ first.now ∷ []) }
         ensures room { IfOk result (λ f. 0 < f.room) }
     {
-        let entries = Vec::with_capacity(alloc, 1)?;
+        let value = first.1.copy()?;
+        let mut entries = Vec::with_capacity(alloc, 2)?;
+        push_reserved(&mut entries, first.0.copy()?, value);
         Ok(Few { entries })
     }
 
@@ -166,7 +168,9 @@ fn remove_at<K: Drop, V: Drop>(entries: &mut Vec<(K, V)>, at: usize)
 /// Adds an entry where there is room for it.
 fn push_reserved<K: Drop, V: Drop>(entries: &mut Vec<(K, V)>, key: K, value: V)
     requires { vec_len entries.old < vec_capacity entries.old }
-    ensures { entries.new.items ≡ entries.old.items ++ (key, value) ∷ [] }
+    ensures items { entries.new.items ≡ entries.old.items ++ (key, value) ∷ [] }
+    ensures len { vec_len entries.new ≡ vec_len entries.old + 1 }
+    ensures capacity { vec_capacity entries.old ≤ vec_capacity entries.new }
 {
     let _ = entries.push((key, value));
 }

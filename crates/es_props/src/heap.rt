@@ -18,6 +18,8 @@ use std::marker::Model;
 #[derive(Drop)]
 pub struct Heap {
     slots: Vec<Slot>,
+    /// The name that stands where an object's first property is to come, once there was such a place.
+    unused: Option<Name>,
     alloc: Global,
 }
 
@@ -41,6 +43,7 @@ impl Heap {
     {
         Heap {
             slots: Vec::new(alloc),
+            unused: None,
             alloc,
         }
     }
@@ -68,7 +71,7 @@ impl Heap {
         let Some(slot) = self.slots.get_mut(id.number() as usize - 1) else {
             return Ok(());
         };
-        slot.reserve(self.alloc)
+        slot.reserve(self.alloc, &mut self.unused)
     }
 
     /// Adds an object without properties, where there is a place for it.

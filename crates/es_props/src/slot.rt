@@ -7,16 +7,18 @@ ghost use Rattle.es_value.specs.Values.{identity};
 ghost use Rattle.es_props.specs.Heap.{value_at, keys_of, with_property, without_property};
 
 use crate::few::Few;
-use crate::properties;
+use crate::{one, properties};
 use es_value::{Id, Name, NoMemory, Value};
 use indexmap::IndexMap;
 use std::alloc::Global;
 use std::marker::Model;
+use std::mem;
 
 /// How many properties are looked through from the first; more of them stand in a table.
 const MOST_FEW: usize = 8;
 
-/// The place of one identity. An object without properties takes no memory beside it.
+/// The place of one identity. An object that never had room for a property takes no memory beside it,
+/// and one with one property a single block.
 #[derive(Drop)]
 pub(crate) struct Slot {
     held: Held,
@@ -27,8 +29,12 @@ pub(crate) struct Slot {
 pub(crate) enum Held {
     /// No object.
     Nothing,
-    /// An object that never had a property.
+    /// An object without properties.
     Bare,
+    /// An object without properties that has room for one.
+    Room(Box<(Name, Value)>),
+    /// An object with one property.
+    One(Box<(Name, Value)>),
     /// An object with few properties.
     Few(Box<Few>),
     /// An object with many properties.
@@ -76,8 +82,12 @@ impl Slot {
         self.held = Held::Nothing;
     }
 
-    /// Makes room for one more property of the object.
-    pub(crate) fn reserve(&mut self, alloc: Global) -> Result<(), NoMemory>
+    /// Makes room for one more property of the object. An unused name stands where the first is to come.
+    pub(crate) fn reserve(
+        &mut self,
+        alloc: Global,
+        unused: &mut Option<Name>,
+    ) -> Result<(), NoMemory>
         ensures same { self.new.object ≡ self.old.object }
         ensures more { self.old.room ≤ self.new.room }
         ensures room { OnOk result (is_some self.old.object ≡ true → 0 < self.new.room) }
@@ -85,7 +95,12 @@ impl Slot {
         match &mut self.held {
             Held::Nothing => Ok(()),
             Held::Bare => {
-                self.held = Held::Few(Box::new(alloc, Few::new(alloc)?)?);
+                self.held = Held::Room(one::room(alloc, unused)?);
+                Ok(())
+            }
+            Held::Room(_) => Ok(()),
+            Held::One(property) => {
+                self.held = Held::Few(Box::new(alloc, Few::new(alloc, property)?)?);
                 Ok(())
             }
             Held::Few(few) if few.has_room() => Ok(()),
@@ -104,7 +119,13 @@ impl Slot {
         ensures { self.new.object ≡ option_map (λ ps. with_property ps key value) self.old.object }
     {
         match &mut self.held {
-            Held::Nothing | Held::Bare => unreachable!(),
+            Held::Nothing | Held::Bare | Held::One(_) => unreachable!(),
+            Held::Room(_) => {
+                let Held::Room(room) = mem::replace(&mut self.held, Held::Nothing) else {
+                    unreachable!();
+                };
+                self.held = Held::One(one::fill(room, key, value));
+            }
             Held::Few(few) => few.put(key, value),
             Held::Many(table) => properties::put(table, key, value),
         }
@@ -118,7 +139,12 @@ impl Slot {
     {
         match &mut self.held {
             Held::Nothing => false,
-            Held::Bare => false,
+            Held::Bare | Held::Room(_) => false,
+            Held::One(property) if property.0 == *key => {
+                self.held = Held::Bare;
+                true
+            }
+            Held::One(_) => false,
             Held::Few(few) => few.take_out(key),
             Held::Many(table) => properties::take_out(table, key),
         }
@@ -131,7 +157,8 @@ impl Slot {
     {
         match &self.held {
             Held::Nothing => None,
-            Held::Bare => None,
+            Held::Bare | Held::Room(_) => None,
+            Held::One(property) => one::get(property, key),
             Held::Few(few) => few.get(key),
             Held::Many(table) => table.get(key),
         }
@@ -143,7 +170,8 @@ impl Slot {
     {
         match &self.held {
             Held::Nothing => Ok(Vec::new(alloc)),
-            Held::Bare => Ok(Vec::new(alloc)),
+            Held::Bare | Held::Room(_) => Ok(Vec::new(alloc)),
+            Held::One(property) => one::keys(property, alloc),
             Held::Few(few) => few.keys(alloc),
             Held::Many(table) => properties::keys(table, alloc),
         }
@@ -158,7 +186,8 @@ impl Slot {
     {
         match &self.held {
             Held::Nothing => Ok(()),
-            Held::Bare => Ok(()),
+            Held::Bare | Held::Room(_) => Ok(()),
+            Held::One(property) => one::add_identity(property, found),
             Held::Few(few) => few.add_identities(found),
             Held::Many(table) => properties::add_identities(table, found),
         }

@@ -21,7 +21,7 @@ pub record Listing : Type 0 where
 abbrev pub listing_of : Kept → Listing
 listing_of Nothing = record { items = []; room = 1 }
 listing_of (One k) = record { items = k ∷ []; room = 0 }
-listing_of (Many ks) = record { items = ks.items; room = vec_capacity ks - vec_len ks }
+listing_of (Many ks) = record { items = ks.value.items; room = vec_capacity ks.value - vec_len ks.value }
 
 -- for each registry the places of cells that may await their callback
 abbrev pub Waiting : Type 0

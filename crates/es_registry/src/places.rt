@@ -20,8 +20,8 @@ pub(crate) enum Kept {
     Nothing,
     /// One.
     One(usize),
-    /// As many as there are.
-    Many(Vec<usize>),
+    /// As many as there are, in a list of their own: most tokens have one place, and take no more for it.
+    Many(Box<Vec<usize>>),
 }
 
 impl Model for Places {
@@ -64,7 +64,7 @@ impl Places {
                 let first = *place;
                 let mut places = Vec::with_capacity(alloc, 2)?;
                 push(&mut places, first);
-                self.kept = Kept::Many(places);
+                self.kept = Kept::Many(Box::new(alloc, places)?);
                 Ok(())
             }
             Kept::Many(places) => {

@@ -13,7 +13,7 @@ replaced c =
 pushed : (c : goal.After-push_reserved) → c.push_reserved.new.entries.items ≡ with_property c.self.inside.entries.items c.args.key c.args.value
 pushed c =
     let none = rw (← c.self.view_is) at c.in-None.ensures.absent in
-    c.push_reserved.ensures ∙ sym (with_absent c.self.inside.entries.items c.args.key c.args.value none)
+    c.push_reserved.ensures.items ∙ sym (with_absent c.self.inside.entries.items c.args.key c.args.value none)
 
 pub invariant_of-self : goal.invariant_of-self
 invariant_of-self c = subst (λ es. IsDistinct bytes_eq (keys_of es)) (sym (replaced c)) (distinct_with c.self.inside.entries.items c.args.key c.args.value c.self.invariant)
