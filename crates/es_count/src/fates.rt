@@ -15,8 +15,8 @@ ghost use Rattle.es_event.specs.declared.event.Answer.{Answer as Given};
 ghost use Rattle.es_value.specs.declared.value.Value.{Value as Held};
 
 use crate::ports::put;
-use crate::registered::{Made, made_by, named_by};
-use es_event::{Command, Event};
+use crate::registered::{Made, made_by, named_by, settles};
+use es_event::{Command, Done, Event};
 use es_registry::Tally;
 use es_value::{Id, NoMemory, Value};
 use std::alloc::Global;
@@ -66,7 +66,7 @@ impl Fates {
         ensures { OnOk result (Tells event.now self.old self.new) }
     {
         match event {
-            Event::Did(done) => self.note_done(done.command(), done.values()),
+            Event::Did(done) => self.note_done(done),
             Event::Emptied { ids } => self.note_emptied(ids.as_slice()),
             Event::Taken { registration, .. } => self.note_taken(*registration),
             Event::JobBegun { .. }
@@ -79,7 +79,19 @@ impl Fates {
         }
     }
 
-    fn note_done(&mut self, command: &Command, values: &[Value]) -> Result<(), NoMemory>
+    /// Most commands have nothing to do with registrations, and no more of them is looked at.
+    fn note_done(&mut self, done: &Done) -> Result<(), NoMemory>
+        ensures { OnOk result (Tells (Did done.now) self.old self.new) }
+    {
+        let command = done.command();
+        if !settles(command) {
+            return Ok(());
+        }
+        self.note_command(command, done.values())
+    }
+
+    #[inline(never)]
+    fn note_command(&mut self, command: &Command, values: &[Value]) -> Result<(), NoMemory>
         ensures { OnOk result ((answer : Given) → Tells (Did (command.now, values.now, answer)) self.old self.new) }
     {
         if let Some(made) = made_by(command, values) {

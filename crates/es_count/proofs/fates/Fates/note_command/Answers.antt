@@ -3,7 +3,7 @@ use Rattle.std.specs.HashMap.{get}
 use Rattle.std.specs.HashSet.{contains}
 use Rattle.es_registry.specs.Registries.{pair_eq}
 use Rattle.es_count.proofs.Noted.{made_said, named_said}
-use Rattle.es_count.proofs.fates.Fates.note_done.Goals as goal
+use Rattle.es_count.proofs.fates.Fates.note_command.Goals as goal
 
 pub returns-in-Some : goal.returns-in-Some
 returns-in-Some c = λ answer h says.
