@@ -7,6 +7,7 @@ ghost use Rattle.es_engine.specs.Engine.{Answers, IsAnswerFault, ReadsPlan, Runs
 
 use crate::cluster::run_plan;
 use crate::input::read_all;
+use crate::letting_go::let_go;
 use crate::run_fault::RunFault;
 use es_event::Plan;
 use es_options::Options;
@@ -69,5 +70,6 @@ fn answer<H: AllocGlobal + Threads + Wait + Sync, W: Write>(
     }
     let (ended, audits) = run_plan(rt, rt.alloc(), plan, options)?;
     write_report_counted(&ended.outcome, &ended.counts, writer).map_err(|_| RunFault::Write)?;
+    let_go(rt, ended, options.turns);
     Ok(audits)
 }

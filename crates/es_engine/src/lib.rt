@@ -8,6 +8,7 @@ mod ending;
 mod engine;
 mod input;
 mod laws;
+mod letting_go;
 mod run_fault;
 
 pub use complaint::{explain, note_audits};

@@ -1,0 +1,32 @@
+//! What a run came to, let go.
+
+use es_event::Outcome;
+use es_run::Counted;
+use std::sync::Wait;
+use std::thread;
+use std::thread::Threads;
+
+/// How many events a history has at least that is let go in a thread of its own.
+const MANY: usize = 10_000;
+
+/// Lets go what a run came to. After a run in threads each long history has a thread of its own for it, as its agent had
+/// one: to let them go one after the other takes a third of the time that their steps took.
+pub(crate) fn let_go<R: Threads + Wait + Sync>(rt: &R, ended: Counted, turns: bool) {
+    if turns {
+        return;
+    }
+    let Counted { outcome, counts: _ } = ended;
+    let Outcome {
+        names: _,
+        histories,
+        ledger: _,
+    } = outcome;
+    thread::scope(thread::scope_env(), rt, |scope| {
+        for history in histories.into_vec() {
+            if history.as_slice().len() >= MANY {
+                // where no thread is made, it is let go at once
+                let _ = scope.spawn(move || drop(history)).is_err();
+            }
+        }
+    });
+}
