@@ -9,8 +9,8 @@ use std::thread::Threads;
 /// How many events a history has at least that is let go in a thread of its own.
 const MANY: usize = 10_000;
 
-/// Lets go what a run came to. After a run in threads each long history has a thread of its own for it, as its agent had
-/// one: to let them go one after the other takes a third of the time that their steps took.
+/// Lets go what a run came to. After a run in threads each long history but the last has a thread of its own for it, as
+/// its agent had one: to let them go one after the other takes a third of the time that their steps took.
 pub(crate) fn let_go<R: Threads + Wait + Sync>(rt: &R, ended: Counted, turns: bool) {
     if turns {
         return;
@@ -21,12 +21,16 @@ pub(crate) fn let_go<R: Threads + Wait + Sync>(rt: &R, ended: Counted, turns: bo
         histories,
         ledger: _,
     } = outcome;
+    let mut histories = histories.into_vec();
+    // the caller would only wait: the last one needs no thread
+    let own = histories.pop();
     thread::scope(thread::scope_env(), rt, |scope| {
-        for history in histories.into_vec() {
+        for history in histories {
             if history.as_slice().len() >= MANY {
                 // where no thread is made, it is let go at once
                 let _ = scope.spawn(move || drop(history)).is_err();
             }
         }
+        drop(own);
     });
 }

@@ -2,8 +2,6 @@
 use Rattle.std.specs.Prelude.{ℕ, ◌≡◌, ⊤, Option, Some, None, Result, Ok, Err}
 use Rattle.es_event.specs.declared.event.Refusal.{Refusal}
 use Rattle.es_event.specs.declared.event.Refusal.TheVariants.{NotAnObject}
-use Rattle.es_event.specs.declared.event.Event.TheVariants.{Refused as EventRefused}
-use Rattle.es_record.specs.Book.{Book, IsNext}
 use Rattle.es_rules.specs.declared.stop.Stop.{Stop}
 use Rattle.es_rules.specs.declared.stop.Stop.TheVariants.{Refused, NoMemory}
 
@@ -12,11 +10,6 @@ abbrev pub Completes : {A : Type 0} → Result A Refusal → Result A Stop → T
 Completes completion (Ok a) = completion ≡ Ok a
 Completes completion (Err (Refused code)) = completion ≡ Err code
 Completes completion (Err NoMemory) = ⊤
-
--- where a rule stopped it, the refusal comes next
-abbrev pub Refuses : Book → Stop → Type 0
-Refuses b (Refused code) = IsNext b (EventRefused code)
-Refuses b NoMemory = ⊤
 
 -- the object, or the refusal where there is none
 abbrev pub object_or_refusal : Option ℕ → Result ℕ Refusal

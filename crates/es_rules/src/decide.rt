@@ -2,6 +2,7 @@
 
 ghost use Rattle.std.specs.Prelude.{◌≡◌, ◌+◌, ◌∷◌, ◌↔◌, [], false, None, Ok, Err, nat_lt, IfOk, IfErr, OnOk, IsTrue, if◌then◌else◌};
 ghost use Rattle.es_event.specs.declared.command.Command.{Command as CommandSaid};
+ghost use Rattle.es_event.specs.declared.event.Refusal.{Refusal as RefusalSaid};
 ghost use Rattle.es_value.specs.Limits.{most_identities};
 ghost use Rattle.es_event.specs.Commands.{reads};
 ghost use Rattle.es_event.specs.Later.{collects_now};
@@ -11,7 +12,7 @@ ghost use Rattle.es_event.specs.Rules.{completion, refuse_or, first_refusal, non
 ghost use Rattle.es_event.specs.Legal.{values_of};
 ghost use Rattle.es_event.specs.Order.{due, run};
 ghost use Rattle.es_record.specs.Book.{IsNext, AreThere};
-ghost use Rattle.es_rules.specs.Completion.{Completes, Refuses};
+ghost use Rattle.es_rules.specs.Completion.{Completes};
 ghost use Rattle.es_rules.specs.Needs.{asks_nobody, need, request};
 
 use crate::buffers::{length, new_buffer, post, same_block, store, word};
@@ -65,7 +66,7 @@ pub fn do_alone(agent: &AgentRecord, command: &Command, done: &mut Done) -> Resu
     requires read { done.old ≡ (command.now, values_of (receivers agent.now.plan.jobs) agent.now.history (reads command.now), Answer.Nothing) }
     requires there { AreThere agent.now done.old.1 }
     ensures next { OnOk result (IsNext agent.now (Event.Did done.new)) }
-    ensures refused { IfErr result (Refuses agent.now) }
+    ensures refused { IfErr result (λ why. (code : RefusalSaid) → why ≡ Stop.Refused code → IsNext agent.now (Event.Refused code)) }
 {
     let answer = completion(agent, command, done.values())?;
     done.give(agent.alloc(), answer)?;
