@@ -4,6 +4,8 @@ use Rattle.std.specs.List.{count_by, range_with_len}
 use Rattle.std.specs.Option.{option_map, option_map_or}
 use Rattle.std.specs.HashMap.{get}
 use Rattle.std.specs.HashSet.{contains}
+use Rattle.es_event.specs.declared.command.Command.{Command}
+use Rattle.es_event.specs.declared.command.Command.TheVariants.{Register, Unregister}
 use Rattle.es_event.specs.declared.event.Event.{Event}
 use Rattle.es_event.specs.History.{History, earliest}
 use Rattle.es_event.specs.Identities.{is_gone}
@@ -14,6 +16,12 @@ use Rattle.es_count.specs.declared.registered.Made.{Made}
 use Rattle.es_count.specs.declared.fates.Fates.{Fates}
 
 -- What is kept
+
+-- the command registers, or takes registrations out; commands that are not named share the last clause
+abbrev pub settles : Command → Bool
+settles (Register q y v t) = true
+settles (Unregister to q t) = true
+settles _ = false
 
 -- what a registration was made with, but for its held value
 abbrev pub made_of : Cell → Made

@@ -1,5 +1,5 @@
 -- To believe: what commands say of registrations, and totals of their fates.
-use Rattle.std.specs.Prelude.{ℕ, ◌+◌, ◌<◌, Bool, true, false, List, Option, None, is_some, is_none, slice_get, if◌then◌else◌}
+use Rattle.std.specs.Prelude.{ℕ, ◌+◌, ◌<◌, List, Option, None, is_some, is_none, slice_get, if◌then◌else◌}
 use Rattle.std.specs.Option.{option_map, option_and_then}
 use Rattle.es_value.specs.declared.value.Value.{Value}
 use Rattle.es_event.specs.declared.command.Command.{Command}
@@ -31,12 +31,6 @@ made_from vs = if is_none (slice_get vs 2) then None else option_and_then (λ r.
 abbrev pub made_by : Command → List Value → Option Made
 made_by (Register q y v t) vs = made_from vs
 made_by _ vs = None
-
--- the command registers, or takes registrations out; commands that are not named share the last clause
-abbrev pub settles : Command → Bool
-settles (Register q y v t) = true
-settles (Unregister to q t) = true
-settles _ = false
 
 -- the registry and the token that `unregister` names with these values
 abbrev pub named_in : List Value → Option (ℕ × ℕ)

@@ -7,7 +7,7 @@ ghost use Rattle.std.specs.Option.{option_copied, option_map_or};
 ghost use Rattle.es_event.specs.History.{History};
 ghost use Rattle.es_registry.specs.Registries.{pair_eq};
 ghost use Rattle.es_value.specs.Ids.{is_in};
-ghost use Rattle.es_count.specs.Fates.{Tells, Told, is_out as is_out_said, numbered, settled};
+ghost use Rattle.es_count.specs.Fates.{Tells, Told, is_out as is_out_said, numbered, settled, settles};
 ghost use Rattle.es_count.specs.Registered.{IsBelow, fate_of, one_more};
 ghost use Rattle.es_count.specs.Tallies.{end_tally};
 ghost use Rattle.es_event.specs.declared.event.Event.TheVariants.{Did, Emptied, Taken};
@@ -15,7 +15,7 @@ ghost use Rattle.es_event.specs.declared.event.Answer.{Answer as Given};
 ghost use Rattle.es_value.specs.declared.value.Value.{Value as Held};
 
 use crate::ports::put;
-use crate::registered::{Made, made_by, named_by, settles};
+use crate::registered::{Made, made_by, named_by};
 use es_event::{Command, Done, Event};
 use es_registry::Tally;
 use es_value::{Id, NoMemory, Value};
@@ -217,4 +217,14 @@ pub fn with_one(tally: Tally, fate: Fate) -> Tally
         Fate::Taken => more.taken += 1,
     }
     more
+}
+
+/// Whether a command registers, or takes registrations out.
+fn settles(command: &Command) -> bool
+    ensures { result ≡ settles command.now }
+{
+    matches!(
+        command,
+        Command::Register { .. } | Command::Unregister { .. }
+    )
 }

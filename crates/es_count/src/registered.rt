@@ -1,7 +1,7 @@
 //! What commands say of registrations.
 
 ghost use Rattle.std.specs.Prelude.{◌≡◌};
-ghost use Rattle.es_count.specs.Registered.{identity_at as identity_said, made_by as made_said, made_from as made_read, named_by as named_said, named_in as named_read, object_at as object_said, settles};
+ghost use Rattle.es_count.specs.Registered.{identity_at as identity_said, made_by as made_said, made_from as made_read, named_by as named_said, named_in as named_read, object_at as object_said};
 
 use es_event::Command;
 use es_value::{Id, Value};
@@ -25,16 +25,6 @@ pub fn made_by(command: &Command, values: &[Value]) -> Option<Made>
         Command::Register { .. } => made_from(values),
         _ => None,
     }
-}
-
-/// Whether a command registers, or takes registrations out.
-pub(crate) fn settles(command: &Command) -> bool
-    ensures { result ≡ settles command.now }
-{
-    matches!(
-        command,
-        Command::Register { .. } | Command::Unregister { .. }
-    )
 }
 
 fn made_from(values: &[Value]) -> Option<Made>

@@ -10,7 +10,7 @@ use std::thread::Threads;
 const MANY: usize = 10_000;
 
 /// Lets go what a run came to. After a run in threads each long history but the last has a thread of its own for it, as
-/// its agent had one: to let them go one after the other takes a third of the time that their steps took.
+/// its agent had one: to let them go one after the other takes a fifth of the instructions of their steps.
 pub(crate) fn let_go<R: Threads + Wait + Sync>(rt: &R, ended: Counted, turns: bool) {
     if turns {
         return;
