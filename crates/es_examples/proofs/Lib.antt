@@ -1,3 +1,5 @@
+pub mod Steps
+pub mod DecidingLate
 pub mod ExampleDeref
 pub mod ExampleProperties
 pub mod ExampleRefusals

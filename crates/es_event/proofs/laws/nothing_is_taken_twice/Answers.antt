@@ -1,5 +1,0 @@
-use Rattle.es_event.proofs.Fates.{not_twice}
-use Rattle.es_event.proofs.laws.nothing_is_taken_twice.Goals as goal
-
-pub returns : goal.returns
-returns c = not_twice

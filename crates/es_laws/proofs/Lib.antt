@@ -1,0 +1,3 @@
+pub mod Observing
+pub mod Refusing
+pub mod Whole
