@@ -1,7 +1,10 @@
 //! A run: the bytes of a plan in, and its report out.
 
 ghost use Rattle.std.specs.Prelude.{◌≡◌, ◌≢◌, ◌<◌, length, IfOk, IfErr, OnOk, OnErr, true};
+ghost use Rattle.std.specs.Io.KnownBytes.{Appends};
 ghost use Rattle.es_event.specs.Others.{all_name_others};
+ghost use Rattle.es_event.specs.Report.{report};
+ghost use Rattle.es_count.specs.Counts.{IsCountsOf};
 ghost use Rattle.es_script.specs.Grammar.{no_callback_collects};
 ghost use Rattle.es_engine.specs.Engine.{Answers, IsAnswerFault, ReadsPlan, RunsTo, audits_of, runs_threads};
 
@@ -11,7 +14,8 @@ use crate::letting_go::let_go;
 use crate::run_fault::RunFault;
 use es_event::Plan;
 use es_options::Options;
-use es_report::write_report_counted;
+use es_report::{write_report_beside, write_report_counted};
+use es_run::Counted;
 use es_script::read_plan;
 use std::alloc::Global;
 use std::io::{Read, Write};
@@ -69,7 +73,28 @@ fn answer<H: AllocGlobal + Threads + Wait + Sync, W: Write>(
         return Ok(0);
     }
     let (ended, audits) = run_plan(rt, rt.alloc(), plan, options)?;
-    write_report_counted(&ended.outcome, &ended.counts, writer).map_err(|_| RunFault::Write)?;
+    write_ended(rt, &ended, options.turns, writer)?;
     let_go(rt, ended, options.turns);
     Ok(audits)
+}
+
+/// Writes the report of what a run came to. After a run in threads the lines of its agents are made beside each
+/// other, as they ran.
+fn write_ended<H: AllocGlobal + Threads + Sync, W: Write>(
+    rt: &H,
+    ended: &Counted,
+    turns: bool,
+    writer: &mut W,
+) -> Result<(), RunFault>
+    requires { IsCountsOf ended.now.outcome ended.now.counts }
+    ensures written { OnOk result (Appends (W.contents writer.old) (W.contents writer.new) (report ended.now.outcome)) }
+    ensures fault { IfErr result (λ e. e ≡ RunFault.Write) }
+{
+    let Counted { outcome, counts } = ended;
+    let written = if turns {
+        write_report_counted(outcome, counts, writer)
+    } else {
+        write_report_beside(rt, rt.alloc(), outcome, counts, writer)
+    };
+    written.map_err(|_| RunFault::Write)
 }

@@ -1,4 +1,5 @@
 pub mod Accounts
+mod Calls
 pub mod Bridge
 pub mod Counting
 pub mod Deciding

@@ -2,6 +2,7 @@
 #![tactic(auto)]
 
 mod again;
+mod beside;
 mod came;
 mod deed;
 mod doing;

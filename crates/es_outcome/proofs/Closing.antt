@@ -13,7 +13,7 @@ use Rattle.es_event.specs.declared.event.Event.{Event}
 use Rattle.es_event.specs.declared.event.Event.TheVariants.{Did, Refused, Closed}
 use Rattle.es_event.specs.declared.event.Answer.{Answer}
 use Rattle.es_event.specs.declared.command.Command.{Command}
-use Rattle.es_event.specs.declared.command.Command.TheVariants.{SharedArrayBuffer, Length, SameBlock, Load, Store, Add, Post}
+use Rattle.es_event.specs.declared.command.Command.TheVariants.{SharedArrayBuffer, Length, SameBlock, Atomic, Post}
 use Rattle.es_event.specs.History.{History}
 use Rattle.es_event.specs.Follows.{Follows, Permits}
 use Rattle.es_event.specs.Jobs.{Receivers, receivers}
@@ -145,9 +145,7 @@ closing_command : (c : Command) (vs : List Value) (r : Answer) → closes (asks_
 closing_command (SharedArrayBuffer to n) vs r = refl
 closing_command (Length to b) vs r = refl
 closing_command (SameBlock to b c) vs r = refl
-closing_command (Load to b i) vs r = refl
-closing_command (Store b i n) vs r = refl
-closing_command (Add to b i n) vs r = refl
+closing_command (Atomic a) vs r = refl
 closing_command (Post a y) vs r = refl
 closing_command _ vs r = refl
 
@@ -215,8 +213,8 @@ ends_all zero l = refl
 ends_all (suc n) l = rw (ends_this n (with_ends n l), ends_more n n (with_ends n l) (ends_all n l)) refl
 
 over_one : (n s r : ℕ) (m : Body) (l : Ledger) → all_ended l n ≡ true → all_ended (drained_one l s r m) n ≡ true
-over_one n s r (Plain v) l over = still_over (Drained r s) l n over
-over_one n s r (Block b k) l over = still_over (Spent k) (Drained r s ∷ l) n (still_over (Drained r s) l n over)
+over_one n s r (Plain v) l over = still_over (Drained s r) l n over
+over_one n s r (Block b k) l over = still_over (Spent k) (Drained s r ∷ l) n (still_over (Drained s r) l n over)
 
 over_each : (n s r : ℕ) (ms : List Body) (l : Ledger) → all_ended l n ≡ true → all_ended (drained_each l s r ms) n ≡ true
 over_each n s r [] l over = over

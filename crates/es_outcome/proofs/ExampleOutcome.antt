@@ -4,7 +4,7 @@ use Rattle.std.specs.Prelude.{pos}
 use Rattle.std.specs.List.{AllByRecursion}
 use Rattle.std.proofs.lemmas.List.{reverse-reverse}
 use Rattle.es_value.specs.declared.value.Value.TheVariants.{Object}
-use Rattle.es_event.specs.declared.command.Command.TheVariants.{SharedArrayBuffer, Load, Post}
+use Rattle.es_event.specs.declared.command.Command.TheVariants.{SharedArrayBuffer, Post}
 use Rattle.es_event.specs.declared.event.Answer.TheVariants.{Nothing, Gives}
 use Rattle.es_event.specs.declared.event.Event.{Event}
 use Rattle.es_event.specs.declared.event.Event.TheVariants.{JobBegun, Received, Did, Refused, JobEnded, Closed}
@@ -20,6 +20,7 @@ use Rattle.es_event.specs.Ledger.{Ledger}
 use Rattle.es_event.specs.Rows.{row}
 use Rattle.es_event.specs.Runs.{IsWholeRunOver}
 use Rattle.es_event.specs.Sharing.{Buffers}
+use Rattle.es_event.proofs.Examples.{load}
 use Rattle.es_match.proofs.Bridge.{ties_mean_goes}
 use Rattle.es_match.specs.Cluster.{Account, account_of}
 use Rattle.es_match.specs.Deeds.{part}
@@ -39,7 +40,7 @@ abbrev worker_plan : AgentPlan
 worker_plan = record {
   name = codes "worker";
   callbacks = [];
-  jobs = record { on = Some (0, codes "m"); run = Load (codes "x") (codes "m") (pos 1) ∷ [] } ∷ [];
+  jobs = record { on = Some (0, codes "m"); run = load (codes "x") (codes "m") (pos 1) ∷ [] } ∷ [];
 }
 
 abbrev plan : Plan
@@ -56,7 +57,7 @@ abbrev outcome : Outcome
 outcome = record {
   names = codes "main" ∷ codes "worker" ∷ [];
   histories = poster ∷ refuser ∷ [];
-  ledger = Opened 1 2 1 0 ∷ Posted 0 1 (Block 1 2) ∷ Spent 1 ∷ Ended 0 ∷ Taken 1 0 ∷ Spent 2 ∷ Ended 1 ∷ [];
+  ledger = Opened 1 2 1 0 ∷ Posted 0 1 (Block 1 2) ∷ Spent 1 ∷ Ended 0 ∷ Taken 0 1 ∷ Spent 2 ∷ Ended 1 ∷ [];
 }
 
 abbrev ledger : Ledger

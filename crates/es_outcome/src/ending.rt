@@ -19,6 +19,7 @@ use es_event::{Outcome, Sequence};
 use es_match::came_of;
 use es_value::NoMemory;
 use std::alloc::Global;
+use std::thread::Threads;
 
 /// What a plan's run came to, and the totals that its report has.
 #[derive(Drop)]
@@ -29,7 +30,11 @@ pub struct Counted {
 
 /// What agents that ran beside each other came to, if it is an outcome of their plan: each counts as
 /// ended, and the messages that nobody took are taken out. Whatever comes of it, all tickets are spent.
-pub fn outcome_of<L: Planned>(alloc: Global, parts: Parts<L>) -> Result<Counted, RunStop>
+pub fn outcome_of<R: Threads + Sync, L: Planned>(
+    rt: &R,
+    alloc: Global,
+    parts: Parts<L>,
+) -> Result<Counted, RunStop>
     requires size { length parts.members.items ≡ length L.plan.agents }
     requires names { parts.names ≡ map (λ p. p.name) L.plan.agents }
     requires place { (parts.histories.items ≡ []) × (length parts.members.items ≤ vec_capacity parts.histories) }
@@ -61,7 +66,7 @@ pub fn outcome_of<L: Planned>(alloc: Global, parts: Parts<L>) -> Result<Counted,
         }
     };
     let outcome = finish(parts);
-    if is_told(alloc, &outcome, &said)? {
+    if is_told(rt, alloc, &outcome, &said)? {
         let counts = Counts::of_ended(&outcome, tallies);
         Ok(Counted { outcome, counts })
     } else {
@@ -70,11 +75,16 @@ pub fn outcome_of<L: Planned>(alloc: Global, parts: Parts<L>) -> Result<Counted,
 }
 
 /// Whether the histories are those of one cluster, and what each agent says came to it came to it.
-fn is_told(alloc: Global, outcome: &Outcome, said: &[Said]) -> Result<bool, NoMemory>
+fn is_told<R: Threads + Sync>(
+    rt: &R,
+    alloc: Global,
+    outcome: &Outcome,
+    said: &[Said],
+) -> Result<bool, NoMemory>
     ensures { IfOk result (λ b. (b ≡ true) ↔ IsTold (map (λ h. reverse h) outcome.now.histories) (reverse outcome.now.ledger) said.now) }
 {
     let histories = outcome.histories.as_slice();
-    match came_of(alloc, histories, outcome.ledger.as_slice())? {
+    match came_of(rt, alloc, histories, outcome.ledger.as_slice())? {
         Some(came) => Ok(are_said(&came, said)),
         None => Ok(false),
     }

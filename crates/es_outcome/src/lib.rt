@@ -1,5 +1,5 @@
 //! What agents that worked beside each other come to: their audits, their outcome, and why there is none.
-//! Nothing here knows of threads or locks.
+//! Nothing here knows of locks.
 #![tactic(auto)]
 
 mod auditing;

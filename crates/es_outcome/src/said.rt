@@ -4,7 +4,7 @@ ghost use Rattle.std.specs.Prelude.{◌≡◌, ◌↔◌, ◌++◌, ◌∷◌, L
 ghost use Rattle.es_event.specs.declared.plan.AgentPlan.{AgentPlan as PlanSaid};
 ghost use Rattle.es_event.specs.declared.plan.Job.{Job as JobSaid};
 ghost use Rattle.es_event.specs.History.{History};
-ghost use Rattle.es_event.specs.Jobs.{cleaning, passes_job};
+ghost use Rattle.es_event.specs.Jobs.{cleaning, passes_job, waits_for_nobody};
 ghost use Rattle.es_match.specs.Asks.{asks};
 ghost use Rattle.es_match.specs.Cluster.{is_refusal_asked, refused_senders};
 ghost use Rattle.es_match.specs.Shown.{listed};
@@ -220,6 +220,9 @@ fn refused_senders(
     ensures { IfOk result (λ v. v.items ≡ refused_senders plan.now (reverse history.now)) }
 {
     let mut senders = Vec::new(alloc);
+    if waits_for_nobody(plan) {
+        return Ok(senders);
+    }
     let mut place = Place {
         jobs: plan.jobs.as_slice(),
         is_cleaning: false,
@@ -230,6 +233,13 @@ fn refused_senders(
         place = place.after(event);
     }
     Ok(senders)
+}
+
+/// Whether no job of the plan waits for a message.
+fn waits_for_nobody(plan: &AgentPlan) -> bool
+    ensures { result ≡ waits_for_nobody plan.now }
+{
+    plan.jobs.as_slice().iter().all(|job| job.on.is_none())
 }
 
 fn add(senders: &mut Vec<usize>, sender: Option<usize>) -> Result<(), NoMemory>

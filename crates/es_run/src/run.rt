@@ -133,7 +133,7 @@ fn run_in<L: Planned + Send + Sync, G: Gate + Sync, R: Threads + Wait + Sync>(
     };
     match made {
         Some(audits) if audits == watch => {
-            let counted = outcome_of(alloc, parts)?;
+            let counted = outcome_of(rt, alloc, parts)?;
             Ok((counted, audits))
         }
         _ => {

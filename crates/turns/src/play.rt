@@ -12,15 +12,15 @@ use es_event::Plan;
 use es_report::write_lines;
 use es_script::read_plan;
 use es_ticket::Opened;
-use std::alloc::Global;
 use std::io::{BufWriter, Read, Write};
 use std::marker::Brand;
 use std::rt::Runtime;
+use std::thread::Threads;
 use std::{env, io};
 
 /// Plays the plan on standard input by the turns that the first word lists: the number of an agent,
 /// one digit, for each.
-pub(crate) fn play_words<H: Runtime + AllocGlobal>(rt: &H) -> Result<(), Fault> {
+pub(crate) fn play_words<H: Runtime + AllocGlobal + Threads + Sync>(rt: &H) -> Result<(), Fault> {
     let alloc = rt.alloc();
     let words: Vec<String> = env::args(rt)?.collect(alloc)?;
     let Some(turns) = words.get(1) else {
@@ -30,12 +30,12 @@ pub(crate) fn play_words<H: Runtime + AllocGlobal>(rt: &H) -> Result<(), Fault> 
     let plan = read_plan(alloc, text.as_bytes())?;
     let opened = Opened::new(alloc)?;
     let mut output = BufWriter::new(alloc, io::writer(rt))?;
-    play_plan::<Brand, _>(alloc, opened, plan, turns.as_bytes(), &mut output)?;
+    play_plan::<Brand, _, _>(rt, opened, plan, turns.as_bytes(), &mut output)?;
     Ok(output.flush()?)
 }
 
-fn play_plan<L: Planned, W: Write>(
-    alloc: Global,
+fn play_plan<L: Planned, H: AllocGlobal + Threads + Sync, W: Write>(
+    rt: &H,
     opened: Opened,
     plan: Plan,
     turns: &[u8],
@@ -47,9 +47,9 @@ fn play_plan<L: Planned, W: Write>(
     requires others { all_name_others plan ≡ true }
     requires quiet { no_callback_collects plan ≡ true }
 {
-    let mut cluster = ClusterCore::<L>::new(alloc, opened, plan)?;
+    let mut cluster = ClusterCore::<L>::new(rt.alloc(), opened, plan)?;
     match play_all(&mut cluster, turns, writer) {
-        Ok(()) => end(alloc, cluster, writer),
+        Ok(()) => end(rt, cluster, writer),
         Err(fault) => {
             cluster.abandon();
             Err(fault)
@@ -114,15 +114,15 @@ fn write_audit<W: Write>(audit: &Audit, writer: &mut W) -> Result<(), Fault> {
 }
 
 /// Whether the histories match, once all agents have ended.
-fn end<L: Planned, W: Write>(
-    alloc: Global,
+fn end<L: Planned, H: AllocGlobal + Threads + Sync, W: Write>(
+    rt: &H,
     cluster: ClusterCore<L>,
     writer: &mut W,
 ) -> Result<(), Fault> {
     match cluster.end() {
         Some(outcome) => {
             let histories = outcome.histories.as_slice();
-            let matching = matches(alloc, histories, outcome.ledger.as_slice())?;
+            let matching = matches(rt, rt.alloc(), histories, outcome.ledger.as_slice())?;
             Ok(writeln!(writer, "matches {matching}")?)
         }
         None => Ok(writeln!(writer, "has not ended")?),

@@ -5,7 +5,7 @@ use Rattle.es_cluster.specs.State.{Cluster, names_of}
 use Rattle.es_run.proofs.run.run_in.Goals as goal
 
 pub outcome_of-requires-clause-names : goal.outcome_of-requires-clause-names
-outcome_of-requires-clause-names g c =
+outcome_of-requires-clause-names g c κs within =
     c.into_parts-members.ensures.names
     ∙ ap (λ (s : Cluster). names_of s.agents) c.in_ok-new.ensures
     ∙ first_names (length c.args.plan.agents) 0 c.args.plan.agents
