@@ -1,5 +1,5 @@
 -- To believe: the words of a Shared Data Block (Data Blocks, The Atomics Object).
-use Rattle.std.specs.Prelude.{ℕ, ◌+◌, ◌%◌, ◌^◌, List, slice_index_or, slice_set}
+use Rattle.std.specs.Prelude.{ℕ, List, slice_index_or, slice_set}
 
 -- the word at this index, 0 where there is none
 abbrev pub word : List ℕ → ℕ → ℕ
@@ -8,7 +8,3 @@ word ws i = slice_index_or ws i 0
 -- the words with another one at this index
 abbrev pub with_word : List ℕ → ℕ → ℕ → List ℕ
 with_word ws i w = slice_set ws i w
-
--- the sum of two words, modulo 2^32 (Atomics.add, ToUint32)
-abbrev pub sum : ℕ → ℕ → ℕ
-sum a b = (a + b) % 2 ^ 32

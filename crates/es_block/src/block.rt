@@ -1,7 +1,7 @@
 //! One Shared Data Block.
 
 ghost use Rattle.std.specs.Prelude.{◌≡◌, ◌<◌, length, replicate, IfOk};
-ghost use Rattle.es_block.specs.Words.{word, with_word, sum};
+ghost use Rattle.es_block.specs.Words.{word, with_word};
 
 use es_value::NoMemory;
 use std::alloc::Global;
@@ -9,8 +9,8 @@ use std::marker::Model;
 
 /// A Shared Data Block: a list of words of 32 bits (ECMA-262, Data Blocks).
 ///
-/// A word is named by its index, from 0. What reads and writes it are the steps of Atomics.load,
-/// store and add on a Uint32Array over the block.
+/// A word is named by its index, from 0. It is read and written as the operations of Atomics do with a
+/// Uint32Array over the block.
 #[derive(Drop, Debug)]
 pub struct Block {
     words: Vec<u32>,
@@ -55,17 +55,5 @@ impl Block {
         ensures { self.new ≡ with_word self.old index word }
     {
         self.words[index] = word;
-    }
-
-    /// Adds to the word at an index that is in range, modulo 2^32, and gives the word that was there
-    /// (ECMA-262, Atomics.add).
-    pub fn add(&mut self, index: usize, addend: u32) -> u32
-        requires { index < length self.old }
-        ensures was { result ≡ word self.old index }
-        ensures now { self.new ≡ with_word self.old index (sum (word self.old index) addend) }
-    {
-        let was = self.words[index];
-        self.words[index] = was.wrapping_add(addend);
-        was
     }
 }

@@ -35,7 +35,7 @@ pub record Over (P : Ledger → Type 0) (n : ℕ) (l : Ledger) : Type 0 where
 
 -- it holds still after a drain, and after what nobody held was spent
 pub record Outlasts (P : Ledger → Type 0) : Type 0 where
-  pub drains : (l : Ledger) (r s : ℕ) → P l → P (Drained r s ∷ l)
+  pub drains : (l : Ledger) (r s : ℕ) → P l → P (Drained s r ∷ l)
   pub spends : (l : Ledger) (k : ℕ) → deed l (Spent k) ≡ None → P l → P (Spent k ∷ l)
 
 -- what lies in a port no agent holds
@@ -51,10 +51,10 @@ in_port (Some e) s r is = by_port e.row e.holder s r (let same : e.holder ≡ Po
 at_front : (l : Ledger) (s r : ℕ) (m : Body) (ms : List Body) → port_of l s r ≡ m ∷ ms → front l s r ≡ Some m
 at_front l s r m ms is = ap (λ q. slice_get q 0) is
 
-drains_next : (P : Ledger → Type 0) (n : ℕ) (l : Ledger) (s r : ℕ) (m : Body) → Over P n l → front l s r ≡ Some m → LegalSoFar n (Drained r s ∷ l)
-drains_next P n l s r m o is = (subst (ComesNext n l (Drained r s)) (sym o.paid) (o.over, ap is_some is), o.legal)
+drains_next : (P : Ledger → Type 0) (n : ℕ) (l : Ledger) (s r : ℕ) (m : Body) → Over P n l → front l s r ≡ Some m → LegalSoFar n (Drained s r ∷ l)
+drains_next P n l s r m o is = (subst (ComesNext n l (Drained s r)) (sym o.paid) (o.over, ap is_some is), o.legal)
 
-port_left : (l : Ledger) (s r : ℕ) (m : Body) (ms : List Body) → port_of l s r ≡ m ∷ ms → port_of (Drained r s ∷ l) s r ≡ ms
+port_left : (l : Ledger) (s r : ℕ) (m : Body) (ms : List Body) → port_of l s r ≡ m ∷ ms → port_of (Drained s r ∷ l) s r ≡ ms
 port_left l s r m ms is =
     ap (λ b. cond (b && (r == r)) (drop 1 (port_of l s r)) (port_of l s r)) (eq-eqb s s refl)
     ∙ ap (λ b. cond b (drop 1 (port_of l s r)) (port_of l s r)) (eq-eqb r r refl)
@@ -66,7 +66,7 @@ one P n l s r (Plain v) ms keeps o is =
       record {
         legal = drains_next P n l s r (Plain v) o first;
         paid = ap (option_and_then serial_in) first;
-        over = still_over (Drained r s) l n o.over;
+        over = still_over (Drained s r) l n o.over;
         kept = keeps.drains l r s o.kept;
       },
       port_left l s r (Plain v) ms is,
@@ -74,12 +74,12 @@ one P n l s r (Plain v) ms keeps o is =
 one P n l s r (Block b k) ms keeps o is =
     let first = at_front l s r (Block b k) ms is in
     let owes : option_and_then serial_in (front l s r) ≡ Some k = ap (option_and_then serial_in) first in
-    let held : holder_of (Drained r s ∷ l) k ≡ None = in_port (line_of k (table l)) s r (lies_in_front l s r k (lying_all n l o.legal) owes) in (
+    let held : holder_of (Drained s r ∷ l) k ≡ None = in_port (line_of k (table l)) s r (lies_in_front l s r k (lying_all n l o.legal) owes) in (
       record {
-        legal = (subst (ComesNext n (Drained r s ∷ l) (Spent k)) (sym owes) refl, drains_next P n l s r (Block b k) o first);
+        legal = (subst (ComesNext n (Drained s r ∷ l) (Spent k)) (sym owes) refl, drains_next P n l s r (Block b k) o first);
         paid = refl;
-        over = still_over (Spent k) (Drained r s ∷ l) n (still_over (Drained r s) l n o.over);
-        kept = keeps.spends (Drained r s ∷ l) k (ap (option_map (λ p. (p.0, Spends k))) held) (keeps.drains l r s o.kept);
+        over = still_over (Spent k) (Drained s r ∷ l) n (still_over (Drained s r) l n o.over);
+        kept = keeps.spends (Drained s r ∷ l) k (ap (option_map (λ p. (p.0, Spends k))) held) (keeps.drains l r s o.kept);
       },
       port_left l s r (Block b k) ms is,
     )
@@ -112,7 +112,7 @@ nobodys hs l e none c = record {
 
 pub cluster_outlasts : (hs : List History) → Outlasts (IsCluster hs)
 cluster_outlasts hs = record {
-  drains = λ l r s c. nobodys hs l (Drained r s) refl c;
+  drains = λ l r s c. nobodys hs l (Drained s r) refl c;
   spends = λ l k none c. nobodys hs l (Spent k) none c;
 }
 
@@ -153,7 +153,7 @@ still bs n l e none same ends stands = (
 
 pub stands_outlasts : (bs : List Book) (n : ℕ) → Outlasts (Stands bs n)
 stands_outlasts bs n = record {
-  drains = λ l r s stands. still bs n l (Drained r s) refl (λ a. refl) (λ a. refl) stands;
+  drains = λ l r s stands. still bs n l (Drained s r) refl (λ a. refl) (λ a. refl) stands;
   spends = λ l k none stands. still bs n l (Spent k) none (λ a. refl) (λ a. refl) stands;
 }
 

@@ -8,7 +8,7 @@ use Rattle.std.proofs.lemmas.Bool.Decides.{nat_tests}
 use Rattle.es_value.specs.declared.value.Value.{Value}
 use Rattle.es_value.specs.declared.value.Value.TheVariants.{Object}
 use Rattle.es_event.specs.declared.command.Command.{Command}
-use Rattle.es_event.specs.declared.command.Command.TheVariants.{Load, Store, Add, Post}
+use Rattle.es_event.specs.declared.command.Command.TheVariants.{Atomic, Post}
 use Rattle.es_event.specs.declared.event.Event.TheVariants.{JobBegun, CleanupBegun, Received, Did, Refused, Emptied, Taken, JobEnded, Skipped, Closed}
 use Rattle.es_event.specs.declared.event.Refusal.{Refusal}
 use Rattle.es_event.specs.declared.plan.AgentPlan.{AgentPlan}
@@ -134,9 +134,7 @@ mapped_names n agents f (Some o) each = each o
 
 asked_names : (n agents : ℕ) (c : Command) (vs : List Value) → posts_where (is_other agents n) c ≡ true → NamesOthers (ledger_or_nobody (asked c vs)) n agents
 asked_names n agents (Post a y) vs is = posting n agents a (first vs) is
-asked_names n agents (Load to x j) vs is = mapped_names n agents _ (object_of (first vs)) (λ o. tt)
-asked_names n agents (Store x j k) vs is = mapped_names n agents _ (object_of (first vs)) (λ o. tt)
-asked_names n agents (Add to x j k) vs is = mapped_names n agents _ (object_of (first vs)) (λ o. tt)
+asked_names n agents (Atomic a) vs is = mapped_names n agents _ (object_of (first vs)) (λ o. tt)
 asked_names n agents c vs is = tt
 
 unless_names : (n agents : ℕ) (f : Option Refusal) (q : Option Request) → NamesOthers (ledger_or_nobody q) n agents → NamesOthers (ledger_or_nobody (unless_refused f q)) n agents

@@ -122,7 +122,7 @@ taken_at true q old is = ap (drop 1) is ∙ dropped q
 taken_at false q old is = is
 
 pub taken_queues : (l : Ledger) (a r : ℕ) (old new : Queues) → ((s t : ℕ) → new s t ≡ cond (nat_eq a s && nat_eq r t) (drop 1 (old s t)) (old s t))
-    → ((s t : ℕ) → old s t ≡ map serial_in (port_of l s t)) → (s t : ℕ) → new s t ≡ map serial_in (port_of (Taken r a ∷ l) s t)
+    → ((s t : ℕ) → old s t ≡ map serial_in (port_of l s t)) → (s t : ℕ) → new s t ≡ map serial_in (port_of (Taken a r ∷ l) s t)
 taken_queues l a r old new after says s t =
     after s t ∙ ap (λ b. cond b (drop 1 (old s t)) (old s t)) (at_port a r s t) ∙ taken_at ((s == a) && (t == r)) (port_of l s t) (old s t) (says s t)
 
@@ -139,7 +139,7 @@ removed_within false len o p is e = ap (λ o. option_map_or (λ n. nat_le n len)
 
 -- a message with a ticket was taken
 pub taken_said : (l : Ledger) (a r k : ℕ) (old new : Queues) (made : List Ticket) (f g : Spent') → ((s t : ℕ) → new s t ≡ cond (nat_eq a s && nat_eq r t) (drop 1 (old s t)) (old s t))
-    → front_serial (old a r) ≡ Some k → ((q : ℕ) → g q ≡ cond (nat_eq k q) None (f q)) → Says l old made f → Says (Taken r a ∷ l) new made g
+    → front_serial (old a r) ≡ Some k → ((q : ℕ) → g q ≡ cond (nat_eq k q) None (f q)) → Says l old made f → Says (Taken a r ∷ l) new made g
 taken_said l a r k old new made f g after is gone says =
     let at : option_and_then serial_in (front l a r) ≡ Some k = sym (front_said l a r old says.queues) ∙ is in
     let here : g k ≡ None = gone k ∙ ap (λ b. cond b None (f k)) (itself k) in
@@ -155,7 +155,7 @@ taken_said l a r k old new made f g after is gone says =
 
 -- one without a ticket was, or none
 pub taken_bare : (l : Ledger) (a r : ℕ) (old new : Queues) (made : List Ticket) (f : Spent') → ((s t : ℕ) → new s t ≡ cond (nat_eq a s && nat_eq r t) (drop 1 (old s t)) (old s t))
-    → front_serial (old a r) ≡ None → Says l old made f → Says (Taken r a ∷ l) new made f
+    → front_serial (old a r) ≡ None → Says l old made f → Says (Taken a r ∷ l) new made f
 taken_bare l a r old new made f after is says =
     let at : option_and_then serial_in (front l a r) ≡ None = sym (front_said l a r old says.queues) ∙ is in
     record {

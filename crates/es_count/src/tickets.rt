@@ -56,11 +56,11 @@ impl Tickets {
                 receiver,
                 body,
             } => self.note_posted(*sender, *receiver, body),
-            LedgerEvent::Taken { receiver, sender } => {
+            LedgerEvent::Taken { sender, receiver } => {
                 self.note_taken(*sender, *receiver);
                 Ok(())
             }
-            LedgerEvent::Drained { receiver, sender } => {
+            LedgerEvent::Drained { sender, receiver } => {
                 self.note_drained(*sender, *receiver);
                 Ok(())
             }
@@ -96,7 +96,7 @@ impl Tickets {
     }
 
     fn note_taken(&mut self, sender: usize, receiver: usize)
-        ensures { Tells (Taken receiver sender) self.old self.new }
+        ensures { Tells (Taken sender receiver) self.old self.new }
     {
         if let Some(serial) = take_first(&mut self.ports, sender, receiver) {
             let _ = self.spent.remove(&serial);
@@ -104,7 +104,7 @@ impl Tickets {
     }
 
     fn note_drained(&mut self, sender: usize, receiver: usize)
-        ensures { Tells (Drained receiver sender) self.old self.new }
+        ensures { Tells (Drained sender receiver) self.old self.new }
     {
         let _ = take_first(&mut self.ports, sender, receiver);
     }

@@ -7,7 +7,7 @@ use Rattle.std.specs.Option.{option_map, option_and_then}
 use Rattle.std.proofs.lemmas.List.Folds.{list_all-append}
 use Rattle.es_value.specs.declared.value.Value.{Value}
 use Rattle.es_event.specs.declared.command.Command.{Command}
-use Rattle.es_event.specs.declared.command.Command.TheVariants.{SharedArrayBuffer, Length, SameBlock, Load, Store, Add, Post}
+use Rattle.es_event.specs.declared.command.Command.TheVariants.{SharedArrayBuffer, Length, SameBlock, Atomic, Post}
 use Rattle.es_event.specs.declared.event.Answer.{Answer}
 use Rattle.es_event.specs.declared.event.Event.{Event}
 use Rattle.es_event.specs.declared.event.Event.TheVariants.{JobEnded, Skipped, Refused}
@@ -61,9 +61,7 @@ calm_command : (c : Command) (cs : List Command) (vs : List Value) (r : Answer) 
 calm_command (SharedArrayBuffer to n) cs vs r e = cc
 calm_command (Length to b) cs vs r e = cc
 calm_command (SameBlock to b c) cs vs r e = cc
-calm_command (Load to b i) cs vs r e = cc
-calm_command (Store b i n) cs vs r e = cc
-calm_command (Add to b i n) cs vs r e = cc
+calm_command (Atomic a) cs vs r e = cc
 calm_command (Post a y) cs vs r e = cc
 calm_command _ cs vs r e = refl
 
@@ -148,11 +146,11 @@ no_access l s i asked q reaches = subst (λ o. Reaches o i asked) (no_holder l s
 one_more : (n : ℕ) (l : Ledger) (e : LedgerEvent) → IsQuiet l → MayCome n l e → ((a : ℕ) → list_all is_end (part_of a (deed l e)) ≡ true) → IsQuiet (e ∷ l)
 one_more n l (Opened b w s a) q may all = absurd (stands a (Opens b w s) refl refl (all a))
 one_more n l (Posted a r m) q may all = absurd (stands a (Posts r m) refl refl (all a))
-one_more n l (Taken r s) q may all = absurd (no_message l s r q may)
+one_more n l (Taken s r) q may all = absurd (no_message l s r q may)
 one_more n l (Spent s) q may all = let none = ap is_some (sym (no_holder l s q)) ∙ may in cc
 one_more n l (Accessed s i m old) q may all = absurd (no_access l s i _ q may)
 one_more n l (Passed a s) q may all = absurd (stands a (Passes s) refl refl (all a))
-one_more n l (Drained r s) q may all = absurd (no_message l s r q may.1)
+one_more n l (Drained s r) q may all = absurd (no_message l s r q may.1)
 one_more n l _ q may all = record { blocks = ap (λ k. 0 + k) q.blocks; lines = q.lines; ports = q.ports; debt = refl; posts = q.posts; takes = q.takes; drains = q.drains }
 
 quiet : (n : ℕ) (l : Ledger) → LegalSoFar n l → ((a : ℕ) → list_all is_end (part l a) ≡ true) → IsQuiet l

@@ -12,7 +12,7 @@ use Rattle.es_event.specs.declared.event.Event.{Event}
 use Rattle.es_event.specs.declared.event.Event.TheVariants.{JobBegun, CleanupBegun, Did, Refused, Emptied, Taken, JobEnded, Closed}
 use Rattle.es_event.specs.declared.event.Refusal.{Refusal}
 use Rattle.es_event.specs.declared.command.Command.{Command}
-use Rattle.es_event.specs.declared.command.Command.TheVariants.{SharedArrayBuffer, Length, SameBlock, Load, Store, Add, Post}
+use Rattle.es_event.specs.declared.command.Command.TheVariants.{SharedArrayBuffer, Length, SameBlock, Atomic, Post}
 use Rattle.es_event.specs.declared.plan.AgentPlan.{AgentPlan}
 use Rattle.es_event.specs.declared.plan.Callback.{Callback}
 use Rattle.es_event.specs.declared.plan.Job.{Job}
@@ -125,8 +125,7 @@ own : (over : Buffers) (plan : AgentPlan) → IsAlone plan → (h : History) (e 
 own over plan alone h e f p = own_next over plan alone h (phase h) e (comes over plan h e p) (left_local over plan alone h f)
 
 silent_by : (c : Command) (r : Answer) → is_shared c ≡ false → heard_by c r ≡ silence
-silent_by (Load to b i) r e = cc
-silent_by (Add to b i n) r e = cc
+silent_by (Atomic a) r e = cc
 silent_by _ r e = refl
 
 silent : (e : Event) → IsOwn e → heard e ≡ silence
@@ -140,9 +139,7 @@ pub local_completion : (over other : Buffers) (h : History) (c : Command) (vs : 
 local_completion over other h (SharedArrayBuffer to n) vs v w e = cc
 local_completion over other h (Length to b) vs v w e = cc
 local_completion over other h (SameBlock to b c) vs v w e = cc
-local_completion over other h (Load to b i) vs v w e = cc
-local_completion over other h (Store b i n) vs v w e = cc
-local_completion over other h (Add to b i n) vs v w e = cc
+local_completion over other h (Atomic a) vs v w e = cc
 local_completion over other h (Post a y) vs v w e = cc
 local_completion over other h _ vs v w e = refl
 
@@ -150,9 +147,7 @@ pub local_refusal : (over other : Buffers) (h : History) (c : Command) (vs : Lis
 local_refusal over other h (SharedArrayBuffer to n) vs e = cc
 local_refusal over other h (Length to b) vs e = cc
 local_refusal over other h (SameBlock to b c) vs e = cc
-local_refusal over other h (Load to b i) vs e = cc
-local_refusal over other h (Store b i n) vs e = cc
-local_refusal over other h (Add to b i n) vs e = cc
+local_refusal over other h (Atomic a) vs e = cc
 local_refusal over other h (Post a y) vs e = cc
 local_refusal over other h _ vs e = refl
 

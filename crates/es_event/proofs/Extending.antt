@@ -13,7 +13,7 @@ use Rattle.es_event.specs.declared.event.Event.TheVariants.{Received, Did, Refus
 use Rattle.es_event.specs.declared.event.Refusal.{Refusal}
 use Rattle.es_event.specs.declared.event.Refusal.TheVariants.{NotASharedArrayBuffer, IndexOutOfRange}
 use Rattle.es_event.specs.declared.command.Command.{Command}
-use Rattle.es_event.specs.declared.command.Command.TheVariants.{SharedArrayBuffer, Length, SameBlock, Load, Store, Add}
+use Rattle.es_event.specs.declared.command.Command.TheVariants.{SharedArrayBuffer, Length, SameBlock, Atomic}
 use Rattle.es_event.specs.declared.plan.AgentPlan.{AgentPlan}
 use Rattle.es_event.specs.Commands.{first, second, Kind, reads, opens_words}
 use Rattle.es_event.specs.History.{History}
@@ -80,9 +80,7 @@ same_completion over more into h l a (SameBlock to b c) vs w =
     (λ left. by_test (is_buffer (kind_of h (second vs))) NotASharedArrayBuffer None None _ _
     (λ right. ap (λ n. Ok (Gives (Boolean (n == block_of more (second vs))))) (ap (λ r. option_map_or (λ r. r.block) r 0) (same_of over more into h l a (first vs) left))
     ∙ ap (λ n. Ok (Gives (Boolean (block_of over (first vs) == n)))) (ap (λ r. option_map_or (λ r. r.block) r 0) (same_of over more into h l a (second vs) right))))
-same_completion over more into h l a (Load to b i) vs w = same_index over more into h l a (first vs) i _
-same_completion over more into h l a (Store b i n) vs w = same_index over more into h l a (first vs) i _
-same_completion over more into h l a (Add to b i n) vs w = same_index over more into h l a (first vs) i _
+same_completion over more into h l a (Atomic c) vs w = same_index over more into h l a (first vs) c.index _
 same_completion over more into h l a _ vs w = refl
 
 pub refuses_so : (f : Option Refusal) (x : Answer) (code : Refusal) → refuse_or f x ≡ Err code → f ≡ Some code

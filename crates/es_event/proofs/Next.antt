@@ -1,5 +1,5 @@
 -- What may come next: one event, but for what it hears from outside, and some event wherever something is due.
-use Rattle.std.proofs.Common.{◌≡◌, ℕ, ◌+◌, cond, ◌-◌, ◌==◌, ◌&&◌, Bool, true, false, sym, ◌∙◌, ap, refl, subst, List, [], ◌∷◌, Option, Some, None, Result, Ok, Err, is_none, ◌≤◌, arith, nat_lt, nat_le, ◌<◌, not}
+use Rattle.std.proofs.Common.{◌≡◌, ℕ, ◌+◌, cond, ◌-◌, ◌==◌, ◌&&◌, Bool, true, false, sym, ◌∙◌, ap, refl, subst, List, [], ◌∷◌, Option, Some, None, Result, Ok, Err, is_none, ◌≤◌, arith, nat_lt, nat_le, ◌<◌, not, if◌then◌else◌}
 use Rattle.std.specs.Prelude.{slice_get, is_some, nat_lt}
 use Rattle.std.specs.Option.{option_map, option_map_or, option_and_then}
 use Rattle.std.proofs.lemmas.Bool.{false≢true, and_parts, eq-eqb, and_from, le-leb, leb-true}
@@ -14,8 +14,9 @@ use Rattle.es_event.specs.declared.event.Event.{Event}
 use Rattle.es_event.specs.declared.event.Event.TheVariants.{JobBegun, CleanupBegun, Received, Did, Refused, Emptied, Taken, JobEnded, Skipped, Closed}
 use Rattle.es_event.specs.declared.event.Refusal.{Refusal}
 use Rattle.es_event.specs.declared.command.Command.{Command}
-use Rattle.es_event.specs.declared.command.Command.TheVariants.{Load, Add, Collect}
+use Rattle.es_event.specs.declared.command.Command.TheVariants.{Atomic, Collect}
 use Rattle.es_event.specs.declared.plan.AgentPlan.{AgentPlan}
+use Rattle.es_event.specs.Access.{access_of, gives_word}
 use Rattle.es_event.specs.Commands.{reads, opens_words, collects}
 use Rattle.es_event.specs.History.{History}
 use Rattle.es_event.specs.Identities.{identity, object_of, made, is_there, is_made, is_gone, is_in}
@@ -23,11 +24,11 @@ use Rattle.es_event.specs.Jobs.{Receivers, receivers, job, cleaning}
 use Rattle.es_event.specs.Registrations.{Cell, cell, Fate, fate, awaiting, same_fate, is_of, registrations, first_awaiting}
 use Rattle.es_event.specs.Rows.{row}
 use Rattle.es_event.specs.Sharing.{Buffers, row_at, AgreeSoFar}
-use Rattle.es_event.specs.Rules.{number_of_word, refusal, result, refuse_or, completion, first_refusal}
+use Rattle.es_event.specs.Rules.{refusal, result, word_if, refuse_or, completion, first_refusal}
 use Rattle.es_event.specs.Legal.{word_in, HasWords, Arrives, Lawful, values_of}
 use Rattle.es_event.specs.Order.{Phase, between, handed, inside, stopped, ended, phase, left, queue, Due, begin, receive, run, clean, take_cell, due_after, due_inside, due_job, due_between, due_at, end_job, close, nothing, due}
 use Rattle.es_event.specs.Follows.{AtCommand, HasRoom, Permits}
-use Rattle.es_event.specs.Runs.{ComesNext, a_word, a_message, heard_by, heard}
+use Rattle.es_event.specs.Runs.{ComesNext, silence, a_word, a_message, heard_by, heard}
 use Rattle.es_event.proofs.Accepted.{is_result}
 use Rattle.es_event.proofs.Extending.{agrees_with_itself, agrees_longer, refuses_so}
 use Rattle.es_event.proofs.Counting.{found_passes}
@@ -73,9 +74,12 @@ same_done c d b vs ws r q e f g k = ap (λ x. Did (x, vs, r)) (e ∙ sym f) ∙ 
 a_word_of : (v w : ℕ) → a_word v ≡ a_word w → v ≡ w
 a_word_of v w e = cc
 
+same_given : (b : Bool) (v w : ℕ) → (if b then a_word v else silence) ≡ (if b then a_word w else silence) → word_if b v ≡ word_if b w
+same_given true v w e = ap (word_if true) (a_word_of v w e)
+same_given false v w e = refl
+
 same_word : (over : Buffers) (h : History) (c : Command) (vs : List Value) (r q : Answer) → heard_by c r ≡ heard_by c q → completion over h c vs (word_in r) ≡ completion over h c vs (word_in q)
-same_word over h (Load to b i) vs r q e = ap (completion over h (Load to b i) vs) (a_word_of (word_in r) (word_in q) e)
-same_word over h (Add to b i n) vs r q e = ap (completion over h (Add to b i n) vs) (a_word_of (word_in r) (word_in q) e)
+same_word over h (Atomic a) vs r q e = ap (refuse_or (refusal over h (Atomic a) vs)) (same_given (gives_word (access_of a.operation)) (word_in r) (word_in q) e)
 same_word over h _ vs r q e = refl
 
 none_refuses : (b : Bool) (code : Refusal) → b ≡ true → first_refusal ((b, CollectionOpen) ∷ []) ≡ Some code → ⊥
@@ -214,14 +218,15 @@ block_there : (over : Buffers) (h : History) (n : Option ℕ) → HasWords (with
 block_there over h None = tt
 block_there over h (Some n) = ap (λ b. option_map (λ r. r.words) (cond b (Some (row 0 0 n)) (row_at over (made h + 1)))) (eq-eqb (made h + 1) (made h + 1) refl)
 
--- the answer that is a word is that of its own word
-its_word : (over : Buffers) (h : History) (c : Command) (vs : List Value) (r : Answer) → Gives (number_of_word 0) ≡ r → completion over h c vs 0 ≡ Ok r → completion over h c vs (word_in r) ≡ Ok r
-its_word over h c vs r same e = ap (λ a. completion over h c vs (word_in a)) (sym same) ∙ e
+-- the answer to the word 0 is that to its own word
+given_itself : (b : Bool) (r : Answer) → word_if b 0 ≡ r → word_if b (word_in r) ≡ word_if b 0
+given_itself true r is = ap (λ a. word_if true (word_in a)) (sym is)
+given_itself false r is = refl
 
 -- what is answered where the word is 0 is answered where it is the answer's word
-its_own_word : (over : Buffers) (h : History) (c : Command) (vs : List Value) (r : Answer) → completion over h c vs 0 ≡ Ok r → completion over h c vs (word_in r) ≡ Ok r
-its_own_word over h (Load to b i) vs r e = its_word over h (Load to b i) vs r (is_result over h (Load to b i) vs 0 r e) e
-its_own_word over h (Add to b i n) vs r e = its_word over h (Add to b i n) vs r (is_result over h (Add to b i n) vs 0 r e) e
+pub its_own_word : (over : Buffers) (h : History) (c : Command) (vs : List Value) (r : Answer) → completion over h c vs 0 ≡ Ok r → completion over h c vs (word_in r) ≡ Ok r
+its_own_word over h (Atomic a) vs r e =
+    ap (refuse_or (refusal over h (Atomic a) vs)) (given_itself (gives_word (access_of a.operation)) r (is_result over h (Atomic a) vs 0 r e)) ∙ e
 its_own_word over h _ vs r e = e
 
 answered : (over : Buffers) (into : Receivers) (h : History) (c : Command) → collects c ≡ false → (o : Result Answer Refusal)

@@ -22,13 +22,13 @@ Ledger = List LedgerEvent
 abbrev pub opens : LedgerEvent → Option (ℕ × ℕ)
 opens (Opened b w s a) = Some (b, w)
 opens (Posted a r m) = None
-opens (Taken r a) = None
+opens (Taken a r) = None
 opens (Spent s) = None
 opens (Accessed s i m old) = None
 opens (Waiting a s) = None
 opens (Passed a s) = None
 opens (Ended a) = None
-opens (Drained r a) = None
+opens (Drained a r) = None
 
 -- how many blocks were made; they are numbered from 1 in order of making
 abbrev pub opened : Ledger → ℕ
@@ -54,13 +54,13 @@ ticket_in (Block b s) = 1
 abbrev pub issues : LedgerEvent → ℕ
 issues (Opened b w s a) = 1
 issues (Posted a r m) = ticket_in m
-issues (Taken r a) = 0
+issues (Taken a r) = 0
 issues (Spent s) = 0
 issues (Accessed s i m old) = 0
 issues (Waiting a s) = 0
 issues (Passed a s) = 0
 issues (Ended a) = 0
-issues (Drained r a) = 0
+issues (Drained a r) = 0
 
 -- how many tickets were made; their serials are numbered from 1 in order of making
 abbrev pub serials : Ledger → ℕ
@@ -76,13 +76,13 @@ is_at s r t u = (s == t) && (r == u)
 abbrev pub queued : LedgerEvent → ℕ → ℕ → List Body → List Body
 queued (Opened b w k a) s r before = before
 queued (Posted t u m) s r before = if is_at s r t u then before ++ m ∷ [] else before
-queued (Taken u t) s r before = if is_at s r t u then drop 1 before else before
+queued (Taken t u) s r before = if is_at s r t u then drop 1 before else before
 queued (Spent k) s r before = before
 queued (Accessed k i m old) s r before = before
 queued (Waiting a t) s r before = before
 queued (Passed a t) s r before = before
 queued (Ended a) s r before = before
-queued (Drained u t) s r before = if is_at s r t u then drop 1 before else before
+queued (Drained t u) s r before = if is_at s r t u then drop 1 before else before
 
 -- the messages from s to r that were posted and neither taken nor drained, the oldest first
 abbrev pub port_of : Ledger → ℕ → ℕ → List Body
@@ -113,13 +113,13 @@ posted_line l a r (Block b s) = held_by (Port a r) (row s b (size l b)) ∷ []
 abbrev pub table_after : Ledger → LedgerEvent → List Entry → List Entry
 table_after l (Opened b w s a) t = t ++ held_by (Agent a) (row s b w) ∷ []
 table_after l (Posted a r m) t = t ++ posted_line l a r m
-table_after l (Taken r a) t = moved_if (option_and_then serial_in (front l a r)) (Agent r) t
+table_after l (Taken a r) t = moved_if (option_and_then serial_in (front l a r)) (Agent r) t
 table_after l (Spent s) t = moved s Nobody t
 table_after l (Accessed s i m old) t = t
 table_after l (Waiting a s) t = t
 table_after l (Passed a s) t = t
 table_after l (Ended a) t = t
-table_after l (Drained r a) t = t
+table_after l (Drained a r) t = t
 
 -- a line for each ticket that was made, by rising serial
 abbrev pub table : Ledger → List Entry
@@ -163,13 +163,13 @@ written_by l s i w = option_map (λ p. (p.1.block, i, w)) (holder_of l s)
 abbrev pub writes : Ledger → LedgerEvent → Option (ℕ × ℕ × ℕ)
 writes l (Opened b w s a) = None
 writes l (Posted a r m) = None
-writes l (Taken r a) = None
+writes l (Taken a r) = None
 writes l (Spent s) = None
 writes l (Accessed s i m old) = option_and_then (written_by l s i) (written m old)
 writes l (Waiting a s) = None
 writes l (Passed a s) = None
 writes l (Ended a) = None
-writes l (Drained r a) = None
+writes l (Drained a r) = None
 
 abbrev pub newest_word : Option (ℕ × ℕ × ℕ) → ℕ → ℕ → ℕ → ℕ
 newest_word None b i before = before
@@ -186,13 +186,13 @@ word (e ∷ earlier) b i = newest_word (writes earlier e) b i (word earlier b i)
 abbrev pub awaited : LedgerEvent → ℕ → Option ℕ → Option ℕ
 awaited (Opened b w s a) c before = before
 awaited (Posted a r m) c before = before
-awaited (Taken r s) c before = if r == c then None else before
+awaited (Taken s r) c before = if r == c then None else before
 awaited (Spent s) c before = before
 awaited (Accessed s i m old) c before = before
 awaited (Waiting a s) c before = if a == c then Some s else before
 awaited (Passed a s) c before = if a == c then None else before
 awaited (Ended a) c before = before
-awaited (Drained r s) c before = before
+awaited (Drained s r) c before = before
 
 -- the sender that agent a waits for, if it waits
 abbrev pub waits : Ledger → ℕ → Option ℕ
@@ -202,13 +202,13 @@ waits (e ∷ earlier) a = awaited e a (waits earlier a)
 abbrev pub is_end_of : LedgerEvent → ℕ → Bool
 is_end_of (Opened b w s a) c = false
 is_end_of (Posted a r m) c = false
-is_end_of (Taken r s) c = false
+is_end_of (Taken s r) c = false
 is_end_of (Spent s) c = false
 is_end_of (Accessed s i m old) c = false
 is_end_of (Waiting a s) c = false
 is_end_of (Passed a s) c = false
 is_end_of (Ended a) c = a == c
-is_end_of (Drained r s) c = false
+is_end_of (Drained s r) c = false
 
 -- agent a ended
 abbrev pub ended : Ledger → ℕ → Bool

@@ -59,26 +59,26 @@ IsPostable l a (Block b s) = (s ≡ serials l + 1) × (holds_block l a b ≡ tru
 abbrev pub MayCome : ℕ → Ledger → LedgerEvent → Type 0
 MayCome n l (Opened b w s a) = (b ≡ opened l + 1) × (s ≡ serials l + 1) × (a < n)
 MayCome n l (Posted a r m) = (a < n) × (r < n) × (a ≢ r) × IsPostable l a m
-MayCome n l (Taken r s) = has_message l s r ≡ true
+MayCome n l (Taken s r) = has_message l s r ≡ true
 MayCome n l (Spent s) = is_some (holder_of l s) ≡ true
 MayCome n l (Accessed s i m old) = Reaches (holder_of l s) i (λ r. (old ≡ word l r.block i) × IsStorable m)
 MayCome n l (Waiting a s) = (a < n) × (s < n) × (a ≢ s) × (has_message l s a ≡ false) × (waits l a ≡ None) × (ended l a ≡ false)
 MayCome n l (Passed a s) = (waits l a ≡ Some s) × (skips l n a s ≡ true)
 MayCome n l (Ended a) = (a < n) × (ended l a ≡ false)
-MayCome n l (Drained r s) = (all_ended l n ≡ true) × (has_message l s r ≡ true)
+MayCome n l (Drained s r) = (all_ended l n ≡ true) × (has_message l s r ≡ true)
 
 -- the serial of the ticket that lay in the message that was drained last, and has to be spent next
 abbrev pub owed : Ledger → Option ℕ
 owed [] = None
 owed (Opened b w s a ∷ earlier) = None
 owed (Posted a r m ∷ earlier) = None
-owed (Taken r s ∷ earlier) = None
+owed (Taken s r ∷ earlier) = None
 owed (Spent s ∷ earlier) = None
 owed (Accessed s i m old ∷ earlier) = None
 owed (Waiting a s ∷ earlier) = None
 owed (Passed a s ∷ earlier) = None
 owed (Ended a ∷ earlier) = None
-owed (Drained r s ∷ earlier) = option_and_then serial_in (front earlier s r)
+owed (Drained s r ∷ earlier) = option_and_then serial_in (front earlier s r)
 
 -- where a ticket is owed, it is spent, and nothing else comes
 abbrev pub ComesNext : ℕ → Ledger → LedgerEvent → Option ℕ → Type 0

@@ -1,6 +1,5 @@
 -- To believe: the buffers of an agent (SharedArrayBuffer Objects), and how many blocks it opened and messages it posted.
-use Rattle.std.specs.Prelude.{ℕ, ℤ, pos, negsuc, ◌^◌, ◌≡◌, ◌≤◌, Bool, false, ◌==◌, List, [], ◌∷◌, Option, Some, None, nat_lt, unsigned_abs, if◌then◌else◌}
-use Rattle.std.specs.Int.{int_rem_euclid}
+use Rattle.std.specs.Prelude.{ℕ, ℤ, pos, negsuc, ◌≡◌, ◌≤◌, Bool, false, ◌==◌, List, [], ◌∷◌, Option, Some, None, nat_lt, if◌then◌else◌}
 use Rattle.std.specs.Option.{option_map_or, option_and_then}
 use Rattle.es_value.specs.declared.value.Value.{Value}
 use Rattle.es_event.specs.declared.row.Row.{Row}
@@ -35,10 +34,6 @@ block_of over v = option_map_or (λ r. r.block) (row_of over v) 0
 abbrev pub is_index : ℤ → ℕ → Bool
 is_index (pos i) words = nat_lt i words
 is_index (negsuc i) words = false
-
--- a number modulo 2^32: the word of 32 bits that is written for it (ToUint32)
-abbrev pub to_uint32 : ℤ → ℕ
-to_uint32 n = unsigned_abs (int_rem_euclid n (pos (2 ^ 32)))
 
 -- of the objects that were made so far the two tables say the same
 abbrev pub AgreeSoFar : History → Buffers → Buffers → Type 0

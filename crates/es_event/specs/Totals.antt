@@ -12,35 +12,35 @@ released l = count_by (is_released l) (range_with_len 1 (opened l))
 abbrev pub is_posted : LedgerEvent → Bool
 is_posted (Opened b w s a) = false
 is_posted (Posted a r m) = true
-is_posted (Taken r s) = false
+is_posted (Taken s r) = false
 is_posted (Spent s) = false
 is_posted (Accessed s i m old) = false
 is_posted (Waiting a s) = false
 is_posted (Passed a s) = false
 is_posted (Ended a) = false
-is_posted (Drained r s) = false
+is_posted (Drained s r) = false
 
 abbrev pub is_taken : LedgerEvent → Bool
 is_taken (Opened b w s a) = false
 is_taken (Posted a r m) = false
-is_taken (Taken r s) = true
+is_taken (Taken s r) = true
 is_taken (Spent s) = false
 is_taken (Accessed s i m old) = false
 is_taken (Waiting a s) = false
 is_taken (Passed a s) = false
 is_taken (Ended a) = false
-is_taken (Drained r s) = false
+is_taken (Drained s r) = false
 
 abbrev pub is_drained : LedgerEvent → Bool
 is_drained (Opened b w s a) = false
 is_drained (Posted a r m) = false
-is_drained (Taken r s) = false
+is_drained (Taken s r) = false
 is_drained (Spent s) = false
 is_drained (Accessed s i m old) = false
 is_drained (Waiting a s) = false
 is_drained (Passed a s) = false
 is_drained (Ended a) = false
-is_drained (Drained r s) = true
+is_drained (Drained s r) = true
 
 abbrev pub posted : Ledger → ℕ
 posted l = count_by is_posted l

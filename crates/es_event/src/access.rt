@@ -1,8 +1,7 @@
 //! What is done to a word of shared memory.
 
 ghost use Rattle.std.specs.Prelude.{◌≡◌};
-ghost use Rattle.es_event.specs.Access.{gives_word, is_same_access};
-ghost use Rattle.es_event.specs.Sharing.{to_uint32};
+ghost use Rattle.es_event.specs.Access.{gives_word, is_same_access, to_uint32};
 
 /// What is done to a word of a Shared Data Block, in one step (ECMA-262, The Atomics Object).
 #[derive(Clone, Copy, Debug)]

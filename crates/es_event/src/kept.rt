@@ -168,11 +168,21 @@ impl Kept {
         ensures values { OnOk result (values_in self.new ≡ values_in self.old) }
         ensures answer { OnOk result (answer_in self.new ≡ GivesSaid given) }
     {
-        let place = self.place();
-        let values = held(mem::replace(self, Kept::none(place)));
+        let (place, values) = self.take_held();
         let giving = Box::new(alloc, Giving { values, given })?;
         *self = Kept::MoreGave(place, giving);
         Ok(())
+    }
+
+    /// Its place, which stays, and the values that it read, which leave it.
+    fn take_held(&mut self) -> (u32, Held)
+        requires { answer_in self.old ≡ NothingSaid }
+        ensures place { (result.0 ≡ place_in self.old) × (place_in self.new ≡ place_in self.old) }
+        ensures values { values_of result.1 ≡ values_in self.old }
+    {
+        let place = self.place();
+        let values = held(mem::replace(self, Kept::none(place)));
+        (place, values)
     }
 
     /// It gave these keys. Where there is no memory, its place alone is left.
@@ -183,8 +193,7 @@ impl Kept {
         ensures values { OnOk result (values_in self.new ≡ values_in self.old) }
         ensures answer { OnOk result (answer_in self.new ≡ ListedSaid keys) }
     {
-        let place = self.place();
-        let values = held(mem::replace(self, Kept::none(place)));
+        let (place, values) = self.take_held();
         let listing = Box::new(alloc, Listing { values, keys })?;
         *self = Kept::Listed(place, listing);
         Ok(())

@@ -31,8 +31,8 @@ pub enum LedgerEvent {
     },
     /// The oldest message of a port came to its receiver, and a ticket in it with it.
     Taken {
-        receiver: usize,
         sender: usize,
+        receiver: usize,
     },
     /// A ticket was spent.
     Spent {
@@ -63,7 +63,7 @@ pub enum LedgerEvent {
     /// After the end of all agents the oldest message of a port was taken out; a ticket in it is spent
     /// next.
     Drained {
-        receiver: usize,
         sender: usize,
+        receiver: usize,
     },
 }

@@ -5,7 +5,7 @@ use Rattle.std.specs.Fmt.{digits}
 use Rattle.std.specs.Option.{option_map}
 use Rattle.es_value.specs.declared.value.Value.{Value}
 use Rattle.es_value.specs.declared.value.Value.TheVariants.{Undefined, Boolean, Number, Object, Symbol as SymbolValue}
-use Rattle.es_event.specs.declared.command.Command.TheVariants.{New, Same, Say, Set, Get, Keys, WeakRef, Deref, WeakMap, WeakMapSet, WeakMapGet, WeakMapHas, WeakSetAdd, Register, FinalizationRegistry, WeakSet, SharedArrayBuffer, Length, SameBlock, Load, Store, Add, Post}
+use Rattle.es_event.specs.declared.command.Command.TheVariants.{New, Same, Say, Set, Get, Keys, WeakRef, Deref, WeakMap, WeakMapSet, WeakMapGet, WeakMapHas, WeakSetAdd, Register, FinalizationRegistry, WeakSet, SharedArrayBuffer, Length, SameBlock, Post}
 use Rattle.es_event.specs.declared.event.Answer.TheVariants.{Nothing, Gives, Listed}
 use Rattle.es_event.specs.declared.event.Event.{Event}
 use Rattle.es_event.specs.declared.event.Event.TheVariants.{JobBegun, Received, Did, Refused, JobEnded, Closed}
@@ -21,7 +21,7 @@ use Rattle.es_event.specs.Legal.{LegalBy}
 use Rattle.es_event.specs.Follows.{FollowsWhole}
 use Rattle.es_event.specs.Runs.{IsWholeRun}
 use Rattle.es_event.specs.Report.{agent_text, line}
-use Rattle.es_event.proofs.Examples.{job_of, job_on, plan_of, plan_with, plan_waiting}
+use Rattle.es_event.proofs.Examples.{load, store, add, job_of, job_on, plan_of, plan_with, plan_waiting}
 
 -- Variables
 
@@ -70,7 +70,7 @@ abbrev pub made_buffer : List ℕ → ℕ → ℕ → Event
 made_buffer to words i = Did (SharedArrayBuffer to words, [], Gives (Object i))
 
 abbrev pub loaded : List ℕ → List ℕ → ℤ → ℕ → ℕ → Event
-loaded to from i buffer word = Did (Load to from i, Object buffer ∷ [], Gives (Number (pos word)))
+loaded to from i buffer word = Did (load to from i, Object buffer ∷ [], Gives (Number (pos word)))
 
 abbrev pub made_new : List ℕ → ℕ → Event
 made_new to i = Did (New to, [], Gives (Object i))
@@ -81,7 +81,7 @@ abbrev pub one_word : Buffers
 one_word = (1, row 1 1 1) ∷ []
 
 abbrev pub plan_words : AgentPlan
-plan_words = plan_of ((SharedArrayBuffer b 1 ∷ Store b (pos 0) (negsuc 0) ∷ Load x b (pos 0) ∷ Say x ∷ Add y b (pos 0) (pos 2) ∷ Say y ∷ Load z b (pos 0) ∷ Say z ∷ []) ∷ [])
+plan_words = plan_of ((SharedArrayBuffer b 1 ∷ store b (pos 0) (negsuc 0) ∷ load x b (pos 0) ∷ Say x ∷ add y b (pos 0) (pos 2) ∷ Say y ∷ load z b (pos 0) ∷ Say z ∷ []) ∷ [])
 
 abbrev pub into_words : Receivers
 into_words = receivers plan_words.jobs
@@ -93,7 +93,7 @@ abbrev pub made_words : History
 made_words = made_buffer b 1 1 ∷ begun_words
 
 abbrev pub stored : History
-stored = Did (Store b (pos 0) (negsuc 0), Object 1 ∷ [], Nothing) ∷ made_words
+stored = Did (store b (pos 0) (negsuc 0), Object 1 ∷ [], Nothing) ∷ made_words
 
 abbrev pub loaded_first : History
 loaded_first = loaded x b (pos 0) 1 4294967295 ∷ stored
@@ -102,7 +102,7 @@ abbrev pub said_first : History
 said_first = said x (Number (pos 4294967295)) ∷ loaded_first
 
 abbrev pub added : History
-added = Did (Add y b (pos 0) (pos 2), Object 1 ∷ [], Gives (Number (pos 4294967295))) ∷ said_first
+added = Did (add y b (pos 0) (pos 2), Object 1 ∷ [], Gives (Number (pos 4294967295))) ∷ said_first
 
 abbrev pub said_before : History
 said_before = said y (Number (pos 4294967295)) ∷ added
@@ -132,7 +132,7 @@ abbrev pub no_word : Buffers
 no_word = (1, row 1 1 0) ∷ []
 
 abbrev pub plan_empty : AgentPlan
-plan_empty = plan_of ((SharedArrayBuffer b 0 ∷ Length n b ∷ Say n ∷ Load x b (pos 0) ∷ []) ∷ [])
+plan_empty = plan_of ((SharedArrayBuffer b 0 ∷ Length n b ∷ Say n ∷ load x b (pos 0) ∷ []) ∷ [])
 
 abbrev pub into_empty : Receivers
 into_empty = receivers plan_empty.jobs
@@ -226,11 +226,11 @@ two_words = (2, row 1 1 2) ∷ []
 abbrev pub plan_refused : AgentPlan
 plan_refused =
     plan_of
-    ((New o ∷ Load x o (pos 0) ∷ [])
-    ∷ (Load x u (pos 0) ∷ [])
-    ∷ (SharedArrayBuffer b 2 ∷ Load x b (negsuc 0) ∷ [])
-    ∷ (Load x b (pos 1) ∷ Store b (pos 2) (pos 7) ∷ [])
-    ∷ (Add x b (pos 2) (pos 7) ∷ [])
+    ((New o ∷ load x o (pos 0) ∷ [])
+    ∷ (load x u (pos 0) ∷ [])
+    ∷ (SharedArrayBuffer b 2 ∷ load x b (negsuc 0) ∷ [])
+    ∷ (load x b (pos 1) ∷ store b (pos 2) (pos 7) ∷ [])
+    ∷ (add x b (pos 2) (pos 7) ∷ [])
     ∷ (Length x o ∷ [])
     ∷ (SameBlock x b o ∷ [])
     ∷ (SameBlock x o b ∷ [])
@@ -418,13 +418,13 @@ disagree agree = let words = ap (option_map (λ l. l.words)) (agree 1 (omega ari
 -- The order of the tests
 
 -- a number is no buffer, whatever the index
-buffer_comes_first : (over : Buffers) (h : History) → refusal over h (Load x n (negsuc 0)) (Number (pos 1) ∷ []) ≡ Some NotASharedArrayBuffer
+buffer_comes_first : (over : Buffers) (h : History) → refusal over h (load x n (negsuc 0)) (Number (pos 1) ∷ []) ≡ Some NotASharedArrayBuffer
 buffer_comes_first over h = refl
 
-buffer_comes_first_at_a_store : (over : Buffers) (h : History) → refusal over h (Store n (negsuc 0) (pos 1)) (Undefined ∷ []) ≡ Some NotASharedArrayBuffer
+buffer_comes_first_at_a_store : (over : Buffers) (h : History) → refusal over h (store n (negsuc 0) (pos 1)) (Undefined ∷ []) ≡ Some NotASharedArrayBuffer
 buffer_comes_first_at_a_store over h = refl
 
-buffer_comes_first_at_an_add : (over : Buffers) (h : History) → refusal over h (Add x n (negsuc 0) (pos 1)) (SymbolValue 1 ∷ []) ≡ Some NotASharedArrayBuffer
+buffer_comes_first_at_an_add : (over : Buffers) (h : History) → refusal over h (add x n (negsuc 0) (pos 1)) (SymbolValue 1 ∷ []) ≡ Some NotASharedArrayBuffer
 buffer_comes_first_at_an_add over h = refl
 
 -- The limits of blocks and messages

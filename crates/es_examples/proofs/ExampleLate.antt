@@ -22,7 +22,7 @@ use Rattle.es_event.specs.Report.{agent_text}
 use Rattle.es_event.proofs.Examples.{plan_of, plan_with, IsUnlawful, IsOutOfPlace}
 use Rattle.es_examples.proofs.ExampleCollect.{new, forget}
 use Rattle.es_event.proofs.Deciding.{dead_by, by_variable, by_registry, by_cell}
-use Rattle.es_event.proofs.DecidingLate.{late_by, other_late, by_root, by_deref, on_by_property, on_by_entry}
+use Rattle.es_examples.proofs.DecidingLate.{late_by, other_late, by_root, by_deref, on_by_property, on_by_entry}
 
 -- the event by which a later collection is opened
 abbrev pub opening : Event

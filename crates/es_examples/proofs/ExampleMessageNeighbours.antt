@@ -5,7 +5,7 @@ use Rattle.std.specs.List.{list_all}
 use Rattle.std.proofs.lemmas.Bool.{false≢true}
 use Rattle.es_value.specs.declared.value.Value.{Value}
 use Rattle.es_value.specs.declared.value.Value.TheVariants.{Undefined, Boolean, Number, Text, Object, Symbol as SymbolValue}
-use Rattle.es_event.specs.declared.command.Command.TheVariants.{Get, WeakRef, Deref, WeakMapGet, WeakSetAdd, Register, SharedArrayBuffer, Length, SameBlock, Load, Store, Add, Post}
+use Rattle.es_event.specs.declared.command.Command.TheVariants.{Get, WeakRef, Deref, WeakMapGet, WeakSetAdd, Register, SharedArrayBuffer, Length, SameBlock, Post}
 use Rattle.es_event.specs.declared.event.Answer.{Answer}
 use Rattle.es_event.specs.declared.event.Answer.TheVariants.{Nothing, Gives}
 use Rattle.es_event.specs.declared.event.Event.TheVariants.{JobBegun, CleanupBegun, Received, Did, Refused, Emptied, JobEnded, Skipped, Closed}
@@ -22,7 +22,7 @@ use Rattle.es_event.specs.Legal.{Lawful}
 use Rattle.es_event.specs.Live.{Oblivious, observes, Honest}
 use Rattle.es_event.specs.Order.{phase, between, handed, receive, close, due, left, queue, is_cleaning_up}
 use Rattle.es_event.specs.Runs.{ComesNext, a_word, silence, heard}
-use Rattle.es_event.proofs.Examples.{plan_with, IsUnlawful, IsOutOfPlace, IsUnlawfulOver, IsOutOfPlaceOver}
+use Rattle.es_event.proofs.Examples.{load, store, add, plan_with, IsUnlawful, IsOutOfPlace, IsUnlawfulOver, IsOutOfPlaceOver}
 use Rattle.es_examples.proofs.ExampleDeref as Deref
 use Rattle.es_examples.proofs.ExampleBuffers as Buffers
 use Rattle.es_examples.proofs.ExampleBuffers.{b, m, n, o, p, s, u, w, x, y, said, made_buffer, made_new, loaded}
@@ -41,7 +41,7 @@ word_too_big : IsUnlawfulOver Buffers.one_word Buffers.plan_words Buffers.stored
 word_too_big l = false≢true (ap (gave 4294967296) l.1)
 
 -- so does an add
-added_word_too_big : IsUnlawfulOver Buffers.one_word Buffers.plan_words Buffers.said_first (Did (Add y b (pos 0) (pos 2), Object 1 ∷ [], Gives (Number (pos 4294967297))))
+added_word_too_big : IsUnlawfulOver Buffers.one_word Buffers.plan_words Buffers.said_first (Did (add y b (pos 0) (pos 2), Object 1 ∷ [], Gives (Number (pos 4294967297))))
 added_word_too_big l = false≢true (ap (gave 4294967297) l.1)
 
 -- the greatest word is read
@@ -49,30 +49,30 @@ greatest_word : Lawful Buffers.one_word Buffers.into_words Buffers.stored (loade
 greatest_word = search rules
 
 -- a load gives a number below 0
-word_below_zero : IsUnlawfulOver Buffers.one_word Buffers.plan_words Buffers.stored (Did (Load x b (pos 0), Object 1 ∷ [], Gives (Number (negsuc 0))))
+word_below_zero : IsUnlawfulOver Buffers.one_word Buffers.plan_words Buffers.stored (Did (load x b (pos 0), Object 1 ∷ [], Gives (Number (negsuc 0))))
 word_below_zero l = cc
 
 -- so does an add
-added_word_below_zero : IsUnlawfulOver Buffers.one_word Buffers.plan_words Buffers.said_first (Did (Add y b (pos 0) (pos 2), Object 1 ∷ [], Gives (Number (negsuc 0))))
+added_word_below_zero : IsUnlawfulOver Buffers.one_word Buffers.plan_words Buffers.said_first (Did (add y b (pos 0) (pos 2), Object 1 ∷ [], Gives (Number (negsuc 0))))
 added_word_below_zero l = cc
 
 -- a load gives undefined
-word_undefined : IsUnlawfulOver Buffers.one_word Buffers.plan_words Buffers.stored (Did (Load x b (pos 0), Object 1 ∷ [], Gives Undefined))
+word_undefined : IsUnlawfulOver Buffers.one_word Buffers.plan_words Buffers.stored (Did (load x b (pos 0), Object 1 ∷ [], Gives Undefined))
 word_undefined l = cc
 
 -- or nothing
-word_missing : IsUnlawfulOver Buffers.one_word Buffers.plan_words Buffers.stored (Did (Load x b (pos 0), Object 1 ∷ [], Nothing))
+word_missing : IsUnlawfulOver Buffers.one_word Buffers.plan_words Buffers.stored (Did (load x b (pos 0), Object 1 ∷ [], Nothing))
 word_missing l = cc
 
 -- a store gives the number that it wrote
-store_gives : IsUnlawfulOver Buffers.one_word Buffers.plan_words Buffers.made_words (Did (Store b (pos 0) (negsuc 0), Object 1 ∷ [], Gives (Number (negsuc 0))))
+store_gives : IsUnlawfulOver Buffers.one_word Buffers.plan_words Buffers.made_words (Did (store b (pos 0) (negsuc 0), Object 1 ∷ [], Gives (Number (negsuc 0))))
 store_gives l = cc
 
 -- a word is read at an index that the block does not have
 load_past_the_end : IsUnlawfulOver Buffers.no_word Buffers.plan_empty Buffers.said_length (loaded x b (pos 0) 1 0)
 load_past_the_end l = cc
 
-store_past_the_end : IsUnlawfulOver Buffers.two_words Buffers.plan_refused Buffers.loaded_last (Did (Store b (pos 2) (pos 7), Object 2 ∷ [], Nothing))
+store_past_the_end : IsUnlawfulOver Buffers.two_words Buffers.plan_refused Buffers.loaded_last (Did (store b (pos 2) (pos 7), Object 2 ∷ [], Nothing))
 store_past_the_end l = cc
 
 load_below_zero : IsUnlawfulOver Buffers.two_words Buffers.plan_refused Buffers.made_second (loaded x b (negsuc 0) 2 0)
@@ -104,11 +104,11 @@ heard_apart e = cc
 what_a_load_hears : heard (loaded x b (pos 0) 1 7) ≡ a_word 7
 what_a_load_hears = refl
 
-what_an_add_hears : heard (Did (Add y b (pos 0) (pos 2), Object 1 ∷ [], Gives (Number (pos 7)))) ≡ a_word 7
+what_an_add_hears : heard (Did (add y b (pos 0) (pos 2), Object 1 ∷ [], Gives (Number (pos 7)))) ≡ a_word 7
 what_an_add_hears = refl
 
 -- a store, a length and a post hear nothing
-store_hears_nothing : heard (Did (Store b (pos 0) (pos 7), Object 1 ∷ [], Nothing)) ≡ silence
+store_hears_nothing : heard (Did (store b (pos 0) (pos 7), Object 1 ∷ [], Nothing)) ≡ silence
 store_hears_nothing = refl
 
 length_hears_nothing : heard (Did (Length n b, Object 1 ∷ [], Gives (Number (pos 7)))) ≡ silence
@@ -146,7 +146,7 @@ messages_are_heard : stays_alone Messages.plan_number ≡ false
 messages_are_heard = refl
 
 -- each of the seven commands, in a job or in a callback
-each_is_shared : list_all is_shared (SharedArrayBuffer b 1 ∷ Length n b ∷ SameBlock x b b ∷ Load x b (pos 0) ∷ Store b (pos 0) (pos 1) ∷ Add x b (pos 0) (pos 1) ∷ Post 1 n ∷ []) ≡ true
+each_is_shared : list_all is_shared (SharedArrayBuffer b 1 ∷ Length n b ∷ SameBlock x b b ∷ load x b (pos 0) ∷ store b (pos 0) (pos 1) ∷ add x b (pos 0) (pos 1) ∷ Post 1 n ∷ []) ≡ true
 each_is_shared = refl
 
 callbacks_are_asked : stays_alone (plan_with (Post 1 n ∷ []) ([] ∷ [])) ≡ false

@@ -34,16 +34,16 @@ pub drained_plain_ties : {L : Type 0} (n : ℕ) (l : Ledger) (lines : List Entry
     → Ties n l lines blocks ends ws qs messages places → s < n → r < n → all_ended l n ≡ true
     → length queues ≡ length qs → letters_at qs s r ≡ Plain v ∷ letters_at queues s r → ((t u : ℕ) → u < 8 → (t ≡ s → u ≡ r → ⊥) → letters_at queues t u ≡ letters_at qs t u)
     → messages ≡ 1 + number → places ≤ more + 1
-    → Ties n (Drained r s ∷ l) lines blocks ends ws queues number more
+    → Ties n (Drained s r ∷ l) lines blocks ends ws queues number more
 drained_plain_ties n l lines blocks ends ws qs queues messages number places more s r v ties sender receiver over columns here others one last =
     let few = ties.few in
     let column : r < 8 = omega (arith, few, receiver) in
     let at_front = front_is n l ws qs s r (Plain v) (letters_at queues s r) ties.mail sender column here in
-    let waits = waiting_same l (Drained r s) n (λ a. refl) in
+    let waits = waiting_same l (Drained s r) n (λ a. refl) in
     let room = ties.room in
-    still_ties n l lines lines blocks ends ws ws qs queues messages number places more (Drained r s) ties (over, ap is_some at_front) (ap (option_and_then serial_in) at_front)
+    still_ties n l lines lines blocks ends ws ws qs queues messages number places more (Drained s r) ties (over, ap is_some at_front) (ap (option_and_then serial_in) at_front)
     ties.tabled (zero-add (opened l)) (λ b. refl) (λ b. refl) (λ b. refl) (λ b i. refl)
-    (mail_popped n l ws ws qs queues s r (Plain v) (Drained r s) ties.mail columns here others (λ t u. refl) refl ties.mail.awaited (λ c t within is. is))
+    (mail_popped n l ws ws qs queues s r (Plain v) (Drained s r) ties.mail columns here others (λ t u. refl) refl ties.mail.awaited (λ c t within is. is))
     (omega (arith, waits, room, one, last))
 
 -- its ticket is still there, and there is room for its spending
@@ -70,7 +70,7 @@ pub drained_block_ties : {L : Type 0} (n : ℕ) (l : Ledger) (lines : List Entry
     → Ties n l lines blocks ends ws qs messages places → s < n → r < n → all_ended l n ≡ true
     → length queues ≡ length qs → letters_at qs s r ≡ Block x ∷ letters_at queues s r → ((t u : ℕ) → u < 8 → (t ≡ s → u ≡ r → ⊥) → letters_at queues t u ≡ letters_at qs t u)
     → messages ≡ 1 + number → places ≤ middle + 1 → middle ≤ more + 1
-    → Ties n (Spent x.serial ∷ Drained r s ∷ l) (moved x.serial Nobody lines) (lost blocks x.block) ends ws queues number more
+    → Ties n (Spent x.serial ∷ Drained s r ∷ l) (moved x.serial Nobody lines) (lost blocks x.block) ends ws queues number more
 drained_block_ties n l lines blocks ends ws qs queues messages number places middle more s r x ties sender receiver over columns here others one last later =
     let few = ties.few in
     let column : r < 8 = omega (arith, few, receiver) in
@@ -78,18 +78,18 @@ drained_block_ties n l lines blocks ends ws qs queues messages number places mid
     let line = ticket_line n l ws qs s r x (letters_at queues s r) ties.legal.0 ties.mail sender column here in
     let counts = drained_count n l s r x ties.legal.0 line in
     let some : 0 < count l x.block = some_here _ (counts x.block) in
-    let owes : owed (Drained r s ∷ l) ≡ Some x.serial = ap (option_and_then serial_in) at_front in
+    let owes : owed (Drained s r ∷ l) ≡ Some x.serial = ap (option_and_then serial_in) at_front in
     let fewer = drained_length n l s r x ties.legal.0 line in
-    let left_one = left_same (Drained r s) l n (λ c. refl) in
-    let left_two = left_same (Spent x.serial) (Drained r s ∷ l) n (λ c. refl) in
-    let waits_one = waiting_same l (Drained r s) n (λ c. refl) in
-    let waits_two = waiting_same (Drained r s ∷ l) (Spent x.serial) n (λ c. refl) in
+    let left_one = left_same (Drained s r) l n (λ c. refl) in
+    let left_two = left_same (Spent x.serial) (Drained s r ∷ l) n (λ c. refl) in
+    let waits_one = waiting_same l (Drained s r) n (λ c. refl) in
+    let waits_two = waiting_same (Drained s r ∷ l) (Spent x.serial) n (λ c. refl) in
     let room = ties.room in
-    less_ties n l (Spent x.serial ∷ Drained r s ∷ l) lines (moved x.serial Nobody lines) blocks ends ws qs queues messages number places more x.block ties some counts
-    ((subst (ComesNext n (Drained r s ∷ l) (Spent x.serial)) (sym owes) refl, (subst (ComesNext n l (Drained r s)) (sym ties.legal.1) (over, ap is_some at_front), ties.legal.0)), refl)
+    less_ties n l (Spent x.serial ∷ Drained s r ∷ l) lines (moved x.serial Nobody lines) blocks ends ws qs queues messages number places more x.block ties some counts
+    ((subst (ComesNext n (Drained s r ∷ l) (Spent x.serial)) (sym owes) refl, (subst (ComesNext n l (Drained s r)) (sym ties.legal.1) (over, ap is_some at_front), ties.legal.0)), refl)
     (ap (moved x.serial Nobody) ties.tabled) (zero-add (0 + opened l) ∙ zero-add (opened l)) (λ c. refl) (λ c i. refl) (λ c. refl)
-    (mail_same n (Drained r s ∷ l) ws queues (Spent x.serial)
-    (mail_popped n l ws ws qs queues s r (Block x) (Drained r s) ties.mail columns here others (λ t u. refl) refl ties.mail.awaited (λ c t within is. is)) (λ t u. refl) (λ c. refl))
+    (mail_same n (Drained s r ∷ l) ws queues (Spent x.serial)
+    (mail_popped n l ws ws qs queues s r (Block x) (Drained s r) ties.mail columns here others (λ t u. refl) refl ties.mail.awaited (λ c t within is. is)) (λ t u. refl) (λ c. refl))
     (omega (arith, fewer, left_one, left_two, waits_one, waits_two, room, one, last, later))
   where
     some_here : (m : ℕ) → count l x.block ≡ cond (x.block == x.block) 1 0 + m → 0 < count l x.block
@@ -207,8 +207,8 @@ beyond n l (Posted t u m) None s r c out none = by_test (is_at s r t u) refl
         let parts = and_parts (s == t) (r == u) at in
         absurd (out (subst (λ a. a < n) (sym (eqb-true s t parts.0)) c.0) (subst (λ a. a < n) (sym (eqb-true r u parts.1)) c.1))
     by_test false off = none
-beyond n l (Taken u t) None s r c out none = still_none (is_at s r t u) (port_of l s r) none
-beyond n l (Drained u t) None s r c out none = still_none (is_at s r t u) (port_of l s r) none
+beyond n l (Taken t u) None s r c out none = still_none (is_at s r t u) (port_of l s r) none
+beyond n l (Drained t u) None s r c out none = still_none (is_at s r t u) (port_of l s r) none
 beyond n l _ None s r c out none = none
 
 pub none_beyond : (n : ℕ) (l : Ledger) (s r : ℕ) → LegalSoFar n l → (s < n → r < n → ⊥) → port_of l s r ≡ []

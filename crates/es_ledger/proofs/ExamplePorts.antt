@@ -21,7 +21,7 @@ abbrev pub sender_ended : Ledger
 sender_ended = Ended 0 ∷ Spent 1 ∷ posted
 
 abbrev pub taken : Ledger
-taken = Taken 1 0 ∷ sender_ended
+taken = Taken 0 1 ∷ sender_ended
 
 abbrev pub all_ended : Ledger
 all_ended = Ended 1 ∷ Spent 2 ∷ Accessed 2 3 loads 7 ∷ taken
@@ -56,7 +56,7 @@ abbrev pub both_ended : Ledger
 both_ended = Ended 1 ∷ Ended 0 ∷ Spent 1 ∷ Posted 0 1 (Block 1 2) ∷ Opened 1 4 1 0 ∷ []
 
 abbrev pub drained : Ledger
-drained = Drained 1 0 ∷ both_ended
+drained = Drained 0 1 ∷ both_ended
 
 pub legal_drained : LegalLedger 2 (Spent 2 ∷ drained)
 legal_drained = search rules
@@ -73,7 +73,7 @@ abbrev pub passed : Ledger
 passed = Passed 0 1 ∷ waiting
 
 abbrev pub served : Ledger
-served = Taken 1 0 ∷ Posted 0 1 (Plain (Number (pos 1))) ∷ passed
+served = Taken 0 1 ∷ Posted 0 1 (Plain (Number (pos 1))) ∷ passed
 
 pub legal_passed : LegalLedger 2 (Ended 1 ∷ Ended 0 ∷ served)
 legal_passed = search rules
@@ -86,7 +86,7 @@ two_posted = Posted 0 1 (Plain (Number (pos 2))) ∷ Posted 0 1 (Plain (Number (
 pub in_order : port_of two_posted 0 1 ≡ Plain (Number (pos 1)) ∷ Plain (Number (pos 2)) ∷ []
 in_order = refl
 
-pub second_is_left : port_of (Taken 1 0 ∷ two_posted) 0 1 ≡ Plain (Number (pos 2)) ∷ []
+pub second_is_left : port_of (Taken 0 1 ∷ two_posted) 0 1 ≡ Plain (Number (pos 2)) ∷ []
 second_is_left = refl
 
 -- Wrong neighbours
@@ -112,10 +112,10 @@ writes_through_a_message : MayCome 2 posted (Accessed 2 0 (stores 1) 0) → ⊥
 writes_through_a_message m = m
 
 -- a message is taken from an empty port, or twice
-takes_nothing : MayCome 2 stored (Taken 1 0) → ⊥
+takes_nothing : MayCome 2 stored (Taken 0 1) → ⊥
 takes_nothing m = cc
 
-takes_twice : MayCome 2 taken (Taken 1 0) → ⊥
+takes_twice : MayCome 2 taken (Taken 0 1) → ⊥
 takes_twice m = cc
 
 -- an agent waits at a full port, twice, or after its end
@@ -153,13 +153,13 @@ pub passes_after_an_end : MayCome 2 (Waiting 1 0 ∷ Ended 0 ∷ []) (Passed 1 0
 passes_after_an_end = (refl, refl)
 
 -- a port is drained before all have ended, or when it is empty
-drains_too_early : MayCome 2 sender_ended (Drained 1 0) → ⊥
+drains_too_early : MayCome 2 sender_ended (Drained 0 1) → ⊥
 drains_too_early m = cc
 
-drains_nothing : MayCome 2 both_ended (Drained 0 1) → ⊥
+drains_nothing : MayCome 2 both_ended (Drained 1 0) → ⊥
 drains_nothing m = cc
 
-drains_twice : MayCome 2 (Spent 2 ∷ drained) (Drained 1 0) → ⊥
+drains_twice : MayCome 2 (Spent 2 ∷ drained) (Drained 0 1) → ⊥
 drains_twice m = cc
 
 -- the drained message's ticket is left, or another one is spent

@@ -32,8 +32,8 @@ got_if false p g q is = same p g q is
 
 next : (l : Ledger) (e : LedgerEvent) (s r : ℕ) → posted l s r ≡ given l s r ++ port_of l s r → posted (e ∷ l) s r ≡ given (e ∷ l) s r ++ port_of (e ∷ l) s r
 next l (Posted t u m) s r is = put_if (is_at s r t u) (posted l s r) (given l s r) (port_of l s r) (m ∷ []) is
-next l (Taken u t) s r is = got_if (is_at s r t u) (posted l s r) (given l s r) (port_of l s r) is
-next l (Drained u t) s r is = got_if (is_at s r t u) (posted l s r) (given l s r) (port_of l s r) is
+next l (Taken t u) s r is = got_if (is_at s r t u) (posted l s r) (given l s r) (port_of l s r) is
+next l (Drained t u) s r is = got_if (is_at s r t u) (posted l s r) (given l s r) (port_of l s r) is
 next l _ s r is = same (posted l s r) (given l s r) (port_of l s r) is
 
 pub in_order : (l : Ledger) (s r : ℕ) → posted l s r ≡ given l s r ++ port_of l s r

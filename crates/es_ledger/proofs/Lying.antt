@@ -128,12 +128,12 @@ one_more n l (Posted a u m) None owes c is lying = record {
   apart = λ s r. either AreApart (is_at s r a u) _ _ (λ at. apart_more (port_of l s r) m (lying.apart s r) (alone_posted l a s r m is c.3 lying)) (λ off. lying.apart s r);
   out = λ j e. cc;
 }
-one_more n l (Taken u t) None owes c is lying = record {
+one_more n l (Taken t u) None owes c is lying = record {
   lie = lie_taken l t u (option_and_then serial_in (front l t u)) lying refl;
   apart = λ s r. apart_after (is_at s r t u) (port_of l s r) (lying.apart s r);
   out = λ j e. cc;
 }
-one_more n l (Drained u t) None owes c is lying = record {
+one_more n l (Drained t u) None owes c is lying = record {
   lie = λ s r. lie_after (Port s r) (table l) (is_at s r t u) (port_of l s r) (lying.lie s r);
   apart = λ s r. apart_after (is_at s r t u) (port_of l s r) (lying.apart s r);
   out = λ j e. out_after l t u j lying e;

@@ -98,7 +98,7 @@ made_next n l (Opened b w k a) None c each =
     let new : w ≡ cond (b == b) w (size l b) = sym (ap (λ p. cond p w (size l b)) (eq-eqb b b refl)) in
     each_more (IsMade (Opened b w k a ∷ l)) (table l) _ (each_weaker (IsMade l) _ (table l) (still_made l b w k a c.0) each) ((omega (arith, c.0), omega (arith, c.0), new), tt)
 made_next n l (Posted a r m) None c each = each_same l _ (each_more (IsMade l) (table l) _ each (made_posted l a r m c.3 each))
-made_next n l (Taken r s) None c each = each_same l _ (each_moved_if (IsMade l) (option_and_then serial_in (front l s r)) (Agent r) (table l) each)
+made_next n l (Taken s r) None c each = each_same l _ (each_moved_if (IsMade l) (option_and_then serial_in (front l s r)) (Agent r) (table l) each)
 made_next n l (Spent k) None c each = each_same l _ (each_moved (IsMade l) k Nobody (table l) each)
 made_next n l _ None c each = each_same l _ each
 

@@ -73,7 +73,7 @@ module _ {L : Type 0} where
   pub all_after : (l : Ledger) (e : LedgerEvent) (q : List (Letter L)) → AreNamed (table l) q → AreNamed (table (e ∷ l)) q
   all_after l (Opened b w k a) q are = all_append (table l) _ q are
   all_after l (Posted a r m) q are = all_append (table l) _ q are
-  all_after l (Taken r s) q are = all_moved_if (option_and_then serial_in (front l s r)) (Agent r) (table l) q are
+  all_after l (Taken s r) q are = all_moved_if (option_and_then serial_in (front l s r)) (Agent r) (table l) q are
   all_after l (Spent k) q are = all_moved k Nobody (table l) q are
   all_after l _ q are = are
 

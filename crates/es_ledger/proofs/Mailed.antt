@@ -141,11 +141,11 @@ mailed_next n l (Opened b w i a) None owes c mail = λ k s r at.
 mailed_next n l (Posted t u m) None owes c mail = λ k s r at.
     inl (⊎_elim (λ old. among_posted (is_at s r t u) k (port_of l s r) m (among l k s r owes mail old)) (λ new. new_posted l t u m k s r new)
     (old_or_new k (Port s r) (table l) (posted_line l t u m) at))
-mailed_next n l (Taken u t) None owes c mail = λ k s r at.
+mailed_next n l (Taken t u) None owes c mail = λ k s r at.
     let still = still_in_port (option_and_then serial_in (front l t u)) u k s r (table l) at in
     inl (⊎_elim (λ e. e) (λ first. absurd (still.0 first)) (among_left l t u k s r (among l k s r owes mail still.1)))
 mailed_next n l (Spent k) None owes c mail = mailed_spent l k (λ j other owes_j. let none : None ≡ Some j = sym owes ∙ owes_j in cc) mail
-mailed_next n l (Drained u t) None owes c mail = λ k s r at. among_left l t u k s r (among l k s r owes mail at)
+mailed_next n l (Drained t u) None owes c mail = λ k s r at. among_left l t u k s r (among l k s r owes mail at)
 mailed_next n l _ None owes c mail = λ k s r at. inl (among l k s r owes mail at)
 
 pub mailed : (n : ℕ) (l : Ledger) → LegalSoFar n l → (k s r : ℕ) → holder_at k (table l) ≡ Some (Port s r) → (is_among k (port_of l s r) ≡ true) ⊎ (owed l ≡ Some k)

@@ -60,7 +60,7 @@ number_next n l (Posted a r (Plain v)) None c is = same_number l _ (ap serials_o
     append_nil [] = refl
     append_nil (e ∷ es) = ap (λ l. e ∷ l) (append_nil es)
 number_next n l (Posted a r (Block b k)) None c is = next_number l _ c.3.0 is
-number_next n l (Taken r s) None c is = same_number l _ (serials_moved_if (option_and_then serial_in (front l s r)) (Agent r) (table l)) is
+number_next n l (Taken s r) None c is = same_number l _ (serials_moved_if (option_and_then serial_in (front l s r)) (Agent r) (table l)) is
 number_next n l (Spent k) None c is = same_number l _ (serials_moved k _ (table l)) is
 number_next n l _ None c is = same_number l _ refl is
 

@@ -35,8 +35,8 @@ postable l a (Block b k) may = tt
 next : (n : ℕ) (l : Ledger) (e : LedgerEvent) (o : Option ℕ) → ComesNext n l e o → (s r : ℕ) → ArePlain (port_of l s r) → ArePlain (port_of (e ∷ l) s r)
 next n l e (Some k) c s r are = subst (λ e. ArePlain (port_of (e ∷ l) s r)) (sym c) are
 next n l (Posted t u m) None c s r are = if_at (is_at s r t u) _ _ (plain_last (port_of l s r) m are (postable l t m c.3)) are
-next n l (Taken u t) None c s r are = if_at (is_at s r t u) _ _ (plain_dropped (port_of l s r) are) are
-next n l (Drained u t) None c s r are = if_at (is_at s r t u) _ _ (plain_dropped (port_of l s r) are) are
+next n l (Taken t u) None c s r are = if_at (is_at s r t u) _ _ (plain_dropped (port_of l s r) are) are
+next n l (Drained t u) None c s r are = if_at (is_at s r t u) _ _ (plain_dropped (port_of l s r) are) are
 next n l _ None c s r are = are
 
 pub all_plain : (n : ℕ) (l : Ledger) → LegalSoFar n l → (s r : ℕ) → ArePlain (port_of l s r)

@@ -207,20 +207,20 @@ pub taken_ties : {L : Type 0} (n : ℕ) (l : Ledger) (lines : List Entry) (block
     → Ties n l lines blocks ends ws qs messages places → s < n → r < n
     → length queues ≡ length qs → letters_at qs s r ≡ x ∷ letters_at queues s r → ((t u : ℕ) → u < 8 → (t ≡ s → u ≡ r → ⊥) → letters_at queues t u ≡ letters_at qs t u)
     → messages ≡ 1 + number → places ≤ more + 1
-    → Ties n (Taken r s ∷ l) (moved_if (serial_in (body_of x)) (Agent r) lines) blocks ends (slice_set ws r None) queues number more
+    → Ties n (Taken s r ∷ l) (moved_if (serial_in (body_of x)) (Agent r) lines) blocks ends (slice_set ws r None) queues number more
 taken_ties n l lines blocks ends ws qs queues messages number places more s r x ties sender receiver columns here others one last =
     let few = ties.few in
     let column : r < 8 = omega (arith, few, receiver) in
     let at_front = front_is n l ws qs s r x (letters_at queues s r) ties.mail sender column here in
     let tickets = taken_tickets n l ws qs s r x (letters_at queues s r) ties.legal.0 ties.mail sender column here in
-    let moves : moved_if (serial_in (body_of x)) (Agent r) (table l) ≡ table (Taken r s ∷ l) = ap (λ o. moved_if (option_and_then serial_in o) (Agent r) (table l)) (sym at_front) in
-    let all : unspent (table (Taken r s ∷ l)) ≡ unspent (table l) = ap unspent (sym moves) ∙ tickets in
-    let long : length (rows (Taken r s ∷ l)) ≡ length (rows l) = ap (λ rs. length rs) all in
-    let waits = waiting_one l (Taken r s) n r None receiver (λ c. refl) in
+    let moves : moved_if (serial_in (body_of x)) (Agent r) (table l) ≡ table (Taken s r ∷ l) = ap (λ o. moved_if (option_and_then serial_in o) (Agent r) (table l)) (sym at_front) in
+    let all : unspent (table (Taken s r ∷ l)) ≡ unspent (table l) = ap unspent (sym moves) ∙ tickets in
+    let long : length (rows (Taken s r ∷ l)) ≡ length (rows l) = ap (λ rs. length rs) all in
+    let waits = waiting_one l (Taken s r) n r None receiver (λ c. refl) in
     let room = ties.room in
-    still_ties n l lines (moved_if (serial_in (body_of x)) (Agent r) lines) blocks ends ws (slice_set ws r None) qs queues messages number places more (Taken r s) ties (ap is_some at_front) refl
+    still_ties n l lines (moved_if (serial_in (body_of x)) (Agent r) lines) blocks ends ws (slice_set ws r None) qs queues messages number places more (Taken s r) ties (ap is_some at_front) refl
     (ap (moved_if (serial_in (body_of x)) (Agent r)) ties.tabled ∙ moves) (zero-add (opened l)) (λ b. refl) (λ b. refl) (λ b. ap (λ rs. count_of rs b) all) (λ b i. refl)
-    (mail_popped n l ws (slice_set ws r None) qs queues s r x (Taken r s) ties.mail columns here others (λ t u. refl) (length-set ws r None)
+    (mail_popped n l ws (slice_set ws r None) qs queues s r x (Taken s r) ties.mail columns here others (λ t u. refl) (length-set ws r None)
     (λ c within. set_wait l ws r None c n ties.mail.agents receiver (ties.mail.awaited c within) (r == c) refl)
     (λ c t within is. still c t (r == c) is))
     (omega (arith, long, waits, room, one, last))

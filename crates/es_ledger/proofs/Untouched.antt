@@ -48,6 +48,6 @@ held_spent a l k (Some x) is line other =
 pub untouched : (n : ℕ) (l : Ledger) (e : LedgerEvent) (a : ℕ) → LegalSoFar n (e ∷ l) → (owner l e ≡ Some a → ⊥) → held a (table (e ∷ l)) ≡ held a (table l)
 untouched n l (Opened b w k c) a legal other = held_more a (table l) _ (not_agent a c other)
 untouched n l (Posted s r m) a legal other = held_posted a l s r m
-untouched n l (Taken r s) a legal other = held_taken a l s r (option_and_then serial_in (front l s r)) (numbered n l legal.1) (lying_all n l legal.1) other refl
+untouched n l (Taken s r) a legal other = held_taken a l s r (option_and_then serial_in (front l s r)) (numbered n l legal.1) (lying_all n l legal.1) other refl
 untouched n l (Spent k) a legal other = held_spent a l k (line_of k (table l)) (numbered n l legal.1) refl other
 untouched n l _ a legal other = refl

@@ -58,7 +58,7 @@ within_next : (n : ℕ) (l : Ledger) (e : LedgerEvent) (o : Option ℕ) → Come
 within_next n l e (Some k) c lying all = subst (λ e. AllWithin n (table (e ∷ l))) (sym c) (within_moved n k Nobody (table l) tt all)
 within_next n l (Opened b w k a) None c lying all = within_more n (table l) _ all (c.2, tt)
 within_next n l (Posted a r m) None c lying all = within_more n (table l) _ all (within_posted n l a r m c.0 c.1)
-within_next n l (Taken r s) None c lying all = within_taken n l s r (option_and_then serial_in (front l s r)) lying refl all
+within_next n l (Taken s r) None c lying all = within_taken n l s r (option_and_then serial_in (front l s r)) lying refl all
 within_next n l (Spent k) None c lying all = within_moved n k Nobody (table l) tt all
 within_next n l _ None c lying all = all
 

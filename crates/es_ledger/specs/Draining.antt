@@ -7,8 +7,8 @@ use Rattle.es_event.specs.Ledger.{Ledger, port_of}
 
 -- one message is taken out, and a ticket in it is spent next
 abbrev pub drained_one : Ledger → ℕ → ℕ → Body → Ledger
-drained_one l s r (Plain v) = Drained r s ∷ l
-drained_one l s r (Block b k) = Spent k ∷ Drained r s ∷ l
+drained_one l s r (Plain v) = Drained s r ∷ l
+drained_one l s r (Block b k) = Spent k ∷ Drained s r ∷ l
 
 -- these messages of the port of s and r, in order
 abbrev pub drained_each : Ledger → ℕ → ℕ → List Body → Ledger

@@ -34,13 +34,13 @@ ReleasedWhereNobodyHolds =
 abbrev pub owner : Ledger → LedgerEvent → Option ℕ
 owner l (Opened b w s a) = Some a
 owner l (Posted a r m) = None
-owner l (Taken r s) = Some r
+owner l (Taken s r) = Some r
 owner l (Spent s) = option_map (λ p. p.0) (holder_of l s)
 owner l (Accessed s i m old) = None
 owner l (Waiting a s) = None
 owner l (Passed a s) = None
 owner l (Ended a) = None
-owner l (Drained r s) = None
+owner l (Drained s r) = None
 
 -- What one agent does changes no other agent's list of tickets.
 abbrev pub WhatOneAgentDoesChangesNoOther : Type 0
@@ -52,13 +52,13 @@ WhatOneAgentDoesChangesNoOther =
 abbrev pub posts : LedgerEvent → ℕ → ℕ → List Body
 posts (Opened b w k a) s r = []
 posts (Posted t u m) s r = if is_at s r t u then m ∷ [] else []
-posts (Taken u t) s r = []
+posts (Taken t u) s r = []
 posts (Spent k) s r = []
 posts (Accessed k i m old) s r = []
 posts (Waiting a t) s r = []
 posts (Passed a t) s r = []
 posts (Ended a) s r = []
-posts (Drained u t) s r = []
+posts (Drained t u) s r = []
 
 -- all that s posted to r, the oldest first
 abbrev pub posted : Ledger → ℕ → ℕ → List Body
@@ -69,13 +69,13 @@ posted (e ∷ earlier) s r = posted earlier s r ++ posts e s r
 abbrev pub gives : Ledger → LedgerEvent → ℕ → ℕ → List Body
 gives l (Opened b w k a) s r = []
 gives l (Posted t u m) s r = []
-gives l (Taken u t) s r = if is_at s r t u then option_to_list (front l s r) else []
+gives l (Taken t u) s r = if is_at s r t u then option_to_list (front l s r) else []
 gives l (Spent k) s r = []
 gives l (Accessed k i m old) s r = []
 gives l (Waiting a t) s r = []
 gives l (Passed a t) s r = []
 gives l (Ended a) s r = []
-gives l (Drained u t) s r = if is_at s r t u then option_to_list (front l s r) else []
+gives l (Drained t u) s r = if is_at s r t u then option_to_list (front l s r) else []
 
 -- all that the port of s and r gave, the oldest first
 abbrev pub given : Ledger → ℕ → ℕ → List Body

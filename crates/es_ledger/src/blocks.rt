@@ -129,13 +129,21 @@ fn access_word(words: &mut Block, index: usize, access: Access) -> u32
     ensures now { words.new ≡ words_written words.old index (written access (word words.old index)) }
     ensures fits { IsStorable access }
 {
+    let old = words.load(index);
+    if let Some(word) = written(access, old) {
+        words.store(index, word);
+    }
+    old
+}
+
+/// The word that is written over the old one, if one is; a sum is taken modulo 2^32.
+fn written(access: Access, old: u32) -> Option<u32>
+    ensures written { result ≡ written access old }
+    ensures fits { IsStorable access }
+{
     match access {
-        Access::Load => words.load(index),
-        Access::Store(word) => {
-            let old = words.load(index);
-            words.store(index, word);
-            old
-        }
-        Access::Add(addend) => words.add(index, addend),
+        Access::Load => None,
+        Access::Store(word) => Some(word),
+        Access::Add(addend) => Some(old.wrapping_add(addend)),
     }
 }

@@ -82,7 +82,7 @@ impl<L: Run> LedgerCore<L> {
             unreachable!()
         };
         self.history
-            .append(LedgerEvent::Drained { receiver, sender });
+            .append(LedgerEvent::Drained { sender, receiver });
         match letter {
             Letter::Plain(_) => (),
             Letter::Block(ticket) => {

@@ -79,7 +79,7 @@ impl<L: Run> LedgerCore<L> {
     pub fn take(&mut self, stake: &mut Stake<L>, sender: usize) -> Option<Message<L>>
         requires known { (sender < self.old.agents) × (stake.old.agent < self.old.agents) }
         ensures none { IfNone result ((has_message self.old.history sender stake.old.agent ≡ false) × (self.new ≡ self.old) × (stake.new ≡ stake.old)) }
-        ensures history { IfSome result (λ m. (m.sender ≡ sender) × (self.new.agents ≡ self.old.agents) × (self.new.history ≡ TakenEvent stake.old.agent sender ∷ self.old.history)) }
+        ensures history { IfSome result (λ m. (m.sender ≡ sender) × (self.new.agents ≡ self.old.agents) × (self.new.history ≡ TakenEvent sender stake.old.agent ∷ self.old.history)) }
         ensures body { IfSome result (λ m. front self.old.history sender stake.old.agent ≡ Some (body_of m.body)) }
         ensures stake { IfSome result (λ m. Received self.old.history m.body stake.old stake.new) }
     {
@@ -88,7 +88,7 @@ impl<L: Run> LedgerCore<L> {
             Some(body) => {
                 hand(&mut self.rows, stake, sender, receiver, &body);
                 self.waits[receiver] = None;
-                self.history.append(LedgerEvent::Taken { receiver, sender });
+                self.history.append(LedgerEvent::Taken { sender, receiver });
                 Some(Message { sender, body })
             }
             None => None,

@@ -3,7 +3,7 @@ use Rattle.std.proofs.Common.{ℕ, true, refl, List, [], ◌∷◌, codes, rules
 use Rattle.std.specs.Prelude.{pos, negsuc}
 use Rattle.es_value.specs.declared.value.Value.TheVariants.{Boolean, Number, Object}
 use Rattle.es_event.specs.declared.access.Access.TheVariants.{Load as loads, Store as stores, Add as adds}
-use Rattle.es_event.specs.declared.command.Command.TheVariants.{SharedArrayBuffer, Length, SameBlock, Load, Store, Add, Post}
+use Rattle.es_event.specs.declared.command.Command.TheVariants.{SharedArrayBuffer, Length, SameBlock, Post}
 use Rattle.es_event.specs.declared.event.Answer.TheVariants.{Nothing, Gives}
 use Rattle.es_event.specs.declared.event.Refusal.TheVariants.{TooManyValues}
 use Rattle.es_event.specs.declared.event.Event.TheVariants.{JobBegun, Received, Did, Refused, Emptied, JobEnded, Skipped, Closed}
@@ -12,6 +12,7 @@ use Rattle.es_event.specs.declared.ledger_event.LedgerEvent.TheVariants.{Opened,
 use Rattle.es_event.specs.History.{History}
 use Rattle.es_event.specs.Ledger.{Ledger}
 use Rattle.es_event.specs.LegalLedger.{LegalLedger}
+use Rattle.es_event.proofs.Examples.{load, store, add}
 use Rattle.es_match.specs.Cluster.{IsCluster}
 use Rattle.es_match.proofs.Examples.{two_agents}
 
@@ -24,7 +25,7 @@ x = codes "x"
 -- A worker gets a buffer
 
 abbrev pub made : History
-made = Did (Store b (pos 1) (pos 4294967301), Object 1 ∷ [], Nothing) ∷ Did (SharedArrayBuffer b 4, [], Gives (Object 1))
+made = Did (store b (pos 1) (pos 4294967301), Object 1 ∷ [], Nothing) ∷ Did (SharedArrayBuffer b 4, [], Gives (Object 1))
     ∷ JobBegun 1 ∷ []
 
 abbrev pub maker : History
@@ -36,10 +37,10 @@ got = JobBegun 1 ∷ Received 0 (Object 1) ∷ []
 abbrev pub read : History
 read = Did (SameBlock x b b, Object 1 ∷ Object 1 ∷ [], Gives (Boolean true))
     ∷ Did (Length x b, Object 1 ∷ [], Gives (Number (pos 4)))
-    ∷ Did (Load x b (pos 1), Object 1 ∷ [], Gives (Number (pos 5))) ∷ got
+    ∷ Did (load x b (pos 1), Object 1 ∷ [], Gives (Number (pos 5))) ∷ got
 
 abbrev pub worker : History
-worker = Closed ∷ JobEnded ∷ Did (Add x b (pos 1) (negsuc 0), Object 1 ∷ [], Gives (Number (pos 5))) ∷ read
+worker = Closed ∷ JobEnded ∷ Did (add x b (pos 1) (negsuc 0), Object 1 ∷ [], Gives (Number (pos 5))) ∷ read
 
 abbrev pub opened : Ledger
 opened = Opened 1 4 1 0 ∷ []
@@ -48,7 +49,7 @@ abbrev pub posted : Ledger
 posted = Posted 0 1 (Block 1 2) ∷ Accessed 1 1 (stores 5) 0 ∷ Waiting 1 0 ∷ opened
 
 abbrev pub taken : Ledger
-taken = Ended 0 ∷ Spent 1 ∷ Taken 1 0 ∷ posted
+taken = Ended 0 ∷ Spent 1 ∷ Taken 0 1 ∷ posted
 
 abbrev pub worked : Ledger
 worked = Ended 1 ∷ Spent 2 ∷ Accessed 2 1 (adds 4294967295) 5 ∷ Accessed 2 1 loads 5 ∷ taken
@@ -86,10 +87,10 @@ abbrev pub refuser : History
 refuser = Closed ∷ JobEnded ∷ Refused TooManyValues ∷ []
 
 abbrev pub refused : Ledger
-refused = Ended 1 ∷ Spent 2 ∷ Taken 1 0 ∷ Ended 0 ∷ Spent 1 ∷ Posted 0 1 (Block 1 3) ∷ Posted 0 1 (Block 1 2) ∷ Opened 1 4 1 0 ∷ []
+refused = Ended 1 ∷ Spent 2 ∷ Taken 0 1 ∷ Ended 0 ∷ Spent 1 ∷ Posted 0 1 (Block 1 3) ∷ Posted 0 1 (Block 1 2) ∷ Opened 1 4 1 0 ∷ []
 
 abbrev pub drained : Ledger
-drained = Spent 3 ∷ Drained 1 0 ∷ refused
+drained = Spent 3 ∷ Drained 0 1 ∷ refused
 
 drained_legal : LegalLedger 2 drained
 drained_legal = search rules
@@ -113,7 +114,7 @@ collector = Closed ∷ JobEnded ∷ Emptied (1 ∷ 2 ∷ []) ∷ Did (SameBlock 
     ∷ JobBegun 3 ∷ received
 
 abbrev pub shared : Ledger
-shared = Taken 1 0 ∷ Taken 1 0 ∷ Taken 1 0 ∷ Ended 0 ∷ Spent 1 ∷ Posted 0 1 (Block 1 3) ∷ Posted 0 1 (Block 1 2)
+shared = Taken 0 1 ∷ Taken 0 1 ∷ Taken 0 1 ∷ Ended 0 ∷ Spent 1 ∷ Posted 0 1 (Block 1 3) ∷ Posted 0 1 (Block 1 2)
     ∷ Posted 0 1 (Plain (Number (pos 7))) ∷ Opened 1 4 1 0 ∷ []
 
 abbrev pub collected : Ledger
@@ -140,7 +141,7 @@ abbrev pub before_later : Ledger
 before_later = Ended 0 ∷ Spent 1 ∷ Posted 0 1 (Block 1 4) ∷ Posted 0 1 (Block 1 3) ∷ Opened 2 2 2 1 ∷ Opened 1 4 1 0 ∷ []
 
 abbrev pub later_refused : Ledger
-later_refused = Spent 3 ∷ Taken 1 0 ∷ before_later
+later_refused = Spent 3 ∷ Taken 0 1 ∷ before_later
 
 later_legal : LegalLedger 2 later_refused
 later_legal = search rules
@@ -149,7 +150,7 @@ pub a_later_refusal : IsCluster (poster ∷ later_refuser ∷ []) later_refused
 a_later_refusal = two_agents poster later_refuser later_refused refl refl refl
 
 abbrev pub skipper_refused : Ledger
-skipper_refused = Spent 2 ∷ Taken 1 0 ∷ Ended 0 ∷ Spent 1 ∷ Posted 0 1 (Block 1 3) ∷ Posted 0 1 (Block 1 2) ∷ Opened 1 4 1 0
+skipper_refused = Spent 2 ∷ Taken 0 1 ∷ Ended 0 ∷ Spent 1 ∷ Posted 0 1 (Block 1 3) ∷ Posted 0 1 (Block 1 2) ∷ Opened 1 4 1 0
     ∷ Passed 1 0 ∷ Waiting 1 0 ∷ []
 
 pub a_refusal_after_a_skip : IsCluster (poster ∷ (Refused TooManyValues ∷ Skipped 1 0 ∷ []) ∷ []) skipper_refused

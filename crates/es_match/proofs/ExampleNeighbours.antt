@@ -3,7 +3,7 @@ use Rattle.std.proofs.Common.{true, false, refl, List, [], ◌∷◌}
 use Rattle.std.specs.Prelude.{pos, negsuc}
 use Rattle.es_value.specs.declared.value.Value.TheVariants.{Boolean, Number, Object}
 use Rattle.es_event.specs.declared.access.Access.TheVariants.{Load as loads, Store as stores, Add as adds}
-use Rattle.es_event.specs.declared.command.Command.TheVariants.{SharedArrayBuffer, Length, SameBlock, Load, Store, Add, Post}
+use Rattle.es_event.specs.declared.command.Command.TheVariants.{SharedArrayBuffer, Length, SameBlock, Post}
 use Rattle.es_event.specs.declared.event.Answer.TheVariants.{Nothing, Gives}
 use Rattle.es_event.specs.declared.event.Refusal.TheVariants.{TooManyValues, TooManyPosts}
 use Rattle.es_event.specs.declared.event.Event.TheVariants.{JobBegun, Received, Did, Refused, Emptied, Skipped, Closed}
@@ -11,6 +11,7 @@ use Rattle.es_event.specs.declared.ledger_event.Body.TheVariants.{Plain, Block}
 use Rattle.es_event.specs.declared.ledger_event.LedgerEvent.TheVariants.{Opened, Posted, Taken, Spent, Accessed, Waiting, Passed, Ended, Drained}
 use Rattle.es_event.specs.History.{History}
 use Rattle.es_event.specs.Ledger.{Ledger}
+use Rattle.es_event.proofs.Examples.{load, store, add}
 use Rattle.es_match.specs.Cluster.{IsCluster}
 use Rattle.es_match.proofs.Examples.{untold, impatient, after_drain}
 use Rattle.es_match.proofs.ExampleCluster.{b, x, made, maker, got, worker, opened, posted, taken, idle, skipper, passed, poster, refuser, drained, sharer, received, collector, shared, later_refuser, before_later}
@@ -92,7 +93,7 @@ no_length = untold _ _ 1 refl
 -- Messages
 
 -- a post dropped
-dropped : No both (Ended 1 ∷ Spent 2 ∷ Accessed 2 1 (adds 4294967295) 5 ∷ Accessed 2 1 loads 5 ∷ Ended 0 ∷ Spent 1 ∷ Taken 1 0 ∷ Accessed 1 1 (stores 5) 0
+dropped : No both (Ended 1 ∷ Spent 2 ∷ Accessed 2 1 (adds 4294967295) 5 ∷ Accessed 2 1 loads 5 ∷ Ended 0 ∷ Spent 1 ∷ Taken 0 1 ∷ Accessed 1 1 (stores 5) 0
     ∷ Waiting 1 0 ∷ opened)
 dropped = untold both _ 0 refl
 
@@ -121,38 +122,38 @@ object_as_such : No ((Did (Post 1 b, Object 1 ∷ [], Nothing) ∷ made) ∷ idl
 object_as_such = untold _ _ 0 refl
 
 -- another value is received
-other_received : No ((Did (Post 1 x, Number (pos 7) ∷ [], Nothing) ∷ []) ∷ (Received 0 (Number (pos 8)) ∷ []) ∷ []) (Taken 1 0
+other_received : No ((Did (Post 1 x, Number (pos 7) ∷ [], Nothing) ∷ []) ∷ (Received 0 (Number (pos 8)) ∷ []) ∷ []) (Taken 0 1
     ∷ Posted 0 1 (Plain (Number (pos 7))) ∷ [])
 other_received = untold _ _ 1 refl
 
 -- an object is received for a value
-object_received : No ((Did (Post 1 x, Number (pos 7) ∷ [], Nothing) ∷ []) ∷ (Received 0 (Object 1) ∷ []) ∷ []) (Taken 1 0
+object_received : No ((Did (Post 1 x, Number (pos 7) ∷ [], Nothing) ∷ []) ∷ (Received 0 (Object 1) ∷ []) ∷ []) (Taken 0 1
     ∷ Posted 0 1 (Plain (Number (pos 7))) ∷ [])
 object_received = untold _ _ 1 refl
 
 -- a value is received for a block
-value_received : No (maker ∷ (Received 0 (Number (pos 7)) ∷ []) ∷ []) (Ended 0 ∷ Spent 1 ∷ Taken 1 0 ∷ posted)
+value_received : No (maker ∷ (Received 0 (Number (pos 7)) ∷ []) ∷ []) (Ended 0 ∷ Spent 1 ∷ Taken 0 1 ∷ posted)
 value_received = untold _ _ 1 refl
 
 -- a message is received of another sender
-other_sender : No (maker ∷ (Received 1 (Object 1) ∷ []) ∷ []) (Ended 0 ∷ Spent 1 ∷ Taken 1 0 ∷ posted)
+other_sender : No (maker ∷ (Received 1 (Object 1) ∷ []) ∷ []) (Ended 0 ∷ Spent 1 ∷ Taken 0 1 ∷ posted)
 other_sender = untold _ _ 1 refl
 
 -- a message is taken and not received
-unreceived : No (maker ∷ [] ∷ []) (Ended 0 ∷ Spent 1 ∷ Taken 1 0 ∷ posted)
+unreceived : No (maker ∷ [] ∷ []) (Ended 0 ∷ Spent 1 ∷ Taken 0 1 ∷ posted)
 unreceived = untold _ _ 1 refl
 
 -- a message is taken of an empty port
-from_nowhere : No (idle ∷ [] ∷ []) (Taken 1 0 ∷ Ended 0 ∷ [])
+from_nowhere : No (idle ∷ [] ∷ []) (Taken 0 1 ∷ Ended 0 ∷ [])
 from_nowhere = untold _ _ 1 refl
 
 -- an object as such is received
-object_message : No ([] ∷ (Received 0 (Object 1) ∷ []) ∷ []) (Taken 1 0 ∷ Posted 0 1 (Plain (Object 1)) ∷ [])
+object_message : No ([] ∷ (Received 0 (Object 1) ∷ []) ∷ []) (Taken 0 1 ∷ Posted 0 1 (Plain (Object 1)) ∷ [])
 object_message = untold _ _ 1 refl
 
 -- the newer of two messages is received first
 out_of_order : No ((Did (Post 1 x, Number (pos 8) ∷ [], Nothing) ∷ Did (Post 1 x, Number (pos 7) ∷ [], Nothing) ∷ [])
-    ∷ (Received 0 (Number (pos 8)) ∷ []) ∷ []) (Taken 1 0 ∷ Posted 0 1 (Plain (Number (pos 8)))
+    ∷ (Received 0 (Number (pos 8)) ∷ []) ∷ []) (Taken 0 1 ∷ Posted 0 1 (Plain (Number (pos 8)))
     ∷ Posted 0 1 (Plain (Number (pos 7))) ∷ [])
 out_of_order = untold _ _ 1 refl
 
@@ -167,7 +168,7 @@ other_index : No (made ∷ [] ∷ []) (Accessed 1 0 (stores 5) 0 ∷ opened)
 other_index = untold _ _ 0 refl
 
 -- a store at a negative index
-negative_index : No ((Did (Store b (negsuc 0) (pos 5), Object 1 ∷ [], Nothing)
+negative_index : No ((Did (store b (negsuc 0) (pos 5), Object 1 ∷ [], Nothing)
     ∷ Did (SharedArrayBuffer b 4, [], Gives (Object 1)) ∷ []) ∷ [] ∷ []) (Accessed 1 1 (stores 5) 0 ∷ opened)
 negative_index = untold _ _ 0 refl
 
@@ -234,33 +235,33 @@ abbrev refuses : List History
 refuses = poster ∷ refuser ∷ []
 
 -- the ticket of a refused receipt is not spent
-keeps_ticket : No refuses (Ended 1 ∷ Taken 1 0 ∷ Ended 0 ∷ Spent 1 ∷ Posted 0 1 (Block 1 3) ∷ Posted 0 1 (Block 1 2)
+keeps_ticket : No refuses (Ended 1 ∷ Taken 0 1 ∷ Ended 0 ∷ Spent 1 ∷ Posted 0 1 (Block 1 3) ∷ Posted 0 1 (Block 1 2)
     ∷ Opened 1 4 1 0 ∷ [])
 keeps_ticket = untold _ _ 1 refl
 
 -- after a refused receipt another ticket is spent than that of the message
-spends_other : No (poster ∷ later_refuser ∷ []) (Spent 2 ∷ Taken 1 0 ∷ before_later)
+spends_other : No (poster ∷ later_refuser ∷ []) (Spent 2 ∷ Taken 0 1 ∷ before_later)
 spends_other = untold _ _ 1 refl
 
 -- a receipt is refused of a value without a ticket
-refuses_value : No ((Did (Post 1 x, Number (pos 7) ∷ [], Nothing) ∷ []) ∷ (Refused TooManyValues ∷ []) ∷ []) (Taken 1 0
+refuses_value : No ((Did (Post 1 x, Number (pos 7) ∷ [], Nothing) ∷ []) ∷ (Refused TooManyValues ∷ []) ∷ []) (Taken 0 1
     ∷ Posted 0 1 (Plain (Number (pos 7))) ∷ [])
 refuses_value = untold _ _ 1 refl
 
 -- a command is refused, which asks nothing of the ledger
-refuses_command : No (poster ∷ (Refused TooManyValues ∷ JobBegun 1 ∷ []) ∷ []) (Spent 2 ∷ Taken 1 0 ∷ Ended 0 ∷ Spent 1
+refuses_command : No (poster ∷ (Refused TooManyValues ∷ JobBegun 1 ∷ []) ∷ []) (Spent 2 ∷ Taken 0 1 ∷ Ended 0 ∷ Spent 1
     ∷ Posted 0 1 (Block 1 3) ∷ Posted 0 1 (Block 1 2) ∷ Opened 1 4 1 0 ∷ [])
 refuses_command = untold _ _ 1 refl
 
 -- a refusal for another reason asks nothing
-refuses_otherwise : No (poster ∷ (Refused TooManyPosts ∷ []) ∷ []) (Spent 2 ∷ Taken 1 0 ∷ Ended 0 ∷ Spent 1
+refuses_otherwise : No (poster ∷ (Refused TooManyPosts ∷ []) ∷ []) (Spent 2 ∷ Taken 0 1 ∷ Ended 0 ∷ Spent 1
     ∷ Posted 0 1 (Block 1 3) ∷ Posted 0 1 (Block 1 2) ∷ Opened 1 4 1 0 ∷ [])
 refuses_otherwise = untold _ _ 1 refl
 
 -- Drains
 
 -- an agent does something after a drain
-not_last : No refuses (Ended 1 ∷ Spent 3 ∷ Drained 1 0 ∷ Spent 2 ∷ Taken 1 0 ∷ Ended 0 ∷ Spent 1 ∷ Posted 0 1 (Block 1 3)
+not_last : No refuses (Ended 1 ∷ Spent 3 ∷ Drained 0 1 ∷ Spent 2 ∷ Taken 0 1 ∷ Ended 0 ∷ Spent 1 ∷ Posted 0 1 (Block 1 3)
     ∷ Posted 0 1 (Block 1 2) ∷ Opened 1 4 1 0 ∷ [])
 not_last = after_drain _ _ refl
 
@@ -303,16 +304,16 @@ abbrev two_made : History
 two_made = Did (SharedArrayBuffer x 3, [], Gives (Object 2)) ∷ Did (SharedArrayBuffer b 4, [], Gives (Object 1)) ∷ []
 
 -- a word is read through the ticket of the other buffer
-loads_other : No ((Did (Load x b (pos 0), Object 1 ∷ [], Gives (Number (pos 0))) ∷ two_made) ∷ [] ∷ []) (Accessed 2 0 loads 0
+loads_other : No ((Did (load x b (pos 0), Object 1 ∷ [], Gives (Number (pos 0))) ∷ two_made) ∷ [] ∷ []) (Accessed 2 0 loads 0
     ∷ two_opened)
 loads_other = untold _ _ 0 refl
 
 -- a word is written through it
-stores_other : No ((Did (Store b (pos 0) (pos 5), Object 1 ∷ [], Nothing) ∷ two_made) ∷ [] ∷ []) (Accessed 2 0 (stores 5) 0 ∷ two_opened)
+stores_other : No ((Did (store b (pos 0) (pos 5), Object 1 ∷ [], Nothing) ∷ two_made) ∷ [] ∷ []) (Accessed 2 0 (stores 5) 0 ∷ two_opened)
 stores_other = untold _ _ 0 refl
 
 -- an addend is added through it
-adds_other : No ((Did (Add x b (pos 0) (pos 5), Object 1 ∷ [], Gives (Number (pos 0))) ∷ two_made) ∷ [] ∷ []) (Accessed 2 0 (adds 5) 0
+adds_other : No ((Did (add x b (pos 0) (pos 5), Object 1 ∷ [], Gives (Number (pos 0))) ∷ two_made) ∷ [] ∷ []) (Accessed 2 0 (adds 5) 0
     ∷ two_opened)
 adds_other = untold _ _ 0 refl
 

@@ -76,13 +76,13 @@ pub line_said : (l : Ledger) (e : LedgerEvent) (q : ℕ)
     → line_of q (table (e ∷ l)) ≡ line_after (taken_by l e) (words_by l e) e q (line_of q (table l))
 line_said l (Opened b w s a) q = line_added (table l) _ q
 line_said l (Posted a r body) q = posted_said l a r body (table l) q
-line_said l (Taken r s) q = moved_said (option_and_then serial_in (front l s r)) (Agent r) (table l) q
+line_said l (Taken s r) q = moved_said (option_and_then serial_in (front l s r)) (Agent r) (table l) q
 line_said l (Spent s) q = line_moved s Nobody (table l) q
 line_said l (Accessed s i m old) q = refl
 line_said l (Waiting a s) q = refl
 line_said l (Passed a s) q = refl
 line_said l (Ended a) q = refl
-line_said l (Drained r s) q = refl
+line_said l (Drained s r) q = refl
 
 -- All tables
 

@@ -3,18 +3,17 @@ use Rattle.std.specs.Prelude.{ℕ, ℤ, Bool, true, false, ◌&&◌, List, [], �
 use Rattle.es_value.specs.declared.value.Value.{Value}
 use Rattle.es_value.specs.declared.value.Value.TheVariants.{Undefined}
 use Rattle.es_event.specs.declared.access.Access.{Access}
-use Rattle.es_event.specs.declared.access.Access.TheVariants.{Load as loads, Store as stores, Add as adds}
 use Rattle.es_event.specs.declared.command.Command.{Command}
-use Rattle.es_event.specs.declared.command.Command.TheVariants.{SharedArrayBuffer, Length, SameBlock, Load, Store, Add, Post}
+use Rattle.es_event.specs.declared.command.Command.TheVariants.{SharedArrayBuffer, Length, SameBlock, Atomic, Post}
 use Rattle.es_event.specs.declared.event.Answer.{Answer}
 use Rattle.es_event.specs.declared.event.Answer.TheVariants.{Nothing, Gives, Listed}
 use Rattle.es_event.specs.declared.event.Refusal.{Refusal}
 use Rattle.es_event.specs.declared.event.Refusal.TheVariants.{TooManyValues}
 use Rattle.es_event.specs.declared.event.Event.{Event}
 use Rattle.es_event.specs.declared.event.Event.TheVariants.{JobBegun, CleanupBegun, Received, Did, Refused, Emptied, Taken, JobEnded, Skipped, Closed}
+use Rattle.es_event.specs.Access.{access_of}
 use Rattle.es_event.specs.Commands.{first, second}
 use Rattle.es_event.specs.History.{History}
-use Rattle.es_event.specs.Sharing.{to_uint32}
 
 -- what is asked; an answer is the value that the command gave
 pub data Asking : Type 0 where
@@ -54,14 +53,12 @@ given Nothing = Undefined
 given (Gives v) = v
 given (Listed ks) = Undefined
 
--- of commands, those that are not on buffers or messages ask nothing; a number is stored and added modulo 2^32
+-- of commands, those that are not on buffers or messages ask nothing
 abbrev pub asks_did : Command → List Value → Answer → Asking
 asks_did (SharedArrayBuffer to n) vs r = to_open n (given r)
 asks_did (Length to b) vs r = to_measure (first vs) (given r)
 asks_did (SameBlock to b c) vs r = to_compare (first vs) (second vs) (given r)
-asks_did (Load to b i) vs r = to_access (first vs) i loads (given r)
-asks_did (Store b i n) vs r = to_access (first vs) i (stores (to_uint32 n)) (given r)
-asks_did (Add to b i n) vs r = to_access (first vs) i (adds (to_uint32 n)) (given r)
+asks_did (Atomic a) vs r = to_access (first vs) a.index (access_of a.operation) (given r)
 asks_did (Post a y) vs r = to_post a (first vs)
 asks_did _ vs r = nothing
 

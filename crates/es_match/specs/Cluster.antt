@@ -47,13 +47,13 @@ patient (e ∷ earlier) = is_patient earlier (deed earlier e) && patient earlier
 abbrev pub drains : LedgerEvent → Bool
 drains (Opened b w s a) = false
 drains (Posted a r m) = false
-drains (Taken r s) = false
+drains (Taken s r) = false
 drains (Spent s) = false
 drains (Accessed s i m old) = false
 drains (Waiting a s) = false
 drains (Passed a s) = false
 drains (Ended a) = false
-drains (Drained r s) = true
+drains (Drained s r) = true
 
 -- a message was drained
 abbrev pub drained : Ledger → Bool

@@ -40,13 +40,13 @@ taking l s m = Takes s m (option_map_or (words_in l) m 0)
 abbrev pub deed : Ledger → LedgerEvent → Owned
 deed l (Opened b w s a) = Some (a, Opens b w s)
 deed l (Posted a r m) = Some (a, Posts r m)
-deed l (Taken r s) = Some (r, taking l s (front l s r))
+deed l (Taken s r) = Some (r, taking l s (front l s r))
 deed l (Spent s) = by_holder l s (Spends s)
 deed l (Accessed s i m old) = by_holder l s (Accesses s i m old)
 deed l (Waiting a s) = Some (a, Waits s)
 deed l (Passed a s) = Some (a, Passes s)
 deed l (Ended a) = Some (a, Ends)
-deed l (Drained r s) = None
+deed l (Drained s r) = None
 
 abbrev pub is_wait : Deed → Bool
 is_wait (Opens b w s) = false

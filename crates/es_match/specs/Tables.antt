@@ -85,50 +85,50 @@ post_line words a r (Block b s) q before = put_line (held_by (Port a r) (row s b
 abbrev pub taken_by : Ledger → LedgerEvent → Option Body
 taken_by l (Opened b w s a) = None
 taken_by l (Posted a r m) = None
-taken_by l (Taken r s) = front l s r
+taken_by l (Taken s r) = front l s r
 taken_by l (Spent s) = None
 taken_by l (Accessed s i m old) = None
 taken_by l (Waiting a s) = None
 taken_by l (Passed a s) = None
 taken_by l (Ended a) = None
-taken_by l (Drained r s) = None
+taken_by l (Drained s r) = None
 
 -- the number of words of the block that the event posts
 abbrev pub words_by : Ledger → LedgerEvent → ℕ
 words_by l (Opened b w s a) = 0
 words_by l (Posted a r m) = words_in l m
-words_by l (Taken r s) = 0
+words_by l (Taken s r) = 0
 words_by l (Spent s) = 0
 words_by l (Accessed s i m old) = 0
 words_by l (Waiting a s) = 0
 words_by l (Passed a s) = 0
 words_by l (Ended a) = 0
-words_by l (Drained r s) = 0
+words_by l (Drained s r) = 0
 
 -- the line of serial q after an event that takes this message or posts a block of so many words
 abbrev pub line_after : Option Body → ℕ → LedgerEvent → ℕ → Option Entry → Option Entry
 line_after m words (Opened b w s a) q before = put_line (held_by (Agent a) (row s b w)) q before
 line_after m words (Posted a r body) q before = post_line words a r body q before
-line_after m words (Taken r s) q before =
+line_after m words (Taken s r) q before =
     option_map_or (λ k. move_line k (Agent r) q before) (option_and_then serial_in m) before
 line_after m words (Spent s) q before = move_line s Nobody q before
 line_after m words (Accessed s i done old) q before = before
 line_after m words (Waiting a s) q before = before
 line_after m words (Passed a s) q before = before
 line_after m words (Ended a) q before = before
-line_after m words (Drained r s) q before = before
+line_after m words (Drained s r) q before = before
 
 -- the event is an access to a word
 abbrev pub is_word : LedgerEvent → Bool
 is_word (Opened b w s a) = false
 is_word (Posted a r m) = false
-is_word (Taken r s) = false
+is_word (Taken s r) = false
 is_word (Spent s) = false
 is_word (Accessed s i m old) = true
 is_word (Waiting a s) = false
 is_word (Passed a s) = false
 is_word (Ended a) = false
-is_word (Drained r s) = false
+is_word (Drained s r) = false
 
 -- the event is done with the ticket of this serial, and leaves it with its holder
 abbrev pub WordBy : LedgerEvent → ℕ × Deed → Type 0

@@ -44,7 +44,7 @@ impl<'a> Tables<'a> {
                     body,
                 },
             )),
-            LedgerEvent::Taken { receiver, sender } => {
+            LedgerEvent::Taken { sender, receiver } => {
                 Some((*receiver, self.taking(*sender, *receiver)))
             }
             LedgerEvent::Spent { serial } => self.by_holder(

@@ -91,7 +91,7 @@ pub(crate) fn note<'a>(
             receiver,
             body,
         } => post(alloc, mail, *sender, *receiver, body),
-        LedgerEvent::Taken { receiver, sender } | LedgerEvent::Drained { receiver, sender } => {
+        LedgerEvent::Taken { sender, receiver } | LedgerEvent::Drained { sender, receiver } => {
             take(mail, *sender, *receiver);
             Ok(())
         }

@@ -51,7 +51,7 @@ impl<'a> Tables<'a> {
         ensures { (l : Ledger) → Says l self.now → body_of result ≡ taken_by l event.now }
     {
         match event {
-            LedgerEvent::Taken { receiver, sender } => mail::front(&self.mail, *sender, *receiver),
+            LedgerEvent::Taken { sender, receiver } => mail::front(&self.mail, *sender, *receiver),
             _ => None,
         }
     }

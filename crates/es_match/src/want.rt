@@ -8,7 +8,7 @@ ghost use Rattle.es_match.specs.Shown.{asking, said};
 ghost use Rattle.es_event.specs.declared.event.Answer.{Answer as Answered};
 ghost use Rattle.es_event.specs.Answers.{answer_said};
 
-use es_event::{Access, AnswerRef, Command, Event, Refusal, to_uint32};
+use es_event::{Access, AnswerRef, Command, Event, Refusal};
 use es_value::{Id, Value};
 
 /// What an event asks of the ledger. An answer is the value that the command gave; none stands for
@@ -88,9 +88,7 @@ fn may_ask(command: &Command) -> bool
         Command::SharedArrayBuffer { .. }
             | Command::Length { .. }
             | Command::SameBlock { .. }
-            | Command::Load { .. }
-            | Command::Store { .. }
-            | Command::Add { .. }
+            | Command::Atomic(_)
             | Command::Post { .. }
     )
 }
@@ -175,22 +173,10 @@ fn want_of<'a>(command: &Command, values: &'a [Value], answer: Option<&'a Value>
             right: second(values),
             answer,
         },
-        Command::Load { index, .. } => Want::Accessing {
+        Command::Atomic(atomic) => Want::Accessing {
             buffer: first(values),
-            index: *index,
-            access: Access::Load,
-            answer,
-        },
-        Command::Store { index, number, .. } => Want::Accessing {
-            buffer: first(values),
-            index: *index,
-            access: Access::Store(to_uint32(*number)),
-            answer,
-        },
-        Command::Add { index, number, .. } => Want::Accessing {
-            buffer: first(values),
-            index: *index,
-            access: Access::Add(to_uint32(*number)),
+            index: atomic.index(),
+            access: atomic.access(),
             answer,
         },
         Command::Post { receiver, .. } => Want::Posting {

@@ -8,20 +8,20 @@ use Rattle.std.proofs.lemmas.List.{reverse-append}
 use Rattle.es_value.specs.declared.value.Value.{Value}
 use Rattle.es_value.specs.declared.value.Value.TheVariants.{Object, Symbol}
 use Rattle.es_event.specs.declared.access.Access.{Access}
-use Rattle.es_event.specs.declared.access.Access.TheVariants.{Load as loads, Store as stores, Add as adds}
 use Rattle.es_event.specs.declared.command.Command.{Command}
-use Rattle.es_event.specs.declared.command.Command.TheVariants.{SharedArrayBuffer, Load, Store, Add, Post}
+use Rattle.es_event.specs.declared.command.Command.TheVariants.{SharedArrayBuffer, Atomic, Post}
 use Rattle.es_event.specs.declared.event.Event.{Event}
 use Rattle.es_event.specs.declared.event.Event.TheVariants.{Received, Did}
 use Rattle.es_event.specs.declared.event.Refusal.TheVariants.{NotASharedArrayBuffer, NotPostable}
 use Rattle.es_event.specs.declared.plan.AgentPlan.{AgentPlan}
 use Rattle.es_event.specs.declared.row.Row.{Row}
+use Rattle.es_event.specs.Access.{access_of}
 use Rattle.es_event.specs.Commands.{reads, Kind, kind_made, opens_words}
 use Rattle.es_event.specs.History.{History}
 use Rattle.es_event.specs.Identities.{identity, object_of, made, kind, born, is_gone}
 use Rattle.es_event.specs.Jobs.{Receivers, receivers}
 use Rattle.es_event.specs.Variables.{var}
-use Rattle.es_event.specs.Sharing.{Buffers, row_at, words_of, is_index, to_uint32}
+use Rattle.es_event.specs.Sharing.{Buffers, row_at, words_of, is_index}
 use Rattle.es_event.specs.Rules.{is_buffer, kind_of, of_index, room_for_post, is_postable, refusal, first_refusal}
 use Rattle.es_event.specs.Legal.{values_of, HasWords, Arrives, Lawful, LegalBy}
 use Rattle.es_event.specs.Order.{Phase, between, handed, inside, stopped, ended, phase, due_at, due}
@@ -178,9 +178,7 @@ post_aimed into h x a v r o holds is may e =
     let none : ◌≡◌ {A = Option ℕ} None (Some o) = ap aim m ∙ e in cc
 
 command_aims : (over : Buffers) (into : Receivers) (h : History) (c : Command) (r : Request) (o : ℕ) → asked c (values_of into h (reads c)) ≡ Some r → refusal over h c (values_of into h (reads c)) ≡ None → aim r ≡ Some o → Aimed into h o
-command_aims over into h (Load to x j) r o is none e = word_aimed over into h x j loads r o is none e
-command_aims over into h (Store x j n) r o is none e = word_aimed over into h x j (stores (to_uint32 n)) r o is none e
-command_aims over into h (Add to x j n) r o is none e = word_aimed over into h x j (adds (to_uint32 n)) r o is none e
+command_aims over into h (Atomic c) r o is none e = word_aimed over into h c.buffer c.index (access_of c.operation) r o is none e
 command_aims over into h (Post a y) r o is none e = post_aimed into h y a (var into h y) r o refl is (first_holds _ NotPostable (room_for_post h ∷ []) none).0 e
 command_aims over into h (SharedArrayBuffer to n) r o is none e =
     let m : for_block n ≡ r = cc in
@@ -219,9 +217,7 @@ word_placed over h v j a r o i is none aims places w here =
 
 command_places : (over : Buffers) (into : Receivers) (h : History) (c : Command) (r : Request) (o i : ℕ) → asked c (values_of into h (reads c)) ≡ Some r → refusal over h c (values_of into h (reads c)) ≡ None
     → aim r ≡ Some o → place r ≡ Some i → (w : Row) → Some w ≡ row_at over o → i < w.words
-command_places over into h (Load to x j) r o i is none aims places = word_placed over h (var into h x) j loads r o i is none aims places
-command_places over into h (Store x j n) r o i is none aims places = word_placed over h (var into h x) j (stores (to_uint32 n)) r o i is none aims places
-command_places over into h (Add to x j n) r o i is none aims places = word_placed over h (var into h x) j (adds (to_uint32 n)) r o i is none aims places
+command_places over into h (Atomic c) r o i is none aims places = word_placed over h (var into h c.buffer) c.index (access_of c.operation) r o i is none aims places
 command_places over into h (Post a y) r o i is none aims places = absurd (no_place a (var into h y) r i is places)
   where
     no_place : (a : ℕ) (v : Value) (r : Request) (i : ℕ) → Some (posts_to a v) ≡ Some r → place r ≡ Some i → ⊥
@@ -250,9 +246,7 @@ plain_post h a b v w is may = let same : v ≡ w = cc in ap identity (sym same)
 
 command_posts : (over : Buffers) (into : Receivers) (h : History) (c : Command) (a : ℕ) (w : Value) → asked c (values_of into h (reads c)) ≡ Some (for_post a w) → refusal over h c (values_of into h (reads c)) ≡ None → identity w ≡ None
 command_posts over into h (Post b y) a w is none = plain_post h b a (var into h y) w is (first_holds _ NotPostable (room_for_post h ∷ []) none).0
-command_posts over into h (Load to x j) a w is none = let m = mapped (λ o. for_access o (unsigned_abs j) loads) (object_of (var into h x)) (for_post a w) is in cc
-command_posts over into h (Store x j n) a w is none = let m = mapped (λ o. for_access o (unsigned_abs j) (stores (to_uint32 n))) (object_of (var into h x)) (for_post a w) is in cc
-command_posts over into h (Add to x j n) a w is none = let m = mapped (λ o. for_access o (unsigned_abs j) (adds (to_uint32 n))) (object_of (var into h x)) (for_post a w) is in cc
+command_posts over into h (Atomic c) a w is none = let m = mapped (λ o. for_access o (unsigned_abs c.index) (access_of c.operation)) (object_of (var into h c.buffer)) (for_post a w) is in cc
 command_posts over into h _ a w is none = cc
 
 -- a value that is posted has no identity

@@ -1,5 +1,5 @@
 -- What an event asks of the ledger is what the agent asked for, and the deeds that were done meet it.
-use Rattle.std.proofs.Common.{◌≡◌, ℕ, ◌==◌, ◌&&◌, Bool, true, false, cond, not, sym, ◌∙◌, ap, refl, subst, List, [], ◌∷◌, ◌++◌, Option, Some, None, eq-eqb}
+use Rattle.std.proofs.Common.{◌≡◌, ℕ, ◌==◌, ◌&&◌, ◌||◌, Bool, true, false, cond, if◌then◌else◌, not, sym, ◌∙◌, ap, refl, subst, List, [], ◌∷◌, ◌++◌, Option, Some, None, eq-eqb}
 use Rattle.std.specs.Prelude.{ℤ, pos, negsuc, ◌-◌, unsigned_abs, is_some, unwrap_or, slice_get}
 use Rattle.std.specs.Option.{option_map, option_map_or, option_and_then}
 use Rattle.std.specs.Ordering.{int_eq}
@@ -9,11 +9,10 @@ use Rattle.es_value.specs.Values.{identity, is_same}
 use Rattle.es_value.specs.declared.value.Value.{Value}
 use Rattle.es_value.specs.declared.value.Value.TheVariants.{Undefined, Boolean, Number, Text, Registered, Object, Symbol}
 use Rattle.es_event.specs.declared.access.Access.{Access}
-use Rattle.es_event.specs.declared.access.Access.TheVariants.{Load as loads, Store as stores, Add as adds}
 use Rattle.es_event.specs.declared.command.Command.{Command}
-use Rattle.es_event.specs.declared.command.Command.TheVariants.{SharedArrayBuffer, Load, Store, Add, Post}
+use Rattle.es_event.specs.declared.command.Command.TheVariants.{SharedArrayBuffer, Atomic, Post}
 use Rattle.es_event.specs.declared.event.Answer.{Answer}
-use Rattle.es_event.specs.declared.event.Answer.TheVariants.{Gives}
+use Rattle.es_event.specs.declared.event.Answer.TheVariants.{Nothing, Gives}
 use Rattle.es_event.specs.declared.event.Event.{Event}
 use Rattle.es_event.specs.declared.event.Event.TheVariants.{JobBegun, CleanupBegun, Received, Refused, JobEnded, Skipped, Closed}
 use Rattle.es_event.specs.declared.plan.AgentPlan.{AgentPlan}
@@ -21,7 +20,7 @@ use Rattle.es_event.specs.declared.plan.Job.{Job}
 use Rattle.es_event.specs.declared.event.Refusal.TheVariants.{NotASharedArrayBuffer}
 use Rattle.es_event.specs.declared.ledger_event.Body.TheVariants.{Plain, Block}
 use Rattle.es_event.specs.declared.row.Row.{Row}
-use Rattle.es_event.specs.Access.{is_same_access}
+use Rattle.es_event.specs.Access.{access_of, gives_word, is_same_access}
 use Rattle.es_event.specs.Commands.{reads}
 use Rattle.es_event.specs.History.{History}
 use Rattle.es_event.specs.Identities.{object_of}
@@ -29,7 +28,7 @@ use Rattle.es_event.specs.Variables.{var}
 use Rattle.es_event.specs.Jobs.{Receivers, receivers, job, cleaning}
 use Rattle.es_event.specs.Registrations.{first_awaiting}
 use Rattle.es_event.specs.Follows.{Permits, Follows}
-use Rattle.es_event.specs.Sharing.{Buffers, row_at, is_index, to_uint32, words_of}
+use Rattle.es_event.specs.Sharing.{Buffers, row_at, is_index, words_of}
 use Rattle.es_event.specs.Rules.{is_buffer, kind_of, of_index, refusal, first_refusal}
 use Rattle.es_event.specs.Legal.{values_of}
 use Rattle.es_event.specs.Later.{snapshot}
@@ -39,7 +38,7 @@ use Rattle.es_event.proofs.Accesses.{same_as_itself}
 use Rattle.es_match.specs.Asks.{to_open, to_access, to_post, to_receive, to_pass, given, asks_did, between_jobs}
 use Rattle.es_match.specs.Cluster.{awaited}
 use Rattle.es_match.specs.Deeds.{Opens, Posts, Takes, Accesses, Passes}
-use Rattle.es_match.specs.Meets.{Tickets, after, answers, has_ticket, is_ticket, some_if}
+use Rattle.es_match.specs.Meets.{Tickets, after, answers, has_ticket, is_number, is_ticket, some_if}
 use Rattle.es_ticket.specs.Shares.{at}
 use Rattle.es_record.specs.Book.{Book}
 use Rattle.es_rules.specs.Needs.{Request, for_block, for_post, for_buffer_post, for_access, access_at, posts_to, asked, asks_ledger, need, need_of}
@@ -124,16 +123,16 @@ access_so v j c o i a u is = ap (λ v. to_access v j c u) is.object ∙ ap (λ j
 
 pub access_asks : (b : Book) (c : Command) (o i : ℕ) (a : Access) (r : Answer) → DueCommand b c (for_access o i a)
     → asks_did c (values_of (receivers b.plan.jobs) b.history (reads c)) r ≡ to_access (Object o) (pos i) a (given r)
-access_asks b (Load to x j) o i a r d = access_so _ j loads o i a (given r) (accessed b.over b.history _ j loads o i a d.accepted d.asks)
-access_asks b (Store x j n) o i a r d = access_so _ j (stores (to_uint32 n)) o i a (given r) (accessed b.over b.history _ j (stores (to_uint32 n)) o i a d.accepted d.asks)
-access_asks b (Add to x j n) o i a r d = access_so _ j (adds (to_uint32 n)) o i a (given r) (accessed b.over b.history _ j (adds (to_uint32 n)) o i a d.accepted d.asks)
+access_asks b (Atomic c) o i a r d = access_so _ c.index (access_of c.operation) o i a (given r) (accessed b.over b.history _ c.index (access_of c.operation) o i a d.accepted d.asks)
 access_asks b (Post t y) o i a r d = absurd (post_no_access t _ o i a d.asks)
 access_asks b c o i a r d = let e = d.asks in cc
 
 answered : (a : Access) (w : ℕ) → answers a (given (answer_to a w)) w ≡ true
-answered loads w = (Decides-int_eq (pos w) (pos w)).1 refl
-answered (stores v) w = refl
-answered (adds n) w = (Decides-int_eq (pos w) (pos w)).1 refl
+answered a w = by_gift (gives_word a)
+  where
+    by_gift : (b : Bool) → (not b || is_number (given (if b then Gives (Number (pos w)) else Nothing)) w) ≡ true
+    by_gift true = (Decides-int_eq (pos w) (pos w)).1 refl
+    by_gift false = refl
 
 pub access_met : (ts : Tickets) (o i w : ℕ) (a : Access) (r : Row) → Some r ≡ at o ts → after ts (to_access (Object o) (pos i) a (given (answer_to a w))) (Accesses r.serial i a w ∷ []) ≡ Some ts
 access_met ts o i w a r here =
@@ -146,9 +145,7 @@ access_met ts o i w a r here =
 
 pub open_asks : (b : Book) (c : Command) (n : ℕ) (v : Value) → DueCommand b c (for_block n) → (vs : List Value) → asks_did c vs (Gives v) ≡ to_open n v
 open_asks b (SharedArrayBuffer to m) n v d vs = let same : m ≡ n = (let e = d.asks in cc) in ap (λ m. to_open m v) same
-open_asks b (Load to x j) n v d vs = let m = mapped (λ o. for_access o (unsigned_abs j) loads) _ _ d.asks in cc
-open_asks b (Store x j k) n v d vs = let m = mapped (λ o. for_access o (unsigned_abs j) (stores (to_uint32 k))) _ _ d.asks in cc
-open_asks b (Add to x j k) n v d vs = let m = mapped (λ o. for_access o (unsigned_abs j) (adds (to_uint32 k))) _ _ d.asks in cc
+open_asks b (Atomic c) n v d vs = let m = mapped (λ o. for_access o (unsigned_abs c.index) (access_of c.operation)) _ _ d.asks in cc
 open_asks b (Post a y) n v d vs = absurd (no_post a _ d.asks)
   where
     no_post : (a : ℕ) (u : Value) → Some (posts_to a u) ≡ Some (for_block n) → ⊥
@@ -181,16 +178,12 @@ posted_buffer a r o (Symbol i) e = cc
 
 pub post_asks : (b : Book) (c : Command) (r : ℕ) (v : Value) (a : Answer) → DueCommand b c (for_post r v) → asks_did c (values_of (receivers b.plan.jobs) b.history (reads c)) a ≡ to_post r v
 post_asks b (Post t y) r v a d = let u = var (receivers b.plan.jobs) b.history y in let p = posted t r u v d.asks in ap (λ t. to_post t u) p.0 ∙ ap (to_post r) p.1
-post_asks b (Load to x j) r v a d = let m = mapped (λ o. for_access o (unsigned_abs j) loads) _ _ d.asks in cc
-post_asks b (Store x j k) r v a d = let m = mapped (λ o. for_access o (unsigned_abs j) (stores (to_uint32 k))) _ _ d.asks in cc
-post_asks b (Add to x j k) r v a d = let m = mapped (λ o. for_access o (unsigned_abs j) (adds (to_uint32 k))) _ _ d.asks in cc
+post_asks b (Atomic c) r v a d = let m = mapped (λ o. for_access o (unsigned_abs c.index) (access_of c.operation)) _ _ d.asks in cc
 post_asks b c r v a d = let e = d.asks in cc
 
 pub buffer_asks : (b : Book) (c : Command) (r o : ℕ) (a : Answer) → DueCommand b c (for_buffer_post r o) → asks_did c (values_of (receivers b.plan.jobs) b.history (reads c)) a ≡ to_post r (Object o)
 buffer_asks b (Post t y) r o a d = let u = var (receivers b.plan.jobs) b.history y in let p = posted_buffer t r o u d.asks in ap (λ t. to_post t u) p.0 ∙ ap (to_post r) p.1
-buffer_asks b (Load to x j) r o a d = let m = mapped (λ o. for_access o (unsigned_abs j) loads) _ _ d.asks in cc
-buffer_asks b (Store x j k) r o a d = let m = mapped (λ o. for_access o (unsigned_abs j) (stores (to_uint32 k))) _ _ d.asks in cc
-buffer_asks b (Add to x j k) r o a d = let m = mapped (λ o. for_access o (unsigned_abs j) (adds (to_uint32 k))) _ _ d.asks in cc
+buffer_asks b (Atomic c) r o a d = let m = mapped (λ o. for_access o (unsigned_abs c.index) (access_of c.operation)) _ _ d.asks in cc
 buffer_asks b c r o a d = let e = d.asks in cc
 
 no_object : (v : Value) → identity v ≡ None → is_some (object_of v) ≡ false

@@ -49,7 +49,7 @@ other_than : (r n a : ℕ) → r ≡ n → (a ≡ n → ⊥) → (r == a) ≡ fa
 other_than r n a same other = ap (λ m. m == a) same ∙ apart n a other
 
 waits_other : (l : Ledger) (e : LedgerEvent) (n a : ℕ) (d : Deed) → deed l e ≡ Some (n, d) → (a ≡ n → ⊥) → waits (e ∷ l) a ≡ waits l a
-waits_other l (Taken r s) n a d is other = ap (λ b. cond b None (waits l a)) (other_than r n a (doer (deed l (Taken r s)) n r d is) other)
+waits_other l (Taken s r) n a d is other = ap (λ b. cond b None (waits l a)) (other_than r n a (doer (deed l (Taken s r)) n r d is) other)
 waits_other l (Waiting r s) n a d is other = ap (λ b. cond b (Some s) (waits l a)) (other_than r n a (doer (deed l (Waiting r s)) n r d is) other)
 waits_other l (Passed r s) n a d is other = ap (λ b. cond b None (waits l a)) (other_than r n a (doer (deed l (Passed r s)) n r d is) other)
 waits_other l (Opened b w s r) n a d is other = refl
@@ -57,18 +57,18 @@ waits_other l (Posted t r m) n a d is other = refl
 waits_other l (Spent s) n a d is other = refl
 waits_other l (Accessed s i m old) n a d is other = refl
 waits_other l (Ended r) n a d is other = refl
-waits_other l (Drained r s) n a d is other = refl
+waits_other l (Drained s r) n a d is other = refl
 
 ended_other : (l : Ledger) (e : LedgerEvent) (n a : ℕ) (d : Deed) → deed l e ≡ Some (n, d) → (a ≡ n → ⊥) → ended (e ∷ l) a ≡ ended l a
 ended_other l (Ended r) n a d is other = ap (λ b. b || ended l a) (other_than r n a (doer (deed l (Ended r)) n r d is) other)
-ended_other l (Taken r s) n a d is other = refl
+ended_other l (Taken s r) n a d is other = refl
 ended_other l (Waiting r s) n a d is other = refl
 ended_other l (Passed r s) n a d is other = refl
 ended_other l (Opened b w s r) n a d is other = refl
 ended_other l (Posted t r m) n a d is other = refl
 ended_other l (Spent s) n a d is other = refl
 ended_other l (Accessed s i m old) n a d is other = refl
-ended_other l (Drained r s) n a d is other = refl
+ended_other l (Drained s r) n a d is other = refl
 
 -- Many deeds
 

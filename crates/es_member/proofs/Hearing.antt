@@ -121,10 +121,10 @@ unskipped_keeps old new s l m n t ready same agents more back =
 
 -- A message is taken
 
-pub message_keeps : (old new : Book) (s t : Share) (l m : Books) (a k : ℕ) → IsHeld old s l → Stays old new → t ≡ s → a ≡ old.number → m.agents ≡ l.agents → m.history ≡ Taken a k ∷ l.history → Keeps old l new t m
+pub message_keeps : (old new : Book) (s t : Share) (l m : Books) (a k : ℕ) → IsHeld old s l → Stays old new → t ≡ s → a ≡ old.number → m.agents ≡ l.agents → m.history ≡ Taken k a ∷ l.history → Keeps old l new t m
 message_keeps old new s t l m a k ready stays stake same agents more =
     keeps old new l m t stays.step (subst (Holds new) (sym stake) (holds_still old new s stays ready.held)) agents (ap (λ l. ended l old.number) more) (taking_grows old l.history m.history a k same more)
 
-pub unreceived_keeps : (old new : Book) (s t : Share) (l m : Books) (a k : ℕ) → IsHeld old s l → new ≡ old → t ≡ s → a ≡ old.number → m.agents ≡ l.agents → m.history ≡ Taken a k ∷ l.history → Keeps old l new t m
+pub unreceived_keeps : (old new : Book) (s t : Share) (l m : Books) (a k : ℕ) → IsHeld old s l → new ≡ old → t ≡ s → a ≡ old.number → m.agents ≡ l.agents → m.history ≡ Taken k a ∷ l.history → Keeps old l new t m
 unreceived_keeps old new s t l m a k ready back stake same agents more =
     kept_after old new s t l m ready back stake agents (ap (λ l. ended l old.number) more) (taking_grows old l.history m.history a k same more)

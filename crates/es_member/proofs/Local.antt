@@ -7,7 +7,7 @@ use Rattle.es_value.specs.Values.{identity, is_same}
 use Rattle.es_value.specs.declared.value.Value.{Value}
 use Rattle.es_value.specs.declared.value.Value.TheVariants.{Boolean, Number, Object}
 use Rattle.es_event.specs.declared.command.Command.{Command}
-use Rattle.es_event.specs.declared.command.Command.TheVariants.{SharedArrayBuffer, Length, SameBlock, Load, Store, Add, Post}
+use Rattle.es_event.specs.declared.command.Command.TheVariants.{SharedArrayBuffer, Length, SameBlock, Atomic, Post}
 use Rattle.es_event.specs.declared.event.Event.{Event}
 use Rattle.es_event.specs.declared.event.Event.TheVariants.{JobBegun, CleanupBegun, Did, Refused, Emptied, Taken, JobEnded}
 use Rattle.es_event.specs.declared.event.Refusal.{Refusal}
@@ -113,9 +113,9 @@ did_met b (SameBlock to x y) history named going none silent w =
     let first = first_holds _ NotASharedArrayBuffer (of_buffer b.history (var (receivers b.plan.jobs) b.history y) ∷ []) none in
     compared b _ _ (buffer_in b x history named going first.0) (buffer_in b y history named going (first_holds _ NotASharedArrayBuffer [] first.1).0)
 did_met b (SharedArrayBuffer to n) history named going none silent w = cc
-did_met b (Load to x j) history named going none silent w = absurd (no_object b.history (var (receivers b.plan.jobs) b.history x) _ (first_holds _ NotASharedArrayBuffer (of_index b.over (var (receivers b.plan.jobs) b.history x) j ∷ []) none).0 silent)
-did_met b (Store x j n) history named going none silent w = absurd (no_object b.history (var (receivers b.plan.jobs) b.history x) _ (first_holds _ NotASharedArrayBuffer (of_index b.over (var (receivers b.plan.jobs) b.history x) j ∷ []) none).0 silent)
-did_met b (Add to x j n) history named going none silent w = absurd (no_object b.history (var (receivers b.plan.jobs) b.history x) _ (first_holds _ NotASharedArrayBuffer (of_index b.over (var (receivers b.plan.jobs) b.history x) j ∷ []) none).0 silent)
+did_met b (Atomic a) history named going none silent w =
+    let value = var (receivers b.plan.jobs) b.history a.buffer in
+    absurd (no_object b.history value _ (first_holds _ NotASharedArrayBuffer (of_index b.over value a.index ∷ []) none).0 silent)
 did_met b (Post a y) history named going none silent w = cc
 did_met b c history named going none silent w = refl
 

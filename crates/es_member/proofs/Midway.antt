@@ -5,7 +5,7 @@ use Rattle.std.specs.Option.{option_map}
 use Rattle.std.proofs.lemmas.Bool.{cases_Bool, and_parts, eqb-true, eqb-false}
 use Rattle.es_value.specs.declared.value.Value.{Value}
 use Rattle.es_event.specs.declared.command.Command.{Command}
-use Rattle.es_event.specs.declared.command.Command.TheVariants.{SharedArrayBuffer, Length, SameBlock, Load, Store, Add, Post}
+use Rattle.es_event.specs.declared.command.Command.TheVariants.{SharedArrayBuffer, Length, SameBlock, Atomic, Post}
 use Rattle.es_event.specs.declared.event.Answer.{Answer}
 use Rattle.es_event.specs.declared.event.Event.{Event}
 use Rattle.es_event.specs.declared.ledger_event.Body.TheVariants.{Plain, Block}
@@ -111,9 +111,7 @@ pub did_not_refuse : (c : Command) (vs : List Value) (r : Answer) → is_refusal
 did_not_refuse (SharedArrayBuffer to n) vs r = refl
 did_not_refuse (Length to b) vs r = refl
 did_not_refuse (SameBlock to b c) vs r = refl
-did_not_refuse (Load to b i) vs r = refl
-did_not_refuse (Store b i n) vs r = refl
-did_not_refuse (Add to b i n) vs r = refl
+did_not_refuse (Atomic a) vs r = refl
 did_not_refuse (Post a y) vs r = refl
 did_not_refuse _ vs r = refl
 
@@ -182,7 +180,7 @@ still_over e l (suc n) over =
     either false = refl
 
 drained_next : (n : ℕ) (e : LedgerEvent) (l : Ledger) (o : Option ℕ) → ComesNext n l e o → drains e ≡ true → all_ended l n ≡ true
-drained_next n (Drained r s) l None c is = c.0
+drained_next n (Drained s r) l None c is = c.0
 drained_next n e l (Some k) c is = let spends : drains (Spent k) ≡ true = ap drains (sym c) ∙ is in cc
 drained_next n _ l None c is = cc
 

@@ -153,18 +153,18 @@ skip_ties old new l m t tied still is more skips =
     (ap (λ m. waits m old.number) more ∙ ap (λ b. cond b None (waits l old.number)) (eq-eqb old.number old.number refl))
 
 -- a message was taken
-taken : (old : Book) (s : Share) (l : Books) (m : Ledger) (t : ℕ) (b : Option Body) (words : ℕ) → IsReady old s l → need old ≡ asks_message t → m ≡ Taken s.agent t ∷ l.history → deed l.history (Taken s.agent t) ≡ Some (s.agent, Takes t b words)
+taken : (old : Book) (s : Share) (l : Books) (m : Ledger) (t : ℕ) (b : Option Body) (words : ℕ) → IsReady old s l → need old ≡ asks_message t → m ≡ Taken t s.agent ∷ l.history → deed l.history (Taken t s.agent) ≡ Some (s.agent, Takes t b words)
     → Midway old m (Takes t b words ∷ []) × (waits m old.number ≡ None)
 taken old s l m t b words ready is more did = (
-  heard old l.history m (Taken s.agent t) (Takes t b words) t ready.tied (still_undrained old s l t ready is) is more (did ∙ ap (λ n. Some (n, Takes t b words)) ready.held.0) refl (λ w same. eq-eqb t w same),
+  heard old l.history m (Taken t s.agent) (Takes t b words) t ready.tied (still_undrained old s l t ready is) is more (did ∙ ap (λ n. Some (n, Takes t b words)) ready.held.0) refl (λ w same. eq-eqb t w same),
   ap (λ m. waits m old.number) more ∙ ap (λ b. cond b None (waits l.history old.number)) (eq-eqb s.agent old.number ready.held.0),
 )
 
-pub receive_ties : (old new : Book) (s : Share) (l : Books) (m : Ledger) (t : ℕ) (v : Value) → IsReady old s l → need old ≡ asks_message t → m ≡ Taken s.agent t ∷ l.history → front_of l.history t s.agent ≡ Some (Plain v)
+pub receive_ties : (old new : Book) (s : Share) (l : Books) (m : Ledger) (t : ℕ) (v : Value) → IsReady old s l → need old ≡ asks_message t → m ≡ Taken t s.agent ∷ l.history → front_of l.history t s.agent ≡ Some (Plain v)
     → identity v ≡ None → Receives old v new → IsSettled new m
 receive_ties old new s l m t v ready is more front plain r =
     let stays = received_stays old new v r in
-    let did : deed l.history (Taken s.agent t) ≡ Some (s.agent, Takes t (Some (Plain v)) 0) = ap (λ b. Some (s.agent, taking l.history t b)) front in
+    let did : deed l.history (Taken t s.agent) ≡ Some (s.agent, Takes t (Some (Plain v)) 0) = ap (λ b. Some (s.agent, taking l.history t b)) front in
     let mid = taken old s l m t (Some (Plain v)) 0 ready is more did in
     let sender : r.0 ≡ t = (let both : asks_message r.0 ≡ asks_message t = sym r.1 ∙ is in cc) in
     tells old new None m (Takes t (Some (Plain v)) 0 ∷ []) (Received r.0 v) mid.0 r.3
@@ -188,10 +188,10 @@ opens old s l m n r ready is words more =
       undrained = ap drained more ∙ still;
     }
 
-pub takes : (old : Book) (s : Share) (l : Books) (m : Ledger) (t : ℕ) (r : Row) → IsReady old s l → need old ≡ asks_message t → m ≡ Taken s.agent t ∷ l.history → front_of l.history t s.agent ≡ Some (Block r.block r.serial)
+pub takes : (old : Book) (s : Share) (l : Books) (m : Ledger) (t : ℕ) (r : Row) → IsReady old s l → need old ≡ asks_message t → m ≡ Taken t s.agent ∷ l.history → front_of l.history t s.agent ≡ Some (Block r.block r.serial)
     → r ≡ row r.serial r.block (size l.history r.block) → HasFetched old r m
 takes old s l m t r ready is more front named =
-    let did : deed l.history (Taken s.agent t) ≡ Some (s.agent, Takes t (Some (Block r.block r.serial)) (size l.history r.block)) = ap (λ b. Some (s.agent, taking l.history t b)) front in
+    let did : deed l.history (Taken t s.agent) ≡ Some (s.agent, Takes t (Some (Block r.block r.serial)) (size l.history r.block)) = ap (λ b. Some (s.agent, taking l.history t b)) front in
     let words = size l.history r.block in
     let mid = taken old s l m t (Some (Block r.block r.serial)) words ready is more did in
     record {
@@ -205,8 +205,8 @@ takes old s l m t r ready is more front named =
 pub opening_grows : (old : Book) (l m : Ledger) (n : ℕ) (b w k : ℕ) → n ≡ old.number → m ≡ Opened b w k n ∷ l → GrowsBy old.number l m
 opening_grows old l m n b w k same more = grows_one old.number l m (Opened b w k n) (Opens b w k) more (ap (λ n. Some (n, Opens b w k)) same)
 
-pub taking_grows : (old : Book) (l m : Ledger) (n t : ℕ) → n ≡ old.number → m ≡ Taken n t ∷ l → GrowsBy old.number l m
-taking_grows old l m n t same more = grows_one old.number l m (Taken n t) (taking l t (front_of l t n)) more (ap (λ r. Some (r, taking l t (front_of l t n))) same)
+pub taking_grows : (old : Book) (l m : Ledger) (n t : ℕ) → n ≡ old.number → m ≡ Taken t n ∷ l → GrowsBy old.number l m
+taking_grows old l m n t same more = grows_one old.number l m (Taken t n) (taking l t (front_of l t n)) more (ap (λ r. Some (r, taking l t (front_of l t n))) same)
 
 pub spending_grows : (old : Book) (l m : Ledger) (n : ℕ) (r : Row) → n ≡ old.number → holder_of l r.serial ≡ Some (n, r) → m ≡ Spent r.serial ∷ l → GrowsBy old.number l m
 spending_grows old l m n r same mine more = grows_one old.number l m (Spent r.serial) (Spends r.serial) more (by_ticket l r.serial n r (Spends r.serial) mine ∙ ap (λ n. Some (n, Spends r.serial)) same)

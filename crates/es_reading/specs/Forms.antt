@@ -3,8 +3,10 @@ use Rattle.std.specs.Prelude.{ℕ, ℤ, pos, negsuc, ◌==◌, ◌&&◌, not, na
 use Rattle.std.specs.Str.{bytes_eq}
 use Rattle.serde_json.specs.Data.{Data, number, string, array, object, Items, no_items, item}
 use Rattle.es_event.specs.declared.literal.Literal.{Literal}
+use Rattle.es_event.specs.declared.atomic.Operation.TheVariants.{Load, Store, Add}
 use Rattle.es_event.specs.declared.command.Command.{Command}
-use Rattle.es_event.specs.declared.command.Command.TheVariants.{Let, New, Symbol, SymbolFor, Copy, Same, Say, Set, Get, Delete, Keys, WeakRef, Deref, WeakMap, WeakMapSet, WeakMapGet, WeakMapHas, WeakMapDelete, WeakSet, WeakSetAdd, WeakSetHas, WeakSetDelete, FinalizationRegistry, Register, Unregister, SharedArrayBuffer, Length, SameBlock, Load, Store, Add, Post, Collect, CollectLater}
+use Rattle.es_event.specs.declared.command.Command.TheVariants.{Let, New, Symbol, SymbolFor, Copy, Same, Say, Set, Get, Delete, Keys, WeakRef, Deref, WeakMap, WeakMapSet, WeakMapGet, WeakMapHas, WeakMapDelete, WeakSet, WeakSetAdd, WeakSetHas, WeakSetDelete, FinalizationRegistry, Register, Unregister, SharedArrayBuffer, Length, SameBlock, Post, Collect, CollectLater}
+use Rattle.es_event.specs.Commands.{atomic}
 use Rattle.es_reading.specs.declared.version.Version.{Version}
 use Rattle.es_reading.specs.declared.version.Version.TheVariants.{One, Two}
 
@@ -71,9 +73,9 @@ shared_form w n =
     if bytes_eq w (codes "buffer") then takes (name ∷ words ∷ []) SharedArrayBuffer else
     (if bytes_eq w (codes "length") then takes (name ∷ name ∷ []) Length else
     (if bytes_eq w (codes "sameblock") then takes (name ∷ name ∷ name ∷ []) SameBlock else
-    (if bytes_eq w (codes "load") then takes (name ∷ name ∷ whole ∷ []) Load else
-    (if bytes_eq w (codes "store") then takes (name ∷ whole ∷ whole ∷ []) Store else
-    (if bytes_eq w (codes "add") then takes (name ∷ name ∷ whole ∷ whole ∷ []) Add else
+    (if bytes_eq w (codes "load") then takes (name ∷ name ∷ whole ∷ []) (λ to b i. atomic b i (Load to)) else
+    (if bytes_eq w (codes "store") then takes (name ∷ whole ∷ whole ∷ []) (λ b i n. atomic b i (Store n)) else
+    (if bytes_eq w (codes "add") then takes (name ∷ name ∷ whole ∷ whole ∷ []) (λ to b i n. atomic b i (Add to n)) else
     (if bytes_eq w (codes "post") then takes (agent ∷ name ∷ []) Post else
     registry_form w n))))))
 

@@ -11,23 +11,23 @@ use Rattle.es_value.specs.Values.{is_same}
 use Rattle.es_value.specs.declared.value.Value.{Value}
 use Rattle.es_value.specs.declared.value.Value.TheVariants.{Undefined, Boolean, Number, Text, Registered, Object, Symbol}
 use Rattle.es_event.specs.declared.access.Access.{Access}
-use Rattle.es_event.specs.declared.access.Access.TheVariants.{Load as loads, Store as stores, Add as adds}
+use Rattle.es_event.specs.declared.atomic.AtomicParts.{AtomicParts}
 use Rattle.es_event.specs.declared.command.Command.{Command}
-use Rattle.es_event.specs.declared.command.Command.TheVariants.{SharedArrayBuffer, Length, SameBlock, Load, Store, Add, Post}
+use Rattle.es_event.specs.declared.command.Command.TheVariants.{SharedArrayBuffer, Length, SameBlock, Atomic, Post}
 use Rattle.es_event.specs.declared.event.Answer.{Answer}
 use Rattle.es_event.specs.declared.event.Answer.TheVariants.{Nothing, Gives, Listed}
 use Rattle.es_event.specs.declared.ledger_event.Body.{Body}
 use Rattle.es_event.specs.declared.ledger_event.Body.TheVariants.{Plain, Block}
 use Rattle.es_event.specs.declared.row.Row.{Row}
-use Rattle.es_event.specs.Access.{gives_word, is_same_access}
+use Rattle.es_event.specs.Access.{access_of, gives_word, is_same_access}
 use Rattle.es_event.specs.Commands.{first}
 use Rattle.es_event.specs.Identities.{object_of}
 use Rattle.es_event.specs.Legal.{word_in}
 use Rattle.es_event.specs.Ledger.{Ledger, opened, serials, holder_of, word}
 use Rattle.es_event.specs.LegalLedger.{Reaches}
 use Rattle.es_event.specs.Rows.{row}
-use Rattle.es_event.specs.Runs.{heard_by, a_word}
-use Rattle.es_event.specs.Sharing.{row_of, to_uint32}
+use Rattle.es_event.specs.Runs.{heard_by, silence, a_word}
+use Rattle.es_event.specs.Sharing.{row_of}
 use Rattle.es_event.proofs.Accesses.{same_access}
 use Rattle.es_match.specs.Asks.{asks_did, given}
 use Rattle.es_match.specs.Deeds.{Deed, Opens, Posts, Accesses}
@@ -188,23 +188,20 @@ accessed n l t i m vs a ds met fit =
         }
     at _ met fit is = cc
 
-settles_load : (n : ℕ) (l : Ledger) (t : Tickets) (m : ℕ) (to x : List ℕ) (i : ℤ) (vs : List Value) (a : Answer) (r : Option Row) (ds : List Deed)
-    → is_one (is_access t (first vs) i loads (given a)) ds ≡ true → [] ≡ came_row m r → AllFit n ds l → Settles l t m (Load to x i) vs a r ds
-settles_load n l t m to x i vs a r ds met came fit =
-    let is = accessed n l t i loads vs a ds met fit in
-    record { deeds = is.deeds; hears = ap a_word (is.word refl); row = no_row m r came }
+-- a word is heard where one is given
+hears_if : (gives : Bool) (v w : ℕ) → (gives ≡ true → v ≡ w) → (if gives then a_word v else silence) ≡ (if gives then a_word w else silence)
+hears_if true v w is = ap a_word (is refl)
+hears_if false v w is = refl
 
-settles_store : (n : ℕ) (l : Ledger) (t : Tickets) (m : ℕ) (x : List ℕ) (i k : ℤ) (vs : List Value) (a : Answer) (r : Option Row) (ds : List Deed)
-    → is_one (is_access t (first vs) i (stores (to_uint32 k)) (given a)) ds ≡ true → [] ≡ came_row m r → AllFit n ds l → Settles l t m (Store x i k) vs a r ds
-settles_store n l t m x i k vs a r ds met came fit =
-    let is = accessed n l t i (stores (to_uint32 k)) vs a ds met fit in
-    record { deeds = is.deeds; hears = refl; row = no_row m r came }
-
-settles_add : (n : ℕ) (l : Ledger) (t : Tickets) (m : ℕ) (to x : List ℕ) (i k : ℤ) (vs : List Value) (a : Answer) (r : Option Row) (ds : List Deed)
-    → is_one (is_access t (first vs) i (adds (to_uint32 k)) (given a)) ds ≡ true → [] ≡ came_row m r → AllFit n ds l → Settles l t m (Add to x i k) vs a r ds
-settles_add n l t m to x i k vs a r ds met came fit =
-    let is = accessed n l t i (adds (to_uint32 k)) vs a ds met fit in
-    record { deeds = is.deeds; hears = ap a_word (is.word refl); row = no_row m r came }
+settles_access : (n : ℕ) (l : Ledger) (t : Tickets) (m : ℕ) (c : AtomicParts) (vs : List Value) (a : Answer) (r : Option Row) (ds : List Deed)
+    → is_one (is_access t (first vs) c.index (access_of c.operation) (given a)) ds ≡ true → [] ≡ came_row m r → AllFit n ds l → Settles l t m (Atomic c) vs a r ds
+settles_access n l t m c vs a r ds met came fit =
+    let is = accessed n l t c.index (access_of c.operation) vs a ds met fit in
+    record {
+      deeds = is.deeds;
+      hears = hears_if (gives_word (access_of c.operation)) (word_in a) (word_at l (serial_at t (first vs)) (unsigned_abs c.index)) is.word;
+      row = no_row m r came;
+    }
 
 settles_post : (n : ℕ) (l : Ledger) (t : Tickets) (m : ℕ) (q : ℕ) (y : List ℕ) (vs : List Value) (a : Answer) (r : Option Row) (ds : List Deed)
     → is_one (is_post t q (first vs)) ds ≡ true → [] ≡ came_row m r → AllFit n ds l → Settles l t m (Post q y) vs a r ds
@@ -228,9 +225,7 @@ quiet l t m c vs a r ds none hears row met came = record { deeds = none_more ds 
 pub settles : (n : ℕ) (l : Ledger) (t left : Tickets) (m : ℕ) (c : Command) (vs : List Value) (a : Answer) (r : Option Row) (ds : List Deed)
     → after t (asks_did c vs a) ds ≡ Some left → ticket_in (asks_did c vs a) ds ≡ came_row m r → AllFit n ds l → Settles l t m c vs a r ds
 settles n l t left m (SharedArrayBuffer to k) vs a r ds met came fit = settles_open n l t left m to k vs a r ds met came fit
-settles n l t left m (Load to x i) vs a r ds met came fit = settles_load n l t m to x i vs a r ds (some_if_true _ t left met) came fit
-settles n l t left m (Store x i k) vs a r ds met came fit = settles_store n l t m x i k vs a r ds (some_if_true _ t left met) came fit
-settles n l t left m (Add to x i k) vs a r ds met came fit = settles_add n l t m to x i k vs a r ds (some_if_true _ t left met) came fit
+settles n l t left m (Atomic c) vs a r ds met came fit = settles_access n l t m c vs a r ds (some_if_true _ t left met) came fit
 settles n l t left m (Post q y) vs a r ds met came fit = settles_post n l t m q y vs a r ds (some_if_true _ t left met) came fit
 settles n l t left m (Length to x) vs a r ds met came fit = quiet l t m (Length to x) vs a r ds refl refl refl (and_parts (no_more ds) _ (some_if_true _ t left met)).0 came
 settles n l t left m (SameBlock to x y) vs a r ds met came fit = quiet l t m (SameBlock to x y) vs a r ds refl refl refl (and_parts (no_more ds) _ (some_if_true _ t left met)).0 came

@@ -92,11 +92,11 @@ postable_new l a (Block b s) is = is.0
 pub meant : (k : ℕ) (l : Ledger) (e : LedgerEvent) (n : ℕ) (d : Deed) → MayCome k l e → deed l e ≡ Some (n, d) → Meant l e n d
 meant k l (Opened b w s a) n d may is = meant_here l (Opened b w s a) a n (Opens b w s) d is refl (may.0, may.1)
 meant k l (Posted a r m) n d may is = meant_here l (Posted a r m) a n (Posts r m) d is refl (postable_new l a m may.3)
-meant k l (Taken r s) n d may is = meant_here l (Taken r s) r n (taking l s (front l s r)) d is refl (refl, refl, may)
+meant k l (Taken s r) n d may is = meant_here l (Taken s r) r n (taking l s (front l s r)) d is refl (refl, refl, may)
 meant k l (Spent s) n d may is = meant_by l (Spent s) n (Spends s) d (holder_of l s) is (λ a. refl) (λ a. tt)
 meant k l (Accessed s i m old) n d may is =
     meant_by l (Accessed s i m old) n (Accesses s i m old) d (holder_of l s) is (λ a. refl) (λ a. reaches_so (holder_of l s) i (λ r. (old ≡ word l r.block i) × IsStorable m) (λ r. old ≡ word l r.block i) (λ r e. e.0) may)
 meant k l (Waiting a s) n d may is = meant_here l (Waiting a s) a n (Waits s) d is refl tt
 meant k l (Passed a s) n d may is = meant_here l (Passed a s) a n (Passes s) d is refl (not-true (has_message l s a) (and_parts (not (has_message l s a)) _ may.1).0)
 meant k l (Ended a) n d may is = meant_here l (Ended a) a n Ends d is refl tt
-meant k l (Drained r s) n d may is = cc
+meant k l (Drained s r) n d may is = cc

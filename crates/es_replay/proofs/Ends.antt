@@ -21,8 +21,8 @@ use Rattle.es_replay.proofs.Telling.{after_one, same}
 -- What nobody took is taken out of both alike
 
 one_drained : (l m : Ledger) (s r : ℕ) (b : Body) → Alike l m → Alike (drained_one l s r b) (drained_one m s r b)
-one_drained l m s r (Plain v) alike = after_one l m (Drained r s) alike
-one_drained l m s r (Block b k) alike = after_one (Drained r s ∷ l) (Drained r s ∷ m) (Spent k) (after_one l m (Drained r s) alike)
+one_drained l m s r (Plain v) alike = after_one l m (Drained s r) alike
+one_drained l m s r (Block b k) alike = after_one (Drained s r ∷ l) (Drained s r ∷ m) (Spent k) (after_one l m (Drained s r) alike)
 
 each_drained : (l m : Ledger) (s r : ℕ) (bs : List Body) → Alike l m → Alike (drained_each l s r bs) (drained_each m s r bs)
 each_drained l m s r [] alike = alike

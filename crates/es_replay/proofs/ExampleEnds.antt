@@ -51,10 +51,10 @@ another_size a = let size = a.sizes 1 in cc
 a_ticket_more : Alike (Posted 0 1 (Block 1 3) ∷ two_blocks) (Posted 0 1 (Plain Undefined) ∷ two_blocks) → ⊥
 a_ticket_more a = let count = a.serials in cc
 
-not_taken : Alike (Taken 1 0 ∷ posted) posted → ⊥
+not_taken : Alike (Taken 0 1 ∷ posted) posted → ⊥
 not_taken a = let count = a.taken in cc
 
-a_drain_more : Alike (Drained 1 0 ∷ []) [] → ⊥
+a_drain_more : Alike (Drained 0 1 ∷ []) [] → ⊥
 a_drain_more a = let count = a.drained in cc
 
 another_word : Alike (Accessed 1 0 (stores 7) 0 ∷ two_blocks) (Accessed 1 0 (stores 8) 0 ∷ two_blocks) → ⊥

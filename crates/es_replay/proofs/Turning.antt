@@ -36,10 +36,10 @@ pub record Done (n : ℕ) (l m : Ledger) : Type 0 where
 
 -- no ticket of a drained message is owed after a deed of an agent
 owes_nothing : (l : Ledger) (e : LedgerEvent) (n : ℕ) (d : Deed) → deed l e ≡ Some (n, d) → owed (e ∷ l) ≡ None
-owes_nothing l (Drained r s) n d is = cc
+owes_nothing l (Drained s r) n d is = cc
 owes_nothing l (Opened b w s a) n d is = refl
 owes_nothing l (Posted a r m) n d is = refl
-owes_nothing l (Taken r s) n d is = refl
+owes_nothing l (Taken s r) n d is = refl
 owes_nothing l (Spent s) n d is = refl
 owes_nothing l (Accessed s i m old) n d is = refl
 owes_nothing l (WaitingEvent a s) n d is = refl

@@ -13,7 +13,7 @@ use Rattle.es_match.specs.Deeds.{Deed, Opens, Posts, Takes, Spends, Accesses, Wa
 abbrev pub event_of : ℕ → Deed → LedgerEvent
 event_of n (Opens b w s) = Opened b w s n
 event_of n (Posts r m) = Posted n r m
-event_of n (Takes s m w) = Taken n s
+event_of n (Takes s m w) = Taken s n
 event_of n (Spends s) = Spent s
 event_of n (Accesses s i m old) = Accessed s i m old
 event_of n (Waits s) = Waiting n s

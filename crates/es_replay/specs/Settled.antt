@@ -1,20 +1,20 @@
 -- Internal: what an agent's next command does in the ledger, what it hears, and which ticket comes, by what the ledger and its tickets say.
-use Rattle.std.specs.Prelude.{ℕ, ℤ, ◌+◌, List, [], ◌∷◌, Option, Some, None, unsigned_abs}
+use Rattle.std.specs.Prelude.{ℕ, ℤ, ◌+◌, List, [], ◌∷◌, Option, Some, None, unsigned_abs, if◌then◌else◌}
 use Rattle.std.specs.Option.{option_map_or}
 use Rattle.es_value.specs.declared.value.Value.{Value}
 use Rattle.es_value.specs.declared.value.Value.TheVariants.{Object}
 use Rattle.es_event.specs.declared.access.Access.{Access}
-use Rattle.es_event.specs.declared.access.Access.TheVariants.{Load as loads, Store as stores, Add as adds}
 use Rattle.es_event.specs.declared.command.Command.{Command}
-use Rattle.es_event.specs.declared.command.Command.TheVariants.{SharedArrayBuffer, Load, Store, Add, Post}
+use Rattle.es_event.specs.declared.command.Command.TheVariants.{SharedArrayBuffer, Atomic, Post}
 use Rattle.es_event.specs.declared.ledger_event.Body.{Body}
 use Rattle.es_event.specs.declared.ledger_event.Body.TheVariants.{Plain, Block}
 use Rattle.es_event.specs.declared.row.Row.{Row}
+use Rattle.es_event.specs.Access.{access_of, gives_word}
 use Rattle.es_event.specs.Commands.{first}
 use Rattle.es_event.specs.Ledger.{Ledger, opened, serials, holder_of, word}
 use Rattle.es_event.specs.Rows.{row}
 use Rattle.es_event.specs.Runs.{Heard, silence, a_word}
-use Rattle.es_event.specs.Sharing.{row_of, to_uint32}
+use Rattle.es_event.specs.Sharing.{row_of}
 use Rattle.es_match.specs.Deeds.{Deed, Opens, Posts, Accesses}
 use Rattle.es_match.specs.Meets.{Tickets}
 
@@ -41,16 +41,13 @@ access_by l t vs i m = Accesses (serial_at t (first vs)) (unsigned_abs i) m (wor
 -- what a command with these values does
 abbrev pub deeds_of : Ledger → Tickets → Command → List Value → List Deed
 deeds_of l t (SharedArrayBuffer to n) vs = Opens (opened l + 1) n (serials l + 1) ∷ []
-deeds_of l t (Load to x i) vs = access_by l t vs i loads
-deeds_of l t (Store x i n) vs = access_by l t vs i (stores (to_uint32 n))
-deeds_of l t (Add to x i n) vs = access_by l t vs i (adds (to_uint32 n))
+deeds_of l t (Atomic a) vs = access_by l t vs a.index (access_of a.operation)
 deeds_of l t (Post a x) vs = Posts a (body_for l t (first vs)) ∷ []
 deeds_of l t _ vs = []
 
 -- what it hears
 abbrev pub heard_from : Ledger → Tickets → Command → List Value → Heard
-heard_from l t (Load to x i) vs = a_word (word_at l (serial_at t (first vs)) (unsigned_abs i))
-heard_from l t (Add to x i n) vs = a_word (word_at l (serial_at t (first vs)) (unsigned_abs i))
+heard_from l t (Atomic a) vs = if gives_word (access_of a.operation) then a_word (word_at l (serial_at t (first vs)) (unsigned_abs a.index)) else silence
 heard_from l t _ vs = silence
 
 -- the ticket that comes with it

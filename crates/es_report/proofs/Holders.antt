@@ -116,20 +116,20 @@ posted_next : (s b a r : ℕ) (m : Body) (l : Ledger) (t : Trace) → Traced s b
 posted_next s b a r (Plain v) l t says = no_more s b l (Posted a r (Plain v) ∷ l) t (append-nil (table l)) says
 posted_next s b a r (Block c k) l t says = one_more s b l (Posted a r (Block c k) ∷ l) t (held_by (Port a r) (row k c (size l c))) refl refl says
 
-taken_next : (s b r a : ℕ) (l : Ledger) (t : Trace) (o : Option ℕ) → option_and_then serial_in (front l a r) ≡ o → Traced s b l t → Traced s b (Taken r a ∷ l) (moved_if (with_ticket t false) o s true)
-taken_next s b r a l t None is says = no_more s b l (Taken r a ∷ l) t (ap (λ o. moved_if_said o (Agent r) (table l)) is) says
-taken_next s b r a l t (Some k) is says = now_moved s b l (Taken r a ∷ l) t k (Agent r) (ap (λ o. moved_if_said o (Agent r) (table l)) is) says
+taken_next : (s b r a : ℕ) (l : Ledger) (t : Trace) (o : Option ℕ) → option_and_then serial_in (front l a r) ≡ o → Traced s b l t → Traced s b (Taken a r ∷ l) (moved_if (with_ticket t false) o s true)
+taken_next s b r a l t None is says = no_more s b l (Taken a r ∷ l) t (ap (λ o. moved_if_said o (Agent r) (table l)) is) says
+taken_next s b r a l t (Some k) is says = now_moved s b l (Taken a r ∷ l) t k (Agent r) (ap (λ o. moved_if_said o (Agent r) (table l)) is) says
 
 pub next_traced : (s b : ℕ) (e : LedgerEvent) (l : Ledger) (t : Trace) → Traced s b l t → Traced s b (e ∷ l) (moved_by l (with_ticket t (makes_it s b e)) s e)
 next_traced s b (Opened c w k a) l t says = one_more s b l (Opened c w k a ∷ l) t (held_by (Agent a) (row k c w)) refl refl says
 next_traced s b (Posted a r m) l t says = posted_next s b a r m l t says
-next_traced s b (Taken r a) l t says = taken_next s b r a l t (option_and_then serial_in (front l a r)) refl says
+next_traced s b (Taken a r) l t says = taken_next s b r a l t (option_and_then serial_in (front l a r)) refl says
 next_traced s b (Spent k) l t says = now_moved s b l (Spent k ∷ l) t k Nobody refl says
 next_traced s b (Accessed k i m old) l t says = no_more s b l (Accessed k i m old ∷ l) t refl says
 next_traced s b (Waiting a k) l t says = no_more s b l (Waiting a k ∷ l) t refl says
 next_traced s b (Passed a k) l t says = no_more s b l (Passed a k ∷ l) t refl says
 next_traced s b (Ended a) l t says = no_more s b l (Ended a ∷ l) t refl says
-next_traced s b (Drained r a) l t says = no_more s b l (Drained r a ∷ l) t refl says
+next_traced s b (Drained a r) l t says = no_more s b l (Drained a r ∷ l) t refl says
 
 -- What is left
 
@@ -157,13 +157,13 @@ any_made (e ∷ l) s b =
     any_next : (e : LedgerEvent) → any_of (table (e ∷ l)) s b ≡ (any_of (table l) s b || makes_it s b e)
     any_next (Opened c w k a) = any_more (table l) (held_by (Agent a) (row k c w)) s b
     any_next (Posted a r m) = posted a r m
-    any_next (Taken r a) = taken r a (option_and_then serial_in (front l a r))
+    any_next (Taken a r) = taken r a (option_and_then serial_in (front l a r))
     any_next (Spent k) = any_moved k Nobody (table l) s b ∙ sym (or_nothing (any_of (table l) s b))
     any_next (Accessed k i m old) = sym (or_nothing (any_of (table l) s b))
     any_next (Waiting a k) = sym (or_nothing (any_of (table l) s b))
     any_next (Passed a k) = sym (or_nothing (any_of (table l) s b))
     any_next (Ended a) = sym (or_nothing (any_of (table l) s b))
-    any_next (Drained r a) = sym (or_nothing (any_of (table l) s b))
+    any_next (Drained a r) = sym (or_nothing (any_of (table l) s b))
 
 -- one that passes is among them
 some_of : {X : Type 0} (p : X → Bool) (xs : List X) → list_any p xs ≡ true → (x : X) × (p x ≡ true) × ((q : X → Bool) → q x ≡ true → list_any q xs ≡ true)

@@ -20,13 +20,13 @@ ticket_of (Block b s) = Some (s, b)
 abbrev pub makes : LedgerEvent → Option (ℕ × ℕ)
 makes (Opened b w s a) = Some (s, b)
 makes (Posted a r m) = ticket_of m
-makes (Taken r a) = None
+makes (Taken a r) = None
 makes (Spent s) = None
 makes (Accessed s i m old) = None
 makes (Waiting a s) = None
 makes (Passed a s) = None
 makes (Ended a) = None
-makes (Drained r a) = None
+makes (Drained a r) = None
 
 abbrev pub is_of : ℕ → ℕ → Entry → Bool
 is_of s b e = (e.row.serial == s) && (e.row.block == b)
@@ -61,13 +61,13 @@ moved_if t (Some k) s somebody = moved_to t (k == s) somebody
 abbrev pub moved_by : Ledger → Trace → ℕ → LedgerEvent → Trace
 moved_by l t s (Opened b w k a) = t
 moved_by l t s (Posted a r m) = t
-moved_by l t s (Taken r a) = moved_if t (option_and_then serial_in (front l a r)) s true
+moved_by l t s (Taken a r) = moved_if t (option_and_then serial_in (front l a r)) s true
 moved_by l t s (Spent k) = moved_to t (k == s) false
 moved_by l t s (Accessed k i m old) = t
 moved_by l t s (Waiting a k) = t
 moved_by l t s (Passed a k) = t
 moved_by l t s (Ended a) = t
-moved_by l t s (Drained r a) = t
+moved_by l t s (Drained a r) = t
 
 -- the event makes a ticket of this serial and this block
 abbrev pub makes_it : ℕ → ℕ → LedgerEvent → Bool

@@ -12,13 +12,13 @@ use Rattle.es_report.specs.declared.ports.Search.{Search}
 abbrev pub posted_at : LedgerEvent → ℕ → ℕ → List Body
 posted_at (Opened b w k a) s r = []
 posted_at (Posted a u m) s r = if is_at s r a u then m ∷ [] else []
-posted_at (Taken u a) s r = []
+posted_at (Taken a u) s r = []
 posted_at (Spent k) s r = []
 posted_at (Accessed k i m old) s r = []
 posted_at (Waiting a t) s r = []
 posted_at (Passed a t) s r = []
 posted_at (Ended a) s r = []
-posted_at (Drained u a) s r = []
+posted_at (Drained a u) s r = []
 
 -- all that was put into it, the oldest first
 abbrev pub posts : Ledger → ℕ → ℕ → List Body

@@ -121,7 +121,7 @@ fn with_moved(traced: Trace, before: &[LedgerEvent], event: &LedgerEvent, serial
     ensures { result ≡ moved_by (reverse before.now) traced serial event.now }
 {
     match event {
-        LedgerEvent::Taken { receiver, sender } => match front(before, *sender, *receiver) {
+        LedgerEvent::Taken { sender, receiver } => match front(before, *sender, *receiver) {
             Some(taken) => moved(traced, taken == serial, true),
             None => traced,
         },

@@ -52,12 +52,12 @@ fn next_counts(counts: Counts, event: &LedgerEvent, sender: usize, receiver: usi
             ..
         } => put_in(counts, is_port(sender, receiver, *from, *to)),
         LedgerEvent::Taken {
-            receiver: to,
             sender: from,
+            receiver: to,
         } => taken_out(counts, is_port(sender, receiver, *from, *to)),
         LedgerEvent::Drained {
-            receiver: to,
             sender: from,
+            receiver: to,
         } => taken_out(counts, is_port(sender, receiver, *from, *to)),
         LedgerEvent::Opened { .. }
         | LedgerEvent::Spent { .. }

@@ -1,48 +1,38 @@
 -- The events of what is answered come next.
 use Rattle.std.proofs.Common.{◌≡◌, ℕ, ◌+◌, ◌<◌, ◌^◌, Bool, true, false, sym, ◌∙◌, ap, refl, subst, arith, List, [], ◌∷◌, Option, Some, None, Ok, Err, eq-eqb, cond, not}
-use Rattle.std.specs.Prelude.{pos, nat_lt, is_some, is_none}
+use Rattle.std.specs.Prelude.{pos, nat_lt, is_some, is_none, unsigned_abs}
 use Rattle.std.specs.Option.{option_map}
 use Rattle.es_value.specs.declared.value.Value.{Value}
 use Rattle.es_value.specs.declared.value.Value.TheVariants.{Number, Object, Symbol}
 use Rattle.es_value.specs.Limits.{most_identities}
-use Rattle.es_event.specs.declared.access.Access.TheVariants.{Load as loads, Store as stores, Add as adds}
+use Rattle.es_event.specs.declared.atomic.AtomicParts.{AtomicParts}
 use Rattle.es_event.specs.declared.command.Command.{Command}
-use Rattle.es_event.specs.declared.command.Command.TheVariants.{SharedArrayBuffer, Load, Store, Add, Post, Collect, CollectLater}
+use Rattle.es_event.specs.declared.command.Command.TheVariants.{SharedArrayBuffer, Atomic, Post, Collect, CollectLater}
 use Rattle.es_event.specs.declared.event.Answer.{Answer}
 use Rattle.es_event.specs.declared.event.Answer.TheVariants.{Nothing, Gives}
 use Rattle.es_event.specs.declared.event.Event.TheVariants.{Received, Did, Refused, Skipped}
 use Rattle.es_event.specs.declared.event.Refusal.{Refusal}
 use Rattle.es_event.specs.declared.event.Refusal.TheVariants.{TooManyValues, CollectionOpen}
 use Rattle.es_event.specs.declared.row.Row.{Row}
-use Rattle.es_event.specs.Access.{gives_word}
+use Rattle.es_event.specs.Access.{access_of, gives_word}
 use Rattle.es_event.specs.Commands.{reads, first, makes, collects, opens_words}
 use Rattle.es_event.specs.History.{History}
 use Rattle.es_event.specs.Identities.{identity, object_of, made}
 use Rattle.es_event.specs.Jobs.{receivers}
 use Rattle.es_event.specs.Sharing.{Buffers, row_at}
 use Rattle.es_event.specs.Later.{snapshot, collects_now}
-use Rattle.es_event.specs.Rules.{refusal, first_refusal, result, refuse_or, completion, number_of_word}
+use Rattle.es_event.specs.Rules.{refusal, first_refusal, result, refuse_or, completion, word_if}
 use Rattle.es_event.specs.Legal.{values_of, word_in, HasWords, Arrives}
 use Rattle.es_event.specs.Order.{receive, run, due}
 use Rattle.es_event.specs.Follows.{HasRoom, Permits}
-use Rattle.es_event.proofs.Accepted.{accepted}
 use Rattle.es_event.proofs.Extending.{refuses_so}
+use Rattle.es_event.proofs.Next.{its_own_word}
 use Rattle.es_record.specs.Book.{Book, IsNext, with_buffer}
 use Rattle.es_rules.specs.Needs.{Request, for_block, for_post, for_buffer_post, for_access, posts_to, asked, unless_refused, request, Need, asks_copy, asks_ledger, asks_message, need_of, need, TakesTicket, TakesWord, TakesDone}
 use Rattle.es_rules.specs.Giving.{MayGive}
 use Rattle.es_rules.proofs.Needs.{ledger_due, ledger_command, copy_due, message_due, not_refused}
 
 -- A command that asks for nothing
-
--- where the word would be 0, it is the one that the answer has
-own_word : (over : Buffers) (h : History) (c : Command) (vs : List Value) (r : Answer) → completion over h c vs 0 ≡ Ok r → completion over h c vs (word_in r) ≡ Ok r
-own_word over h (Load to b i) vs r e =
-    let is = (accepted (refusal over h (Load to b i) vs) (Gives (number_of_word 0)) r e).1 in
-    ap (λ r. completion over h (Load to b i) vs (word_in r)) (sym is) ∙ e
-own_word over h (Add to b i n) vs r e =
-    let is = (accepted (refusal over h (Add to b i n) vs) (Gives (number_of_word 0)) r e).1 in
-    ap (λ r. completion over h (Add to b i n) vs (word_in r)) (sym is) ∙ e
-own_word over h _ vs r e = e
 
 none_asked : (f : Option Refusal) (n : ℕ) (a r : Answer) → unless_refused f (Some (for_block n)) ≡ None → refuse_or f a ≡ Ok r → ⊥
 none_asked None n a r e done = cc
@@ -64,7 +54,7 @@ no_collection over h _ vs r e done = refl
 pub local_done : (b : Book) (c : Command) (vs : List Value) (r : Answer) → due b.plan b.history ≡ run c → collects_now b.history c ≡ false → request b c ≡ None
     → vs ≡ values_of (receivers b.plan.jobs) b.history (reads c) → completion b.over b.history c vs 0 ≡ Ok r → IsNext b (Did (c, vs, r))
 local_done b c vs r is empties_nothing none said e = record {
-  lawful = (said, own_word b.over b.history c vs r e, no_collection b.over b.history c vs r empties_nothing e, no_words b c r none (subst (λ vs. completion b.over b.history c vs 0 ≡ Ok r) said e));
+  lawful = (said, its_own_word b.over b.history c vs r e, no_collection b.over b.history c vs r empties_nothing e, no_words b c r none (subst (λ vs. completion b.over b.history c vs 0 ≡ Ok r) said e));
   permitted = subst (λ d. Permits b.over (receivers b.plan.jobs) b.history d (Did (c, vs, r))) (sym is) refl;
 }
 
@@ -105,25 +95,33 @@ posts_done : (a : ℕ) (v : Value) → is_done (posts_to a v) ≡ true
 posts_done a (Object o) = refl
 posts_done a _ = refl
 
+-- what is asked for by a command on a word
+access_is : (test : Request → Bool) (a : AtomicParts) (vs : List Value) (r : Request) (t : Bool) → ((o : ℕ) → test (for_access o (unsigned_abs a.index) (access_of a.operation)) ≡ t) → asked (Atomic a) vs ≡ Some r → test r ≡ t
+access_is test a vs r t each is = mapped_is test (λ o. for_access o (unsigned_abs a.index) (access_of a.operation)) (object_of (first vs)) r t each is
+
+is_not : (b : Bool) → not b ≡ true → b ≡ false
+is_not true e = cc
+is_not false e = refl
+
 both_ways : (b : Bool) → b ≡ true → b ≡ false → ⊥
 both_ways b t f = let e : true ≡ false = sym t ∙ f in cc
 
 word_gives : (over : Buffers) (h : History) (c : Command) (vs : List Value) (r : Request) (w : ℕ) → asked c vs ≡ Some r → is_word r ≡ true → refusal over h c vs ≡ None → w < 2 ^ 32
     → (completion over h c vs (word_in (Gives (Number (pos w)))) ≡ Ok (Gives (Number (pos w)))) × (opens_words c ≡ None)
-word_gives over h (Load to b i) vs r w is word none small = (ap (λ f. refuse_or f (Gives (number_of_word w))) none ∙ ap (λ n. Ok (Gives (Number (pos n)))) (omega (arith, small)), refl)
-word_gives over h (Add to b i n) vs r w is word none small = (ap (λ f. refuse_or f (Gives (number_of_word w))) none ∙ ap (λ n. Ok (Gives (Number (pos n)))) (omega (arith, small)), refl)
+word_gives over h (Atomic a) vs r w is word none small =
+    let gives : gives_word (access_of a.operation) ≡ true = sym (access_is is_word a vs r (gives_word (access_of a.operation)) (λ o. refl) is) ∙ word in
+    (ap (λ f. refuse_or f (word_if (gives_word (access_of a.operation)) w)) none ∙ ap (λ g. Ok (word_if g w)) gives ∙ ap (λ n. Ok (Gives (Number (pos n)))) (omega (arith, small)), refl)
 word_gives over h (SharedArrayBuffer to n) vs r w is word none small = absurd (both_ways (is_word r) word (some_is is_word (for_block n) r false refl is))
-word_gives over h (Store b i n) vs r w is word none small = absurd (both_ways (is_word r) word (mapped_is is_word (λ o. for_access o _ (stores _)) (object_of (first vs)) r false (λ o. refl) is))
 word_gives over h (Post a y) vs r w is word none small = absurd (both_ways (is_word r) word (some_is is_word (posts_to a (first vs)) r false (posts_no_word a (first vs)) is))
 word_gives over h _ vs r w is word none small = cc
 
 done_gives : (over : Buffers) (h : History) (c : Command) (vs : List Value) (r : Request) → asked c vs ≡ Some r → is_done r ≡ true → refusal over h c vs ≡ None
     → (completion over h c vs (word_in Nothing) ≡ Ok Nothing) × (opens_words c ≡ None)
-done_gives over h (Store b i n) vs r is done none = (ap (λ f. refuse_or f Nothing) none, refl)
+done_gives over h (Atomic a) vs r is done none =
+    let silent : not (gives_word (access_of a.operation)) ≡ true = sym (access_is is_done a vs r (not (gives_word (access_of a.operation))) (λ o. refl) is) ∙ done in
+    (ap (λ f. refuse_or f (word_if (gives_word (access_of a.operation)) 0)) none ∙ ap (λ g. Ok (word_if g 0)) (is_not (gives_word (access_of a.operation)) silent), refl)
 done_gives over h (Post a y) vs r is done none = (ap (λ f. refuse_or f Nothing) none, refl)
 done_gives over h (SharedArrayBuffer to n) vs r is done none = absurd (both_ways (is_done r) done (some_is is_done (for_block n) r false refl is))
-done_gives over h (Load to b i) vs r is done none = absurd (both_ways (is_done r) done (mapped_is is_done (λ o. for_access o _ loads) (object_of (first vs)) r false (λ o. refl) is))
-done_gives over h (Add to b i n) vs r is done none = absurd (both_ways (is_done r) done (mapped_is is_done (λ o. for_access o _ (adds _)) (object_of (first vs)) r false (λ o. refl) is))
 done_gives over h _ vs r is done none = cc
 
 word_may : (b : Book) (w : ℕ) (r : Request) → need b ≡ asks_ledger r → is_word r ≡ true → w < 2 ^ 32 → MayGive b (Gives (Number (pos w)))
@@ -183,9 +181,7 @@ posts_no_block a _ = refl
 -- a block is asked for by the command that makes a buffer object
 block_asked : (c : Command) (n : ℕ) (vs : List Value) → asked c vs ≡ Some (for_block n) → (to : List ℕ) × (c ≡ SharedArrayBuffer to n)
 block_asked (SharedArrayBuffer to m) n vs e = let same : m ≡ n = cc in (to, ap (λ n. SharedArrayBuffer to n) same)
-block_asked (Load to x i) n vs e = absurd (both_ways true refl (mapped_is is_block (λ o. for_access o _ loads) (object_of (first vs)) (for_block n) false (λ o. refl) e))
-block_asked (Store x i m) n vs e = absurd (both_ways true refl (mapped_is is_block (λ o. for_access o _ (stores _)) (object_of (first vs)) (for_block n) false (λ o. refl) e))
-block_asked (Add to x i m) n vs e = absurd (both_ways true refl (mapped_is is_block (λ o. for_access o _ (adds _)) (object_of (first vs)) (for_block n) false (λ o. refl) e))
+block_asked (Atomic a) n vs e = absurd (both_ways true refl (access_is is_block a vs (for_block n) false (λ o. refl) e))
 block_asked (Post a y) n vs e = absurd (both_ways true refl (some_is is_block (posts_to a (first vs)) (for_block n) false (posts_no_block a (first vs)) e))
 block_asked _ n vs e = cc
 

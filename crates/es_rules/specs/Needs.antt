@@ -4,23 +4,21 @@ use Rattle.std.specs.Option.{option_map}
 use Rattle.es_value.specs.declared.value.Value.{Value}
 use Rattle.es_value.specs.declared.value.Value.TheVariants.{Object}
 use Rattle.es_event.specs.declared.access.Access.{Access}
-use Rattle.es_event.specs.declared.access.Access.TheVariants.{Load as loads, Store as stores, Add as adds}
 use Rattle.es_event.specs.declared.event.Answer.{Answer}
 use Rattle.es_event.specs.declared.event.Answer.TheVariants.{Gives}
 use Rattle.es_event.specs.declared.command.Command.{Command}
-use Rattle.es_event.specs.declared.command.Command.TheVariants.{SharedArrayBuffer, Load, Store, Add, Post}
+use Rattle.es_event.specs.declared.command.Command.TheVariants.{SharedArrayBuffer, Atomic, Post}
 use Rattle.es_event.specs.declared.event.Event.{Event}
 use Rattle.es_event.specs.declared.event.Event.TheVariants.{Received, Did}
 use Rattle.es_event.specs.declared.event.Refusal.{Refusal}
 use Rattle.es_event.specs.declared.row.Row.{Row}
-use Rattle.es_event.specs.Access.{gives_word}
+use Rattle.es_event.specs.Access.{access_of, gives_word}
 use Rattle.es_event.specs.Commands.{reads, first}
 use Rattle.es_event.specs.History.{History}
 use Rattle.es_event.specs.Identities.{object_of}
 use Rattle.es_event.specs.Jobs.{receivers}
 use Rattle.es_event.specs.Later.{is_later, snapshot, collects_now}
 use Rattle.es_event.specs.Rules.{refusal}
-use Rattle.es_event.specs.Sharing.{to_uint32}
 use Rattle.es_event.specs.Legal.{values_of}
 use Rattle.es_event.specs.Order.{Due, begin, receive, run, clean, take_cell, finish, end_job, close, nothing, due}
 use Rattle.es_record.specs.Book.{Book}
@@ -41,13 +39,11 @@ posts_to a v = for_post a v
 abbrev pub access_at : Value → ℤ → Access → Option Request
 access_at v i a = option_map (λ o. for_access o (unsigned_abs i) a) (object_of v)
 
--- what a command asks for with these values; a number is stored and added modulo 2^32, and no other command asks for anything
--- (SharedArrayBuffer ( length ), Atomics.load, store and add)
+-- what a command asks for with these values; no other command asks for anything (SharedArrayBuffer ( length ), Atomics.load,
+-- store and add)
 abbrev pub asked : Command → List Value → Option Request
 asked (SharedArrayBuffer to n) vs = Some (for_block n)
-asked (Load to b i) vs = access_at (first vs) i loads
-asked (Store b i n) vs = access_at (first vs) i (stores (to_uint32 n))
-asked (Add to b i n) vs = access_at (first vs) i (adds (to_uint32 n))
+asked (Atomic a) vs = access_at (first vs) a.index (access_of a.operation)
 asked (Post a y) vs = Some (posts_to a (first vs))
 asked _ vs = None
 

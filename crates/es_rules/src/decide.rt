@@ -15,7 +15,7 @@ ghost use Rattle.es_record.specs.Book.{IsNext, AreThere};
 ghost use Rattle.es_rules.specs.Completion.{Completes};
 ghost use Rattle.es_rules.specs.Needs.{asks_nobody, need, request};
 
-use crate::buffers::{length, new_buffer, post, same_block, store, word};
+use crate::buffers::{access, length, new_buffer, post, same_block};
 use crate::ephemerons::{weakmap_get, weakmap_has, weakmap_set, weakset_add, weakset_has};
 use crate::need::asks_somebody;
 use crate::operand::{four, held_weakly, object_in, one, three, two};
@@ -148,10 +148,7 @@ fn completion(agent: &AgentRecord, command: &Command, values: &[Value]) -> Resul
             let (left, right) = two(values);
             same_block(agent, left, right)
         }
-        Command::Load { index, .. } | Command::Add { index, .. } => {
-            word(agent, one(values), *index)
-        }
-        Command::Store { index, .. } => store(agent, one(values), *index),
+        Command::Atomic(atomic) => access(agent, one(values), atomic),
         Command::Post { .. } => post(agent, one(values)),
     }
 }

@@ -9,7 +9,7 @@ ghost use Rattle.es_rules.specs.Shown.{requested, shown};
 
 use crate::requests::{access_request, block_request, post_request};
 use es_cursor::Due;
-use es_event::{Access, Command, to_uint32};
+use es_event::{Access, Command};
 use es_record::AgentRecord;
 use es_value::{Id, Value};
 
@@ -133,11 +133,9 @@ pub fn asks_somebody(agent: &AgentRecord, command: &Command) -> bool
 {
     match command {
         Command::Collect | Command::CollectLater => !agent.is_open(),
-        Command::SharedArrayBuffer { .. }
-        | Command::Load { .. }
-        | Command::Store { .. }
-        | Command::Add { .. }
-        | Command::Post { .. } => request_of(agent, command).is_some(),
+        Command::SharedArrayBuffer { .. } | Command::Atomic(_) | Command::Post { .. } => {
+            request_of(agent, command).is_some()
+        }
         // no other command asks anybody
         _ => false,
     }
@@ -149,18 +147,7 @@ fn request_of<'a>(agent: &'a AgentRecord, command: &Command) -> Option<Request<'
 {
     match command {
         Command::SharedArrayBuffer { words, .. } => block_request(agent, *words),
-        Command::Load { buffer, index, .. } => access_request(agent, buffer, *index, Access::Load),
-        Command::Store {
-            buffer,
-            index,
-            number,
-        } => access_request(agent, buffer, *index, Access::Store(to_uint32(*number))),
-        Command::Add {
-            buffer,
-            index,
-            number,
-            ..
-        } => access_request(agent, buffer, *index, Access::Add(to_uint32(*number))),
+        Command::Atomic(atomic) => access_request(agent, atomic),
         Command::Post { receiver, from } => post_request(agent, *receiver, from),
         // no other command asks the ledger
         _ => None,

@@ -2,6 +2,7 @@
 
 ghost use Rattle.std.specs.Prelude.{◌≡◌, ◌∷◌, [], true, false, Some, None, IfSome, IfNone, is_some, unsigned_abs};
 ghost use Rattle.std.specs.Option.{option_map};
+ghost use Rattle.es_event.specs.Access.{access_of};
 ghost use Rattle.es_event.specs.Identities.{object_of};
 ghost use Rattle.es_event.specs.Jobs.{receivers};
 ghost use Rattle.es_event.specs.Variables.{var};
@@ -12,7 +13,7 @@ ghost use Rattle.es_rules.specs.Shown.{requested};
 use crate::buffers::{may_open, may_post, place, postable};
 use crate::decide::fresh;
 use crate::need::Request;
-use es_event::Access;
+use es_event::Atomic;
 use es_record::AgentRecord;
 use es_value::{Id, Name, Value};
 
@@ -39,19 +40,14 @@ pub(crate) fn block_request<'a>(agent: &'a AgentRecord, words: u32) -> Option<Re
 }
 
 /// An access to the word at an index of a buffer object's block.
-pub(crate) fn access_request<'a>(
-    agent: &'a AgentRecord,
-    buffer: &Name,
-    index: i64,
-    access: Access,
-) -> Option<Request<'a>>
-    ensures { option_map requested result ≡ unless_refused (first_refusal (of_buffer agent.now.history (var (receivers agent.now.plan.jobs) agent.now.history buffer.now) ∷ of_index agent.now.over (var (receivers agent.now.plan.jobs) agent.now.history buffer.now) index ∷ [])) (access_at (var (receivers agent.now.plan.jobs) agent.now.history buffer.now) index access) }
+pub(crate) fn access_request<'a>(agent: &'a AgentRecord, atomic: &Atomic) -> Option<Request<'a>>
+    ensures { option_map requested result ≡ unless_refused (first_refusal (of_buffer agent.now.history (var (receivers agent.now.plan.jobs) agent.now.history atomic.now.buffer) ∷ of_index agent.now.over (var (receivers agent.now.plan.jobs) agent.now.history atomic.now.buffer) atomic.now.index ∷ [])) (access_at (var (receivers agent.now.plan.jobs) agent.now.history atomic.now.buffer) atomic.now.index (access_of atomic.now.operation)) }
 {
-    let (buffer, index) = word_at(agent, buffer, index)?;
+    let (buffer, index) = word_at(agent, atomic.buffer(), atomic.index())?;
     Some(Request::Access {
         buffer,
         index,
-        access,
+        access: atomic.access(),
     })
 }
 

@@ -106,9 +106,7 @@ pub(crate) fn is_assignment(command: &Command) -> bool
         | Command::WeakSetHas { .. }
         | Command::Length { .. }
         | Command::SameBlock { .. }
-        | Command::Load { .. }
-        | Command::Store { .. }
-        | Command::Add { .. } => true,
+        | Command::Atomic(_) => true,
         _ => false,
     }
 }

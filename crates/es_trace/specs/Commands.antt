@@ -1,12 +1,14 @@
 -- To believe: a command as a trace shows it, in words or as JSON: its word and its operands as the plan has them.
-use Rattle.std.specs.Prelude.{ℕ, ◌-◌, true, false, List, [], ◌++◌, Option, Some, None, codes, decimal, slice_get, unwrap_or}
+use Rattle.std.specs.Prelude.{ℕ, ℤ, ◌-◌, true, false, List, [], ◌++◌, Option, Some, None, codes, decimal, slice_get, unwrap_or}
 use Rattle.std.specs.Fmt.{signed_decimal}
 use Rattle.std.specs.Option.{option_map_or}
 use Rattle.es_value.specs.Printed.{quoted}
 use Rattle.es_event.specs.declared.literal.Literal.{Literal}
 use Rattle.es_event.specs.declared.literal.Literal.TheVariants.{Undefined, Boolean, Number, Text}
+use Rattle.es_event.specs.declared.atomic.Operation.{Operation}
+use Rattle.es_event.specs.declared.atomic.Operation.TheVariants.{Load, Store, Add}
 use Rattle.es_event.specs.declared.command.Command.{Command}
-use Rattle.es_event.specs.declared.command.Command.TheVariants.{Let, New, Symbol, SymbolFor, Copy, Same, Say, Set, Get, Delete, Keys, WeakRef, Deref, WeakMap, WeakMapSet, WeakMapGet, WeakMapHas, WeakMapDelete, WeakSet, WeakSetAdd, WeakSetHas, WeakSetDelete, FinalizationRegistry, Register, Unregister, SharedArrayBuffer, Length, SameBlock, Load, Store, Add, Post, Collect, CollectLater}
+use Rattle.es_event.specs.declared.command.Command.TheVariants.{Let, New, Symbol, SymbolFor, Copy, Same, Say, Set, Get, Delete, Keys, WeakRef, Deref, WeakMap, WeakMapSet, WeakMapGet, WeakMapHas, WeakMapDelete, WeakSet, WeakSetAdd, WeakSetHas, WeakSetDelete, FinalizationRegistry, Register, Unregister, SharedArrayBuffer, Length, SameBlock, Atomic, Post, Collect, CollectLater}
 use Rattle.es_event.specs.declared.plan.AgentPlan.{AgentPlan}
 use Rattle.es_trace.specs.declared.style.Style.{Style}
 use Rattle.es_trace.specs.declared.style.Style.TheVariants.{Words, Json}
@@ -63,14 +65,18 @@ registry_text st (Register q y v t) = three st (codes "register") q y v ++ token
 registry_text st (Unregister to q t) = three st (codes "unregister") to q t
 registry_text st _ = []
 
+-- on a word of a buffer's block
+abbrev pub access_text : Style → List ℕ → ℤ → Operation → List ℕ
+access_text st b i (Load to) = two st (codes "load") to b ++ after st (signed_decimal i)
+access_text st b i (Store n) = one st (codes "store") b ++ after st (signed_decimal i) ++ after st (signed_decimal n)
+access_text st b i (Add to n) = two st (codes "add") to b ++ after st (signed_decimal i) ++ after st (signed_decimal n)
+
 -- of buffers, and then those of FinalizationRegistries
 abbrev pub shared_text : Style → Command → List ℕ
 shared_text st (SharedArrayBuffer to n) = one st (codes "buffer") to ++ after st (decimal n)
 shared_text st (Length to b) = two st (codes "length") to b
 shared_text st (SameBlock to b d) = three st (codes "sameblock") to b d
-shared_text st (Load to b i) = two st (codes "load") to b ++ after st (signed_decimal i)
-shared_text st (Store b i n) = one st (codes "store") b ++ after st (signed_decimal i) ++ after st (signed_decimal n)
-shared_text st (Add to b i n) = two st (codes "add") to b ++ after st (signed_decimal i) ++ after st (signed_decimal n)
+shared_text st (Atomic a) = access_text st a.buffer a.index a.operation
 shared_text st c = registry_text st c
 
 -- of WeakRefs, WeakMaps and WeakSets, and then the others

@@ -29,26 +29,26 @@ access_text (Add n) = codes " added to"
 abbrev pub ledger_text : List (List ℕ) → LedgerEvent → List ℕ
 ledger_text names (Opened b w s a) = codes "block " ++ (decimal b ++ codes " opened")
 ledger_text names (Posted a r m) = message_text names a r (codes " posted")
-ledger_text names (Taken r a) = message_text names a r (codes " taken")
+ledger_text names (Taken a r) = message_text names a r (codes " taken")
 ledger_text names (Spent s) = codes "ticket " ++ (decimal s ++ codes " spent")
 ledger_text names (Accessed s i m old) = word_text i s (access_text m)
 ledger_text names (Waiting a s) = name_at names a ++ (codes " waits for " ++ name_at names s)
 ledger_text names (Passed a s) = name_at names a ++ (codes " waits no more for " ++ name_at names s)
 ledger_text names (Ended a) = name_at names a ++ codes " ended"
-ledger_text names (Drained r a) = message_text names a r (codes " drained")
+ledger_text names (Drained a r) = message_text names a r (codes " drained")
 
 -- Answers
 
 abbrev pub tells : LedgerEvent → Bool
 tells (Opened b w s a) = true
 tells (Posted a r m) = true
-tells (Taken r a) = false
+tells (Taken a r) = false
 tells (Spent s) = false
 tells (Accessed s i m old) = true
 tells (Waiting a s) = false
 tells (Passed a s) = false
 tells (Ended a) = false
-tells (Drained r a) = false
+tells (Drained a r) = false
 
 abbrev pub body_text : Body → List ℕ
 body_text (Plain v) = value_text v ++ codes "\n"
@@ -64,13 +64,13 @@ told_of (Add n) old = decimal old ++ (codes " + " ++ (decimal n ++ codes "\n"))
 abbrev pub told_text : List (List ℕ) → LedgerEvent → List ℕ
 told_text names (Opened b w s a) = codes "ticket " ++ (decimal s ++ (codes " of " ++ (name_at names a ++ (codes ", words " ++ (decimal w ++ codes "\n")))))
 told_text names (Posted a r m) = body_text m
-told_text names (Taken r a) = []
+told_text names (Taken a r) = []
 told_text names (Spent s) = []
 told_text names (Accessed s i m old) = told_of m old
 told_text names (Waiting a s) = []
 told_text names (Passed a s) = []
 told_text names (Ended a) = []
-told_text names (Drained r a) = []
+told_text names (Drained a r) = []
 
 -- Rows
 

@@ -20,13 +20,13 @@ ticket_in (Block b s) = Some (s, b)
 abbrev pub ticket_made : LedgerEvent → Option (ℕ × ℕ)
 ticket_made (Opened b w s a) = Some (s, b)
 ticket_made (Posted a r m) = ticket_in m
-ticket_made (Taken r a) = None
+ticket_made (Taken a r) = None
 ticket_made (Spent s) = None
 ticket_made (Accessed s i m old) = None
 ticket_made (Waiting a s) = None
 ticket_made (Passed a s) = None
 ticket_made (Ended a) = None
-ticket_made (Drained r a) = None
+ticket_made (Drained a r) = None
 
 abbrev pub newest_block : Option (ℕ × ℕ) → ℕ → Option ℕ → Option ℕ
 newest_block None s before = before
@@ -41,13 +41,13 @@ block_of (e ∷ earlier) s = newest_block (ticket_made e) s (block_of earlier s)
 abbrev pub spends : LedgerEvent → Option ℕ
 spends (Opened b w s a) = None
 spends (Posted a r m) = None
-spends (Taken r a) = None
+spends (Taken a r) = None
 spends (Spent s) = Some s
 spends (Accessed s i m old) = None
 spends (Waiting a s) = None
 spends (Passed a s) = None
 spends (Ended a) = None
-spends (Drained r a) = None
+spends (Drained a r) = None
 
 abbrev pub with_block : Option ℕ → List ℕ → List ℕ
 with_block None bs = bs

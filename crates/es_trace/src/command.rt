@@ -2,7 +2,7 @@
 
 ghost use Rattle.std.specs.Prelude.{◌≡◌, codes, OnOk};
 ghost use Rattle.std.specs.Io.KnownBytes.{Appends};
-ghost use Rattle.es_trace.specs.Commands.{begun, callback_name as callback_said, name_at as name_said, named, one, plain_text, registry_text, shared_text, weak_text};
+ghost use Rattle.es_trace.specs.Commands.{access_text, begun, callback_name as callback_said, name_at as name_said, named, one, plain_text, registry_text, shared_text, weak_text};
 
 use crate::names::{callback_name, name_at};
 use crate::style::Style;
@@ -10,7 +10,7 @@ use crate::words::{
     write_count, write_literal, write_name, write_named, write_number, write_one, write_quoted,
     write_three, write_token, write_two, write_word,
 };
-use es_event::{AgentPlan, Command};
+use es_event::{AgentPlan, Atomic, Command, Operation};
 use es_value::Name;
 use std::io;
 use std::io::Write;
@@ -141,30 +141,31 @@ fn write_shared<W: Write>(style: Style, command: &Command, writer: &mut W) -> Re
             right,
             writer,
         ),
-        Command::Load { to, buffer, index } => {
-            write_two(style, "load", to, buffer, writer)?;
-            write_number(style, *index, writer)
-        }
-        Command::Store {
-            buffer,
-            index,
-            number,
-        } => {
-            write_one(style, "store", buffer, writer)?;
-            write_number(style, *index, writer)?;
-            write_number(style, *number, writer)
-        }
-        Command::Add {
-            to,
-            buffer,
-            index,
-            number,
-        } => {
-            write_two(style, "add", to, buffer, writer)?;
-            write_number(style, *index, writer)?;
-            write_number(style, *number, writer)
-        }
+        Command::Atomic(atomic) => write_access(style, atomic, writer),
         _ => write_registry(style, command, writer),
+    }
+}
+
+/// One on a word of a buffer's block.
+fn write_access<W: Write>(style: Style, atomic: &Atomic, writer: &mut W) -> Result<(), io::Error>
+    ensures { OnOk result (Appends (W.contents writer.old) (W.contents writer.new) (access_text style atomic.now.buffer atomic.now.index atomic.now.operation)) }
+{
+    let (buffer, index) = (atomic.buffer(), atomic.index());
+    match atomic.operation() {
+        Operation::Load { to } => {
+            write_two(style, "load", to, buffer, writer)?;
+            write_number(style, index, writer)
+        }
+        Operation::Store { number } => {
+            write_one(style, "store", buffer, writer)?;
+            write_number(style, index, writer)?;
+            write_number(style, *number, writer)
+        }
+        Operation::Add { to, number } => {
+            write_two(style, "add", to, buffer, writer)?;
+            write_number(style, index, writer)?;
+            write_number(style, *number, writer)
+        }
     }
 }
 

@@ -120,7 +120,7 @@ fn write_event<W: Write>(
             receiver,
             ..
         } => write_message(names, *sender, *receiver, " posted", writer),
-        LedgerEvent::Taken { receiver, sender } => {
+        LedgerEvent::Taken { sender, receiver } => {
             write_message(names, *sender, *receiver, " taken", writer)
         }
         LedgerEvent::Spent { serial } => write!(writer, "ticket {serial} spent"),
@@ -137,7 +137,7 @@ fn write_event<W: Write>(
             write_wait(names, *agent, *sender, " waits no more for ", writer)
         }
         LedgerEvent::Ended { agent } => write_end(names, *agent, writer),
-        LedgerEvent::Drained { receiver, sender } => {
+        LedgerEvent::Drained { sender, receiver } => {
             write_message(names, *sender, *receiver, " drained", writer)
         }
     }

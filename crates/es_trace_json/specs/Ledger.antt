@@ -36,13 +36,13 @@ access_members s i old (Add n) = codes "\"added\"" ++ (place_json s i ++ (codes 
 abbrev pub ledger_members : List (List ℕ) → LedgerEvent → List ℕ
 ledger_members names (Opened b w s a) = codes "\"opened\",\"block\":" ++ (decimal b ++ (codes ",\"words\":" ++ (decimal w ++ (codes ",\"ticket\":" ++ (decimal s ++ (codes ",\"agent\":" ++ name_json names a))))))
 ledger_members names (Posted a r m) = codes "\"posted\"" ++ (ends_json names a r ++ (codes ",\"carries\":" ++ body_json m))
-ledger_members names (Taken r a) = codes "\"taken\"" ++ ends_json names a r
+ledger_members names (Taken a r) = codes "\"taken\"" ++ ends_json names a r
 ledger_members names (Spent s) = codes "\"spent\",\"ticket\":" ++ decimal s
 ledger_members names (Accessed s i m old) = access_members s i old m
 ledger_members names (Waiting a s) = codes "\"waiting\",\"agent\":" ++ (name_json names a ++ (codes ",\"sender\":" ++ name_json names s))
 ledger_members names (Passed a s) = codes "\"passed\",\"agent\":" ++ (name_json names a ++ (codes ",\"sender\":" ++ name_json names s))
 ledger_members names (Ended a) = codes "\"ended\",\"agent\":" ++ name_json names a
-ledger_members names (Drained r a) = codes "\"drained\"" ++ ends_json names a r
+ledger_members names (Drained a r) = codes "\"drained\"" ++ ends_json names a r
 
 abbrev pub ledger_line : List (List ℕ) → LedgerEvent → List ℕ
 ledger_line names e = codes "{\"ledger\":" ++ (ledger_members names e ++ codes "}\n")

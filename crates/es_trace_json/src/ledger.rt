@@ -90,7 +90,7 @@ fn write_members<W: Write>(
             receiver,
             body,
         } => write_posted(names, *sender, *receiver, body, writer),
-        LedgerEvent::Taken { receiver, sender } => {
+        LedgerEvent::Taken { sender, receiver } => {
             write_message("taken", names, *sender, *receiver, writer)
         }
         LedgerEvent::Spent { serial } => write_spent(*serial, writer),
@@ -107,7 +107,7 @@ fn write_members<W: Write>(
             write_wait("passed", names, *agent, *sender, writer)
         }
         LedgerEvent::Ended { agent } => write_end(names, *agent, writer),
-        LedgerEvent::Drained { receiver, sender } => {
+        LedgerEvent::Drained { sender, receiver } => {
             write_message("drained", names, *sender, *receiver, writer)
         }
     }

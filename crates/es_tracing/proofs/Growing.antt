@@ -91,8 +91,8 @@ further : (a b c : Ledger) → IsLater a b → IsLater b c → IsLater a c
 further a b c first next = (next.0 ++ first.0, next.1 ∙ ap (λ l. next.0 ++ l) first.1 ∙ sym (append_assoc next.0 first.0 a))
 
 one_drained : (l : Ledger) (s r : ℕ) (m : Body) → IsLater l (drained_one l s r m)
-one_drained l s r (Plain v) = (Drained r s ∷ [], refl)
-one_drained l s r (Block b k) = (Spent k ∷ Drained r s ∷ [], refl)
+one_drained l s r (Plain v) = (Drained s r ∷ [], refl)
+one_drained l s r (Block b k) = (Spent k ∷ Drained s r ∷ [], refl)
 
 each_drained : (l : Ledger) (s r : ℕ) (ms : List Body) → IsLater l (drained_each l s r ms)
 each_drained l s r [] = ([], refl)

@@ -208,12 +208,12 @@ fn tickets_that_are_left_count(rt: HostRuntime) -> Result<(), Fail> {
     ledger.push(LedgerEvent::Spent { serial: 3 })?;
     ledger.push(LedgerEvent::Spent { serial: 4 })?;
     ledger.push(LedgerEvent::Taken {
-        receiver: 1,
         sender: 0,
+        receiver: 1,
     })?;
     ledger.push(LedgerEvent::Taken {
-        receiver: 1,
         sender: 0,
+        receiver: 1,
     })?;
     ledger.push(LedgerEvent::Spent { serial: 1 })?;
     ledger.push(opened(4, 1))?;

@@ -1,8 +1,9 @@
 //! Commands on buffers and messages.
 
-ghost use Rattle.std.specs.Prelude.{◌≡◌, map};
+ghost use Rattle.std.specs.Prelude.{◌≡◌, map, IfOk, IfErr};
 ghost use Rattle.serde_json.specs.View.{items_of};
 ghost use Rattle.serde_json.specs.Events.{items_len};
+ghost use Rattle.es_event.specs.Commands.{atomic};
 ghost use Rattle.es_reading.specs.Forms.{shared_form};
 ghost use Rattle.es_reading.specs.Reading.{Gives, said, form_read};
 
@@ -14,7 +15,8 @@ use crate::operand::AgentNumber;
 use crate::operands::{four, three, two};
 use crate::part::Seen;
 use crate::scope::Scope;
-use es_event::Command;
+use es_event::{Atomic, Command, Operation};
+use es_value::Name;
 
 /// A command on buffers or messages, and then the others.
 pub(crate) fn shared_command<V: Seen>(
@@ -41,24 +43,15 @@ pub(crate) fn shared_command<V: Seen>(
         }
         "load" => {
             let (to, buffer, index) = three(names, scope, operands, spot)?;
-            Ok(Command::Load { to, buffer, index })
+            access(names, buffer, index, Operation::Load { to })
         }
         "store" => {
             let (buffer, index, number) = three(names, scope, operands, spot)?;
-            Ok(Command::Store {
-                buffer,
-                index,
-                number,
-            })
+            access(names, buffer, index, Operation::Store { number })
         }
         "add" => {
             let (to, buffer, index, number) = four(names, scope, operands, spot)?;
-            Ok(Command::Add {
-                to,
-                buffer,
-                index,
-                number,
-            })
+            access(names, buffer, index, Operation::Add { to, number })
         }
         "post" => {
             let (AgentNumber(receiver), from) = two(names, scope, operands, spot)?;
@@ -66,4 +59,17 @@ pub(crate) fn shared_command<V: Seen>(
         }
         _ => registry_command(names, scope, word, operands, spot),
     }
+}
+
+/// A command on a word of a buffer's block.
+fn access(
+    names: &KnownNames,
+    buffer: Name,
+    index: i64,
+    operation: Operation,
+) -> Result<Command, ReadFault>
+    ensures made { IfOk result (λ c. c ≡ atomic buffer index operation) }
+    ensures fault { IfErr result (λ e. e ≡ ReadFault.NoMemory) }
+{
+    Ok(Command::Atomic(Atomic::new(names.allocator(), buffer, index, operation)?))
 }

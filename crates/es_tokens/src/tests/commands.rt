@@ -1,6 +1,6 @@
 //! A command as the tests show it: its word and its operands, as a plan has them.
 
-use es_event::Command;
+use es_event::{Atomic, Command, Operation};
 use std::io::Write;
 use std::test::Fail;
 
@@ -79,19 +79,18 @@ fn write_shared(command: &Command, told: &mut Vec<u8>) -> Result<(), Fail> {
             told,
             " sameblock {to:?} {left:?} {right:?}"
         )?,
-        Command::Load { to, buffer, index } => write!(told, " load {to:?} {buffer:?} {index}")?,
-        Command::Store {
-            buffer,
-            index,
-            number,
-        } => write!(told, " store {buffer:?} {index} {number}")?,
-        Command::Add {
-            to,
-            buffer,
-            index,
-            number,
-        } => write!(told, " add {to:?} {buffer:?} {index} {number}")?,
+        Command::Atomic(atomic) => write_atomic(atomic, told)?,
         Command::Post { receiver, from } => write!(told, " post {receiver} {from:?}")?,
         _ => write!(told, " of another group")?,
+    })
+}
+
+/// What is done to a word of shared memory.
+fn write_atomic(atomic: &Atomic, told: &mut Vec<u8>) -> Result<(), Fail> {
+    let (buffer, index) = (atomic.buffer(), atomic.index());
+    Ok(match atomic.operation() {
+        Operation::Load { to } => write!(told, " load {to:?} {buffer:?} {index}")?,
+        Operation::Store { number } => write!(told, " store {buffer:?} {index} {number}")?,
+        Operation::Add { to, number } => write!(told, " add {to:?} {buffer:?} {index} {number}")?,
     })
 }

@@ -9,8 +9,8 @@ returns-in-Posted-clause-counts c = rw c.in-Posted.is (λ l says.
 
 pub returns-in-Taken-clause-counts : goal.returns-in-Taken-clause-counts
 returns-in-Taken-clause-counts c = rw c.in-Taken.is (λ l says.
-    rw c.taken_out.ensures (counts_out c.args.sender c.args.receiver c.in-Taken.from c.in-Taken.to (Taken c.in-Taken.to c.in-Taken.from) l c.args.counts c.is_port-in-Taken.result c.is_port-in-Taken.ensures refl (λ q. refl) says))
+    rw c.taken_out.ensures (counts_out c.args.sender c.args.receiver c.in-Taken.from c.in-Taken.to (Taken c.in-Taken.from c.in-Taken.to) l c.args.counts c.is_port-in-Taken.result c.is_port-in-Taken.ensures refl (λ q. refl) says))
 
 pub returns-in-Drained-clause-counts : goal.returns-in-Drained-clause-counts
 returns-in-Drained-clause-counts c = rw c.in-Drained.is (λ l says.
-    rw c.taken_out-in-Drained.ensures (counts_out c.args.sender c.args.receiver c.in-Drained.from c.in-Drained.to (Drained c.in-Drained.to c.in-Drained.from) l c.args.counts c.is_port-in-Drained.result c.is_port-in-Drained.ensures refl (λ q. refl) says))
+    rw c.taken_out-in-Drained.ensures (counts_out c.args.sender c.args.receiver c.in-Drained.from c.in-Drained.to (Drained c.in-Drained.from c.in-Drained.to) l c.args.counts c.is_port-in-Drained.result c.is_port-in-Drained.ensures refl (λ q. refl) says))

@@ -1,0 +1,121 @@
+//! Commands on words of shared memory.
+
+ghost use Rattle.std.specs.Prelude.{◌≡◌, OnOk, IfOk};
+ghost use Rattle.std.specs.Option.{option_copied};
+ghost use Rattle.es_event.specs.Access.{access_of, given_to};
+
+use crate::access::{Access, to_uint32};
+use es_value::{Name, NoMemory};
+use std::alloc::Global;
+use std::marker::Model;
+
+/// A command on a word of a buffer's block (ECMA-262, The Atomics Object), which contracts see as its parts.
+///
+/// It takes 8 bytes, and a block of memory for its parts, since no other command has as many.
+#[derive(Drop)]
+pub struct Atomic {
+    parts: Box<AtomicParts>,
+}
+
+/// The parts of a command on a word of shared memory.
+#[derive(Drop)]
+pub struct AtomicParts {
+    /// The variable that has the buffer.
+    buffer: Name,
+    /// The word's place in the buffer's block, counted from 0.
+    index: i64,
+    /// What is done to the word.
+    operation: Operation,
+}
+
+/// What a command does to a word of shared memory.
+#[derive(Drop)]
+pub enum Operation {
+    /// `load X B I`: assigns the word (Atomics.load).
+    Load { to: Name },
+    /// `store B I N`: writes a number, modulo 2^32, in its place (Atomics.store).
+    Store { number: i64 },
+    /// `add X B I N`: adds a number, modulo 2^32, assigns the word that was there (Atomics.add).
+    Add { to: Name, number: i64 },
+}
+
+impl Model for Atomic {
+    ghost use Rattle.es_event.specs.declared.atomic.AtomicParts.{AtomicParts as Parts};
+
+    ghost Value = { Parts };
+
+    ghost view = { λ a. a.parts.value };
+}
+
+impl Atomic {
+    /// The command of these parts.
+    pub fn new(
+        alloc: Global,
+        buffer: Name,
+        index: i64,
+        operation: Operation,
+    ) -> Result<Atomic, NoMemory>
+        ensures { IfOk result (λ a. (a.buffer ≡ buffer) × (a.index ≡ index) × (a.operation ≡ operation)) }
+    {
+        let parts = Box::new(
+            alloc,
+            AtomicParts {
+                buffer,
+                index,
+                operation,
+            },
+        )?;
+        Ok(Atomic { parts })
+    }
+
+    /// The variable that has the buffer.
+    pub fn buffer(&self) -> &Name
+        ensures { result.now ≡ self.now.buffer }
+    {
+        &self.parts.buffer
+    }
+
+    /// The word's place in the buffer's block, counted from 0.
+    pub fn index(&self) -> i64
+        ensures { result ≡ self.now.index }
+    {
+        self.parts.index
+    }
+
+    /// What the command does to the word.
+    pub fn operation(&self) -> &Operation
+        ensures { result.now ≡ self.now.operation }
+    {
+        &self.parts.operation
+    }
+
+    /// What is done to the word.
+    pub fn access(&self) -> Access
+        ensures { result ≡ access_of self.now.operation }
+    {
+        self.parts.operation.access()
+    }
+}
+
+impl Operation {
+    /// What is done: a number is written and added modulo 2^32.
+    pub fn access(&self) -> Access
+        ensures { result ≡ access_of self.now }
+    {
+        match self {
+            Operation::Load { .. } => Access::Load,
+            Operation::Store { number } => Access::Store(to_uint32(*number)),
+            Operation::Add { number, .. } => Access::Add(to_uint32(*number)),
+        }
+    }
+
+    /// The variable that the word is assigned that was there, if one is.
+    pub fn assigns(&self) -> Option<&Name>
+        ensures { option_copied result ≡ given_to self.now }
+    {
+        match self {
+            Operation::Load { to } | Operation::Add { to, .. } => Some(to),
+            Operation::Store { .. } => None,
+        }
+    }
+}
