@@ -6,7 +6,7 @@ ghost use Rattle.std.specs.Io.KnownBytes.{Appends};
 ghost use Rattle.es_event.specs.Report.{agent_text, line};
 ghost use Rattle.es_count.specs.Tallies.{end_tally};
 
-use crate::line::write_line;
+use crate::line::{has_line, write_line};
 use es_event::{Event, Sequence};
 use es_registry::Tally;
 use es_value::Name;
@@ -45,7 +45,10 @@ pub fn write_lines<W: Write>(events: &[Event], writer: &mut W) -> Result<(), io:
     ensures { OnOk result (Appends (W.contents writer.old) (W.contents writer.new) (flat_map line events.now)) }
 {
     for event in events {
-        write_line(event, writer)?;
+        // most have none, and a result is long
+        if has_line(event) {
+            write_line(event, writer)?;
+        }
     }
     Ok(())
 }

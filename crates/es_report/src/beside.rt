@@ -14,7 +14,7 @@ use es_event::{Event, Outcome, Sequence};
 use es_registry::Tally;
 use es_value::{Name, NoMemory};
 use std::alloc::Global;
-use std::io::Write;
+use std::io::{BufWriter, Write};
 use std::thread::Threads;
 use std::{io, thread};
 
@@ -88,9 +88,15 @@ fn text_at(
     requires tallies { AreTallies histories.now tallies.now }
     ensures { IfOk result (λ t. t.items ≡ agent_text (slice_index_or names.now place []) (slice_index_or histories.now place [])) }
 {
-    let mut text = Vec::new(alloc);
-    match write_at(names, histories, tallies, place, &mut text) {
-        Ok(()) => Ok(text),
+    // a piece of a line costs less in a buffer than in a list
+    let Ok(mut writer) = BufWriter::new(alloc, Vec::new(alloc)) else {
+        return Err(NoMemory);
+    };
+    if write_at(names, histories, tallies, place, &mut writer).is_err() {
+        return Err(NoMemory);
+    }
+    match writer.into_inner() {
+        Ok(text) => Ok(text),
         Err(_) => Err(NoMemory),
     }
 }
