@@ -324,13 +324,13 @@ last_growths() {
 last_growths "$room/wide.json" 2 80
 last_growths "$room/wide.json" 8 120
 
-# Eight long histories: seven threads run agents, seven compare histories, seven make lines, and seven let histories go. A
-# growth that is refused while histories are compared ends the run; one that is refused after that changes nothing.
+# Eight long histories: seven threads run agents, seven compare histories, and seven make lines. A growth that is refused
+# while histories are compared ends the run; one that is refused after that changes nothing.
 commands=$(yes '["let","x",1]' | head -n 5000 | paste -s -d ,)
 for name in a b c d e f g h; do
     printf '{"name":"%s","callbacks":{},"jobs":[{"run":[%s]},{"run":[%s]}]}\n' "$name" "$commands" "$commands"
 done | paste -s -d , | sed 's/.*/{"version":1,"agents":[&]}/' >"$room/long.json"
-makes_threads 28 "$room/long.json"
+makes_threads 21 "$room/long.json"
 makes_threads 0 "$room/long.json" --turns
 run 0 run "$room/long.json" --turns
 cp "$room/out" "$room/wanted"

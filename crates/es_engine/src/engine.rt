@@ -10,7 +10,7 @@ ghost use Rattle.es_engine.specs.Engine.{Answers, IsAnswerFault, ReadsPlan, Runs
 
 use crate::cluster::run_plan;
 use crate::input::read_all;
-use crate::letting_go::let_go;
+use crate::letting_go::{leave, leave_plan};
 use crate::run_fault::RunFault;
 use es_event::Plan;
 use es_options::Options;
@@ -38,7 +38,22 @@ pub fn run<H: AllocGlobal + Threads + Wait + Sync, R: Read, W: Write>(
     ensures unwritten { IfErr result (λ e. e ≢ RunFault.Write → writer.new ≡ writer.old) }
 {
     let plan = plan_from(rt.alloc(), reader)?;
-    answer(rt, plan, options, writer)
+    answer(rt, plan, options, false, writer)
+}
+
+/// The same, for a program that ends right after: what the run came to is not let go piece by piece, since the
+/// system takes back all memory of a program that ends.
+pub fn run_last<H: AllocGlobal + Threads + Wait + Sync, R: Read, W: Write>(
+    rt: &H,
+    reader: &mut R,
+    writer: &mut W,
+    options: Options,
+) -> Result<u32, RunFault>
+    ensures runs { RunsTo options (R.remaining reader.old) (R.remaining reader.new) (W.contents writer.old) (W.contents writer.new) result }
+    ensures unwritten { IfErr result (λ e. e ≢ RunFault.Write → writer.new ≡ writer.old) }
+{
+    let plan = plan_from(rt.alloc(), reader)?;
+    answer(rt, plan, options, true, writer)
 }
 
 /// The plan that the reader's bytes stand for.
@@ -53,11 +68,13 @@ fn plan_from<R: Read>(alloc: Global, reader: &mut R) -> Result<Plan, RunFault>
     Ok(plan)
 }
 
-/// Writes what there is to say of a plan, and gives how many audits were made beside its agents.
+/// Writes what there is to say of a plan, and gives how many audits were made beside its agents. What the run came to is
+/// let go, but where the program ends with it.
 fn answer<H: AllocGlobal + Threads + Wait + Sync, W: Write>(
     rt: &H,
     plan: Plan,
     options: Options,
+    ends: bool,
     writer: &mut W,
 ) -> Result<u32, RunFault>
     requires few { length plan.agents < 9 }
@@ -70,11 +87,12 @@ fn answer<H: AllocGlobal + Threads + Wait + Sync, W: Write>(
 {
     if options.check {
         writer.write_all(b"ok\n").map_err(|_| RunFault::Write)?;
+        leave_plan(plan, ends);
         return Ok(0);
     }
     let (ended, audits) = run_plan(rt, rt.alloc(), plan, options)?;
     write_ended(rt, &ended, options.turns, writer)?;
-    let_go(rt, ended, options.turns);
+    leave(rt, ended, options.turns, ends);
     Ok(audits)
 }
 

@@ -13,7 +13,7 @@ mod run_fault;
 
 pub use complaint::{explain, note_audits};
 pub use ending::{Ending, status_for};
-pub use engine::run;
+pub use engine::{run, run_last};
 pub use input::read_all;
 pub use laws::a_plan_has_one_answer;
 pub use run_fault::RunFault;
