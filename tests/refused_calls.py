@@ -26,7 +26,7 @@ import turns
 from refusing import Refusing
 
 CALLS = "Perform Collect BeginLater FinishLater Admit Receive AnswerWord AnswerDone Skip".split()
-CALLS += "OpenBlock Post PostBuffer AwaitMessage Load Store Add".split()  # of the ledger
+CALLS += "OpenBlock Post PostBuffer AwaitMessage Access".split()  # of the ledger
 PADS = 10  # so many rows are made of one of calls.txt
 ROUNDS = 80  # so many turns each agent has after those of a row
 AROUND = 5  # so many growths before the first turn are refused too; those of the words differ by no more

@@ -43,11 +43,7 @@ pub(crate) fn ask<L: Run>(
                 buffer,
                 index,
                 access,
-            } => match access {
-                Access::Load => load(core, stake, ledger, buffer, index),
-                Access::Store(word) => store(core, stake, ledger, buffer, index, word),
-                Access::Add(addend) => add(core, stake, ledger, buffer, index, addend),
-            },
+            } => access_word(core, stake, ledger, buffer, index, access),
         },
         Need::Message(sender) => hear(core, stake, ledger, sender),
         Need::Local | Need::Collect | Need::Later | Need::Finish | Need::Close => Ok(Given::Alone),
@@ -120,63 +116,28 @@ fn post_buffer<L: Run>(
     Ok(Given::Done)
 }
 
-/// A word of a buffer object's block.
-fn load<L: Run>(
+/// The word of a buffer object's block that was there, or that the access was done where it gives none.
+fn access_word<L: Run>(
     core: &AgentCore<L>,
     stake: &mut Stake<L>,
     ledger: &mut LedgerCore<L>,
     buffer: Id,
     index: usize,
+    access: Access,
 ) -> Result<Given<L>, NoMemory>
-    requires due { need core.now ≡ asks_ledger (for_access buffer index Access.Load) }
+    requires due { need core.now ≡ asks_ledger (for_access buffer index access) }
     requires held { Holds core.now stake.old }
     ensures ok { IfOk result (λ g. Suits g core.now stake.new) }
     ensures err { OnErr result (Holds core.now stake.new) }
     ensures agents { ledger.new.agents ≡ ledger.old.agents }
 {
     let _ = core.history();
-    let word = ledger.load(stake, core.ticket(buffer), index)?;
-    Ok(Given::Word(word))
-}
-
-/// That a word was written.
-fn store<L: Run>(
-    core: &AgentCore<L>,
-    stake: &mut Stake<L>,
-    ledger: &mut LedgerCore<L>,
-    buffer: Id,
-    index: usize,
-    word: u32,
-) -> Result<Given<L>, NoMemory>
-    requires due { need core.now ≡ asks_ledger (for_access buffer index (Access.Store word)) }
-    requires held { Holds core.now stake.old }
-    ensures ok { IfOk result (λ g. Suits g core.now stake.new) }
-    ensures err { OnErr result (Holds core.now stake.new) }
-    ensures agents { ledger.new.agents ≡ ledger.old.agents }
-{
-    let _ = core.history();
-    ledger.store(stake, core.ticket(buffer), index, word)?;
-    Ok(Given::Done)
-}
-
-/// The word that was there, to which one was added.
-fn add<L: Run>(
-    core: &AgentCore<L>,
-    stake: &mut Stake<L>,
-    ledger: &mut LedgerCore<L>,
-    buffer: Id,
-    index: usize,
-    addend: u32,
-) -> Result<Given<L>, NoMemory>
-    requires due { need core.now ≡ asks_ledger (for_access buffer index (Access.Add addend)) }
-    requires held { Holds core.now stake.old }
-    ensures ok { IfOk result (λ g. Suits g core.now stake.new) }
-    ensures err { OnErr result (Holds core.now stake.new) }
-    ensures agents { ledger.new.agents ≡ ledger.old.agents }
-{
-    let _ = core.history();
-    let old = ledger.add(stake, core.ticket(buffer), index, addend)?;
-    Ok(Given::Word(old))
+    let old = ledger.access(stake, core.ticket(buffer), index, access)?;
+    if access.gives_word {
+        Ok(Given::Word(old))
+    } else {
+        Ok(Given::Done)
+    }
 }
 
 /// What came in a message, that none comes any more, or nothing.

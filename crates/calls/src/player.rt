@@ -10,7 +10,6 @@ use crate::given::Given;
 use crate::repeats::{Call, Calls};
 use crate::taking::take_in;
 use es_agent::{AgentCore, Need, Request};
-use es_event::Access;
 use es_ledger::LedgerCore;
 use es_member::Progress;
 use es_ticket::{Run, Stake};
@@ -186,11 +185,7 @@ fn call_of(need: &Need<'_>) -> Call {
             Request::NewBlock { .. } => Call::OpenBlock,
             Request::Post { .. } => Call::Post,
             Request::PostBuffer { .. } => Call::PostBuffer,
-            Request::Access { access, .. } => match access {
-                Access::Load => Call::Load,
-                Access::Store(_) => Call::Store,
-                Access::Add(_) => Call::Add,
-            },
+            Request::Access { .. } => Call::Access,
         },
     }
 }

@@ -33,12 +33,8 @@ pub(crate) enum Call {
     PostBuffer,
     /// It looks for a message.
     AwaitMessage,
-    /// It reads a word.
-    Load,
-    /// It writes one.
-    Store,
-    /// It adds to one.
-    Add,
+    /// It reads a word, or writes one, or does both.
+    Access,
 }
 
 /// How calls are made that find no memory, and which were.

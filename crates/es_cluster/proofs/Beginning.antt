@@ -10,8 +10,8 @@ use Rattle.es_event.specs.Jobs.{callbacks_collect_nothing}
 use Rattle.es_event.specs.Others.{names_others, each_names_others}
 use Rattle.es_event.specs.Ledger.{ended}
 use Rattle.es_ledger.specs.Books.{Books}
-use Rattle.es_match.specs.Cluster.{patient, drained_last}
-use Rattle.es_match.specs.Deeds.{part}
+use Rattle.es_deeds.specs.Patience.{patient, drained_last}
+use Rattle.es_deeds.specs.Deeds.{part}
 use Rattle.es_record.specs.Book.{Book}
 use Rattle.es_member.specs.Seats.{Seat}
 use Rattle.es_member.specs.Tied.{IsTied}

@@ -17,9 +17,10 @@ use Rattle.es_event.specs.LegalLedger.{ComesNext, LegalLedger, LegalSoFar, all_e
 use Rattle.es_ledger.specs.Books.{Books}
 use Rattle.es_ledger.specs.Draining.{drained_one, drained_each, drained_to, drained_below, drained}
 use Rattle.es_ledger.proofs.Lying.{lies_in_front, lying_all}
-use Rattle.es_match.specs.Cluster.{Ties, IsCluster, is_patient, patient, is_nobodys, drained_last, history_of}
-use Rattle.es_match.specs.Cluster.{drained as was_drained}
-use Rattle.es_match.specs.Deeds.{Spends, deed, part, part_of}
+use Rattle.es_deeds.specs.Patience.{is_patient, patient, is_nobodys, drained_last}
+use Rattle.es_match.specs.Cluster.{Ties, IsCluster, history_of}
+use Rattle.es_deeds.specs.Patience.{drained as was_drained}
+use Rattle.es_deeds.specs.Deeds.{Spends, deed, part, part_of}
 use Rattle.es_member.proofs.Midway.{still_over}
 use Rattle.es_member.specs.Tied.{came_to}
 use Rattle.es_record.specs.Book.{Book}

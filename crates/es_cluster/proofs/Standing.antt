@@ -6,7 +6,7 @@ use Rattle.es_event.specs.Others.{names_others}
 use Rattle.es_event.specs.Ledger.{Ledger}
 use Rattle.es_ledger.specs.Books.{Books}
 use Rattle.es_match.specs.Cluster.{Account, IsClusterOf, IsSaid, Ties, account_of, nobody}
-use Rattle.es_match.specs.Deeds.{part}
+use Rattle.es_deeds.specs.Deeds.{part}
 use Rattle.es_match.specs.Meets.{Came, nothing_came}
 use Rattle.es_record.specs.Book.{Book}
 use Rattle.es_member.specs.Seats.{Seat}

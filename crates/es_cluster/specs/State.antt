@@ -3,8 +3,9 @@ use Rattle.std.specs.Prelude.{ℕ, ◌≡◌, ◌≤◌, ◌+◌, Bool, true, fa
 use Rattle.es_event.specs.declared.plan.AgentPlan.{AgentPlan}
 use Rattle.es_event.specs.declared.plan.Plan.{Plan}
 use Rattle.es_event.specs.Others.{names_others}
-use Rattle.es_match.specs.Cluster.{Account, patient, drained_last}
-use Rattle.es_match.specs.Deeds.{part}
+use Rattle.es_deeds.specs.Patience.{patient, drained_last}
+use Rattle.es_match.specs.Cluster.{Account}
+use Rattle.es_deeds.specs.Deeds.{part}
 use Rattle.es_ledger.specs.Books.{Books}
 use Rattle.es_record.specs.Book.{Book}
 use Rattle.es_member.specs.Seats.{Seat}

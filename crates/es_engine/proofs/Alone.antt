@@ -8,7 +8,7 @@ use Rattle.es_event.specs.Jobs.{stays_alone}
 use Rattle.es_event.specs.Report.{agents_text, cluster_text, report}
 use Rattle.es_event.proofs.OneOutcome.{one_outcome}
 use Rattle.es_match.specs.Cluster.{Account, Ties, account_of}
-use Rattle.es_match.specs.Deeds.{Deed, part}
+use Rattle.es_deeds.specs.Deeds.{Deed, part}
 use Rattle.es_match.specs.Meets.{Came}
 use Rattle.es_cluster.specs.Ends.{IsWhole}
 use Rattle.es_outcome.proofs.Closing.{is_end}

@@ -1,5 +1,6 @@
 -- A ledger without deeds: an agent that stays alone does nothing in it but end, and where all agents' parts have nothing but ends
 -- the report tells of no block and no message.
+use Rattle.std.proofs.lemmas.Bool.{and_parts}
 use Rattle.std.proofs.Common.{◌≡◌, ℕ, Bool, true, false, sym, ◌∙◌, ap, refl, subst, List, [], ◌∷◌, ◌+◌, ◌-◌, ◌&&◌, Option, Some, None, eq-eqb}
 use Rattle.std.specs.Prelude.{is_some, slice_get}
 use Rattle.std.specs.List.{list_all, list_any}
@@ -30,12 +31,11 @@ use Rattle.es_event.specs.Totals.{released, posted, taken, drained}
 use Rattle.es_event.specs.Report.{cluster_text}
 use Rattle.es_event.proofs.Alone.{left_alone, due_no_message}
 use Rattle.es_event.proofs.Coming.{Comes, begins_job, begins_handed, receives, skips, refuses_message, begins_cleanup, does, refuses, empties_dead, takes, ends, stops, finishes, finishes_stopped, closes, comes}
-use Rattle.es_match.specs.Deeds.{Deed, Opens, Posts, Passes, Ends, is_wait, deed, part_of, part}
+use Rattle.es_deeds.specs.Deeds.{Deed, Opens, Posts, Passes, Ends, is_wait, deed, part_of, part}
 use Rattle.es_match.specs.Asks.{Asking, nothing, to_empty, to_close, between_jobs, asks, asks_did}
 use Rattle.es_match.proofs.Bridge.{mapped}
 use Rattle.es_match.specs.Meets.{Came, Tickets, after}
 use Rattle.es_match.specs.Cluster.{Ties}
-use Rattle.es_match.proofs.Bridge.{both}
 use Rattle.es_outcome.proofs.Closing.{is_end}
 
 -- An agent that stays alone
@@ -156,7 +156,7 @@ one_more n l _ q may all = record { blocks = ap (λ k. 0 + k) q.blocks; lines = 
 quiet : (n : ℕ) (l : Ledger) → LegalSoFar n l → ((a : ℕ) → list_all is_end (part l a) ≡ true) → IsQuiet l
 quiet n [] legal all = record { blocks = refl; lines = refl; ports = λ s r. refl; debt = refl; posts = refl; takes = refl; drains = refl }
 quiet n (e ∷ l) legal all =
-    let parts = λ (a : ℕ). both (list_all is_end (part l a)) _ (sym (list_all-append is_end (part l a) (part_of a (deed l e))) ∙ all a) in
+    let parts = λ (a : ℕ). and_parts (list_all is_end (part l a)) _ (sym (list_all-append is_end (part l a) (part_of a (deed l e))) ∙ all a) in
     let before = quiet n l legal.1 (λ a. (parts a).0) in
     one_more n l e before (subst (ComesNext n l e) before.debt legal.0) (λ a. (parts a).1)
 

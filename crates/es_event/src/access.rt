@@ -1,38 +1,46 @@
 //! What is done to a word of shared memory.
 
 ghost use Rattle.std.specs.Prelude.{◌≡◌};
-ghost use Rattle.es_event.specs.Access.{gives_word, is_same_access, to_uint32};
+ghost use Rattle.es_event.specs.Access.{is_same_access, is_same_change, to_uint32};
 
 /// What is done to a word of a Shared Data Block, in one step (ECMA-262, The Atomics Object).
 #[derive(Clone, Copy, Debug)]
-pub enum Access {
-    /// The word is read (Atomics.load).
-    Load,
+pub struct Access {
+    /// What becomes of the word.
+    pub change: Change,
+    /// Whether the command that does it gives the word that was there.
+    pub gives_word: bool,
+}
+
+/// What becomes of a word of a Shared Data Block.
+#[derive(Clone, Copy, Debug)]
+pub enum Change {
+    /// It stays as it is (Atomics.load).
+    Keep,
     /// This word is written in its place (Atomics.store).
-    Store(u32),
+    Write(u32),
     /// This word is added to it, modulo 2^32 (Atomics.add).
     Add(u32),
 }
 
 impl Access {
-    /// Whether the command that does it gives the word that was there.
-    pub fn gives_word(self) -> bool
-        ensures { result ≡ gives_word self }
-    {
-        match self {
-            Access::Load | Access::Add(_) => true,
-            Access::Store(_) => false,
-        }
-    }
-
     /// Whether the same is done, with the same word.
     pub fn is_same(self, other: Access) -> bool
         ensures { result ≡ is_same_access self other }
     {
+        self.change.is_same(other.change) && self.gives_word == other.gives_word
+    }
+}
+
+impl Change {
+    /// Whether the same becomes of a word.
+    fn is_same(self, other: Change) -> bool
+        ensures { result ≡ is_same_change self other }
+    {
         match (self, other) {
-            (Access::Load, Access::Load) => true,
-            (Access::Store(word), Access::Store(written)) => word == written,
-            (Access::Add(addend), Access::Add(added)) => addend == added,
+            (Change::Keep, Change::Keep) => true,
+            (Change::Write(word), Change::Write(written)) => word == written,
+            (Change::Add(addend), Change::Add(added)) => addend == added,
             _ => false,
         }
     }

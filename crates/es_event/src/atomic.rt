@@ -1,10 +1,10 @@
 //! Commands on words of shared memory.
 
-ghost use Rattle.std.specs.Prelude.{◌≡◌, OnOk, IfOk};
+ghost use Rattle.std.specs.Prelude.{◌≡◌, IfOk};
 ghost use Rattle.std.specs.Option.{option_copied};
-ghost use Rattle.es_event.specs.Access.{access_of, given_to};
+ghost use Rattle.es_event.specs.Access.{access_of, change_of, given_to};
 
-use crate::access::{Access, to_uint32};
+use crate::access::{Access, Change, to_uint32};
 use es_value::{Name, NoMemory};
 use std::alloc::Global;
 use std::marker::Model;
@@ -98,14 +98,24 @@ impl Atomic {
 }
 
 impl Operation {
-    /// What is done: a number is written and added modulo 2^32.
+    /// What is done: the change, and the word that was there is given where a variable gets it.
     pub fn access(&self) -> Access
         ensures { result ≡ access_of self.now }
     {
+        Access {
+            change: self.change(),
+            gives_word: self.assigns().is_some(),
+        }
+    }
+
+    /// What becomes of the word: a number is written and added modulo 2^32.
+    fn change(&self) -> Change
+        ensures { result ≡ change_of self.now }
+    {
         match self {
-            Operation::Load { .. } => Access::Load,
-            Operation::Store { number } => Access::Store(to_uint32(*number)),
-            Operation::Add { number, .. } => Access::Add(to_uint32(*number)),
+            Operation::Load { .. } => Change::Keep,
+            Operation::Store { number } => Change::Write(to_uint32(*number)),
+            Operation::Add { number, .. } => Change::Add(to_uint32(*number)),
         }
     }
 

@@ -19,7 +19,7 @@ mod row;
 mod sequence;
 mod shared_list;
 
-pub use access::{Access, to_uint32};
+pub use access::{Access, Change, to_uint32};
 pub use atomic::{Atomic, AtomicParts, Operation};
 pub use command::{Command, OperandNames};
 pub use done::{AnswerRef, Done};

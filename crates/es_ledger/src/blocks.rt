@@ -6,7 +6,7 @@ ghost use Rattle.es_block.specs.Words.{word};
 ghost use Rattle.es_ledger.specs.Blocks.{tickets_at, words_at, lost, gained, with_written, words_written};
 
 use es_block::Block;
-use es_event::Access;
+use es_event::{Access, Change};
 use es_value::NoMemory;
 use std::alloc::Global;
 use std::marker::Model;
@@ -87,8 +87,8 @@ impl Blocks {
     pub fn access(&mut self, number: u64, index: usize, access: Access) -> u32
         requires { index < length (words_at self.old.all number) }
         ensures was { result ≡ word (words_at self.old.all number) index }
-        ensures now { self.new.all ≡ with_written self.old.all number index (written access (word (words_at self.old.all number) index)) }
-        ensures fits { IsStorable access }
+        ensures now { self.new.all ≡ with_written self.old.all number index (written access.change (word (words_at self.old.all number) index)) }
+        ensures fits { IsStorable access.change }
     {
         match &mut self.all[number as usize - 1].words {
             Some(words) => access_word(words, index, access),
@@ -126,24 +126,24 @@ impl Blocks {
 fn access_word(words: &mut Block, index: usize, access: Access) -> u32
     requires { index < length words.old }
     ensures was { result ≡ word words.old index }
-    ensures now { words.new ≡ words_written words.old index (written access (word words.old index)) }
-    ensures fits { IsStorable access }
+    ensures now { words.new ≡ words_written words.old index (written access.change (word words.old index)) }
+    ensures fits { IsStorable access.change }
 {
     let old = words.load(index);
-    if let Some(word) = written(access, old) {
+    if let Some(word) = written(access.change, old) {
         words.store(index, word);
     }
     old
 }
 
 /// The word that is written over the old one, if one is; a sum is taken modulo 2^32.
-fn written(access: Access, old: u32) -> Option<u32>
-    ensures written { result ≡ written access old }
-    ensures fits { IsStorable access }
+fn written(change: Change, old: u32) -> Option<u32>
+    ensures written { result ≡ written change old }
+    ensures fits { IsStorable change }
 {
-    match access {
-        Access::Load => None,
-        Access::Store(word) => Some(word),
-        Access::Add(addend) => Some(old.wrapping_add(addend)),
+    match change {
+        Change::Keep => None,
+        Change::Write(word) => Some(word),
+        Change::Add(addend) => Some(old.wrapping_add(addend)),
     }
 }

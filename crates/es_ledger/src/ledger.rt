@@ -6,6 +6,7 @@ ghost use Rattle.es_ticket.specs.Shares.{Share, erase};
 ghost use Rattle.es_event.specs.declared.row.Row.{Row};
 ghost use Rattle.es_event.specs.Rows.{row, held};
 ghost use Rattle.es_event.specs.Ledger.{opened, serials, table, count, word as word_at, ended, holder_of};
+ghost use Rattle.es_event.specs.Access.{loads, stores, adds};
 ghost use Rattle.es_event.specs.LegalLedger.{LegalLedger};
 ghost use Rattle.es_ledger.specs.Audits.{held_below};
 ghost use Rattle.es_event.specs.declared.ledger_event.LedgerEvent.TheVariants.{Opened as OpenedEvent, Spent as SpentEvent, Accessed, Ended as EndedEvent};
@@ -13,7 +14,7 @@ ghost use Rattle.es_event.specs.declared.ledger_event.LedgerEvent.TheVariants.{O
 use crate::blocks::Blocks;
 use crate::ports::Ports;
 use es_block::Block;
-use es_event::{Access, LedgerEvent, Log};
+use es_event::{Access, Change, LedgerEvent, Log};
 use es_ticket::{Opened, Rows, Run, Stake, Ticket};
 use es_value::NoMemory;
 use std::alloc::Global;
@@ -189,12 +190,16 @@ impl<L: Run> LedgerCore<L> {
         requires here { Contains stake.old.rows ticket.now }
         requires inside { index < ticket.now.words }
         ensures word { IfOk result (λ w. w ≡ word_at self.old.history ticket.now.block index) }
-        ensures history { IfOk result (λ w. (self.new.agents ≡ self.old.agents) × (self.new.history ≡ Accessed ticket.now.serial index Access.Load w ∷ self.old.history)) }
+        ensures history { IfOk result (λ w. (self.new.agents ≡ self.old.agents) × (self.new.history ≡ Accessed ticket.now.serial index loads w ∷ self.old.history)) }
         ensures there { 0 < count self.old.history ticket.now.block }
         ensures stake { stake.new ≡ stake.old }
         ensures err { OnErr result (self.new ≡ self.old) }
     {
-        self.access(stake, ticket, index, Access::Load)
+        let load = Access {
+            change: Change::Keep,
+            gives_word: true,
+        };
+        self.access(stake, ticket, index, load)
     }
 
     /// Writes a word through a ticket (ECMA-262, Atomics.store), as `access` does.
@@ -207,12 +212,16 @@ impl<L: Run> LedgerCore<L> {
     ) -> Result<(), NoMemory>
         requires here { Contains stake.old.rows ticket.now }
         requires inside { index < ticket.now.words }
-        ensures history { OnOk result ((self.new.agents ≡ self.old.agents) × (self.new.history ≡ Accessed ticket.now.serial index (Access.Store word) (word_at self.old.history ticket.now.block index) ∷ self.old.history)) }
+        ensures history { OnOk result ((self.new.agents ≡ self.old.agents) × (self.new.history ≡ Accessed ticket.now.serial index (stores word) (word_at self.old.history ticket.now.block index) ∷ self.old.history)) }
         ensures there { 0 < count self.old.history ticket.now.block }
         ensures stake { stake.new ≡ stake.old }
         ensures err { OnErr result (self.new ≡ self.old) }
     {
-        self.access(stake, ticket, index, Access::Store(word))?;
+        let store = Access {
+            change: Change::Write(word),
+            gives_word: false,
+        };
+        self.access(stake, ticket, index, store)?;
         Ok(())
     }
 
@@ -228,12 +237,16 @@ impl<L: Run> LedgerCore<L> {
         requires here { Contains stake.old.rows ticket.now }
         requires inside { index < ticket.now.words }
         ensures word { IfOk result (λ w. w ≡ word_at self.old.history ticket.now.block index) }
-        ensures history { IfOk result (λ w. (self.new.agents ≡ self.old.agents) × (self.new.history ≡ Accessed ticket.now.serial index (Access.Add addend) w ∷ self.old.history)) }
+        ensures history { IfOk result (λ w. (self.new.agents ≡ self.old.agents) × (self.new.history ≡ Accessed ticket.now.serial index (adds addend) w ∷ self.old.history)) }
         ensures there { 0 < count self.old.history ticket.now.block }
         ensures stake { stake.new ≡ stake.old }
         ensures err { OnErr result (self.new ≡ self.old) }
     {
-        self.access(stake, ticket, index, Access::Add(addend))
+        let add = Access {
+            change: Change::Add(addend),
+            gives_word: true,
+        };
+        self.access(stake, ticket, index, add)
     }
 
     /// An agent that has not ended ends. It takes no memory.

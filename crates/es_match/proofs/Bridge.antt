@@ -1,11 +1,13 @@
 -- Going through a history from its oldest event finds whether an agent's deeds are what it asks.
-use Rattle.std.proofs.Common.{◌≡◌, ℕ, zero, suc, ◌+◌, Bool, true, false, true≢false, ◌&&◌, cond, sym, ◌∙◌, ap, refl, subst, arith, List, [], ◌∷◌, ◌++◌, length, take, drop, Option, Some, None, append_assoc, ◌==◌}
+use Rattle.std.proofs.lemmas.Bool.{and_parts}
+use Rattle.std.proofs.Common.{append-nil}
+use Rattle.std.proofs.Common.{◌≡◌, ℕ, zero, suc, ◌+◌, Bool, true, false, true≢false, cond, sym, ◌∙◌, ap, refl, subst, arith, List, [], ◌∷◌, ◌++◌, length, take, drop, Option, Some, None, append_assoc, ◌==◌}
 use Rattle.std.specs.Prelude.{reverse}
 use Rattle.std.specs.Option.{option_and_then, option_map, option_map_or}
 use Rattle.std.proofs.lemmas.List.{reverse-append, reverse-reverse, take-append-drop}
 use Rattle.es_event.specs.declared.event.Event.{Event}
 use Rattle.es_event.specs.History.{History}
-use Rattle.es_match.specs.Deeds.{Deed, Spends, Ends}
+use Rattle.es_deeds.specs.Deeds.{Deed, Spends, Ends}
 use Rattle.es_match.specs.Asks.{Asking, nothing, to_open, to_measure, to_compare, to_access, to_post, to_receive, to_refuse, to_pass, to_empty, to_close, between_jobs, ends_job, asks}
 use Rattle.es_match.specs.Meets.{Tickets, Came, after, came_after, nothing_came, spends, ends, strike, serials_of, within, some_if, no_more, sole, pair, is_one}
 use Rattle.es_match.specs.Cluster.{Ties}
@@ -22,10 +24,6 @@ one_less-case false n m ns ms (Some l) ih e = let s : (m ∷ l) ≡ ms = cc in l
 one_less : (n : ℕ) (ns ms : List ℕ) → strike n ns ≡ Some ms → length ms + 1 ≡ length ns
 one_less n [] ms e = absurd (cc)
 one_less n (m ∷ ns) ms e = one_less-case (m == n) n m ns ms (strike n ns) (λ l is. one_less n ns l is) e
-
-pub both : (a b : Bool) → (a && b) ≡ true → (a ≡ true) × (b ≡ true)
-both true b e = (refl, e)
-both false b e = absurd (true≢false (sym e))
 
 abbrev last_one : Bool → ℕ
 last_one true = 1
@@ -81,8 +79,8 @@ two-length (d ∷ c ∷ b ∷ ds) f e = absurd (cc)
 after-length : (t : Tickets) (w : Asking) (ds : List Deed) (u : Tickets) → after t w ds ≡ Some u → length ds ≡ asked t w
 after-length t nothing ds u e = no-length ds (some_if-true _ _ _ e)
 after-length t (to_open n v) ds u e = one-length ds _ u e
-after-length t (to_measure b v) ds u e = no-length ds (both _ _ (some_if-true _ _ _ e)).0
-after-length t (to_compare b c v) ds u e = no-length ds (both _ _ (some_if-true _ _ _ e)).0
+after-length t (to_measure b v) ds u e = no-length ds (and_parts _ _ (some_if-true _ _ _ e)).0
+after-length t (to_compare b c v) ds u e = no-length ds (and_parts _ _ (some_if-true _ _ _ e)).0
 after-length t (to_access b i m v) ds u e = is_one-length ds _ (some_if-true _ _ _ e)
 after-length t (to_post a v) ds u e = is_one-length ds _ (some_if-true _ _ _ e)
 after-length t (to_receive s v) ds u e = one-length ds _ u e
@@ -114,10 +112,6 @@ drop-front : {A : Type 0} (xs ys : List A) (n : ℕ) → length xs ≡ n → dro
 drop-front [] ys n e = let z : n ≡ 0 = sym e in rw z refl
 drop-front (x ∷ xs) ys zero e = absurd (omega arith)
 drop-front (x ∷ xs) ys (suc n) e = drop-front xs ys n (omega arith)
-
-pub append_nil : {A : Type 0} (l : List A) → l ++ [] ≡ l
-append_nil [] = refl
-append_nil (x ∷ xs) = ap (λ l. x ∷ l) (append_nil xs)
 
 pub reverse_cons : {A : Type 0} (x : A) (xs ys : List A) → reverse (x ∷ xs) ++ ys ≡ reverse xs ++ x ∷ ys
 reverse_cons x xs ys = ap (λ l. l ++ ys) (reverse-append (x ∷ []) xs) ∙ append_assoc (reverse xs) (x ∷ []) ys
@@ -160,7 +154,7 @@ goes-tie : (h : History) (p : List Deed) (c : Came) → Ties h p c → (es : Lis
     → goes (between_jobs h) c es rest ≡ Some d → Ties (reverse es ++ h) (p ++ rest) d
 goes-tie h p c ties [] rest d go =
     let end = at_end (no_more rest) c d go in
-    subst (λ (l : List Deed). Ties h l d) (sym (ap (λ l. p ++ l) (none_more rest end.0) ∙ append_nil p)) (subst (Ties h p) end.1 ties)
+    subst (λ (l : List Deed). Ties h l d) (sym (ap (λ l. p ++ l) (none_more rest end.0) ∙ append-nil p)) (subst (Ties h p) end.1 ties)
 goes-tie h p c ties (e ∷ es) rest d go =
     let k : ℕ = asked c.tickets (asks (between_jobs h) e) in
     let s = chained _ (came_after c (asks (between_jobs h) e) (take k rest)) d go in
@@ -174,9 +168,9 @@ goes-tie h p c ties (e ∷ es) rest d go =
 pub goes_means_ties : (h : History) (p : List Deed) (c : Came) → goes true nothing_came (reverse h) p ≡ Some c → Ties h p c
 goes_means_ties h p c go =
     let found = goes-tie [] [] nothing_came (refl, refl) (reverse h) p c go in
-    subst (λ (l : List Event). Ties l p c) (append_nil (reverse (reverse h)) ∙ reverse-reverse h) found
+    subst (λ (l : List Event). Ties l p c) (append-nil (reverse (reverse h)) ∙ reverse-reverse h) found
 
 pub ties_mean_goes : (h : History) (p : List Deed) (c : Came) → Ties h p c → goes true nothing_came (reverse h) p ≡ Some c
 ties_mean_goes h p c ties =
-    ap (λ l. goes true nothing_came l p) (sym (append_nil (reverse h))) ∙ ap (goes true nothing_came (reverse h ++ [])) (sym (append_nil p))
+    ap (λ l. goes true nothing_came l p) (sym (append-nil (reverse h))) ∙ ap (goes true nothing_came (reverse h ++ [])) (sym (append-nil p))
     ∙ ties-go h p c ties [] []

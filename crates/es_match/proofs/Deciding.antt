@@ -1,4 +1,5 @@
 -- What the parts of a ledger's history decide.
+use Rattle.std.proofs.lemmas.Bool.{and_parts}
 use Rattle.std.proofs.Common.{◌≡◌, ◌↔◌, ℕ, ◌<◌, ◌≤◌, Bool, true, false, true≢false, ◌||◌, ◌==◌, not, List, [], ◌∷◌, ◌++◌, length, slice_index_or, Option, Some, None, refl, sym, ◌∙◌, ap, subst, arith, eq-eqb, eqb-true, nat_lt, Result, Ok, Err, IfOk, IfSome, IfNone, is_some}
 use Rattle.std.specs.Prelude.{reverse, map}
 use Rattle.std.proofs.lemmas.List.{length-map, reverse-reverse}
@@ -7,30 +8,32 @@ use Rattle.std.proofs.lemmas.Bool.Decides.{nat_tests}
 use Rattle.es_event.specs.declared.event.Event.{Event}
 use Rattle.es_event.specs.History.{History}
 use Rattle.es_event.specs.Ledger.{Ledger}
-use Rattle.es_match.specs.declared.deed.Deed.{Deed}
-use Rattle.es_match.specs.Deeds.{Deed as DeedSaid, Owned, deed, part, part_of, is_wait}
+use Rattle.es_deeds.specs.declared.deed.Deed.{Deed}
+use Rattle.es_deeds.specs.Deeds.{Deed as DeedSaid, Owned, deed, part, part_of, is_wait}
 use Rattle.es_match.specs.Meets.{Came, nothing_came}
-use Rattle.es_match.specs.Cluster.{Ties, HaveCome, IsCluster, history_of, patient, drained_last, drained, is_patient, is_nobodys}
+use Rattle.es_deeds.specs.Patience.{patient, drained_last, drained, is_patient, is_nobodys}
+use Rattle.es_match.specs.Cluster.{Ties, HaveCome, IsCluster, history_of}
 use Rattle.es_match.specs.Goes.{goes}
-use Rattle.es_match.specs.Orderly.{is_known, may_come, orderly}
-use Rattle.es_match.specs.Split.{AllGo, IsSplit, SomeStops, part_at}
-use Rattle.es_match.proofs.Bridge.{both, goes_means_ties, ties_mean_goes}
-use Rattle.es_match.proofs.Splitting.{past}
+use Rattle.es_deeds.specs.Orderly.{is_known, may_come, orderly}
+use Rattle.es_deeds.specs.Split.{IsSplit, part_at}
+use Rattle.es_match.specs.Going.{AllGo, SomeStops}
+use Rattle.es_match.proofs.Bridge.{goes_means_ties, ties_mean_goes}
+use Rattle.es_deeds.proofs.Splitting.{past}
 
 -- From the order
 
 pub order_patient : (n : ℕ) (l : Ledger) → orderly n l ≡ true → patient l ≡ true
 order_patient n [] e = refl
 order_patient n (x ∷ l) e =
-    let b = both (may_come n l (deed l x)) (orderly n l) e in
-    let here : is_patient l (deed l x) ≡ true = (both _ _ b.0).0 in
+    let b = and_parts (may_come n l (deed l x)) (orderly n l) e in
+    let here : is_patient l (deed l x) ≡ true = (and_parts _ _ b.0).0 in
     rw here (order_patient n l b.1)
 
 pub order_drains : (n : ℕ) (l : Ledger) → orderly n l ≡ true → drained_last l ≡ true
 order_drains n [] e = refl
 order_drains n (x ∷ l) e =
-    let b = both (may_come n l (deed l x)) (orderly n l) e in
-    let here : (is_nobodys (deed l x) || not (drained l)) ≡ true = (both _ _ (both _ _ b.0).1).0 in
+    let b = and_parts (may_come n l (deed l x)) (orderly n l) e in
+    let here : (is_nobodys (deed l x) || not (drained l)) ≡ true = (and_parts _ _ (and_parts _ _ b.0).1).0 in
     rw here (order_drains n l b.1)
 
 unknown : (n a : ℕ) (o : Owned) → n ≤ a → is_known n o ≡ true → part_of a o ≡ []
@@ -49,8 +52,8 @@ unknown n a (Some (b, d)) far e = case-of (b == a) (is_wait d) refl refl
 pub strangers : (n : ℕ) (l : Ledger) → orderly n l ≡ true → (a : ℕ) → n ≤ a → part l a ≡ []
 strangers n [] e a far = refl
 strangers n (x ∷ l) e a far =
-    let b = both (may_come n l (deed l x)) (orderly n l) e in
-    let known_here : is_known n (deed l x) ≡ true = (both _ _ (both _ _ b.0).1).1 in
+    let b = and_parts (may_come n l (deed l x)) (orderly n l) e in
+    let known_here : is_known n (deed l x) ≡ true = (and_parts _ _ (and_parts _ _ b.0).1).1 in
     rw (strangers n l b.1 a far) (unknown n a (deed l x) far known_here)
 
 -- To the order
@@ -77,8 +80,8 @@ pub orders : (n : ℕ) (l : Ledger) → patient l ≡ true → drained_last l �
     → orderly n l ≡ true
 orders n [] p d none = refl
 orders n (x ∷ l) p d none =
-    let p2 = both (is_patient l (deed l x)) (patient l) p in
-    let d2 = both (is_nobodys (deed l x) || not (drained l)) (drained_last l) d in
+    let p2 = and_parts (is_patient l (deed l x)) (patient l) p in
+    let d2 = and_parts (is_nobodys (deed l x) || not (drained l)) (drained_last l) d in
     let k = known n (deed l x) (λ a far. (none_left (part l a) (part_of a (deed l x)) (none a far)).1) in
     rw (p2.0) (rw (d2.0) (rw k (orders n l p2.1 d2.1 (λ a far. (none_left (part l a) (part_of a (deed l x)) (none a far)).0))))
 

@@ -8,9 +8,5 @@ mod ExampleNeighbours
 mod ExampleReceipt
 pub mod Examples
 pub mod Lists
-pub mod Lately
-pub mod Noted
 pub mod Passing
-pub mod Posted
 pub mod Racked
-pub mod Splitting

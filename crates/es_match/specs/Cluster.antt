@@ -1,14 +1,13 @@
 -- To believe: when histories of agents and a history of the ledger are those of one cluster.
-use Rattle.std.specs.Prelude.{ℕ, ◌≡◌, ◌<◌, length, Bool, true, false, not, ◌||◌, ◌&&◌, ◌==◌, List, [], ◌∷◌, ◌++◌, Option, Some, None, reverse, slice_index_or, if◌then◌else◌}
+use Rattle.std.specs.Prelude.{ℕ, ◌≡◌, ◌<◌, length, Bool, true, false, not, List, [], ◌∷◌, ◌++◌, Some, reverse, slice_index_or, if◌then◌else◌}
 use Rattle.std.specs.Option.{option_map_or}
 use Rattle.es_event.specs.declared.plan.AgentPlan.{AgentPlan}
-use Rattle.es_event.specs.declared.ledger_event.LedgerEvent.{LedgerEvent}
-use Rattle.es_event.specs.declared.ledger_event.LedgerEvent.TheVariants.{Opened, Posted, Taken, Spent, Accessed, Waiting, Passed, Ended, Drained}
 use Rattle.es_event.specs.History.{History}
 use Rattle.es_event.specs.Jobs.{job, on_of}
 use Rattle.es_event.specs.Ledger.{Ledger, waits}
 use Rattle.es_event.specs.Sharing.{Buffers}
-use Rattle.es_match.specs.Deeds.{Deed, Opens, Posts, Takes, Spends, Accesses, Waits, Passes, Ends, Owned, deed, part}
+use Rattle.es_deeds.specs.Deeds.{Deed, part}
+use Rattle.es_deeds.specs.Patience.{patient, drained_last}
 use Rattle.es_match.specs.Asks.{Asking, to_refuse, between_jobs, asks}
 use Rattle.es_match.specs.Meets.{Came, came_after, nothing_came}
 
@@ -19,55 +18,6 @@ Ties [] ds c = (ds ≡ []) × (c ≡ nothing_came)
 Ties (e ∷ earlier) ds c =
     (before : List Deed) × (now : List Deed) × (d : Came) × (ds ≡ before ++ now) × Ties earlier before d
     × (came_after d (asks (between_jobs earlier) e) now ≡ Some c)
-
--- the deed ends a wait for this sender: the agent takes a message of it, or skips
-abbrev pub ends_wait : ℕ → Deed → Bool
-ends_wait t (Opens b w s) = false
-ends_wait t (Posts r m) = false
-ends_wait t (Takes s m w) = s == t
-ends_wait t (Spends s) = false
-ends_wait t (Accesses s i m old) = false
-ends_wait t (Waits s) = false
-ends_wait t (Passes s) = s == t
-ends_wait t Ends = false
-
-abbrev pub may_do : Option ℕ → Deed → Bool
-may_do None d = true
-may_do (Some s) d = ends_wait s d
-
-abbrev pub is_patient : Ledger → Owned → Bool
-is_patient l None = true
-is_patient l (Some p) = may_do (waits l p.0) p.1
-
--- what an agent does after a wait ends the wait
-abbrev pub patient : Ledger → Bool
-patient [] = true
-patient (e ∷ earlier) = is_patient earlier (deed earlier e) && patient earlier
-
-abbrev pub drains : LedgerEvent → Bool
-drains (Opened b w s a) = false
-drains (Posted a r m) = false
-drains (Taken s r) = false
-drains (Spent s) = false
-drains (Accessed s i m old) = false
-drains (Waiting a s) = false
-drains (Passed a s) = false
-drains (Ended a) = false
-drains (Drained s r) = true
-
--- a message was drained
-abbrev pub drained : Ledger → Bool
-drained [] = false
-drained (e ∷ earlier) = drains e || drained earlier
-
-abbrev pub is_nobodys : Owned → Bool
-is_nobodys None = true
-is_nobodys (Some p) = false
-
--- no agent does anything after a drain
-abbrev pub drained_last : Ledger → Bool
-drained_last [] = true
-drained_last (e ∷ earlier) = (is_nobodys (deed earlier e) || not (drained earlier)) && drained_last earlier
 
 -- agent a's history; an agent that is not there has the empty one
 abbrev pub history_of : List History → ℕ → History

@@ -1,10 +1,7 @@
 pub mod Asks
 pub mod Cluster
 pub mod Counts
-pub mod Deeds
 pub mod Goes
+pub mod Going
 pub mod Meets
-pub mod Orderly
 pub mod Shown
-pub mod Split
-pub mod Tables

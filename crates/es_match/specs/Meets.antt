@@ -9,12 +9,12 @@ use Rattle.es_event.specs.declared.access.Access.{Access}
 use Rattle.es_event.specs.declared.ledger_event.Body.{Body}
 use Rattle.es_event.specs.declared.ledger_event.Body.TheVariants.{Plain, Block}
 use Rattle.es_event.specs.declared.row.Row.{Row}
-use Rattle.es_event.specs.Access.{gives_word, is_same_access}
+use Rattle.es_event.specs.Access.{is_same_access}
 use Rattle.es_event.specs.Identities.{is_in, object_of}
 use Rattle.es_event.specs.Rows.{row}
 use Rattle.es_event.specs.Sharing.{row_of}
 use Rattle.es_match.specs.Asks.{Asking, nothing, to_open, to_measure, to_compare, to_access, to_post, to_receive, to_refuse, to_pass, to_empty, to_close}
-use Rattle.es_match.specs.Deeds.{Deed, Opens, Posts, Takes, Spends, Accesses, Passes, Ends}
+use Rattle.es_deeds.specs.Deeds.{Deed, Opens, Posts, Takes, Spends, Accesses, Passes, Ends}
 
 -- an agent's tickets by buffer object, the oldest first
 abbrev pub Tickets : Type 0
@@ -51,7 +51,7 @@ opening t n v _ = None
 
 -- the answer is the word that was there, where the command gives it
 abbrev pub answers : Access → Value → ℕ → Bool
-answers m v old = not (gives_word m) || is_number v old
+answers m v old = not m.gives_word || is_number v old
 
 abbrev pub is_access : Tickets → Value → ℤ → Access → Value → Deed → Bool
 is_access t b i m v (Accesses s j done old) = is_ticket t b s && (same_index i j && (is_same_access m done && answers m v old))

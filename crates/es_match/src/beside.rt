@@ -3,11 +3,12 @@
 ghost use Rattle.std.specs.Prelude.{◌≡◌, ◌<◌, ℕ, [], true, Some, None, Ok, length, map, slice_index_or, IfOk, IfSome, IfNone};
 ghost use Rattle.es_match.specs.Goes.{goes};
 ghost use Rattle.es_match.specs.Meets.{nothing_came};
-ghost use Rattle.es_match.specs.Split.{AllGo, SomeStops, part_at};
+ghost use Rattle.es_deeds.specs.Split.{part_at};
+ghost use Rattle.es_match.specs.Going.{AllGo, SomeStops};
 
 use crate::came::Came;
-use crate::deed::Deed;
 use crate::going::goes;
+use es_deeds::Deed;
 use es_event::{Event, Sequence};
 use es_value::NoMemory;
 use std::alloc::Global;

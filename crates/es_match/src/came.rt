@@ -2,12 +2,13 @@
 
 ghost use Rattle.std.specs.Prelude.{◌≡◌, ◌++◌, IfOk, OnOk};
 ghost use Rattle.es_match.specs.Meets.{came_after, nothing_came, refused_in, some_if, ticket_in, ticket_under};
-ghost use Rattle.es_match.specs.Shown.{all_shown, asking, listed, said};
+ghost use Rattle.es_deeds.specs.Shown.{all_shown};
+ghost use Rattle.es_match.specs.Shown.{asking, listed, said};
 
-use crate::deed::Deed;
 use crate::going::{after, one, two};
 use crate::tickets::{Rack, object_in};
 use crate::want::Want;
+use es_deeds::Deed;
 use es_event::{Body, Row};
 use es_value::{Id, NoMemory, Value};
 use std::alloc::Global;
@@ -61,10 +62,10 @@ impl Came {
     pub(crate) fn take_in(
         &mut self,
         alloc: Global,
-        want: Want<'_>,
+        want: &Want<'_>,
         deeds: &[Deed<'_>],
     ) -> Result<bool, NoMemory>
-        ensures { IfOk result (λ b. some_if b self.new ≡ came_after self.old (asking want.entry) (all_shown deeds.now)) }
+        ensures { IfOk result (λ b. some_if b self.new ≡ came_after self.old (asking want.now) (all_shown deeds.now)) }
     {
         let is_met = after(alloc, &mut self.tickets, want, deeds)?;
         if !is_met {
@@ -77,8 +78,12 @@ impl Came {
 }
 
 /// Adds the ticket that comes with the deeds, if one does.
-fn add_ticket(ever: &mut Vec<(Id, Row)>, want: Want<'_>, deeds: &[Deed<'_>]) -> Result<(), NoMemory>
-    ensures { OnOk result (ever.new.items ≡ ever.old.items ++ ticket_in (asking want.entry) (all_shown deeds.now)) }
+fn add_ticket(
+    ever: &mut Vec<(Id, Row)>,
+    want: &Want<'_>,
+    deeds: &[Deed<'_>],
+) -> Result<(), NoMemory>
+    ensures { OnOk result (ever.new.items ≡ ever.old.items ++ ticket_in (asking want.now) (all_shown deeds.now)) }
 {
     if let Some(ticket) = ticket_in(want, deeds) {
         ever.push(ticket)?;
@@ -87,8 +92,12 @@ fn add_ticket(ever: &mut Vec<(Id, Row)>, want: Want<'_>, deeds: &[Deed<'_>]) -> 
 }
 
 /// Adds the sender of the message that found no room, if one did not.
-fn add_refused(refused: &mut Vec<usize>, want: Want<'_>, deeds: &[Deed<'_>]) -> Result<(), NoMemory>
-    ensures { OnOk result (refused.new.items ≡ refused.old.items ++ refused_in (asking want.entry) (all_shown deeds.now)) }
+fn add_refused(
+    refused: &mut Vec<usize>,
+    want: &Want<'_>,
+    deeds: &[Deed<'_>],
+) -> Result<(), NoMemory>
+    ensures { OnOk result (refused.new.items ≡ refused.old.items ++ refused_in (asking want.now) (all_shown deeds.now)) }
 {
     if let Some(sender) = refused_in(want, deeds) {
         refused.push(sender)?;
@@ -97,8 +106,8 @@ fn add_refused(refused: &mut Vec<usize>, want: Want<'_>, deeds: &[Deed<'_>]) -> 
 }
 
 /// The ticket that comes with deeds that are what is wanted, under its buffer object.
-fn ticket_in(want: Want<'_>, deeds: &[Deed<'_>]) -> Option<(Id, Row)>
-    ensures { listed result ≡ ticket_in (asking want.entry) (all_shown deeds.now) }
+fn ticket_in(want: &Want<'_>, deeds: &[Deed<'_>]) -> Option<(Id, Row)>
+    ensures { listed result ≡ ticket_in (asking want.now) (all_shown deeds.now) }
 {
     match want {
         Want::Opening { words: _, made } => match one(deeds) {
@@ -109,7 +118,7 @@ fn ticket_in(want: Want<'_>, deeds: &[Deed<'_>]) -> Option<(Id, Row)>
                     serial,
                 },
             ) => ticket_under(
-                made,
+                *made,
                 Row {
                     serial,
                     block,
@@ -149,8 +158,8 @@ fn ticket_under(value: Option<&Value>, row: Row) -> Option<(Id, Row)>
 }
 
 /// The sender of the message that found no room.
-fn refused_in(want: Want<'_>, deeds: &[Deed<'_>]) -> Option<usize>
-    ensures { listed result ≡ refused_in (asking want.entry) (all_shown deeds.now) }
+fn refused_in(want: &Want<'_>, deeds: &[Deed<'_>]) -> Option<usize>
+    ensures { listed result ≡ refused_in (asking want.now) (all_shown deeds.now) }
 {
     match want {
         Want::Refusal => match two(deeds) {

@@ -5,14 +5,15 @@ ghost use Rattle.std.specs.Option.{option_map};
 ghost use Rattle.es_match.specs.Asks.{to_open, to_receive, to_empty, to_close};
 ghost use Rattle.es_match.specs.Meets.{after, gives, nothing_came, pair, some_if, sole, within, add_ticket};
 ghost use Rattle.es_match.specs.Goes.{asked, goes};
-ghost use Rattle.es_match.specs.Shown.{all_shown, asking, said, shown};
+ghost use Rattle.es_deeds.specs.Shown.{all_shown, shown};
+ghost use Rattle.es_match.specs.Shown.{asking, said};
 
 use crate::came::Came;
-use crate::deed::Deed;
 use crate::meets::{compares, is_access, is_length, is_pass, is_plain, is_post, is_refusal};
 use crate::spending::are_spent;
 use crate::tickets::{Rack, object_in, serials_of, serials_within};
 use crate::want::{Want, asks_nothing, ends_job, want_at};
+use es_deeds::Deed;
 use es_event::{Body, Event, Row};
 use es_value::{Id, IdSet, NoMemory, Value};
 use std::alloc::Global;
@@ -130,43 +131,44 @@ fn close(alloc: Global, tickets: &mut Rack, deeds: &[Deed<'_>]) -> Result<bool, 
 pub(crate) fn after(
     alloc: Global,
     tickets: &mut Rack,
-    want: Want<'_>,
+    want: &Want<'_>,
     deeds: &[Deed<'_>],
 ) -> Result<bool, NoMemory>
-    ensures { IfOk result (λ b. some_if b tickets.new ≡ after tickets.old (asking want.entry) (all_shown deeds.now)) }
+    ensures { IfOk result (λ b. some_if b tickets.new ≡ after tickets.old (asking want.now) (all_shown deeds.now)) }
 {
     match want {
         Want::Nothing => Ok(deeds.is_empty()),
-        Want::Opening { words, made } => open(tickets, words, made, deeds),
+        Want::Opening { words, made } => open(tickets, *words, *made, deeds),
         Want::Length { buffer, answer } => {
-            Ok(deeds.is_empty() && is_length(tickets, buffer, answer))
+            Ok(deeds.is_empty() && is_length(tickets, *buffer, *answer))
         }
         Want::SameBlock {
             left,
             right,
             answer,
-        } => Ok(deeds.is_empty() && compares(tickets, left, right, answer)),
+        } => Ok(deeds.is_empty() && compares(tickets, *left, *right, *answer)),
         Want::Accessing {
             buffer,
             index,
             access,
             answer,
         } => match one(deeds) {
-            Some(deed) => Ok(is_access(tickets, buffer, index, access, answer, &deed)),
+            Some(deed) => Ok(is_access(tickets, *buffer, *index, *access, *answer, &deed)),
             None => Ok(false),
         },
         Want::Posting { receiver, value } => match one(deeds) {
-            Some(deed) => Ok(is_post(tickets, receiver, value, &deed)),
+            Some(deed) => Ok(is_post(tickets, *receiver, *value, &deed)),
             None => Ok(false),
         },
-        Want::Receiving { sender, value } => receive(tickets, sender, value, deeds),
+        Want::Receiving { sender, value } => receive(tickets, *sender, value, deeds),
         Want::Refusal => Ok(two(deeds).is_some_and(|p| is_refusal(&p.0, &p.1))),
-        Want::Passing { sender } => Ok(one(deeds).is_some_and(|d| is_pass(sender, &d))),
+        Want::Passing { sender } => Ok(one(deeds).is_some_and(|d| is_pass(*sender, &d))),
         Want::Emptying { ids } => empty(alloc, tickets, ids, deeds),
         Want::Closing => close(alloc, tickets, deeds),
     }
 }
 
+#[inline(always)]
 pub(crate) fn one<'a>(deeds: &[Deed<'a>]) -> Option<Deed<'a>>
     ensures { option_map shown result ≡ sole (all_shown deeds.now) }
 {
@@ -177,6 +179,7 @@ pub(crate) fn one<'a>(deeds: &[Deed<'a>]) -> Option<Deed<'a>>
     }
 }
 
+#[inline(always)]
 pub(crate) fn two<'a>(deeds: &[Deed<'a>]) -> Option<(Deed<'a>, Deed<'a>)>
     ensures { option_map (λ p. (shown p.0, shown p.1)) result ≡ pair (all_shown deeds.now) }
 {
@@ -201,8 +204,8 @@ fn count_within(ids: &[Id], tickets: &[(Id, Row)]) -> usize
 }
 
 /// How many deeds are wanted.
-fn asked(tickets: &Rack, want: Want<'_>) -> usize
-    ensures { result ≡ asked tickets.now (asking want.entry) }
+fn asked(tickets: &Rack, want: &Want<'_>) -> usize
+    ensures { result ≡ asked tickets.now (asking want.now) }
 {
     match want {
         Want::Nothing | Want::Length { .. } | Want::SameBlock { .. } => 0,
@@ -264,8 +267,8 @@ pub(crate) fn goes(
             continue;
         }
         let want = want_at(between, event);
-        let n = asked(&came.tickets, want);
-        let is_met = came.take_in(alloc, want, front(rest, n))?;
+        let n = asked(&came.tickets, &want);
+        let is_met = came.take_in(alloc, &want, front(rest, n))?;
         if !is_met {
             return Ok(None);
         }

@@ -2,13 +2,12 @@
 
 ghost use Rattle.std.specs.Prelude.{◌≡◌, ◌↔◌, map, reverse, true, length, IfOk, IfSome, IfNone};
 ghost use Rattle.es_match.specs.Cluster.{HaveCome, IsCluster};
-ghost use Rattle.es_match.specs.Split.{AllGo, SomeStops};
+ghost use Rattle.es_match.specs.Going.{AllGo, SomeStops};
 
 use crate::beside::{all_go_beside, are_long};
 use crate::came::Came;
-use crate::deed::Deed;
 use crate::going::goes;
-use crate::parts::parts_of;
+use es_deeds::{Deed, parts_of};
 use es_event::{Event, LedgerEvent, Sequence};
 use es_value::NoMemory;
 use std::alloc::Global;

@@ -2,12 +2,13 @@
 
 ghost use Rattle.std.specs.Prelude.{◌≡◌, not, ◌&&◌};
 ghost use Rattle.es_match.specs.Meets.{answers, carries, compares, has_ticket, is_access, same_index, is_number, is_object, is_pass, is_post, is_refusal, is_ticket};
-ghost use Rattle.es_match.specs.Shown.{said, shown};
+ghost use Rattle.es_deeds.specs.Shown.{shown};
+ghost use Rattle.es_match.specs.Shown.{said};
 ghost use Rattle.es_value.specs.Values.{is_same};
 ghost use Rattle.es_value.specs.declared.value.Value.TheVariants.{Boolean};
 
-use crate::deed::Deed;
 use crate::tickets::Rack;
+use es_deeds::Deed;
 use es_event::{Access, Body};
 use es_value::{Value, same_value};
 
@@ -100,7 +101,7 @@ pub(crate) fn is_access(
 fn answers(access: Access, answer: Option<&Value>, old: u32) -> bool
     ensures { result ≡ answers access (said answer.entry) old }
 {
-    !access.gives_word() || is_number(answer, old as usize)
+    !access.gives_word || is_number(answer, old as usize)
 }
 
 /// Whether the value is no object and the same as another.

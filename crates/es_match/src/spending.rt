@@ -1,15 +1,16 @@
 //! The tickets that an agent spends at a collection or at its end.
 
-ghost use Rattle.std.specs.Prelude.{◌≡◌, ℕ, List, IfOk};
+ghost use Rattle.std.specs.Prelude.{◌≡◌, ℕ, List, Some, IfOk, OnOk};
+ghost use Rattle.std.specs.HashMap.{Updates};
 ghost use Rattle.es_match.specs.Counts.{count_in, IsLeft, Struck};
 ghost use Rattle.es_match.specs.Meets.{ends, spends};
-ghost use Rattle.es_match.specs.Shown.{all_shown};
+ghost use Rattle.es_deeds.specs.Shown.{all_shown};
 
-use crate::deed::Deed;
-use crate::lines::put;
+use es_deeds::Deed;
 use es_value::NoMemory;
 use std::alloc::Global;
 use std::collections::HashMap;
+use std::hash::Hash;
 
 /// The serials of the tickets that are still to be spent.
 #[derive(Drop)]
@@ -27,6 +28,18 @@ fn count_of(counts: &HashMap<u64, usize>, serial: u64) -> usize
         Some(count) => *count,
         None => 0,
     }
+}
+
+/// Puts a value under a key.
+fn put<K: Eq + Hash + Drop, V: Drop>(
+    map: &mut HashMap<K, V>,
+    key: K,
+    value: V,
+) -> Result<(), NoMemory>
+    ensures { OnOk result (Updates K.eq map.old map.new key (Some value)) }
+{
+    map.insert(key, value)?;
+    Ok(())
 }
 
 impl Left {

@@ -20,7 +20,7 @@ use Rattle.es_event.specs.declared.plan.Job.{Job}
 use Rattle.es_event.specs.declared.event.Refusal.TheVariants.{NotASharedArrayBuffer}
 use Rattle.es_event.specs.declared.ledger_event.Body.TheVariants.{Plain, Block}
 use Rattle.es_event.specs.declared.row.Row.{Row}
-use Rattle.es_event.specs.Access.{access_of, gives_word, is_same_access}
+use Rattle.es_event.specs.Access.{access_of, is_same_access}
 use Rattle.es_event.specs.Commands.{reads}
 use Rattle.es_event.specs.History.{History}
 use Rattle.es_event.specs.Identities.{object_of}
@@ -37,7 +37,7 @@ use Rattle.es_event.proofs.Accepted.{first_holds}
 use Rattle.es_event.proofs.Accesses.{same_as_itself}
 use Rattle.es_match.specs.Asks.{to_open, to_access, to_post, to_receive, to_pass, given, asks_did, between_jobs}
 use Rattle.es_match.specs.Cluster.{awaited}
-use Rattle.es_match.specs.Deeds.{Opens, Posts, Takes, Accesses, Passes}
+use Rattle.es_deeds.specs.Deeds.{Opens, Posts, Takes, Accesses, Passes}
 use Rattle.es_match.specs.Meets.{Tickets, after, answers, has_ticket, is_number, is_ticket, some_if}
 use Rattle.es_ticket.specs.Shares.{at}
 use Rattle.es_record.specs.Book.{Book}
@@ -128,7 +128,7 @@ access_asks b (Post t y) o i a r d = absurd (post_no_access t _ o i a d.asks)
 access_asks b c o i a r d = let e = d.asks in cc
 
 answered : (a : Access) (w : ℕ) → answers a (given (answer_to a w)) w ≡ true
-answered a w = by_gift (gives_word a)
+answered a w = by_gift a.gives_word
   where
     by_gift : (b : Bool) → (not b || is_number (given (if b then Gives (Number (pos w)) else Nothing)) w) ≡ true
     by_gift true = (Decides-int_eq (pos w) (pos w)).1 refl

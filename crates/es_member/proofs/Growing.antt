@@ -6,7 +6,7 @@ use Rattle.es_event.specs.declared.ledger_event.LedgerEvent.{LedgerEvent}
 use Rattle.es_event.specs.declared.ledger_event.LedgerEvent.TheVariants.{Opened, Posted, Taken, Spent, Accessed, Waiting, Passed, Ended, Drained}
 use Rattle.es_event.specs.declared.row.Row.{Row}
 use Rattle.es_event.specs.Ledger.{Ledger, waits, ended, holder_of}
-use Rattle.es_match.specs.Deeds.{Deed, Owned, deed, is_wait, part, part_of, by_holder}
+use Rattle.es_deeds.specs.Deeds.{Deed, Owned, deed, is_wait, part, part_of, by_holder}
 use Rattle.es_member.specs.Tied.{AreDeedsOf, GrowsBy}
 
 apart : (n a : ℕ) → (a ≡ n → ⊥) → (n == a) ≡ false

@@ -8,8 +8,8 @@ use Rattle.es_ledger.specs.Books.{Books}
 use Rattle.es_ledger.specs.Turns.{asked, judged, told, waits_for}
 use Rattle.es_ledger.specs.declared.turn.Turn.{Turn}
 use Rattle.es_ledger.specs.declared.turn.Turn.TheVariants.{Ready, Stay, Skip}
-use Rattle.es_match.specs.Cluster.{drained}
-use Rattle.es_match.specs.Deeds.{Waits, Passes}
+use Rattle.es_deeds.specs.Patience.{drained}
+use Rattle.es_deeds.specs.Deeds.{Waits, Passes}
 use Rattle.es_ticket.specs.Shares.{Share}
 use Rattle.es_record.specs.Book.{Book}
 use Rattle.es_rules.specs.Needs.{asks_message, need}

@@ -20,8 +20,9 @@ use Rattle.es_event.specs.LegalLedger.{ComesNext, LegalSoFar, LegalLedger, all_e
 use Rattle.es_event.specs.Order.{phase}
 use Rattle.es_ledger.specs.Books.{Books}
 use Rattle.es_match.specs.Asks.{Asking, to_open, to_receive, to_refuse, between_jobs, asks, asks_did}
-use Rattle.es_match.specs.Cluster.{Ties, patient, may_do, is_patient, drained, drains, drained_last, is_nobodys, awaited, is_refusal_asked, refused_senders}
-use Rattle.es_match.specs.Deeds.{Deed, Opens, Takes, Waits, deed, is_wait, part}
+use Rattle.es_deeds.specs.Patience.{patient, may_do, is_patient, drained, drains, drained_last, is_nobodys}
+use Rattle.es_match.specs.Cluster.{Ties, awaited, is_refusal_asked, refused_senders}
+use Rattle.es_deeds.specs.Deeds.{Deed, Opens, Takes, Waits, deed, is_wait, part}
 use Rattle.es_match.specs.Meets.{Tickets, after, came_after, opened_ticket, refused_in, taken_ticket, ticket_in}
 use Rattle.es_record.specs.Book.{Book, Records, with_row}
 use Rattle.es_rules.specs.Needs.{asks_message, need}

@@ -33,7 +33,7 @@ use Rattle.es_rules.proofs.Needs.{local_is_quiet, closes}
 use Rattle.es_agent.specs.Tickets.{is_ended, tickets, RecordsNext, Empties, Admits, RefusesMessage, Receives, DoesWith, Skips}
 use Rattle.es_agent.proofs.Racks.{open_before, open_after, local_stays, kept_tickets, emptied_tickets, done_leaves, brings_leaves}
 use Rattle.es_member.specs.Seats.{Seat, rows_of, Holds, HoldsBeside}
-use Rattle.es_match.specs.Deeds.{Ends}
+use Rattle.es_deeds.specs.Deeds.{Ends}
 use Rattle.es_member.specs.Tied.{AreDeedsOf, GrowsBy}
 use Rattle.es_member.specs.Turned.{Moves, Proceeds, Keeps, spent}
 use Rattle.es_member.specs.declared.member.Progress.{Progress}

@@ -6,9 +6,9 @@ use Rattle.es_event.specs.declared.ledger_event.LedgerEvent.TheVariants.{Spent}
 use Rattle.es_event.specs.declared.row.Row.{Row}
 use Rattle.es_event.specs.Ledger.{Ledger, waits, holder_of}
 use Rattle.es_match.specs.Asks.{to_empty, to_close}
-use Rattle.es_match.specs.Cluster.{may_do, drained}
+use Rattle.es_deeds.specs.Patience.{may_do, drained}
 use Rattle.es_match.specs.Counts.{count}
-use Rattle.es_match.specs.Deeds.{Deed, Spends, Ends, deed}
+use Rattle.es_deeds.specs.Deeds.{Deed, Spends, Ends, deed}
 use Rattle.es_match.specs.Meets.{Tickets, after, spends, ends, serials_of, within, beyond, some_if}
 use Rattle.es_match.proofs.Counting.{Off, some_struck}
 use Rattle.es_record.specs.Book.{Book}

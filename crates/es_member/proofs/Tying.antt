@@ -27,8 +27,9 @@ use Rattle.es_event.specs.Order.{Due, receive, run, due}
 use Rattle.es_event.specs.Runs.{IsRunOver}
 use Rattle.es_ledger.specs.Books.{Books}
 use Rattle.es_match.specs.Asks.{Asking, to_open, to_receive, to_refuse, to_pass, to_empty, to_close, between_jobs, asks, asks_did}
-use Rattle.es_match.specs.Cluster.{may_do, drained, is_refusal_asked}
-use Rattle.es_match.specs.Deeds.{Deed, Opens, Posts, Takes, Spends, Accesses, Passes, Ends, by_holder, taking, deed, is_wait}
+use Rattle.es_deeds.specs.Patience.{may_do, drained}
+use Rattle.es_match.specs.Cluster.{is_refusal_asked}
+use Rattle.es_deeds.specs.Deeds.{Deed, Opens, Posts, Takes, Spends, Accesses, Passes, Ends, by_holder, taking, deed, is_wait}
 use Rattle.es_match.specs.Meets.{Tickets, after, refused_in, some_if, ticket_in}
 use Rattle.es_ticket.specs.Shares.{Share, at}
 use Rattle.es_record.specs.Book.{Book, Records}

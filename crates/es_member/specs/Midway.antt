@@ -7,12 +7,12 @@ use Rattle.es_event.specs.declared.event.Answer.{Answer}
 use Rattle.es_event.specs.declared.event.Answer.TheVariants.{Nothing, Gives}
 use Rattle.es_event.specs.declared.ledger_event.Body.TheVariants.{Block}
 use Rattle.es_event.specs.declared.row.Row.{Row}
-use Rattle.es_event.specs.Access.{gives_word}
 use Rattle.es_event.specs.Ledger.{Ledger, ended as has_ended, holder_of, waits}
 use Rattle.es_event.specs.LegalLedger.{LegalLedger}
 use Rattle.es_ledger.specs.Books.{Books}
-use Rattle.es_match.specs.Cluster.{Ties, patient, drained, drained_last}
-use Rattle.es_match.specs.Deeds.{Deed, Opens, Takes, part}
+use Rattle.es_deeds.specs.Patience.{patient, drained, drained_last}
+use Rattle.es_match.specs.Cluster.{Ties}
+use Rattle.es_deeds.specs.Deeds.{Deed, Opens, Takes, part}
 use Rattle.es_ticket.specs.Shares.{Share}
 use Rattle.es_record.specs.Book.{Book}
 use Rattle.es_rules.specs.Needs.{for_block, Need, asks_ledger, asks_message, asks_nothing, need}
@@ -61,4 +61,4 @@ pub record HasFetched (b : Book) (r : Row) (l : Ledger) : Type 0 where
 
 -- the answer of the command that did this to a word, which was this before
 abbrev pub answer_to : Access → ℕ → Answer
-answer_to m old = if gives_word m then Gives (Number (pos old)) else Nothing
+answer_to m old = if m.gives_word then Gives (Number (pos old)) else Nothing

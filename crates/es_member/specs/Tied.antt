@@ -2,8 +2,9 @@
 use Rattle.std.specs.Prelude.{ℕ, ◌≡◌, ⊤, true, List, [], ◌∷◌, ◌++◌, Some, None, reverse}
 use Rattle.es_event.specs.declared.ledger_event.LedgerEvent.{LedgerEvent}
 use Rattle.es_event.specs.Ledger.{Ledger, waits}
-use Rattle.es_match.specs.Deeds.{Deed, deed, part}
-use Rattle.es_match.specs.Cluster.{Ties, patient, drained_last, refused_senders}
+use Rattle.es_deeds.specs.Deeds.{Deed, deed, part}
+use Rattle.es_deeds.specs.Patience.{patient, drained_last}
+use Rattle.es_match.specs.Cluster.{Ties, refused_senders}
 use Rattle.es_match.specs.Meets.{Came}
 use Rattle.es_record.specs.Book.{Book}
 use Rattle.es_rules.specs.Needs.{asks_message, need}

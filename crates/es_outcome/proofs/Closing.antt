@@ -25,7 +25,7 @@ use Rattle.es_event.specs.Runs.{IsRunOver}
 use Rattle.es_ledger.specs.Draining.{drained_one, drained_each, drained_to, drained_below, drained}
 use Rattle.es_match.specs.Asks.{Asking, nothing, to_open, to_measure, to_compare, to_access, to_post, to_receive, to_refuse, to_pass, to_empty, to_close, asks, asks_did, between_jobs, wants_room}
 use Rattle.es_match.specs.Cluster.{IsCluster, Ties, history_of}
-use Rattle.es_match.specs.Deeds.{Deed, Takes, Spends, Ends, deed, part, part_of}
+use Rattle.es_deeds.specs.Deeds.{Deed, Takes, Spends, Ends, deed, part, part_of}
 use Rattle.es_match.proofs.Bridge.{mapped}
 use Rattle.es_match.specs.Meets.{Came, Tickets, after, is_access, is_one, is_pass, is_post, is_refusal, opening, pair, receiving, sole, some_if, spends, spends_ticket_in, strike}
 use Rattle.es_agent.specs.Tickets.{is_ended}

@@ -8,7 +8,7 @@ use Rattle.es_event.specs.Commands.{Kind, ordinary, weakref_to, weak_map, weak_s
 use Rattle.es_event.specs.History.{History}
 use Rattle.es_event.specs.Identities.{kind, is_there}
 use Rattle.es_event.specs.Registrations.{Cell, Fate, live, awaiting, unregistered, taken, cell, fate}
-use Rattle.es_tables.specs.Tags.{tag_of, tag_said}
+use Rattle.es_tags.specs.Tags.{tag_of, tag_said}
 use Rattle.es_record.specs.Leading.{AddsSets, AddsUnder, registration_in, registration_said}
 use Rattle.es_picture.specs.Lines.{thing_line}
 use Rattle.es_picture.specs.Picture.{around, cell_lines, registration_at, thing_at, AreEntries, AreSets, IsAround}

@@ -2,8 +2,8 @@
 use Rattle.std.specs.Prelude.{ℕ, List, [], ◌++◌, Option, Some, None, codes}
 use Rattle.es_value.specs.Values.{identity}
 use Rattle.es_registry.specs.declared.slot.Registration.{Registration}
-use Rattle.es_tables.specs.declared.tags.Tag.{Tag}
-use Rattle.es_tables.specs.declared.tags.Tag.TheVariants.{Symbol, Ordinary, WeakRef, WeakMap, WeakSet, FinalizationRegistry, SharedArrayBuffer}
+use Rattle.es_tags.specs.declared.tags.Tag.{Tag}
+use Rattle.es_tags.specs.declared.tags.Tag.TheVariants.{Symbol, Ordinary, WeakRef, WeakMap, WeakSet, FinalizationRegistry, SharedArrayBuffer}
 use Rattle.es_picture.specs.Lines.{node_line, target_line, held_line}
 use Rattle.es_picture.specs.Picture.{if_some}
 

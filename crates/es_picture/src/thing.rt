@@ -8,7 +8,7 @@ ghost use Rattle.es_picture.specs.Picture.{thing_at, things};
 ghost use Rattle.es_picture.specs.Written.{tag_shape, tag_text, tagged_line};
 
 use es_record::AgentRecord;
-use es_tables::Tag;
+use es_tags::Tag;
 use es_value::Id;
 use std::io;
 use std::io::Write;

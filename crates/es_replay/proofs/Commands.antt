@@ -19,7 +19,7 @@ use Rattle.es_event.specs.declared.event.Answer.TheVariants.{Nothing, Gives, Lis
 use Rattle.es_event.specs.declared.ledger_event.Body.{Body}
 use Rattle.es_event.specs.declared.ledger_event.Body.TheVariants.{Plain, Block}
 use Rattle.es_event.specs.declared.row.Row.{Row}
-use Rattle.es_event.specs.Access.{access_of, gives_word, is_same_access}
+use Rattle.es_event.specs.Access.{access_of, is_same_access}
 use Rattle.es_event.specs.Commands.{first}
 use Rattle.es_event.specs.Identities.{object_of}
 use Rattle.es_event.specs.Legal.{word_in}
@@ -30,7 +30,7 @@ use Rattle.es_event.specs.Runs.{heard_by, silence, a_word}
 use Rattle.es_event.specs.Sharing.{row_of}
 use Rattle.es_event.proofs.Accesses.{same_access}
 use Rattle.es_match.specs.Asks.{asks_did, given}
-use Rattle.es_match.specs.Deeds.{Deed, Opens, Posts, Accesses}
+use Rattle.es_deeds.specs.Deeds.{Deed, Opens, Posts, Accesses}
 use Rattle.es_match.specs.Meets.{Tickets, add_ticket, after, answers, carries, has_ticket, is_access, is_number, is_object, is_one, is_post, is_ticket, no_more, opening, opened_ticket, same_index, sole, some_if, ticket_in}
 use Rattle.es_replay.specs.Doing.{AllFit, Fits, IsNew}
 use Rattle.es_replay.specs.Settled.{access_by, block_at, body_for, came_row, deeds_of, heard_from, row_from, serial_at, word_at}
@@ -160,7 +160,7 @@ settles_open n l t left m to k vs a r ds met came fit =
 -- an access was done as the command asks, over the word that was there, which it hears where it gives one
 record IsAccessBy (l : Ledger) (t : Tickets) (vs : List Value) (i : ℤ) (m : Access) (a : Answer) (ds : List Deed) : Type 0 where
   pub deeds : ds ≡ access_by l t vs i m
-  pub word : gives_word m ≡ true → word_in a ≡ word_at l (serial_at t (first vs)) (unsigned_abs i)
+  pub word : m.gives_word ≡ true → word_in a ≡ word_at l (serial_at t (first vs)) (unsigned_abs i)
 
 answered : (gives right : Bool) → gives ≡ true → (not gives || right) ≡ true → right ≡ true
 answered true right given is = is
@@ -184,7 +184,7 @@ accessed n l t i m vs a ds met fit =
           deeds = is ∙ ap (λ s. Accesses s j done old ∷ []) serial ∙ ap (λ j. Accesses (serial_at t (first vs)) j done old ∷ []) index
               ∙ ap (λ done. Accesses (serial_at t (first vs)) (unsigned_abs i) done old ∷ []) (same_access m done last.0)
               ∙ ap (λ old. Accesses (serial_at t (first vs)) (unsigned_abs i) m old ∷ []) word_is;
-          word = λ gives. its_answer a old (answered (gives_word m) (is_number (given a) old) gives last.1) ∙ word_is;
+          word = λ gives. its_answer a old (answered m.gives_word (is_number (given a) old) gives last.1) ∙ word_is;
         }
     at _ met fit is = cc
 
@@ -199,7 +199,7 @@ settles_access n l t m c vs a r ds met came fit =
     let is = accessed n l t c.index (access_of c.operation) vs a ds met fit in
     record {
       deeds = is.deeds;
-      hears = hears_if (gives_word (access_of c.operation)) (word_in a) (word_at l (serial_at t (first vs)) (unsigned_abs c.index)) is.word;
+      hears = hears_if (access_of c.operation).gives_word (word_in a) (word_at l (serial_at t (first vs)) (unsigned_abs c.index)) is.word;
       row = no_row m r came;
     }
 

@@ -29,7 +29,7 @@ use Rattle.es_event.proofs.Extending.{agrees_longer, agrees_with_itself, same_co
 use Rattle.es_event.proofs.Next.{one_next}
 use Rattle.es_match.specs.Asks.{asks_did, between_jobs, nothing as asks_nothing, to_refuse, wants_room}
 use Rattle.es_match.specs.Cluster.{awaited, is_refusal_asked}
-use Rattle.es_match.specs.Deeds.{Deed, Spends}
+use Rattle.es_deeds.specs.Deeds.{Deed, Spends}
 use Rattle.es_match.specs.Meets.{after, refused_in, serials_of, spends, ticket_in, within}
 use Rattle.es_record.specs.Book.{Book, with_row}
 use Rattle.es_agent.specs.Tickets.{tickets}

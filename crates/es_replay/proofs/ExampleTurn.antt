@@ -9,7 +9,7 @@ use Rattle.es_event.specs.declared.plan.AgentPlan.{AgentPlan}
 use Rattle.es_event.specs.Ledger.{Ledger}
 use Rattle.es_event.specs.Rows.{row}
 use Rattle.es_match.proofs.Bridge.{ties_mean_goes}
-use Rattle.es_match.specs.Deeds.{Opens, part}
+use Rattle.es_deeds.specs.Deeds.{Opens, part}
 use Rattle.es_match.specs.Goes.{goes}
 use Rattle.es_match.specs.Meets.{nothing_came}
 use Rattle.es_member.specs.declared.member.Progress.TheVariants.{Moved}

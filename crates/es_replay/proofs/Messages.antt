@@ -16,7 +16,7 @@ use Rattle.es_event.specs.Ledger.{Ledger, front}
 use Rattle.es_event.specs.LegalLedger.{has_message}
 use Rattle.es_event.specs.Rows.{row}
 use Rattle.es_event.specs.Sharing.{Buffers}
-use Rattle.es_match.specs.Deeds.{Deed, Takes, Spends, Passes, words_in}
+use Rattle.es_deeds.specs.Deeds.{Deed, Takes, Spends, Passes, words_in}
 use Rattle.es_match.specs.Meets.{Tickets, gives, is_object, is_one, is_pass, is_refusal, pair, receiving, sender_of, sole, spends_ticket_in, taken_ticket, ticket_under}
 use Rattle.es_replay.specs.Doing.{AllFit, Fits}
 use Rattle.es_replay.specs.Settled.{came_row}

@@ -6,7 +6,7 @@ use Rattle.es_event.specs.declared.event.Event.{Event}
 use Rattle.es_event.specs.History.{History}
 use Rattle.es_match.specs.Asks.{Asking, asks, between_jobs}
 use Rattle.es_match.specs.Cluster.{Ties}
-use Rattle.es_match.specs.Deeds.{Deed}
+use Rattle.es_deeds.specs.Deeds.{Deed}
 use Rattle.es_match.specs.Goes.{asked, goes}
 use Rattle.es_match.specs.Meets.{Came, came_after, no_more, nothing_came, some_if}
 use Rattle.es_match.proofs.Bridge.{ties-go, ties_mean_goes}

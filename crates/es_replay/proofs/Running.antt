@@ -17,7 +17,7 @@ use Rattle.es_event.specs.Order.{Phase, between, handed, inside, stopped, ended,
 use Rattle.es_event.specs.Runs.{IsRunOver}
 use Rattle.es_event.proofs.Extending.{agrees_longer, still_follows, still_legal}
 use Rattle.es_match.specs.Cluster.{Ties}
-use Rattle.es_match.specs.Deeds.{Deed, part}
+use Rattle.es_deeds.specs.Deeds.{Deed, part}
 use Rattle.es_record.specs.Book.{Book, IsNext, with_row}
 use Rattle.es_rules.specs.Needs.{Need, asks_nobody, asks_marks, asks_copy, asks_late_marks, asks_ledger, asks_message, asks_closing, asks_nothing, need}
 use Rattle.es_agent.specs.Tickets.{is_ended}

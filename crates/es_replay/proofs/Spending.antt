@@ -11,7 +11,7 @@ use Rattle.es_event.specs.declared.row.Holder.TheVariants.{Nobody}
 use Rattle.es_event.specs.Rows.{held_by, moved}
 use Rattle.es_event.specs.Ledger.{Ledger, opened, serials, size, port_of, table, word, ended}
 use Rattle.es_event.specs.Totals.{is_posted, is_taken, is_drained, posted, taken, drained}
-use Rattle.es_match.specs.Deeds.{Deed, Spends, Ends}
+use Rattle.es_deeds.specs.Deeds.{Deed, Spends, Ends}
 use Rattle.es_match.specs.Meets.{ends, spends, strike}
 use Rattle.es_replay.specs.Alike.{Alike}
 use Rattle.es_replay.specs.Doing.{did}

@@ -10,7 +10,7 @@ use Rattle.es_event.specs.Jobs.{job}
 use Rattle.es_event.specs.Ledger.{Ledger}
 use Rattle.es_event.specs.LegalLedger.{ComesNext, LegalSoFar, MayCome, owed}
 use Rattle.es_match.specs.Cluster.{Ties, awaited, is_refusal_asked, refused_senders}
-use Rattle.es_match.specs.Deeds.{Deed, deed, is_wait, part}
+use Rattle.es_deeds.specs.Deeds.{Deed, deed, is_wait, part}
 use Rattle.es_match.specs.Meets.{Tickets, after, refused_in, ticket_in}
 use Rattle.es_match.proofs.Bridge.{mapped}
 use Rattle.es_record.specs.Book.{Book, IsNext, with_row}

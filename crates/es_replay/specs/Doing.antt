@@ -7,7 +7,7 @@ use Rattle.es_event.specs.declared.ledger_event.LedgerEvent.{LedgerEvent}
 use Rattle.es_event.specs.declared.ledger_event.LedgerEvent.TheVariants.{Opened, Posted, Taken, Spent, Accessed, Waiting, Passed, Ended}
 use Rattle.es_event.specs.Ledger.{Ledger, opened, serials, front, holder_of, word}
 use Rattle.es_event.specs.LegalLedger.{Reaches, has_message}
-use Rattle.es_match.specs.Deeds.{Deed, Opens, Posts, Takes, Spends, Accesses, Waits, Passes, Ends, words_in}
+use Rattle.es_deeds.specs.Deeds.{Deed, Opens, Posts, Takes, Spends, Accesses, Waits, Passes, Ends, words_in}
 
 -- the event that is this deed of agent n
 abbrev pub event_of : ℕ → Deed → LedgerEvent

@@ -7,7 +7,7 @@ use Rattle.es_event.specs.Jobs.{job}
 use Rattle.es_event.specs.Ledger.{Ledger}
 use Rattle.es_match.specs.Asks.{Asking, asks, between_jobs}
 use Rattle.es_match.specs.Cluster.{awaited, is_refusal_asked}
-use Rattle.es_match.specs.Deeds.{Deed}
+use Rattle.es_deeds.specs.Deeds.{Deed}
 use Rattle.es_match.specs.Meets.{Tickets, after, refused_in, ticket_in}
 use Rattle.es_record.specs.Book.{Book, IsNext, with_row}
 use Rattle.es_agent.specs.Tickets.{tickets}

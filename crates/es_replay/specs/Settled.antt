@@ -9,13 +9,13 @@ use Rattle.es_event.specs.declared.command.Command.TheVariants.{SharedArrayBuffe
 use Rattle.es_event.specs.declared.ledger_event.Body.{Body}
 use Rattle.es_event.specs.declared.ledger_event.Body.TheVariants.{Plain, Block}
 use Rattle.es_event.specs.declared.row.Row.{Row}
-use Rattle.es_event.specs.Access.{access_of, gives_word}
+use Rattle.es_event.specs.Access.{access_of}
 use Rattle.es_event.specs.Commands.{first}
 use Rattle.es_event.specs.Ledger.{Ledger, opened, serials, holder_of, word}
 use Rattle.es_event.specs.Rows.{row}
 use Rattle.es_event.specs.Runs.{Heard, silence, a_word}
 use Rattle.es_event.specs.Sharing.{row_of}
-use Rattle.es_match.specs.Deeds.{Deed, Opens, Posts, Accesses}
+use Rattle.es_deeds.specs.Deeds.{Deed, Opens, Posts, Accesses}
 use Rattle.es_match.specs.Meets.{Tickets}
 
 -- the serial of a buffer's ticket, and the block that it is over
@@ -47,7 +47,7 @@ deeds_of l t _ vs = []
 
 -- what it hears
 abbrev pub heard_from : Ledger → Tickets → Command → List Value → Heard
-heard_from l t (Atomic a) vs = if gives_word (access_of a.operation) then a_word (word_at l (serial_at t (first vs)) (unsigned_abs a.index)) else silence
+heard_from l t (Atomic a) vs = if (access_of a.operation).gives_word then a_word (word_at l (serial_at t (first vs)) (unsigned_abs a.index)) else silence
 heard_from l t _ vs = silence
 
 -- the ticket that comes with it

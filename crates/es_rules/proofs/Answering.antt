@@ -14,7 +14,7 @@ use Rattle.es_event.specs.declared.event.Event.TheVariants.{Received, Did, Refus
 use Rattle.es_event.specs.declared.event.Refusal.{Refusal}
 use Rattle.es_event.specs.declared.event.Refusal.TheVariants.{TooManyValues, CollectionOpen}
 use Rattle.es_event.specs.declared.row.Row.{Row}
-use Rattle.es_event.specs.Access.{access_of, gives_word}
+use Rattle.es_event.specs.Access.{access_of}
 use Rattle.es_event.specs.Commands.{reads, first, makes, collects, opens_words}
 use Rattle.es_event.specs.History.{History}
 use Rattle.es_event.specs.Identities.{identity, object_of, made}
@@ -72,13 +72,13 @@ abbrev is_word : Request → Bool
 is_word (for_block n) = false
 is_word (for_post a v) = false
 is_word (for_buffer_post a o) = false
-is_word (for_access o i a) = gives_word a
+is_word (for_access o i a) = a.gives_word
 
 abbrev is_done : Request → Bool
 is_done (for_block n) = false
 is_done (for_post a v) = true
 is_done (for_buffer_post a o) = true
-is_done (for_access o i a) = not (gives_word a)
+is_done (for_access o i a) = not a.gives_word
 
 mapped_is : (test : Request → Bool) (f : ℕ → Request) (o : Option ℕ) (r : Request) (t : Bool) → ((i : ℕ) → test (f i) ≡ t) → option_map f o ≡ Some r → test r ≡ t
 mapped_is test f None r t each e = cc
@@ -109,8 +109,8 @@ both_ways b t f = let e : true ≡ false = sym t ∙ f in cc
 word_gives : (over : Buffers) (h : History) (c : Command) (vs : List Value) (r : Request) (w : ℕ) → asked c vs ≡ Some r → is_word r ≡ true → refusal over h c vs ≡ None → w < 2 ^ 32
     → (completion over h c vs (word_in (Gives (Number (pos w)))) ≡ Ok (Gives (Number (pos w)))) × (opens_words c ≡ None)
 word_gives over h (Atomic a) vs r w is word none small =
-    let gives : gives_word (access_of a.operation) ≡ true = sym (access_is is_word a vs r (gives_word (access_of a.operation)) (λ o. refl) is) ∙ word in
-    (ap (λ f. refuse_or f (word_if (gives_word (access_of a.operation)) w)) none ∙ ap (λ g. Ok (word_if g w)) gives ∙ ap (λ n. Ok (Gives (Number (pos n)))) (omega (arith, small)), refl)
+    let gives : (access_of a.operation).gives_word ≡ true = sym (access_is is_word a vs r (access_of a.operation).gives_word (λ o. refl) is) ∙ word in
+    (ap (λ f. refuse_or f (word_if (access_of a.operation).gives_word w)) none ∙ ap (λ g. Ok (word_if g w)) gives ∙ ap (λ n. Ok (Gives (Number (pos n)))) (omega (arith, small)), refl)
 word_gives over h (SharedArrayBuffer to n) vs r w is word none small = absurd (both_ways (is_word r) word (some_is is_word (for_block n) r false refl is))
 word_gives over h (Post a y) vs r w is word none small = absurd (both_ways (is_word r) word (some_is is_word (posts_to a (first vs)) r false (posts_no_word a (first vs)) is))
 word_gives over h _ vs r w is word none small = cc
@@ -118,8 +118,8 @@ word_gives over h _ vs r w is word none small = cc
 done_gives : (over : Buffers) (h : History) (c : Command) (vs : List Value) (r : Request) → asked c vs ≡ Some r → is_done r ≡ true → refusal over h c vs ≡ None
     → (completion over h c vs (word_in Nothing) ≡ Ok Nothing) × (opens_words c ≡ None)
 done_gives over h (Atomic a) vs r is done none =
-    let silent : not (gives_word (access_of a.operation)) ≡ true = sym (access_is is_done a vs r (not (gives_word (access_of a.operation))) (λ o. refl) is) ∙ done in
-    (ap (λ f. refuse_or f (word_if (gives_word (access_of a.operation)) 0)) none ∙ ap (λ g. Ok (word_if g 0)) (is_not (gives_word (access_of a.operation)) silent), refl)
+    let silent : not (access_of a.operation).gives_word ≡ true = sym (access_is is_done a vs r (not (access_of a.operation).gives_word) (λ o. refl) is) ∙ done in
+    (ap (λ f. refuse_or f (word_if (access_of a.operation).gives_word 0)) none ∙ ap (λ g. Ok (word_if g 0)) (is_not (access_of a.operation).gives_word silent), refl)
 done_gives over h (Post a y) vs r is done none = (ap (λ f. refuse_or f Nothing) none, refl)
 done_gives over h (SharedArrayBuffer to n) vs r is done none = absurd (both_ways (is_done r) done (some_is is_done (for_block n) r false refl is))
 done_gives over h _ vs r is done none = cc

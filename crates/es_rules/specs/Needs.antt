@@ -12,7 +12,7 @@ use Rattle.es_event.specs.declared.event.Event.{Event}
 use Rattle.es_event.specs.declared.event.Event.TheVariants.{Received, Did}
 use Rattle.es_event.specs.declared.event.Refusal.{Refusal}
 use Rattle.es_event.specs.declared.row.Row.{Row}
-use Rattle.es_event.specs.Access.{access_of, gives_word}
+use Rattle.es_event.specs.Access.{access_of}
 use Rattle.es_event.specs.Commands.{reads, first}
 use Rattle.es_event.specs.History.{History}
 use Rattle.es_event.specs.Identities.{object_of}
@@ -117,7 +117,7 @@ TakesWord asks_late_marks = ⊥
 TakesWord (asks_ledger (for_block n)) = ⊥
 TakesWord (asks_ledger (for_post a v)) = ⊥
 TakesWord (asks_ledger (for_buffer_post a o)) = ⊥
-TakesWord (asks_ledger (for_access o i a)) = gives_word a ≡ true
+TakesWord (asks_ledger (for_access o i a)) = a.gives_word ≡ true
 TakesWord (asks_message s) = ⊥
 TakesWord asks_closing = ⊥
 TakesWord asks_nothing = ⊥
@@ -131,7 +131,7 @@ TakesDone asks_late_marks = ⊥
 TakesDone (asks_ledger (for_block n)) = ⊥
 TakesDone (asks_ledger (for_post a v)) = ⊤
 TakesDone (asks_ledger (for_buffer_post a o)) = ⊤
-TakesDone (asks_ledger (for_access o i a)) = gives_word a ≡ false
+TakesDone (asks_ledger (for_access o i a)) = a.gives_word ≡ false
 TakesDone (asks_message s) = ⊥
 TakesDone asks_closing = ⊥
 TakesDone asks_nothing = ⊥

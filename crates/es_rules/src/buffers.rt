@@ -3,7 +3,7 @@
 ghost use Rattle.std.specs.Prelude.{◌≡◌, ◌+◌, ◌∷◌, [], false, true, Some, None, pos, IfOk, IfErr, unsigned_abs, nat_lt, ◌==◌, if◌then◌else◌};
 ghost use Rattle.std.specs.Option.{option_map_or};
 ghost use Rattle.es_value.specs.Limits.{most_blocks, most_posts};
-ghost use Rattle.es_event.specs.Access.{access_of, gives_word};
+ghost use Rattle.es_event.specs.Access.{access_of};
 ghost use Rattle.es_event.specs.Identities.{gone, has_identity_in, object_of, made};
 ghost use Rattle.es_event.specs.Sharing.{blocks_opened, messages_posted, row_at, words_of, block_of, is_index};
 ghost use Rattle.es_event.specs.Rules.{refuse_or, first_refusal, room, room_for_block, room_for_post, of_buffer, of_index, of_postable, is_postable, word_if};
@@ -13,7 +13,7 @@ use crate::decide::fresh;
 use crate::stop::Stop;
 use es_event::{Answer, Atomic, Refusal};
 use es_record::AgentRecord;
-use es_tables::Tag;
+use es_tags::Tag;
 use es_value::{Id, MOST_BLOCKS, MOST_POSTS, Value};
 
 /// The buffer object that the value is (ValidateIntegerTypedArray).
@@ -143,10 +143,10 @@ pub(crate) fn same_block(agent: &AgentRecord, left: &Value, right: &Value) -> Re
 /// What a command on a word comes to, were the word 0.
 pub(crate) fn access(agent: &AgentRecord, buffer: &Value, atomic: &Atomic) -> Result<Answer, Stop>
     requires there { has_identity_in (gone agent.now.history) buffer.now ≡ false }
-    ensures { Completes (refuse_or (first_refusal (of_buffer agent.now.history buffer.now ∷ of_index agent.now.over buffer.now atomic.now.index ∷ [])) (word_if (gives_word (access_of atomic.now.operation)) 0)) result }
+    ensures { Completes (refuse_or (first_refusal (of_buffer agent.now.history buffer.now ∷ of_index agent.now.over buffer.now atomic.now.index ∷ [])) (word_if (access_of atomic.now.operation).gives_word 0)) result }
 {
     place(agent, buffer, atomic.index())?;
-    if atomic.access().gives_word() {
+    if atomic.access().gives_word {
         Ok(Answer::Gives(Value::Number(0)))
     } else {
         Ok(Answer::Nothing)

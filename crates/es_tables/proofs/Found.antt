@@ -1,18 +1,12 @@
 -- What the tables add to a list is what is asked for.
-use Rattle.std.proofs.Common.{◌≡◌, ℕ, ◌==◌, Bool, true, inl, inr, subst, sym, ◌∙◌, ap, refl, List, [], ◌∷◌, ◌++◌, Option, Some, None}
-use Rattle.std.specs.Prelude.{unwrap_or}
+use Rattle.std.proofs.Common.{◌≡◌, ℕ, ◌==◌, Bool, true, inl, inr, subst, sym, ◌∙◌, ap, refl, List, [], ◌∷◌, ◌++◌, Some}
 use Rattle.std.specs.Prelude.{nat_eq}
 use Rattle.std.specs.List.{IsDistinct}
-use Rattle.std.specs.Map.{lookup}
 use Rattle.std.proofs.lemmas.Bool.{eqb-true, eq-eqb, or_cases, or_left, or_right}
 use Rattle.std.specs.Str.{bytes_eq}
 use Rattle.es_value.specs.declared.value.Value.{Value}
-use Rattle.es_value.specs.declared.value.Value.TheVariants.{Undefined}
-use Rattle.es_value.specs.Values.{identity}
-use Rattle.es_props.specs.Heap.{Store, keys, keys_of, edges, value_at, HasProperties}
+use Rattle.es_props.specs.Heap.{Store, keys, edges, HasProperties}
 use Rattle.es_props.proofs.CallerLemmas.{edges-from_properties, properties-from_edges}
-use Rattle.es_props.proofs.Held.{identities, HasFound, found_of_all, all_of_found}
-use Rattle.es_props.proofs.Tables.{value_at_is_lookup}
 use Rattle.es_ephemeron.specs.Ephemerons.{Records, holders, records_at, record_at}
 use Rattle.es_ephemeron.proofs.CallerLemmas.{all_records-from_each, each-from_all_records}
 use Rattle.es_registry.specs.Registries.{Contents as RegistryContents, is_root}
@@ -20,26 +14,7 @@ use Rattle.es_value.specs.Ids.{is_in}
 use Rattle.es_mark.specs.Graph.{HasAll, HasValue}
 use Rattle.es_mark.proofs.Lists.{all_front, all_back, all_join}
 use Rattle.es_tables.specs.Found.{Adds, HasBound, HasHeld, AddsEntries}
-use Rattle.es_tables.specs.Tables.{State, Bindings}
-
--- what stands in the entries is what is bound
-entries_bound : (b : Bindings) (t : ℕ → Bool) → HasFound b.entries t → HasBound b t
-entries_bound b t found x i e = at_value (lookup (bytes_eq x) b.entries) (value_at_is_lookup b.entries x) e
-  where
-    at_value : (o : Option Value) → value_at b.entries x ≡ o → identity (unwrap_or o Undefined) ≡ Some i → t i ≡ true
-    at_value None is e = cc
-    at_value (Some v) is e = found x v i is e
-
-bound_entries : (b : Bindings) (t : ℕ → Bool) → HasBound b t → HasFound b.entries t
-bound_entries b t has k v i e is = has k i (ap (λ o. identity (unwrap_or o Undefined)) (sym (value_at_is_lookup b.entries k) ∙ e) ∙ is)
-
-pub adds_bound : (b : Bindings) (old new : List ℕ) → IsDistinct bytes_eq (keys_of b.entries) → new ≡ old ++ identities b.entries → Adds (HasBound b) old new
-adds_bound b old new distinct added = record {
-  ids = identities b.entries;
-  added = added;
-  only = λ t has. all_of_found t b.entries distinct (bound_entries b t has);
-  all = λ t all. entries_bound b t (found_of_all t b.entries all);
-}
+use Rattle.es_tables.specs.Tables.{State}
 
 -- sets as tests, and as lists
 

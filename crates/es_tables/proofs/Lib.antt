@@ -5,7 +5,6 @@ pub mod Found
 pub mod Fresh
 pub mod Numbered
 pub mod Outcomes
-pub mod Passing
 pub mod Queued
 pub mod Reading
 pub mod Recorded
@@ -13,4 +12,3 @@ pub mod Registering
 pub mod Slots
 pub mod Tagging
 pub mod Weak
-pub mod Written

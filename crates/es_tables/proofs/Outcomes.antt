@@ -1,11 +1,6 @@
--- What a call that succeeds ensures, and a value that is written over another.
-use Rattle.std.proofs.Common.{Bool, true, false, cond, ◌≡◌, refl, Option, Some, Result, Ok, Err}
-use Rattle.std.specs.Prelude.{unwrap_or, IfOk, OnOk}
-
--- the value that is written, or what stood before
-pub unwrapped : {A : Type 0} (b : Bool) (new : A) (old : Option A) (d : A) → unwrap_or (cond b (Some new) old) d ≡ cond b new (unwrap_or old d)
-unwrapped true new old d = refl
-unwrapped false new old d = refl
+-- What a call that succeeds ensures.
+use Rattle.std.proofs.Common.{Result, Ok, Err}
+use Rattle.std.specs.Prelude.{IfOk, OnOk}
 
 pub on_map : {T E : Type 0} (r : Result T E) (P Q : Type 0) → (P → Q) → OnOk r P → OnOk r Q
 on_map (Ok x) P Q f on = f on

@@ -1,5 +1,5 @@
 -- What each table has of the change that an event makes is what the definitions read off the event.
-use Rattle.std.proofs.Common.{ℕ, ◌≡◌, refl, ap, ◌∙◌, List, Option, Some, None}
+use Rattle.std.proofs.Common.{ℕ, ◌≡◌, refl, List, Option, Some, None}
 use Rattle.std.specs.Option.{option_map, option_and_then, option_to_list}
 use Rattle.es_value.specs.declared.value.Value.{Value}
 use Rattle.es_value.specs.declared.value.Value.TheVariants.{Object}
@@ -18,7 +18,7 @@ use Rattle.es_tables.specs.declared.table_change.TableChange.{TableChange}
 use Rattle.es_tables.specs.Changes.{table_change, table_change_by, identity_kept, put_of, born_of, pointing, with_option, points_of, entered_of, joined_of, registry_of, kept_of, clears, makes_of}
 use Rattle.es_tables.specs.Effects.{object_born, points, points_by}
 use Rattle.es_tables.specs.Registries.{change, change_by}
-use Rattle.es_tables.specs.Tags.{tag_made, tag_made_at}
+use Rattle.es_tags.specs.Tags.{tag_made, tag_made_at}
 
 put_did : (c : Command) (vs : List Value) (r : Answer) → put_of (table_change_by c vs r) ≡ put_by c vs
 put_did (Set o k y) vs r = refl

@@ -1,5 +1,4 @@
 -- Internal: what an event does to the tables.
-use denote.Ref.{Bor}
 use Rattle.std.specs.Prelude.{⊤, ℕ, ◌≡◌, ◌==◌, ◌||◌, ◌++◌, false, List, [], map, Option, Some, None, unwrap_or, is_some, reverse, if◌then◌else◌}
 use Rattle.std.specs.Option.{option_map, option_map_or, option_to_list}
 use Rattle.std.specs.Str.{bytes_eq}
@@ -12,9 +11,8 @@ use Rattle.es_event.specs.declared.event.Event.TheVariants.{JobBegun, CleanupBeg
 use Rattle.es_event.specs.declared.command.Command.{Command}
 use Rattle.es_event.specs.declared.command.Command.TheVariants.{WeakRef}
 use Rattle.es_event.specs.Commands.{first}
-use Rattle.es_event.specs.History.{History, at_key}
+use Rattle.es_event.specs.History.{at_key}
 use Rattle.es_event.specs.Identities.{identity, born}
-use Rattle.es_event.specs.Jobs.{Receivers}
 use Rattle.es_event.specs.Variables.{assigned}
 use Rattle.es_event.specs.Properties.{same_key, keys_after}
 use Rattle.es_event.specs.Ephemerons.{same_pair}
@@ -78,10 +76,6 @@ AssignsTo received to Closed = ⊤
 -- what the event assigns, where the value of a receipt goes to the variable `received`
 abbrev pub assigned_by : List ℕ → Event → Option (List ℕ × Value)
 assigned_by received e = assigned (λ h. received) [] e
-
--- what is assigned, as the code has it
-abbrev pub said : Option (Bor (List ℕ) × Bor Value) → Option (List ℕ × Value)
-said o = option_map (λ p. (p.0.now, p.1.now)) o
 
 -- the tables after the change
 pub record Changed (s : State) (c : TableChange) (t : State) : Type 0 where

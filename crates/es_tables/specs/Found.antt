@@ -3,22 +3,11 @@ use Rattle.std.specs.Prelude.{ℕ, ◌≡◌, Bool, true, List, ◌++◌, Some}
 use Rattle.es_value.specs.declared.value.Value.{Value}
 use Rattle.es_ephemeron.specs.Ephemerons.{Records}
 pub use Rattle.es_ephemeron.specs.Ephemerons.{record_at}
+pub use Rattle.es_variables.specs.Variables.{Adds, HasBound}
 use Rattle.std.specs.List.{AllByRecursion}
-use Rattle.es_value.specs.Values.{identity}
 use Rattle.es_mark.specs.Graph.{HasAll, HasValue, HasValues}
 use Rattle.es_registry.specs.Registries.{Contents as RegistryContents, is_root}
-use Rattle.es_tables.specs.Tables.{State, Bindings, bound}
-
--- these identities are added, and a set has them all exactly where it has what is asked for
-pub record Adds (asked : (ℕ → Bool) → Type 0) (old new : List ℕ) : Type 0 where
-  pub ids : List ℕ
-  pub added : new ≡ old ++ ids
-  pub only : (t : ℕ → Bool) → asked t → HasAll ids t
-  pub all : (t : ℕ → Bool) → HasAll ids t → asked t
-
--- the set has what variables hold
-abbrev pub HasBound : Bindings → (ℕ → Bool) → Type 0
-HasBound b t = (x : List ℕ) (i : ℕ) → identity (bound b x) ≡ Some i → t i ≡ true
+use Rattle.es_tables.specs.Tables.{State}
 
 -- the set has the registries, and what cells in them hold
 abbrev pub HasRegistryRoots : RegistryContents → (ℕ → Bool) → Type 0

@@ -1,4 +1,3 @@
-pub mod Tags
 pub mod Tables
 pub mod Registries
 pub mod Changes

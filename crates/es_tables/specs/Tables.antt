@@ -1,10 +1,6 @@
 -- Internal: what the tables of an agent say, and that they say what its history says.
-use Rattle.std.specs.Prelude.{ℕ, Bool, ◌≡◌, ◌<◌, ◌&&◌, not, false, List, [], ◌++◌, map, Some, None, unwrap_or, is_some, length, reverse, slice_get, if◌then◌else◌}
-use Rattle.std.specs.Map.{lookup}
-use Rattle.std.specs.Option.{option_map, option_map_or, option_and_then}
-use Rattle.std.specs.Str.{bytes_eq}
-use Rattle.es_value.specs.declared.value.Value.{Value}
-use Rattle.es_value.specs.declared.value.Value.TheVariants.{Undefined}
+use Rattle.std.specs.Prelude.{ℕ, ◌≡◌, ◌<◌, ◌&&◌, not, false, List, [], ◌++◌, map, Some, None, unwrap_or, is_some, length, reverse, if◌then◌else◌}
+use Rattle.std.specs.Option.{option_map, option_and_then}
 use Rattle.es_value.specs.Values.{identity}
 use Rattle.es_props.specs.Heap.{Store, object, has, property, keys}
 use Rattle.es_weakref.specs.WeakRefs.{Contents, unless_among}
@@ -23,19 +19,8 @@ use Rattle.es_event.specs.WeakRefs.{target as target_said, kept}
 use Rattle.es_event.specs.Ephemerons.{entry, is_member}
 use Rattle.es_event.specs.Order.{queue}
 use Rattle.es_event.specs.Registrations.{Cell, Fate, live, awaiting, unregistered, taken, callback as callback_said, registrations, cell, fate}
-use Rattle.es_tables.specs.Tags.{TagList, tag_at, tag_said}
-
--- the variables that were assigned
-pub record Bindings : Type 0 where
-  pub entries : List (List ℕ × Value)
-
--- the value of x
-abbrev pub bound : Bindings → List ℕ → Value
-bound b x = unwrap_or (lookup (bytes_eq x) b.entries) Undefined
-
--- at place i there is the variable x
-abbrev pub is_at : List (List ℕ × Value) → ℕ → List ℕ → Bool
-is_at es i x = option_map_or (λ e. bytes_eq e.0 x) (slice_get es i) false
+pub use Rattle.es_variables.specs.Variables.{Bindings, bound}
+use Rattle.es_tags.specs.Tags.{TagList, tag_at, tag_said}
 
 -- all tables of an agent
 pub record State : Type 0 where

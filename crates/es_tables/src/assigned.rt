@@ -1,10 +1,12 @@
 //! What an event assigns, read off the event.
 
 ghost use Rattle.std.specs.Prelude.{◌≡◌, codes};
+ghost use Rattle.std.specs.Option.{option_copied};
 ghost use Rattle.es_event.specs.Commands.{assigns};
 ghost use Rattle.es_event.specs.Variables.{gives_to};
 ghost use Rattle.es_event.specs.Answers.{answer_said};
-ghost use Rattle.es_tables.specs.Effects.{assigned_by, said};
+ghost use Rattle.es_tables.specs.Effects.{assigned_by};
+ghost use Rattle.es_variables.specs.Variables.{said};
 
 use es_event::{AnswerRef, Command, Event};
 use es_value::{Name, Value};
@@ -43,8 +45,19 @@ pub(crate) fn given_by<'a>(
 ) -> Option<(&'a Name, &'a Value)>
     ensures { said result ≡ gives_to (assigns command.now) (answer_said answer.entry) }
 {
+    given_to(command.assigns(), answer)
+}
+
+/// The variable that an answer goes to, with the value.
+#[inline(always)]
+pub(crate) fn given_to<'a>(
+    to: Option<&'a Name>,
+    answer: AnswerRef<'a>,
+) -> Option<(&'a Name, &'a Value)>
+    ensures { said result ≡ gives_to (option_copied to.entry) (answer_said answer.entry) }
+{
     match answer {
-        AnswerRef::Gives(value) => match command.assigns() {
+        AnswerRef::Gives(value) => match to {
             Some(name) => Some((name, value)),
             None => None,
         },

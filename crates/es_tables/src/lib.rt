@@ -10,10 +10,7 @@ mod properties;
 mod registries;
 mod table_change;
 mod tables;
-mod tags;
-mod variables;
 
 pub use registries::RegistryChange;
 pub use table_change::{TableChange, is_plain};
 pub use tables::Tables;
-pub use tags::Tag;

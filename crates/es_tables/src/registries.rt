@@ -1,7 +1,7 @@
 //! What an event does to FinalizationRegistries, to their cells and to the cleanup queue: read off the
 //! event, reserved, and done.
 
-ghost use Rattle.std.specs.Prelude.{◌≡◌, ℕ, ◌+◌, IfOk, OnOk};
+ghost use Rattle.std.specs.Prelude.{◌≡◌, ℕ, IfOk, OnOk};
 ghost use Rattle.std.specs.Option.{option_map_or};
 ghost use Rattle.es_value.specs.Values.{identity};
 ghost use Rattle.es_registry.specs.Registries.{callback, SameCallbacks};

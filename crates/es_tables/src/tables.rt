@@ -9,30 +9,34 @@ ghost use Rattle.es_props.specs.Heap.{has, property, keys, HasProperties};
 ghost use Rattle.es_weakref.specs.WeakRefs.{target as target_of};
 ghost use Rattle.es_event.specs.Commands.{assigns};
 ghost use Rattle.es_event.specs.Variables.{gives_to};
+ghost use Rattle.es_event.specs.Identities.{object_given};
 ghost use Rattle.es_event.specs.Answers.{answer_said};
-ghost use Rattle.es_tables.specs.Effects.{Advances, Changed, Takes, said};
+ghost use Rattle.es_tables.specs.Effects.{Advances, Changed, Takes};
 ghost use Rattle.es_tables.specs.Changes.{table_change, table_change_by};
 ghost use Rattle.es_ephemeron.specs.Ephemerons.{holders, record_at, records_at};
 ghost use Rattle.es_registry.specs.Slots.{has_token, held_identity, registration_of, tally_of};
 ghost use Rattle.es_registry.specs.Registries.{callback as callback_of, oldest};
 ghost use Rattle.es_tables.specs.Found.{Adds, HasHeld, AddsEntries};
+ghost use Rattle.es_variables.specs.Variables.{said};
 ghost use Rattle.es_tables.specs.Ready.{CanApply, HasRoom};
 ghost use Rattle.es_tables.specs.Tables.{bound, IsNew, SameState, State, Emptying};
-ghost use Rattle.es_tables.specs.Tags.{tag_at};
+ghost use Rattle.es_tags.specs.Tags.{tag_at};
 
-use crate::assigned::{assigned_by, given_by};
+use crate::assigned::{assigned_by, given_by, given_to};
 use crate::changes::{aim, enter, join, keep, make, put, write};
 use crate::growths::{reserve_born, reserve_entered, reserve_joined, reserve_put};
 use crate::registries::{make_change, reserve_change};
-use crate::table_change::{TableChange, is_assignment, table_change, table_change_by};
-use crate::tags::{Tag, Tags};
-use crate::variables::Variables;
+use crate::table_change::{
+    TableChange, is_assignment, object_given, table_change, table_change_by,
+};
 use es_ephemeron::WeakTables;
 use es_event::{AnswerRef, Command, Done, Event};
 use es_mark::Marks;
 use es_props::Heap;
 use es_registry::{Cell, Registration, Registries, Tally};
+use es_tags::{Tag, Tags};
 use es_value::{Id, Name, NoMemory, Value};
+use es_variables::Variables;
 use es_weakref::WeakRefs;
 use std::alloc::Global;
 use std::marker::Model;
@@ -330,11 +334,39 @@ impl Tables {
             (Command::Set { key, .. }, [Value::Object(object), value]) => {
                 self.set(*object, key, value)
             }
-            _ => {
-                let change = table_change_by(command, values, answer)?;
-                self.take(change, given_by(command, answer))
-            }
+            (Command::New { to }, _) => self.make_ordinary(to, answer),
+            _ => self.change_otherwise(command, values, answer),
         }
+    }
+
+    /// The same, of a command that makes an ordinary object.
+    #[inline(never)]
+    fn make_ordinary(&mut self, to: &Name, answer: AnswerRef<'_>) -> Result<(), NoMemory>
+        requires { CanApply self.old (TableChange.Birth (Some Tag.Ordinary) (object_given (answer_said answer))) }
+        ensures ok { OnOk result (Takes (gives_to (Some to.now) (answer_said answer.entry)) (TableChange.Birth (Some Tag.Ordinary) (object_given (answer_said answer.entry))) self.old self.new) }
+        ensures err { OnErr result (SameState self.old self.new) }
+    {
+        let birth = TableChange::Birth {
+            tag: Some(Tag::Ordinary),
+            object: object_given(answer),
+        };
+        self.take(birth, given_to(Some(to), answer))
+    }
+
+    /// The same, of any command.
+    #[inline(never)]
+    fn change_otherwise(
+        &mut self,
+        command: &Command,
+        values: &[Value],
+        answer: AnswerRef<'_>,
+    ) -> Result<(), NoMemory>
+        requires { CanApply self.old (table_change_by command.now values.now (answer_said answer)) }
+        ensures ok { OnOk result (Takes (gives_to (assigns command.now) (answer_said answer.entry)) (table_change_by command.now values.now (answer_said answer.entry)) self.old self.new) }
+        ensures err { OnErr result (SameState self.old self.new) }
+    {
+        let change = table_change_by(command, values, answer)?;
+        self.take(change, given_by(command, answer))
     }
 
     /// Sets a property of an object.
@@ -372,6 +404,7 @@ impl Tables {
 
     /// Makes every growth that a change needs, assigns a variable, where one is to be assigned, and makes the
     /// change.
+    #[inline(always)]
     fn take(
         &mut self,
         change: TableChange,
@@ -394,6 +427,7 @@ impl Tables {
     }
 
     /// Makes every growth that the change needs; the tables say what they said.
+    #[inline(always)]
     fn reserve(&mut self, change: &TableChange) -> Result<(), NoMemory>
         requires { CanApply self.old change.now }
         ensures same { SameState self.old self.new }
@@ -426,6 +460,7 @@ impl Tables {
     }
 
     /// Makes a change for which there is room; it takes no memory.
+    #[inline(always)]
     fn apply(&mut self, change: TableChange)
         requires can { CanApply self.old change }
         requires room { HasRoom self.old change }

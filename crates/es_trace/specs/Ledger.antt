@@ -2,14 +2,14 @@
 use Rattle.std.specs.Prelude.{ℕ, Bool, true, false, List, [], ◌++◌, codes, decimal}
 use Rattle.std.specs.List.{flat_map}
 use Rattle.es_value.specs.Printed.{value_text}
-use Rattle.es_event.specs.declared.access.Access.{Access}
-use Rattle.es_event.specs.declared.access.Access.TheVariants.{Load, Store, Add}
+use Rattle.es_event.specs.declared.access.Change.{Change}
+use Rattle.es_event.specs.declared.access.Change.TheVariants.{Keep, Write, Add}
 use Rattle.es_event.specs.declared.ledger_event.Body.{Body}
 use Rattle.es_event.specs.declared.ledger_event.Body.TheVariants.{Plain, Block}
 use Rattle.es_event.specs.declared.ledger_event.LedgerEvent.{LedgerEvent}
 use Rattle.es_event.specs.declared.ledger_event.LedgerEvent.TheVariants.{Opened, Posted, Taken, Spent, Accessed, Waiting, Passed, Ended, Drained}
 use Rattle.es_trace.specs.Columns.{label, row, widest}
-use Rattle.es_trace.specs.Commands.{name_at}
+use Rattle.es_command_text.specs.Commands.{name_at}
 
 -- Events
 
@@ -21,17 +21,17 @@ message_text names s r what = codes "message " ++ (name_at names s ++ (codes " t
 abbrev pub word_text : ℕ → ℕ → List ℕ → List ℕ
 word_text i s what = codes "word " ++ (decimal i ++ (what ++ (codes " by ticket " ++ decimal s)))
 
-abbrev pub access_text : Access → List ℕ
-access_text Load = codes " loaded"
-access_text (Store w) = codes " stored"
-access_text (Add n) = codes " added to"
+abbrev pub change_text : Change → List ℕ
+change_text Keep = codes " loaded"
+change_text (Write w) = codes " stored"
+change_text (Add n) = codes " added to"
 
 abbrev pub ledger_text : List (List ℕ) → LedgerEvent → List ℕ
 ledger_text names (Opened b w s a) = codes "block " ++ (decimal b ++ codes " opened")
 ledger_text names (Posted a r m) = message_text names a r (codes " posted")
 ledger_text names (Taken a r) = message_text names a r (codes " taken")
 ledger_text names (Spent s) = codes "ticket " ++ (decimal s ++ codes " spent")
-ledger_text names (Accessed s i m old) = word_text i s (access_text m)
+ledger_text names (Accessed s i m old) = word_text i s (change_text m.change)
 ledger_text names (Waiting a s) = name_at names a ++ (codes " waits for " ++ name_at names s)
 ledger_text names (Passed a s) = name_at names a ++ (codes " waits no more for " ++ name_at names s)
 ledger_text names (Ended a) = name_at names a ++ codes " ended"
@@ -55,9 +55,9 @@ body_text (Plain v) = value_text v ++ codes "\n"
 body_text (Block b s) = codes "block " ++ (decimal b ++ (codes ", ticket " ++ (decimal s ++ codes "\n")))
 
 -- the word that was read or written, or what was there before and what was added
-abbrev pub told_of : Access → ℕ → List ℕ
-told_of Load old = decimal old ++ codes "\n"
-told_of (Store w) old = decimal w ++ codes "\n"
+abbrev pub told_of : Change → ℕ → List ℕ
+told_of Keep old = decimal old ++ codes "\n"
+told_of (Write w) old = decimal w ++ codes "\n"
 told_of (Add n) old = decimal old ++ (codes " + " ++ (decimal n ++ codes "\n"))
 
 -- the ticket that was made and the block's number of words, what a message carries, or the word; of an added number, what was there before
@@ -66,7 +66,7 @@ told_text names (Opened b w s a) = codes "ticket " ++ (decimal s ++ (codes " of 
 told_text names (Posted a r m) = body_text m
 told_text names (Taken a r) = []
 told_text names (Spent s) = []
-told_text names (Accessed s i m old) = told_of m old
+told_text names (Accessed s i m old) = told_of m.change old
 told_text names (Waiting a s) = []
 told_text names (Passed a s) = []
 told_text names (Ended a) = []

@@ -1,4 +1,3 @@
-pub mod Commands
 pub mod Columns
 pub mod Places
 pub mod Callbacks

@@ -3,13 +3,14 @@
 ghost use Rattle.std.specs.Prelude.{◌≡◌, ◌++◌, codes, decimal, IfOk, OnOk};
 ghost use Rattle.std.specs.List.{flat_map};
 ghost use Rattle.std.specs.Io.KnownBytes.{Appends};
-ghost use Rattle.es_trace.specs.Commands.{name_at as name_said};
-ghost use Rattle.es_trace.specs.Ledger.{access_text, ledger_row, ledger_rows, ledger_text, message_text, released_row, word_text};
+ghost use Rattle.es_command_text.specs.Commands.{name_at as name_said};
+ghost use Rattle.es_trace.specs.Ledger.{change_text, ledger_row, ledger_rows, ledger_text, message_text, released_row, word_text};
 
-use crate::names::{name_at, width_of};
+use crate::names::width_of;
 use crate::row::{empty_text, label_of, write_row};
 use crate::told::{tells, write_told};
-use es_event::{Access, LedgerEvent};
+use es_command_text::name_at;
+use es_event::{Change, LedgerEvent};
 use es_value::Name;
 use std::alloc::Global;
 use std::io;
@@ -129,7 +130,7 @@ fn write_event<W: Write>(
             index,
             access,
             ..
-        } => write_access(*index, *serial, *access, writer),
+        } => write_change(*index, *serial, access.change, writer),
         LedgerEvent::Waiting { agent, sender } => {
             write_wait(names, *agent, *sender, " waits for ", writer)
         }
@@ -144,18 +145,18 @@ fn write_event<W: Write>(
 }
 
 /// Writes what was done to the word at an index through the ticket of a serial.
-fn write_access<W: Write>(
+fn write_change<W: Write>(
     index: usize,
     serial: u64,
-    access: Access,
+    change: Change,
     writer: &mut W,
 ) -> Result<(), io::Error>
-    ensures { OnOk result (Appends (W.contents writer.old) (W.contents writer.new) (word_text index serial (access_text access))) }
+    ensures { OnOk result (Appends (W.contents writer.old) (W.contents writer.new) (word_text index serial (change_text change))) }
 {
-    match access {
-        Access::Load => write_word(index, serial, " loaded", writer),
-        Access::Store(_) => write_word(index, serial, " stored", writer),
-        Access::Add(_) => write_word(index, serial, " added to", writer),
+    match change {
+        Change::Keep => write_word(index, serial, " loaded", writer),
+        Change::Write(_) => write_word(index, serial, " stored", writer),
+        Change::Add(_) => write_word(index, serial, " added to", writer),
     }
 }
 

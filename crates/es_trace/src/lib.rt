@@ -3,7 +3,6 @@
 
 mod answer;
 mod callbacks;
-mod command;
 mod event;
 mod kept;
 mod ledger;
@@ -12,13 +11,8 @@ mod place;
 mod released;
 mod row;
 mod scribe;
-mod style;
 mod told;
-mod words;
 
-pub use command::write_command;
 pub use ledger::write_ledger;
-pub use names::name_at;
 pub use released::TicketBlocks;
 pub use scribe::Scribe;
-pub use style::Style;

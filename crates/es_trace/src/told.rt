@@ -3,11 +3,11 @@
 ghost use Rattle.std.specs.Prelude.{◌≡◌, ◌++◌, codes, decimal, OnOk};
 ghost use Rattle.std.specs.Io.KnownBytes.{Appends};
 ghost use Rattle.es_value.specs.Printed.{value_text};
-ghost use Rattle.es_trace.specs.Commands.{name_at as name_said};
+ghost use Rattle.es_command_text.specs.Commands.{name_at as name_said};
 ghost use Rattle.es_trace.specs.Ledger.{body_text, tells as tells_said, told_of, told_text};
 
-use crate::names::name_at;
-use es_event::{Access, Body, LedgerEvent};
+use es_command_text::name_at;
+use es_event::{Body, Change, LedgerEvent};
 use es_value::{Name, Value, write_value};
 use std::io;
 use std::io::Write;
@@ -44,7 +44,7 @@ pub(crate) fn write_told<W: Write>(
             ..
         } => write_ticket(names, *serial, *agent, *words, writer),
         LedgerEvent::Posted { body, .. } => write_body(body, writer),
-        LedgerEvent::Accessed { access, old, .. } => write_word(*access, *old, writer),
+        LedgerEvent::Accessed { access, old, .. } => write_word(access.change, *old, writer),
         LedgerEvent::Taken { .. }
         | LedgerEvent::Spent { .. }
         | LedgerEvent::Waiting { .. }
@@ -84,12 +84,12 @@ fn write_plain<W: Write>(value: &Value, writer: &mut W) -> Result<(), io::Error>
 }
 
 /// Writes the word that was read or written, or the one that was there and what was added to it.
-fn write_word<W: Write>(access: Access, old: u32, writer: &mut W) -> Result<(), io::Error>
-    ensures { OnOk result (Appends (W.contents writer.old) (W.contents writer.new) (told_of access old)) }
+fn write_word<W: Write>(change: Change, old: u32, writer: &mut W) -> Result<(), io::Error>
+    ensures { OnOk result (Appends (W.contents writer.old) (W.contents writer.new) (told_of change old)) }
 {
-    match access {
-        Access::Load => writeln!(writer, "{old}"),
-        Access::Store(word) => writeln!(writer, "{word}"),
-        Access::Add(addend) => writeln!(writer, "{old} + {addend}"),
+    match change {
+        Change::Keep => writeln!(writer, "{old}"),
+        Change::Write(word) => writeln!(writer, "{word}"),
+        Change::Add(addend) => writeln!(writer, "{old} + {addend}"),
     }
 }

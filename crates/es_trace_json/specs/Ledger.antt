@@ -2,13 +2,13 @@
 use Rattle.std.specs.Prelude.{ℕ, List, ◌++◌, codes, decimal}
 use Rattle.std.specs.List.{flat_map}
 use Rattle.es_value.specs.Printed.{quoted}
-use Rattle.es_event.specs.declared.access.Access.{Access}
-use Rattle.es_event.specs.declared.access.Access.TheVariants.{Load, Store, Add}
+use Rattle.es_event.specs.declared.access.Change.{Change}
+use Rattle.es_event.specs.declared.access.Change.TheVariants.{Keep, Write, Add}
 use Rattle.es_event.specs.declared.ledger_event.Body.{Body}
 use Rattle.es_event.specs.declared.ledger_event.Body.TheVariants.{Plain, Block}
 use Rattle.es_event.specs.declared.ledger_event.LedgerEvent.{LedgerEvent}
 use Rattle.es_event.specs.declared.ledger_event.LedgerEvent.TheVariants.{Opened, Posted, Taken, Spent, Accessed, Waiting, Passed, Ended, Drained}
-use Rattle.es_trace.specs.Commands.{name_at}
+use Rattle.es_command_text.specs.Commands.{name_at}
 use Rattle.es_trace_json.specs.Values.{value_json}
 
 -- what a message carries: a value, or a block with the message's own ticket of it
@@ -28,17 +28,17 @@ ends_json names s r = codes ",\"sender\":" ++ (name_json names s ++ (codes ",\"r
 abbrev pub place_json : ℕ → ℕ → List ℕ
 place_json s i = codes ",\"ticket\":" ++ (decimal s ++ (codes ",\"index\":" ++ decimal i))
 
-abbrev pub access_members : ℕ → ℕ → ℕ → Access → List ℕ
-access_members s i old Load = codes "\"loaded\"" ++ (place_json s i ++ (codes ",\"word\":" ++ decimal old))
-access_members s i old (Store w) = codes "\"stored\"" ++ (place_json s i ++ (codes ",\"word\":" ++ decimal w))
-access_members s i old (Add n) = codes "\"added\"" ++ (place_json s i ++ (codes ",\"old\":" ++ (decimal old ++ (codes ",\"addend\":" ++ decimal n))))
+abbrev pub change_members : ℕ → ℕ → ℕ → Change → List ℕ
+change_members s i old Keep = codes "\"loaded\"" ++ (place_json s i ++ (codes ",\"word\":" ++ decimal old))
+change_members s i old (Write w) = codes "\"stored\"" ++ (place_json s i ++ (codes ",\"word\":" ++ decimal w))
+change_members s i old (Add n) = codes "\"added\"" ++ (place_json s i ++ (codes ",\"old\":" ++ (decimal old ++ (codes ",\"addend\":" ++ decimal n))))
 
 abbrev pub ledger_members : List (List ℕ) → LedgerEvent → List ℕ
 ledger_members names (Opened b w s a) = codes "\"opened\",\"block\":" ++ (decimal b ++ (codes ",\"words\":" ++ (decimal w ++ (codes ",\"ticket\":" ++ (decimal s ++ (codes ",\"agent\":" ++ name_json names a))))))
 ledger_members names (Posted a r m) = codes "\"posted\"" ++ (ends_json names a r ++ (codes ",\"carries\":" ++ body_json m))
 ledger_members names (Taken a r) = codes "\"taken\"" ++ ends_json names a r
 ledger_members names (Spent s) = codes "\"spent\",\"ticket\":" ++ decimal s
-ledger_members names (Accessed s i m old) = access_members s i old m
+ledger_members names (Accessed s i m old) = change_members s i old m.change
 ledger_members names (Waiting a s) = codes "\"waiting\",\"agent\":" ++ (name_json names a ++ (codes ",\"sender\":" ++ name_json names s))
 ledger_members names (Passed a s) = codes "\"passed\",\"agent\":" ++ (name_json names a ++ (codes ",\"sender\":" ++ name_json names s))
 ledger_members names (Ended a) = codes "\"ended\",\"agent\":" ++ name_json names a

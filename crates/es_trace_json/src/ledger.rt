@@ -4,12 +4,12 @@ ghost use Rattle.std.specs.Prelude.{◌≡◌, ◌++◌, codes, decimal, OnOk};
 ghost use Rattle.std.specs.List.{flat_map};
 ghost use Rattle.std.specs.Io.KnownBytes.{Appends};
 ghost use Rattle.es_value.specs.Printed.{quoted};
-ghost use Rattle.es_trace_json.specs.Ledger.{access_members, body_json, ends_json, ledger_line, ledger_lines, ledger_members, name_json, place_json, released_line};
+ghost use Rattle.es_trace_json.specs.Ledger.{body_json, change_members, ends_json, ledger_line, ledger_lines, ledger_members, name_json, place_json, released_line};
 
 use crate::member::write_agent;
 use crate::value::{write_quoted, write_value};
-use es_event::{Access, Body, LedgerEvent};
-use es_trace::name_at;
+use es_command_text::name_at;
+use es_event::{Body, Change, LedgerEvent};
 use es_value::Name;
 use std::io;
 use std::io::Write;
@@ -99,7 +99,7 @@ fn write_members<W: Write>(
             index,
             access,
             old,
-        } => write_access(*serial, *index, *old, *access, writer),
+        } => write_change(*serial, *index, *old, access.change, writer),
         LedgerEvent::Waiting { agent, sender } => {
             write_wait("waiting", names, *agent, *sender, writer)
         }
@@ -114,19 +114,19 @@ fn write_members<W: Write>(
 }
 
 /// Writes what was done to a word, over the old one.
-fn write_access<W: Write>(
+fn write_change<W: Write>(
     serial: u64,
     index: usize,
     old: u32,
-    access: Access,
+    change: Change,
     writer: &mut W,
 ) -> Result<(), io::Error>
-    ensures { OnOk result (Appends (W.contents writer.old) (W.contents writer.new) (access_members serial index old access)) }
+    ensures { OnOk result (Appends (W.contents writer.old) (W.contents writer.new) (change_members serial index old change)) }
 {
-    match access {
-        Access::Load => write_word("loaded", serial, index, old, writer),
-        Access::Store(word) => write_word("stored", serial, index, word, writer),
-        Access::Add(addend) => write_added(serial, index, old, addend, writer),
+    match change {
+        Change::Keep => write_word("loaded", serial, index, old, writer),
+        Change::Write(word) => write_word("stored", serial, index, word, writer),
+        Change::Add(addend) => write_added(serial, index, old, addend, writer),
     }
 }
 

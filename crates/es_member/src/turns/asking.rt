@@ -137,7 +137,7 @@ fn answer<L: Run>(core: &mut AgentCore<L>, access: Access, old: u32) -> Result<(
     ensures ok { OnOk result (DoesWith core.old (answer_to access old) core.new) }
     ensures err { OnErr result (core.new ≡ core.old) }
 {
-    if access.gives_word() {
+    if access.gives_word {
         core.answer_word(old)
     } else {
         core.answer_done()

@@ -1,5 +1,5 @@
 use Rattle.std.proofs.Common.{◌∙◌, refl}
-use Rattle.es_match.specs.Shown.{all_shown}
+use Rattle.es_deeds.specs.Shown.{all_shown}
 use Rattle.es_match.proofs.Passing.{passes_by}
 use Rattle.es_match.proofs.going.goes.Goals as goal
 

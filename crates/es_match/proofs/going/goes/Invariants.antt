@@ -1,7 +1,7 @@
 use Rattle.std.proofs.Common.{◌≡◌, drop, true}
 use Rattle.es_match.specs.Goes.{goes}
 use Rattle.es_match.specs.Meets.{nothing_came}
-use Rattle.es_match.specs.Shown.{all_shown}
+use Rattle.es_deeds.specs.Shown.{all_shown}
 use Rattle.es_match.proofs.going.goes.Given as goal
 
 abbrev pub invariant-loop-event : goal.invariant-loop-event

@@ -2,7 +2,7 @@ use Rattle.std.proofs.Common.{◌∙◌, sym, ap, arith, Bool, length, length-ap
 use Rattle.std.specs.List.{count_by}
 use Rattle.es_event.specs.declared.row.Row.{Row}
 use Rattle.es_event.specs.declared.ledger_event.LedgerEvent.TheVariants.{Spent}
-use Rattle.es_match.specs.Deeds.{Spends, by_holder}
+use Rattle.es_deeds.specs.Deeds.{Spends, by_holder}
 use Rattle.es_member.specs.Turned.{spent}
 use Rattle.es_member.proofs.Growing.{by_ticket}
 use Rattle.es_ticket.proofs.Counted.{owned_last, counted_last}

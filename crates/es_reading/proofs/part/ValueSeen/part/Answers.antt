@@ -1,5 +1,5 @@
 use Rattle.std.proofs.Common.{◌≡◌, refl, sym, ap, ◌∙◌}
-use Rattle.serde_json.specs.Data.{Data, array, object, no_items, Items, Members}
+use Rattle.serde_json.specs.Data.{array, object, no_items, Items, Members}
 use Rattle.serde_json.specs.View.{view}
 use Rattle.serde_json.proofs.Views.{view-Array, view-Object}
 use Rattle.es_reading.specs.declared.fault.Spot.{Spot}

@@ -1,0 +1,4 @@
+mod Lately
+mod Noted
+mod Posted
+pub mod Splitting

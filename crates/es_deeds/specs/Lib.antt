@@ -1,0 +1,6 @@
+pub mod Deeds
+pub mod Orderly
+pub mod Patience
+pub mod Shown
+pub mod Split
+pub mod Tables

@@ -1,0 +1,46 @@
+//! What an agent does to the ledger.
+
+use es_event::{Access, Body};
+
+/// What an agent does to the ledger.
+#[derive(Clone, Copy)]
+pub enum Deed<'a> {
+    /// It makes a block of so many words, and its first ticket.
+    Open {
+        block: u64,
+        words: u32,
+        serial: u64,
+    },
+    /// It posts a message.
+    Post {
+        receiver: usize,
+        body: &'a Body,
+    },
+    /// It takes a message of a sender, none where the port is empty; a block in it has so many words.
+    Take {
+        sender: usize,
+        message: Option<&'a Body>,
+        words: u32,
+    },
+    /// It spends a ticket.
+    Spend {
+        serial: u64,
+    },
+    /// It does this to a word, over the old one.
+    Access {
+        serial: u64,
+        index: usize,
+        access: Access,
+        old: u32,
+    },
+    /// It begins to wait for a message of a sender.
+    Wait {
+        sender: usize,
+    },
+    /// It is told to skip its job.
+    Pass {
+        sender: usize,
+    },
+    /// It ends.
+    End,
+}

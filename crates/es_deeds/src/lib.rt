@@ -1,0 +1,13 @@
+//! Each agent's part in a ledger's history: what an event of the ledger is to the agent that does it.
+#![tactic(auto)]
+
+mod again;
+mod deed;
+mod doing;
+mod lines;
+mod mail;
+mod parts;
+mod tables;
+
+pub use deed::Deed;
+pub use parts::parts_of;

@@ -1,0 +1,3 @@
+mod Found
+mod Written
+pub mod CallerLemmas

@@ -1,0 +1,6 @@
+//! The variables of an agent.
+#![tactic(auto)]
+
+mod variables;
+
+pub use variables::Variables;
