@@ -83,13 +83,14 @@ globalThis.Plans = (function () {
     wsadd: [[aWeakSet, 1], [heldWeakly, 2]], wshas: [[aWeakSet, 2]], wsdelete: [[aWeakSet, 2]],
     unregister: [[aRegistry, 2], [heldWeakly, 3]],
     length: [[aBuffer, 2]], sameblock: [[aBuffer, 2], [aBuffer, 3]],
-    load: [[aBuffer, 2]], store: [[aBuffer, 1]], add: [[aBuffer, 2]],
   };
-  const indexed = ["load", "store", "add"];
+  // The commands on a word of a block, with the place of the buffer: where that is the second, the word is given.
+  const onWords = { load: 2, store: 1, add: 2 };
+  for (const word in onWords) tests[word] = [[aBuffer, onWords[word]]];
   // The commands whose answer is told at once, so that a wrong one is seen where it was given.
   const giving = new Set([
-    "same", "get", "delete", "wmget", "wmhas", "wmdelete", "wshas", "wsdelete", "unregister", "length", "sameblock", "load",
-    "add",
+    "same", "get", "delete", "wmget", "wmhas", "wmdelete", "wshas", "wsdelete", "unregister", "length", "sameblock",
+    ...Object.keys(onWords).filter((word) => onWords[word] === 2),
   ]);
 
   class Agent {
@@ -272,7 +273,7 @@ globalThis.Plans = (function () {
     // The report's words for the engine's error.
     named(e, c) {
       if (e instanceof Refused) return e.message;
-      if (e instanceof RangeError && indexed.includes(c[0])) return "RangeError: index";
+      if (e instanceof RangeError && c[0] in onWords) return "RangeError: index";
       if (e instanceof TypeError && c !== undefined) {
         const failed = this.failed(c);
         if (failed !== undefined) return failed;

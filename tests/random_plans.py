@@ -26,6 +26,7 @@ import subprocess
 import sys
 
 import rules
+from rules import ASSIGNING, ON_WORDS, ONE_MORE_USE, USES
 
 NAMES = ["a", "b", "c", "w", "x", "y"]
 # where suited commands have most of their WeakMaps, WeakSets, WeakRefs, FinalizationRegistries and buffers, and assign
@@ -38,26 +39,12 @@ KEYS = ["p", "q", "r"]
 VERSIONS = [1, 1, 2]
 CALLBACKS = ["cb", "B", "_x"]
 AGENTS = ["a", "main", "w", "B", "_", "x", "worker", "c8"]
-# what the operands of each command are for: x is assigned, k a property's key, l a literal, t a text, z a number of
-# words, i an index, n a number, and the others are read: v as any value, o as an object, h as what can be held weakly,
-# w as a WeakRef, m as a WeakMap, s as a WeakSet, r as a FinalizationRegistry, b as a shared buffer; c names a callback,
-# and a another agent
-USES = {
-    "let": "xl", "new": "x", "symbol": "x", "symbolfor": "xt", "copy": "xv", "same": "xvv", "say": "v",
-    "set": "okv", "get": "xok", "delete": "xok", "keys": "o", "weakref": "xh", "deref": "xw",
-    "weakmap": "x", "wmset": "mhv", "wmget": "xmh", "wmhas": "xmh", "wmdelete": "xmh",
-    "weakset": "x", "wsadd": "sh", "wshas": "xsh", "wsdelete": "xsh",
-    "registry": "xc", "register": "rhv", "unregister": "xrh",
-    "buffer": "xz", "length": "xb", "sameblock": "xbb", "load": "xbi", "store": "bin", "add": "xbin", "post": "av",
-    "collect": "", "collectlater": "",
-}
-# an operand that may stand after these
-ONE_MORE = {"register": "h"}
-assert USES.keys() == rules.OPERANDS.keys() and ONE_MORE.keys() == rules.ONE_MORE.keys()
-SHARING = ["buffer", "length", "sameblock", "load", "store", "add", "post"]
+SHARING = ["buffer", "length", "sameblock", *ON_WORDS, "post"]
 ALONE = [word for word in USES if word not in [*SHARING, "collectlater"]]
 COLLECTING = [["collect"], ["collectlater"]]
 ASKING = ["wmhas", "wmdelete", "wshas", "wsdelete"]
+# after which what they assign is mostly said
+TELLING = ["deref", "wmget", "unregister", "length", "sameblock", *ASKING, *(ASSIGNING & {*ON_WORDS})]
 ANSWERING = ["same", "delete", "unregister", *ASKING]  # what assigns true or false
 WEAK_TABLES = ["weakmap", "wmset", "wmget", "wmhas", "wmdelete", "weakset", "wsadd", "wshas", "wsdelete"]
 # numbers and texts that JSON readers treat differently, and arrays at and past the deepest nesting
@@ -466,7 +453,7 @@ SHARED_FAULTS = [
 
 def uses(rng, word):
     """What the command's operands are for, of those that it has this time."""
-    return USES[word] + (ONE_MORE.get(word, "") if rng.random() < 0.6 else "")
+    return USES[word] + (ONE_MORE_USE.get(word, "") if rng.random() < 0.6 else "")
 
 
 def operand(rng, use, others=()):
@@ -708,7 +695,7 @@ def suited(rng, agent, often):
         others = [name for name in same if agent.value(name) != agent.value(args[1])]
         args[2] = rng.choice(others or same)
     yield [word, *args]
-    if word in ("deref", "wmget", "unregister", "length", "sameblock", "load", "add", *ASKING) and rng.random() < 0.7:
+    if word in TELLING and rng.random() < 0.7:
         yield ["say", args[0]]
     if word in ("set", "wmset", "wsadd", "weakref", "post") and rng.random() < (0.3 if word == "post" else 0.5):
         # Now something else may hold it, or nothing.

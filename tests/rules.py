@@ -10,19 +10,31 @@ import re
 NAME = re.compile(r"[A-Za-z_][A-Za-z0-9_]{0,31}\Z")
 LARGEST = 9007199254740991
 
-# the operands of each command: n a name, l a literal, t a text, c the name of a callback, a that of another agent,
-# i a number, w a number of words
-OPERANDS = {
-    "let": "nl", "new": "n", "symbol": "n", "symbolfor": "nt", "copy": "nn", "same": "nnn", "say": "n",
-    "set": "nnn", "get": "nnn", "delete": "nnn", "keys": "n", "weakref": "nn", "deref": "nn",
-    "weakmap": "n", "wmset": "nnn", "wmget": "nnn", "wmhas": "nnn", "wmdelete": "nnn",
-    "weakset": "n", "wsadd": "nn", "wshas": "nnn", "wsdelete": "nnn",
-    "registry": "nc", "register": "nnn", "unregister": "nnn",
-    "buffer": "nw", "length": "nn", "sameblock": "nnn", "load": "nni", "store": "nii", "add": "nnii", "post": "an",
+# what the operands of each command are for: x is assigned, k a property's key, l a literal, t a text, z a number of
+# words, i an index, n a number, and the others are read: v as any value, o as an object, h as what can be held weakly,
+# w as a WeakRef, m as a WeakMap, s as a WeakSet, r as a FinalizationRegistry, b as a shared buffer; c names a callback,
+# and a another agent
+USES = {
+    "let": "xl", "new": "x", "symbol": "x", "symbolfor": "xt", "copy": "xv", "same": "xvv", "say": "v",
+    "set": "okv", "get": "xok", "delete": "xok", "keys": "o", "weakref": "xh", "deref": "xw",
+    "weakmap": "x", "wmset": "mhv", "wmget": "xmh", "wmhas": "xmh", "wmdelete": "xmh",
+    "weakset": "x", "wsadd": "sh", "wshas": "xsh", "wsdelete": "xsh",
+    "registry": "xc", "register": "rhv", "unregister": "xrh",
+    "buffer": "xz", "length": "xb", "sameblock": "xbb", "load": "xbi", "store": "bin", "add": "xbin", "post": "av",
     "collect": "", "collectlater": "",
 }
 # an operand that may stand after these
-ONE_MORE = {"register": "n"}
+ONE_MORE_USE = {"register": "h"}
+READ = "vohwmsrb"
+# of what kind the operand for a use is: n a name, l a literal, t a text, c the name of a callback, a that of another
+# agent, i a number, w a number of words
+KINDS = dict.fromkeys("xk" + READ, "n") | {"l": "l", "t": "t", "c": "c", "a": "a", "i": "i", "n": "i", "z": "w"}
+OPERANDS = {word: "".join(KINDS[use] for use in uses) for word, uses in USES.items()}
+ONE_MORE = {word: KINDS[use] for word, use in ONE_MORE_USE.items()}
+ASSIGNING = {word for word, uses in USES.items() if "x" in uses}
+# the commands on a word of a block, and what each writes, over the word and for the number, modulo 2^32
+ON_WORDS = [word for word, uses in USES.items() if "i" in uses]
+WRITES = {"store": lambda old, number: number, "add": lambda old, number: old + number}
 VERSIONS = [1, 2]
 # what version 1 has not
 SINCE_TWO = ["collectlater"]
@@ -426,6 +438,15 @@ class Agent:
     def words(self, name):
         return self.ledger.words[self.block(name)]
 
+    def access(self, word, operands):
+        """A command on a word of a block: the word that was there is given, and one is written, by what it is for."""
+        words, index = self.place(operands["b"], operands["i"])
+        old = words[index]
+        if "x" in operands:
+            self.variables[operands["x"]] = ("number", old)
+        if word in WRITES:
+            words[index] = WRITES[word](old, operands["n"].whole()) % 2**32
+
     def place(self, name, index):
         """The words of the shared buffer in a variable, and the index of one of them."""
         words = self.words(name)
@@ -659,16 +680,8 @@ class Agent:
             self.variables[args[0]] = ("number", len(self.words(args[1])))
         elif word == "sameblock":
             self.variables[args[0]] = ("boolean", self.block(args[1]) == self.block(args[2]))
-        elif word == "load":
-            words, index = self.place(args[1], args[2])
-            self.variables[args[0]] = ("number", words[index])
-        elif word == "store":
-            words, index = self.place(args[0], args[1])
-            words[index] = args[2].whole() % 2**32
-        elif word == "add":
-            words, index = self.place(args[1], args[2])
-            self.variables[args[0]] = ("number", words[index])
-            words[index] = (words[index] + args[3].whole()) % 2**32
+        elif word in ON_WORDS:
+            self.access(word, dict(zip(USES[word], args)))
         elif word == "post":
             self.post(args[0], self.value(args[1]))
         elif word == "collect":

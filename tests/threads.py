@@ -99,11 +99,10 @@ def uses_of_block(rng):
     """Commands on words of the block in m, which now and then has no such word."""
     for _ in range(rng.randint(0, 6)):
         at, number = rng.choice([0, 0, 1, 2, 3] * 10 + [-1, 4]), rng.choice(random_plans.NUMBERS)
-        word = rng.choice(["load", "store", "add"])
-        if word == "store":
-            yield ["store", "m", at, number]
-        else:
-            yield from [["load", "x", "m", at] if word == "load" else ["add", "x", "m", at, number], ["say", "x"]]
+        word, operands = rng.choice(random_plans.ON_WORDS), {"x": "x", "b": "m", "i": at, "n": number}
+        yield [word, *(operands[use] for use in random_plans.USES[word])]
+        if word in random_plans.ASSIGNING:
+            yield ["say", "x"]
 
 
 def handed_on(rng):

@@ -8,18 +8,11 @@ those of rules.py. docs/TRACES.md says what is told; trace_forms.py writes it, a
 import rules
 from trace_kept import Heap
 
-# of the operands of each command, which name variables that it reads, by their places, and whether it assigns the first
+# of the operands of each command, which name variables that it reads, by their places
 READS = {
-    "let": (), "new": (), "symbol": (), "symbolfor": (), "copy": (1,), "same": (1, 2), "say": (0,),
-    "set": (0, 2), "get": (1,), "delete": (1,), "keys": (0,), "weakref": (1,), "deref": (1,),
-    "weakmap": (), "wmset": (0, 1, 2), "wmget": (1, 2), "wmhas": (1, 2), "wmdelete": (1, 2),
-    "weakset": (), "wsadd": (0, 1), "wshas": (1, 2), "wsdelete": (1, 2),
-    "registry": (), "register": (0, 1, 2, 3), "unregister": (1, 2),
-    "buffer": (), "length": (1,), "sameblock": (1, 2), "load": (1,), "store": (0,), "add": (1,), "post": (1,),
-    "collect": (), "collectlater": (),
+    word: [place for place, use in enumerate(uses + rules.ONE_MORE_USE.get(word, "")) if use in rules.READ]
+    for word, uses in rules.USES.items()
 }
-ASSIGNS_NOTHING = ["say", "set", "keys", "wmset", "wsadd", "register", "store", "post", "collect", "collectlater"]
-assert READS.keys() == rules.OPERANDS.keys()
 
 
 class Ticket(int):
@@ -173,25 +166,27 @@ class Teller(rules.Agent):
         answer = None
         if word == "keys":
             answer = {"keys": [*self.object(args[0])]}
-        elif word not in ASSIGNS_NOTHING:
+        elif word in rules.ASSIGNING:
             answer = {"gives": self.value(args[0])}
         return self.event("did", command=command, values=values, answer=answer)
 
     def do(self, word, args):
         """A word of a block that is read or written is an event of the ledger too."""
-        if word not in ("load", "store", "add"):
+        if word not in rules.ON_WORDS:
             return super().do(word, args)
-        buffer = self.value(args[0] if word == "store" else args[1])
+        operands = dict(zip(rules.USES[word], args))
+        buffer = self.value(operands["b"])
         ticket = self.buffers.get(buffer[1]) if buffer[0] == "object" else None
         super().do(word, args)
-        index = args[1 if word == "store" else 2].whole()
-        if word == "store":
-            self.ledger.note("stored", ticket=ticket.serial, index=index, word=args[2].whole() % 2**32)
-        elif word == "load":
-            self.ledger.note("loaded", ticket=ticket.serial, index=index, word=self.value(args[0])[1])
+        index = operands["i"].whole()
+        number = operands["n"].whole() % 2**32 if "n" in operands else None
+        if word == "load":
+            self.ledger.note("loaded", ticket=ticket.serial, index=index, word=self.value(operands["x"])[1])
+        elif word == "add":
+            old = self.value(operands["x"])[1]
+            self.ledger.note("added", ticket=ticket.serial, index=index, old=old, addend=number)
         else:
-            old = self.value(args[0])[1]
-            self.ledger.note("added", ticket=ticket.serial, index=index, old=old, addend=args[3].whole() % 2**32)
+            self.ledger.note("stored", ticket=ticket.serial, index=index, word=number)
         return None
 
     # The turns

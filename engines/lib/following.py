@@ -12,17 +12,10 @@ import rules
 from verdicts import ANSWERED_IN, Broken, Kind
 
 EMPTIED = "# deref undefined"
-# The words of the rules that assign the first operand, and so settle what a later `say` says.
-ASSIGNING = {
-    "let", "new", "symbol", "symbolfor", "copy", "same", "get", "delete", "weakref", "deref", "weakmap", "wmget", "wmhas",
-    "wmdelete", "weakset", "wshas", "wsdelete", "registry", "unregister", "buffer", "length", "sameblock", "load", "add",
-}
-
-
 # The words of which the engine tells at once what they gave; a deref tells it too, in a note of its own.
 GIVING = {
-    "same", "get", "delete", "wmget", "wmhas", "wmdelete", "wshas", "wsdelete", "unregister", "length", "sameblock", "load",
-    "add",
+    "same", "get", "delete", "wmget", "wmhas", "wmdelete", "wshas", "wsdelete", "unregister", "length", "sameblock",
+    *(rules.ASSIGNING & {*rules.ON_WORDS}),
 }
 
 
@@ -151,7 +144,7 @@ class Following(Tagged):
         line = super().do(word, args)
         if word in GIVING:
             self.note(f"gave {rules.printed(self.value(args[0]))}")
-        if word in ASSIGNING:
+        if word in rules.ASSIGNING:
             self.answered_by[args[0]] = word
         if word == "copy":
             self.answered_by[args[0]] = self.answered_by.get(args[1], word)

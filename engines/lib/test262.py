@@ -25,8 +25,8 @@ OTHERWISE = "sec-weakref-processing-model"
 # what each command needs of an engine
 FEATURES = {
     "weakref": "WeakRef", "weakmap": "WeakMap", "weakset": "WeakSet", "registry": "FinalizationRegistry",
-    "symbol": "symbols-as-weakmap-keys", "collect": "host-gc-required", "buffer": "SharedArrayBuffer", "add": "Atomics",
-    "load": "Atomics", "store": "Atomics",
+    "symbol": "symbols-as-weakmap-keys", "collect": "host-gc-required", "buffer": "SharedArrayBuffer",
+    **dict.fromkeys(rules.ON_WORDS, "Atomics"),
 }
 MODES = {
     False: "Holds in every conforming engine, whatever it collects and when.",
@@ -131,7 +131,7 @@ function words(buffer) {
   return new Uint32Array(buffer);
 }
 '''
-OF_BUFFERS = {"buffer", "length", "sameblock", "load", "store", "add"}
+OF_BUFFERS = {"buffer", "length", "sameblock", *rules.ON_WORDS}
 
 
 class Unfit(Exception):

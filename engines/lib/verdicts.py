@@ -2,6 +2,8 @@
 
 import enum
 
+import rules
+
 EXECUTION = "Processing Model of WeakRef and FinalizationRegistry Targets: Execution"
 LIVENESS = "Processing Model of WeakRef and FinalizationRegistry Targets: Liveness"
 CLEANUP = "CleanupFinalizationRegistry ( finalizationRegistry )"
@@ -35,7 +37,7 @@ ANSWERED_IN = {
     **dict.fromkeys(["weakmap", "wmset", "wmget", "wmhas", "wmdelete"], WEAKMAP),
     **dict.fromkeys(["weakset", "wsadd", "wshas", "wsdelete"], WEAKSET),
     "registry": REGISTRY, "register": REGISTER, "unregister": UNREGISTER, "collect": EXECUTION,
-    "buffer": BUFFER, "length": BUFFER, "sameblock": BLOCKS, "load": ATOMICS, "store": ATOMICS, "add": ATOMICS,
+    "buffer": BUFFER, "length": BUFFER, "sameblock": BLOCKS, **dict.fromkeys(rules.ON_WORDS, ATOMICS),
     "post": MESSAGES, "on": MESSAGES, "held": CLEANUP,
 }
 

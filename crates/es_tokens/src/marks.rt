@@ -17,6 +17,7 @@ pub(crate) fn open_object(reader: &mut Reader<'_>) -> Result<(), Quit>
 }
 
 /// Takes the bracket that opens an array.
+#[inline(always)]
 pub(crate) fn open_array(reader: &mut Reader<'_>) -> Result<(), Quit>
     ensures { IfOk result (λ _. reader.old ≡ spec.begin_array ∷ reader.new) }
 {
@@ -27,6 +28,7 @@ pub(crate) fn open_array(reader: &mut Reader<'_>) -> Result<(), Quit>
 }
 
 /// Takes a text.
+#[inline(always)]
 pub(crate) fn text<'a>(reader: &mut Reader<'a>) -> Result<&'a str, Quit>
     ensures { IfOk result (λ s. reader.old ≡ spec.string s.now ∷ reader.new) }
 {

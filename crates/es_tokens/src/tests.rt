@@ -1,73 +1,74 @@
 //! Which plans are read quickly. That what is read is right is proved; that anything is read no clause says.
 
-mod commands;
-
 use crate::quick_agents;
-use crate::tests::commands::write_command;
+use es_command_text::{Style, write_command};
 use es_event::{AgentPlan, Command};
+use es_value::Name;
 use std::alloc::Global;
 use std::io::Write;
 use std::test::Fail;
 
-fn write_commands(commands: &[Command], told: &mut Vec<u8>) -> Result<(), Fail> {
+/// Writes commands as their plan has them.
+fn write_commands(
+    names: &[Name],
+    agent: &AgentPlan,
+    commands: &[Command],
+    told: &mut Vec<u8>,
+) -> Result<(), Fail> {
     for command in commands {
-        write_command(command, told)?;
+        write!(told, " ")?;
+        write_command(Style::Json, command, names, agent, told)?;
+        write!(told, "]")?;
     }
     Ok(write!(told, "\n")?)
 }
 
-fn write_agent(agent: &AgentPlan, told: &mut Vec<u8>) -> Result<(), Fail> {
-    write!(told, "{:?}\n", agent.name)?;
+fn write_agent(names: &[Name], agent: &AgentPlan, told: &mut Vec<u8>) -> Result<(), Fail> {
+    write!(told, "{}\n", agent.name)?;
     for callback in agent.callbacks.as_slice() {
-        write!(told, "callback {:?}:", callback.name)?;
-        write_commands(callback.run.as_slice(), told)?;
+        write!(told, "callback {}:", callback.name)?;
+        write_commands(names, agent, callback.run.as_slice(), told)?;
     }
     for job in agent.jobs.as_slice() {
         match &job.on {
-            Some((sender, variable)) => write!(told, "on {sender} {variable:?}:")?,
+            Some((sender, variable)) => write!(told, "on {sender} {variable}:")?,
             None => write!(told, "job:")?,
         }
-        write_commands(job.run.as_slice(), told)?;
+        write_commands(names, agent, job.run.as_slice(), told)?;
     }
     Ok(())
 }
 
 /// What is read of a plan's text: a line for each agent, callback and job; or why nothing is.
-fn told(alloc: Global, text: &str) -> Result<Vec<u8>, Fail> {
+fn read(alloc: Global, text: &str) -> Result<String, Fail> {
     let mut told = Vec::new(alloc);
     match quick_agents(alloc, text.as_bytes()) {
         Ok(agents) => {
+            let mut names = Vec::new(alloc);
             for agent in agents.as_slice() {
-                write_agent(agent, &mut told)?;
+                names.push(agent.name.copy()?)?;
+            }
+            for agent in agents.as_slice() {
+                write_agent(&names, agent, &mut told)?;
             }
         }
         Err(quit) => write!(told, "{quit:?}")?,
     }
-    Ok(told)
-}
-
-/// The same, with names and texts as they are.
-fn read(alloc: Global, text: &str) -> Result<String, Fail> {
-    let told = told(alloc, text)?;
-    let told = String::from_utf8_lossy(alloc, told.as_slice())?;
-    let told = told.as_str().replace(alloc, "Name { chars: \"", "")?;
-    let told = told.as_str().replace(alloc, "Text { chars: \"", "'")?;
-    Ok(told.as_str().replace(alloc, "\" }", "")?)
+    Ok(String::from_utf8_lossy(alloc, told.as_slice())?)
 }
 
 /// A plan in the order in which it is mostly written.
 const PLAN: &str =
     r#"{"version":1,"agents":[{"name":"main","callbacks":{"a":[["say","held"]],"b":[]},"jobs":[{"run":[["let","x","A"],["post","other","x"]]},{"on":["other","m"],"run":[["registry","r","b"]]}]},{"name":"other","callbacks":{},"jobs":[{"on":["main","m"],"run":[["post","main","m"]]}]}]}"#;
 
-const READ: &str = "\
-main
-callback a: say held
+const READ: &str = r#"main
+callback a: ["say","held"]
 callback b:
-job: let x Text('A) post 1 x
-on 1 m: registry r 2
+job: ["let","x","A"] ["post","other","x"]
+on 1 m: ["registry","r","b"]
 other
-on 0 m: post 0 m
-";
+on 0 m: ["post","main","m"]
+"#;
 
 /// The same plan in other orders.
 const OTHERS: &[&str] = &[
@@ -94,53 +95,53 @@ fn the_members_come_in_any_order(rt: HostRuntime) -> Result<(), Fail> {
     Ok(())
 }
 
-/// Each command, and what is read of it.
+/// Each command, which is read as it is written.
 const COMMANDS: &[&str] = &[
-    r#"["let","x",null] = let x Undefined"#,
-    r#"["let","x",true] = let x Boolean(true)"#,
-    r#"["let","x",false] = let x Boolean(false)"#,
-    r#"["let","x",0] = let x Number(0)"#,
-    r#"["let","x",9007199254740991] = let x Number(9007199254740991)"#,
-    r#"["let","x",-9007199254740991] = let x Number(-9007199254740991)"#,
-    r#"["let","x",""] = let x Text(')"#,
-    r#"["let","x"," ~!#[]"] = let x Text(' ~!#[])"#,
-    r#"["new","x"] = new x"#,
-    r#"["symbol","x"] = symbol x"#,
-    r#"["symbolfor","x","k"] = symbolfor x 'k"#,
-    r#"["copy","x","y"] = copy x y"#,
-    r#"["same","x","y","z"] = same x y z"#,
-    r#"["say","x"] = say x"#,
-    r#"["set","o","k","y"] = set o k y"#,
-    r#"["get","x","o","k"] = get x o k"#,
-    r#"["delete","x","o","k"] = delete x o k"#,
-    r#"["keys","o"] = keys o"#,
-    r#"["weakref","x","y"] = weakref x y"#,
-    r#"["deref","x","w"] = deref x w"#,
-    r#"["weakmap","m"] = weakmap m"#,
-    r#"["wmset","m","k","y"] = wmset m k y"#,
-    r#"["wmget","x","m","k"] = wmget x m k"#,
-    r#"["wmhas","x","m","k"] = wmhas x m k"#,
-    r#"["wmdelete","x","m","k"] = wmdelete x m k"#,
-    r#"["weakset","s"] = weakset s"#,
-    r#"["wsadd","s","y"] = wsadd s y"#,
-    r#"["wshas","x","s","y"] = wshas x s y"#,
-    r#"["wsdelete","x","s","y"] = wsdelete x s y"#,
-    r#"["registry","r","c"] = registry r 1"#,
-    r#"["register","r","y","h"] = register r y h"#,
-    r#"["register","r","y","h","t"] = register r y h t"#,
-    r#"["unregister","x","r","t"] = unregister x r t"#,
-    r#"["buffer","b",16384] = buffer b 16384"#,
-    r#"["length","x","b"] = length x b"#,
-    r#"["sameblock","x","a","b"] = sameblock x a b"#,
-    r#"["load","x","b",1] = load x b 1"#,
-    r#"["store","b",1,-2] = store b 1 -2"#,
-    r#"["add","x","b",0,3] = add x b 0 3"#,
-    r#"["post","other","x"] = post 1 x"#,
-    r#"["collect"] = collect"#,
+    r#"["let","x",null]"#,
+    r#"["let","x",true]"#,
+    r#"["let","x",false]"#,
+    r#"["let","x",0]"#,
+    r#"["let","x",9007199254740991]"#,
+    r#"["let","x",-9007199254740991]"#,
+    r#"["let","x",""]"#,
+    r#"["let","x"," ~!#[]"]"#,
+    r#"["new","x"]"#,
+    r#"["symbol","x"]"#,
+    r#"["symbolfor","x","k"]"#,
+    r#"["copy","x","y"]"#,
+    r#"["same","x","y","z"]"#,
+    r#"["say","x"]"#,
+    r#"["set","o","k","y"]"#,
+    r#"["get","x","o","k"]"#,
+    r#"["delete","x","o","k"]"#,
+    r#"["keys","o"]"#,
+    r#"["weakref","x","y"]"#,
+    r#"["deref","x","w"]"#,
+    r#"["weakmap","m"]"#,
+    r#"["wmset","m","k","y"]"#,
+    r#"["wmget","x","m","k"]"#,
+    r#"["wmhas","x","m","k"]"#,
+    r#"["wmdelete","x","m","k"]"#,
+    r#"["weakset","s"]"#,
+    r#"["wsadd","s","y"]"#,
+    r#"["wshas","x","s","y"]"#,
+    r#"["wsdelete","x","s","y"]"#,
+    r#"["registry","r","c"]"#,
+    r#"["register","r","y","h"]"#,
+    r#"["register","r","y","h","t"]"#,
+    r#"["unregister","x","r","t"]"#,
+    r#"["buffer","b",16384]"#,
+    r#"["length","x","b"]"#,
+    r#"["sameblock","x","a","b"]"#,
+    r#"["load","x","b",1]"#,
+    r#"["store","b",1,-2]"#,
+    r#"["add","x","b",0,3]"#,
+    r#"["post","other","x"]"#,
+    r#"["collect"]"#,
 ];
 
 /// The commands that version 2 has besides.
-const LATER_COMMANDS: &[&str] = &[r#"["collectlater"] = collectlater"#];
+const LATER_COMMANDS: &[&str] = &[r#"["collectlater"]"#];
 
 /// What is read of a plan of this version, in which this command stands twice.
 fn read_twice(alloc: Global, version: usize, command: &str) -> Result<String, Fail> {
@@ -155,12 +156,8 @@ fn each_command_is_read(rt: HostRuntime) -> Result<(), Fail> {
     let alloc = rt.alloc();
     for (version, rows) in [(1, COMMANDS), (2, COMMANDS), (2, LATER_COMMANDS)] {
         for row in rows {
-            let (command, shown) = row.split_once(" = ").unwrap_or_default();
-            let want = format!(in alloc; "main\ncallback c:\njob: {shown} {shown}\nother\n")?;
-            assert_eq!(rt;
-                read_twice(alloc, version, command)?.as_str(),
-                want.as_str()
-            );
+            let want = format!(in alloc; "main\ncallback c:\njob: {row} {row}\nother\n")?;
+            assert_eq!(rt; read_twice(alloc, version, row)?.as_str(), want.as_str());
         }
     }
     Ok(())
@@ -236,7 +233,7 @@ const LATER: &[&str] = &[
 fn the_version_comes_anywhere(rt: HostRuntime) -> Result<(), Fail> {
     let alloc = rt.alloc();
     for text in LATER {
-        let want = "version\njob: let version Number(1) collectlater\n";
+        let want = "version\njob: [\"let\",\"version\",1] [\"collectlater\"]\n";
         assert_eq!(rt; read(alloc, text)?.as_str(), want, "{text}");
     }
     Ok(())
@@ -251,13 +248,12 @@ fn names_may_be_those_of_keys(rt: HostRuntime) -> Result<(), Fail> {
     )?;
     assert_eq!(rt;
         read.as_str(),
-        "\
-callbacks
+        r#"callbacks
 callback callbacks:
-callback name: keys name
-on 1 on: get name callbacks name registry r 2
+callback name: ["keys","name"]
+on 1 on: ["get","name","callbacks","name"] ["registry","r","name"]
 name
-"
+"#
     );
     Ok(())
 }
