@@ -132,7 +132,7 @@ fn access_word<L: Run>(
     ensures agents { ledger.new.agents ≡ ledger.old.agents }
 {
     let _ = core.history();
-    let old = ledger.access(stake, core.ticket(buffer), index, access)?;
+    let old = ledger.access(stake, core.ticket(buffer), index, access.change)?;
     if access.gives_word {
         Ok(Given::Word(old))
     } else {

@@ -1,7 +1,7 @@
 -- To believe: what an event of the ledger is to the agent that does it, and an agent's part in the ledger's history.
 use Rattle.std.specs.Prelude.{ℕ, Bool, true, false, not, ◌&&◌, ◌==◌, List, [], ◌∷◌, ◌++◌, Option, Some, None, if◌then◌else◌}
 use Rattle.std.specs.Option.{option_map, option_map_or}
-use Rattle.es_event.specs.declared.access.Access.{Access}
+use Rattle.es_event.specs.declared.access.Change.{Change}
 use Rattle.es_event.specs.declared.ledger_event.Body.{Body}
 use Rattle.es_event.specs.declared.ledger_event.Body.TheVariants.{Plain, Block}
 use Rattle.es_event.specs.declared.ledger_event.LedgerEvent.{LedgerEvent}
@@ -15,7 +15,7 @@ pub data Deed : Type 0 where
   Posts : (receiver : ℕ) (body : Body) → Deed
   Takes : (sender : ℕ) (message : Option Body) (words : ℕ) → Deed
   Spends : (serial : ℕ) → Deed
-  Accesses : (serial index : ℕ) (access : Access) (old : ℕ) → Deed
+  Accesses : (serial index : ℕ) (change : Change) (old : ℕ) → Deed
   Waits : (sender : ℕ) → Deed
   Passes : (sender : ℕ) → Deed
   Ends : Deed

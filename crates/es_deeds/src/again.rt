@@ -49,14 +49,14 @@ fn word<'a>(event: &'a LedgerEvent) -> Option<(u64, Deed<'a>)>
         LedgerEvent::Accessed {
             serial,
             index,
-            access,
+            change,
             old,
         } => Some((
             *serial,
             Deed::Access {
                 serial: *serial,
                 index: *index,
-                access: *access,
+                change: *change,
                 old: *old,
             },
         )),

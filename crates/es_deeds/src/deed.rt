@@ -1,6 +1,6 @@
 //! What an agent does to the ledger.
 
-use es_event::{Access, Body};
+use es_event::{Body, Change};
 
 /// What an agent does to the ledger.
 #[derive(Clone, Copy)]
@@ -30,7 +30,7 @@ pub enum Deed<'a> {
     Access {
         serial: u64,
         index: usize,
-        access: Access,
+        change: Change,
         old: u32,
     },
     /// It begins to wait for a message of a sender.

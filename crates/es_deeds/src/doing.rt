@@ -54,14 +54,14 @@ impl<'a> Tables<'a> {
             LedgerEvent::Accessed {
                 serial,
                 index,
-                access,
+                change,
                 old,
             } => self.by_holder(
                 *serial,
                 Deed::Access {
                     serial: *serial,
                     index: *index,
-                    access: *access,
+                    change: *change,
                     old: *old,
                 },
             ),

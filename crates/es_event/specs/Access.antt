@@ -1,6 +1,5 @@
 -- To believe: what is done to a word of a Shared Data Block (The Atomics Object).
-use Rattle.std.specs.Prelude.{ℕ, ℤ, pos, ◌+◌, ◌%◌, ◌^◌, ◌<◌, ◌==◌, ◌&&◌, ⊤, Bool, true, false, List, Option, Some, None, is_some, unsigned_abs}
-use Rattle.std.specs.Bool.{beq}
+use Rattle.std.specs.Prelude.{ℕ, ℤ, pos, ◌+◌, ◌%◌, ◌^◌, ◌<◌, ◌==◌, ⊤, Bool, true, false, List, Option, Some, None, is_some, unsigned_abs}
 use Rattle.std.specs.Int.{int_rem_euclid}
 use Rattle.es_event.specs.declared.access.Access.{Access}
 use Rattle.es_event.specs.declared.access.Change.{Change}
@@ -28,16 +27,6 @@ given_to (AddTo to n) = Some to
 abbrev pub access_of : Operation → Access
 access_of o = record { change = change_of o; gives_word = is_some (given_to o) }
 
--- what a load, a store and an add do
-abbrev pub loads : Access
-loads = record { change = Keep; gives_word = true }
-
-abbrev pub stores : ℕ → Access
-stores w = record { change = Write w; gives_word = false }
-
-abbrev pub adds : ℕ → Access
-adds n = record { change = Add n; gives_word = true }
-
 -- the word that is written over the old one, if one is; a sum is taken modulo 2^32 (Atomics.store, Atomics.add)
 abbrev pub written : Change → ℕ → Option ℕ
 written Keep old = None
@@ -56,7 +45,3 @@ is_same_change Keep Keep = true
 is_same_change (Write w) (Write v) = w == v
 is_same_change (Add n) (Add m) = n == m
 is_same_change _ _ = false
-
--- the same is done, with the same word
-abbrev pub is_same_access : Access → Access → Bool
-is_same_access a b = is_same_change a.change b.change && beq a.gives_word b.gives_word

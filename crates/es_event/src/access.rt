@@ -1,14 +1,14 @@
 //! What is done to a word of shared memory.
 
 ghost use Rattle.std.specs.Prelude.{◌≡◌};
-ghost use Rattle.es_event.specs.Access.{is_same_access, is_same_change, to_uint32};
+ghost use Rattle.es_event.specs.Access.{is_same_change, to_uint32};
 
-/// What is done to a word of a Shared Data Block, in one step (ECMA-262, The Atomics Object).
+/// What a command does with a word of a Shared Data Block, in one step (ECMA-262, The Atomics Object).
 #[derive(Clone, Copy, Debug)]
 pub struct Access {
     /// What becomes of the word.
     pub change: Change,
-    /// Whether the command that does it gives the word that was there.
+    /// Whether the command gives the word that was there.
     pub gives_word: bool,
 }
 
@@ -23,18 +23,9 @@ pub enum Change {
     Add(u32),
 }
 
-impl Access {
-    /// Whether the same is done, with the same word.
-    pub fn is_same(self, other: Access) -> bool
-        ensures { result ≡ is_same_access self other }
-    {
-        self.change.is_same(other.change) && self.gives_word == other.gives_word
-    }
-}
-
 impl Change {
     /// Whether the same becomes of a word.
-    fn is_same(self, other: Change) -> bool
+    pub fn is_same(self, other: Change) -> bool
         ensures { result ≡ is_same_change self other }
     {
         match (self, other) {

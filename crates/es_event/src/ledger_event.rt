@@ -1,6 +1,6 @@
 //! What happens in the ledger of an agent cluster: to blocks, tickets, ports and agents.
 
-use crate::Access;
+use crate::Change;
 use es_value::Value;
 
 /// What a message carries.
@@ -43,7 +43,7 @@ pub enum LedgerEvent {
     Accessed {
         serial: u64,
         index: usize,
-        access: Access,
+        change: Change,
         old: u32,
     },
     /// An agent began to wait for a message of a sender.

@@ -1,6 +1,6 @@
 -- One agent opens blocks, reads and writes their words, and spends its tickets; and what no ledger allows.
 use Rattle.std.proofs.Common.{◌≡◌, arith, true, false, refl, [], ◌∷◌, Some, rules}
-use Rattle.es_event.specs.Access.{loads, stores, adds}
+use Rattle.es_event.specs.declared.access.Change.TheVariants.{Keep as loads, Write as stores, Add as adds}
 use Rattle.es_event.specs.declared.ledger_event.LedgerEvent.TheVariants.{Opened, Spent, Accessed, Ended}
 use Rattle.es_event.specs.Rows.{row, held, held_by}
 use Rattle.es_event.specs.declared.row.Holder.TheVariants.{Nobody}

@@ -2,7 +2,7 @@
 use Rattle.std.proofs.Common.{◌≡◌, arith, true, false, refl, [], ◌∷◌, Some, None, rules}
 use Rattle.std.specs.Prelude.{pos}
 use Rattle.es_value.specs.declared.value.Value.TheVariants.{Number}
-use Rattle.es_event.specs.Access.{loads, stores}
+use Rattle.es_event.specs.declared.access.Change.TheVariants.{Keep as loads, Write as stores}
 use Rattle.es_event.specs.declared.ledger_event.Body.TheVariants.{Plain, Block}
 use Rattle.es_event.specs.declared.ledger_event.LedgerEvent.TheVariants.{Opened, Posted, Taken, Spent, Accessed, Waiting, Passed, Ended, Drained}
 use Rattle.es_event.specs.Rows.{row, held, in_port}

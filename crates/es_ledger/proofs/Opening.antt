@@ -52,7 +52,7 @@ written_made n l s i w q (Some p) legal is e =
     first (Some q) = q.0
 
 writes_made : (n : ℕ) (l : Ledger) (e : LedgerEvent) (q : ℕ × ℕ × ℕ) → LegalSoFar n l → writes l e ≡ Some q → q.0 ≤ opened l
-writes_made n l (Accessed s i m old) q legal is = by_written (written m.change old) is
+writes_made n l (Accessed s i m old) q legal is = by_written (written m old) is
   where
     by_written : (o : Option ℕ) → option_and_then (written_by l s i) o ≡ Some q → q.0 ≤ opened l
     by_written None e = cc

@@ -4,7 +4,7 @@ use Rattle.std.proofs.lemmas.Bool.{eqb-true, false≢true}
 use Rattle.std.proofs.lemmas.List.{get_or-set_same, get_or-set_other}
 use Rattle.std.specs.Prelude.{slice_set, slice_index_or, unwrap_or, is_some, IsTrue, ◌↔◌}
 use Rattle.std.specs.List.{Contains}
-use Rattle.es_event.specs.declared.access.Access.{Access}
+use Rattle.es_event.specs.declared.access.Change.{Change}
 use Rattle.es_event.specs.declared.ledger_event.LedgerEvent.{LedgerEvent}
 use Rattle.es_event.specs.declared.ledger_event.LedgerEvent.TheVariants.{Spent, Accessed}
 use Rattle.es_event.specs.declared.row.Entry.{Entry}
@@ -289,10 +289,10 @@ reserved_room n l lines blocks ends ws qs messages places made len got more extr
 
 -- A word is read, written, or added to
 
-pub accessed_ties : {L : Type 0} (n : ℕ) (l : Ledger) (lines : List Entry) (blocks : List Counted) (ends : List Bool) (ws : List (Option ℕ)) (qs : List (Queued L)) (messages places more a i : ℕ) (m : Access) (r : Row)
-    → Ties n l lines blocks ends ws qs messages places → Contains (held a (table l)) r → i < r.words → IsStorable m.change → length (rows l) + left l n + waiting l n + messages ≤ more
-    → Ties n (Accessed r.serial i m (word l r.block i) ∷ l) lines (with_written blocks r.block i (written m.change (word l r.block i))) ends ws qs messages more
-accessed_ties n l lines blocks ends ws qs messages places more a i m r ties has inside storable room = by_written (written m.change (word l r.block i)) refl
+pub accessed_ties : {L : Type 0} (n : ℕ) (l : Ledger) (lines : List Entry) (blocks : List Counted) (ends : List Bool) (ws : List (Option ℕ)) (qs : List (Queued L)) (messages places more a i : ℕ) (m : Change) (r : Row)
+    → Ties n l lines blocks ends ws qs messages places → Contains (held a (table l)) r → i < r.words → IsStorable m → length (rows l) + left l n + waiting l n + messages ≤ more
+    → Ties n (Accessed r.serial i m (word l r.block i) ∷ l) lines (with_written blocks r.block i (written m (word l r.block i))) ends ws qs messages more
+accessed_ties n l lines blocks ends ws qs messages places more a i m r ties has inside storable room = by_written (written m (word l r.block i)) refl
   where
     e : LedgerEvent
     e = Accessed r.serial i m (word l r.block i)
@@ -301,9 +301,9 @@ accessed_ties n l lines blocks ends ws qs messages places more a i m r ties has 
     holder = holder_here n l a r ties.legal.0 has
 
     may : MayCome n l e
-    may = subst (λ o. Reaches o i (λ q. (word l r.block i ≡ word l q.block i) × IsStorable m.change)) (sym holder) (inside, (refl, storable))
+    may = subst (λ o. Reaches o i (λ q. (word l r.block i ≡ word l q.block i) × IsStorable m)) (sym holder) (inside, (refl, storable))
 
-    by_written : (o : Option ℕ) → written m.change (word l r.block i) ≡ o → Ties n (e ∷ l) lines (with_written blocks r.block i o) ends ws qs messages more
+    by_written : (o : Option ℕ) → written m (word l r.block i) ≡ o → Ties n (e ∷ l) lines (with_written blocks r.block i o) ends ws qs messages more
     by_written None is =
         still_ties n l lines lines blocks ends ws ws qs qs messages messages places more e ties may refl
         ties.tabled (zero-add (opened l)) (λ b. refl) (λ b. refl) (λ b. refl)

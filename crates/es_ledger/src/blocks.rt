@@ -6,7 +6,7 @@ ghost use Rattle.es_block.specs.Words.{word};
 ghost use Rattle.es_ledger.specs.Blocks.{tickets_at, words_at, lost, gained, with_written, words_written};
 
 use es_block::Block;
-use es_event::{Access, Change};
+use es_event::Change;
 use es_value::NoMemory;
 use std::alloc::Global;
 use std::marker::Model;
@@ -84,14 +84,14 @@ impl Blocks {
     }
 
     /// Does this to the word at an index of a block that is not released, and gives the word that was there.
-    pub fn access(&mut self, number: u64, index: usize, access: Access) -> u32
+    pub fn change(&mut self, number: u64, index: usize, change: Change) -> u32
         requires { index < length (words_at self.old.all number) }
         ensures was { result ≡ word (words_at self.old.all number) index }
-        ensures now { self.new.all ≡ with_written self.old.all number index (written access.change (word (words_at self.old.all number) index)) }
-        ensures fits { IsStorable access.change }
+        ensures now { self.new.all ≡ with_written self.old.all number index (written change (word (words_at self.old.all number) index)) }
+        ensures fits { IsStorable change }
     {
         match &mut self.all[number as usize - 1].words {
-            Some(words) => access_word(words, index, access),
+            Some(words) => change_word(words, index, change),
             None => unreachable!(),
         }
     }
@@ -123,14 +123,14 @@ impl Blocks {
 }
 
 /// Does this to the word at an index of a block, and gives the word that was there.
-fn access_word(words: &mut Block, index: usize, access: Access) -> u32
+fn change_word(words: &mut Block, index: usize, change: Change) -> u32
     requires { index < length words.old }
     ensures was { result ≡ word words.old index }
-    ensures now { words.new ≡ words_written words.old index (written access.change (word words.old index)) }
-    ensures fits { IsStorable access.change }
+    ensures now { words.new ≡ words_written words.old index (written change (word words.old index)) }
+    ensures fits { IsStorable change }
 {
     let old = words.load(index);
-    if let Some(word) = written(access.change, old) {
+    if let Some(word) = written(change, old) {
         words.store(index, word);
     }
     old

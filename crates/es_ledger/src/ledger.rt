@@ -6,7 +6,6 @@ ghost use Rattle.es_ticket.specs.Shares.{Share, erase};
 ghost use Rattle.es_event.specs.declared.row.Row.{Row};
 ghost use Rattle.es_event.specs.Rows.{row, held};
 ghost use Rattle.es_event.specs.Ledger.{opened, serials, table, count, word as word_at, ended, holder_of};
-ghost use Rattle.es_event.specs.Access.{loads, stores, adds};
 ghost use Rattle.es_event.specs.LegalLedger.{LegalLedger};
 ghost use Rattle.es_ledger.specs.Audits.{held_below};
 ghost use Rattle.es_event.specs.declared.ledger_event.LedgerEvent.TheVariants.{Opened as OpenedEvent, Spent as SpentEvent, Accessed, Ended as EndedEvent};
@@ -14,7 +13,7 @@ ghost use Rattle.es_event.specs.declared.ledger_event.LedgerEvent.TheVariants.{O
 use crate::blocks::Blocks;
 use crate::ports::Ports;
 use es_block::Block;
-use es_event::{Access, Change, LedgerEvent, Log};
+use es_event::{Change, LedgerEvent, Log};
 use es_ticket::{Opened, Rows, Run, Stake, Ticket};
 use es_value::NoMemory;
 use std::alloc::Global;
@@ -157,12 +156,12 @@ impl<L: Run> LedgerCore<L> {
         stake: &mut Stake<L>,
         ticket: &Ticket<L>,
         index: usize,
-        access: Access,
+        change: Change,
     ) -> Result<u32, NoMemory>
         requires here { Contains stake.old.rows ticket.now }
         requires inside { index < ticket.now.words }
         ensures word { IfOk result (λ w. w ≡ word_at self.old.history ticket.now.block index) }
-        ensures history { IfOk result (λ w. (self.new.agents ≡ self.old.agents) × (self.new.history ≡ Accessed ticket.now.serial index access w ∷ self.old.history)) }
+        ensures history { IfOk result (λ w. (self.new.agents ≡ self.old.agents) × (self.new.history ≡ Accessed ticket.now.serial index change w ∷ self.old.history)) }
         ensures there { 0 < count self.old.history ticket.now.block }
         ensures stake { stake.new ≡ stake.old }
         ensures err { OnErr result (self.new ≡ self.old) }
@@ -170,11 +169,11 @@ impl<L: Run> LedgerCore<L> {
         self.rows.look(stake);
         let agents = self.ended.as_slice().len();
         make_room(&mut self.history, &self.rows, &self.ports, agents, 1)?;
-        let old = self.blocks.access(ticket.block(), index, access);
+        let old = self.blocks.change(ticket.block(), index, change);
         self.history.append(LedgerEvent::Accessed {
             serial: ticket.serial(),
             index,
-            access,
+            change,
             old,
         });
         Ok(old)
@@ -190,16 +189,12 @@ impl<L: Run> LedgerCore<L> {
         requires here { Contains stake.old.rows ticket.now }
         requires inside { index < ticket.now.words }
         ensures word { IfOk result (λ w. w ≡ word_at self.old.history ticket.now.block index) }
-        ensures history { IfOk result (λ w. (self.new.agents ≡ self.old.agents) × (self.new.history ≡ Accessed ticket.now.serial index loads w ∷ self.old.history)) }
+        ensures history { IfOk result (λ w. (self.new.agents ≡ self.old.agents) × (self.new.history ≡ Accessed ticket.now.serial index Change.Keep w ∷ self.old.history)) }
         ensures there { 0 < count self.old.history ticket.now.block }
         ensures stake { stake.new ≡ stake.old }
         ensures err { OnErr result (self.new ≡ self.old) }
     {
-        let load = Access {
-            change: Change::Keep,
-            gives_word: true,
-        };
-        self.access(stake, ticket, index, load)
+        self.access(stake, ticket, index, Change::Keep)
     }
 
     /// Writes a word through a ticket (ECMA-262, Atomics.store), as `access` does.
@@ -212,16 +207,12 @@ impl<L: Run> LedgerCore<L> {
     ) -> Result<(), NoMemory>
         requires here { Contains stake.old.rows ticket.now }
         requires inside { index < ticket.now.words }
-        ensures history { OnOk result ((self.new.agents ≡ self.old.agents) × (self.new.history ≡ Accessed ticket.now.serial index (stores word) (word_at self.old.history ticket.now.block index) ∷ self.old.history)) }
+        ensures history { OnOk result ((self.new.agents ≡ self.old.agents) × (self.new.history ≡ Accessed ticket.now.serial index (Change.Write word) (word_at self.old.history ticket.now.block index) ∷ self.old.history)) }
         ensures there { 0 < count self.old.history ticket.now.block }
         ensures stake { stake.new ≡ stake.old }
         ensures err { OnErr result (self.new ≡ self.old) }
     {
-        let store = Access {
-            change: Change::Write(word),
-            gives_word: false,
-        };
-        self.access(stake, ticket, index, store)?;
+        self.access(stake, ticket, index, Change::Write(word))?;
         Ok(())
     }
 
@@ -237,16 +228,12 @@ impl<L: Run> LedgerCore<L> {
         requires here { Contains stake.old.rows ticket.now }
         requires inside { index < ticket.now.words }
         ensures word { IfOk result (λ w. w ≡ word_at self.old.history ticket.now.block index) }
-        ensures history { IfOk result (λ w. (self.new.agents ≡ self.old.agents) × (self.new.history ≡ Accessed ticket.now.serial index (adds addend) w ∷ self.old.history)) }
+        ensures history { IfOk result (λ w. (self.new.agents ≡ self.old.agents) × (self.new.history ≡ Accessed ticket.now.serial index (Change.Add addend) w ∷ self.old.history)) }
         ensures there { 0 < count self.old.history ticket.now.block }
         ensures stake { stake.new ≡ stake.old }
         ensures err { OnErr result (self.new ≡ self.old) }
     {
-        let add = Access {
-            change: Change::Add(addend),
-            gives_word: true,
-        };
-        self.access(stake, ticket, index, add)
+        self.access(stake, ticket, index, Change::Add(addend))
     }
 
     /// An agent that has not ended ends. It takes no memory.

@@ -2,7 +2,7 @@
 use Rattle.std.proofs.Common.{true, false, refl, List, [], ◌∷◌}
 use Rattle.std.specs.Prelude.{pos, negsuc}
 use Rattle.es_value.specs.declared.value.Value.TheVariants.{Boolean, Number, Object}
-use Rattle.es_event.specs.Access.{loads, stores, adds}
+use Rattle.es_event.specs.declared.access.Change.TheVariants.{Keep as loads, Write as stores, Add as adds}
 use Rattle.es_event.specs.declared.command.Command.TheVariants.{SharedArrayBuffer, Length, SameBlock, Post}
 use Rattle.es_event.specs.declared.event.Answer.TheVariants.{Nothing, Gives}
 use Rattle.es_event.specs.declared.event.Refusal.TheVariants.{TooManyValues, TooManyPosts}

@@ -85,12 +85,12 @@ pub(crate) fn is_access(
         Deed::Access {
             serial,
             index,
-            access: done,
+            change,
             old,
         } => {
             is_ticket(tickets, buffer, *serial)
                 && same_index(at, *index)
-                && access.is_same(*done)
+                && access.change.is_same(*change)
                 && answers(access, answer, *old)
         }
         _ => false,

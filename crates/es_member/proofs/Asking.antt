@@ -20,7 +20,7 @@ use Rattle.es_event.specs.declared.plan.Job.{Job}
 use Rattle.es_event.specs.declared.event.Refusal.TheVariants.{NotASharedArrayBuffer}
 use Rattle.es_event.specs.declared.ledger_event.Body.TheVariants.{Plain, Block}
 use Rattle.es_event.specs.declared.row.Row.{Row}
-use Rattle.es_event.specs.Access.{access_of, is_same_access}
+use Rattle.es_event.specs.Access.{access_of, is_same_change}
 use Rattle.es_event.specs.Commands.{reads}
 use Rattle.es_event.specs.History.{History}
 use Rattle.es_event.specs.Identities.{object_of}
@@ -134,11 +134,11 @@ answered a w = by_gift a.gives_word
     by_gift true = (Decides-int_eq (pos w) (pos w)).1 refl
     by_gift false = refl
 
-pub access_met : (ts : Tickets) (o i w : ℕ) (a : Access) (r : Row) → Some r ≡ at o ts → after ts (to_access (Object o) (pos i) a (given (answer_to a w))) (Accesses r.serial i a w ∷ []) ≡ Some ts
+pub access_met : (ts : Tickets) (o i w : ℕ) (a : Access) (r : Row) → Some r ≡ at o ts → after ts (to_access (Object o) (pos i) a (given (answer_to a w))) (Accesses r.serial i a.change w ∷ []) ≡ Some ts
 access_met ts o i w a r here =
-    ap (λ b. some_if (b && (int_eq (pos i) (pos i) && (is_same_access a a && answers a (given (answer_to a w)) w))) ts) (this_ticket ts o r here)
-    ∙ ap (λ b. some_if (b && (is_same_access a a && answers a (given (answer_to a w)) w)) ts) ((Decides-int_eq (pos i) (pos i)).1 refl)
-    ∙ ap (λ b. some_if (b && answers a (given (answer_to a w)) w) ts) (same_as_itself a)
+    ap (λ b. some_if (b && (int_eq (pos i) (pos i) && (is_same_change a.change a.change && answers a (given (answer_to a w)) w))) ts) (this_ticket ts o r here)
+    ∙ ap (λ b. some_if (b && (is_same_change a.change a.change && answers a (given (answer_to a w)) w)) ts) ((Decides-int_eq (pos i) (pos i)).1 refl)
+    ∙ ap (λ b. some_if (b && answers a (given (answer_to a w)) w) ts) (same_as_itself a.change)
     ∙ ap (λ b. some_if b ts) (answered a w)
 
 -- A new block

@@ -105,10 +105,10 @@ pub owned : (old : Book) (s : Share) (l : Books) (r : Row) (d : Deed) → s.agen
 owned old s l r d same holder here = by_ticket l.history r.serial s.agent r d (holder r here) ∙ ap (λ n. Some (n, d)) same
 
 pub access_ties : (old new : Book) (s : Share) (l : Books) (m : Ledger) (o i w : ℕ) (a : Access) (r : Row) → IsReady old s l → need old ≡ asks_ledger (for_access o i a) → Contains s.rows r → Some r ≡ at o (tickets old)
-    → m ≡ Accessed r.serial i a w ∷ l.history → DoesWith old (answer_to a w) new → IsSettled new m
+    → m ≡ Accessed r.serial i a.change w ∷ l.history → DoesWith old (answer_to a w) new → IsSettled new m
 access_ties old new s l m o i w a r ready is mine here more done =
-    done_ties old new s l m (Accessed r.serial i a w) (Accesses r.serial i a w) (for_access o i a) (answer_to a w) ready is more (owned old s l r (Accesses r.serial i a w) ready.held.0 ready.holder mine) refl refl done refl
-    (ap (λ q. after (tickets old) q (Accesses r.serial i a w ∷ [])) (access_asks old done.1.0 o i a (answer_to a w) (due_command old done.1.0 (for_access o i a) done.1.1 is)) ∙ access_met (tickets old) o i w a r here)
+    done_ties old new s l m (Accessed r.serial i a.change w) (Accesses r.serial i a.change w) (for_access o i a) (answer_to a w) ready is more (owned old s l r (Accesses r.serial i a.change w) ready.held.0 ready.holder mine) refl refl done refl
+    (ap (λ q. after (tickets old) q (Accesses r.serial i a.change w ∷ [])) (access_asks old done.1.0 o i a (answer_to a w) (due_command old done.1.0 (for_access o i a) done.1.1 is)) ∙ access_met (tickets old) o i w a r here)
 
 pub post_grows : (old : Book) (l m : Ledger) (n a : ℕ) (b : Body) → n ≡ old.number → m ≡ Posted n a b ∷ l → GrowsBy old.number l m
 post_grows old l m n a b same more = grows_one old.number l m (Posted n a b) (Posts a b) more (ap (λ n. Some (n, Posts a b)) same)

@@ -19,7 +19,7 @@ use Rattle.es_event.specs.declared.event.Answer.TheVariants.{Nothing, Gives, Lis
 use Rattle.es_event.specs.declared.ledger_event.Body.{Body}
 use Rattle.es_event.specs.declared.ledger_event.Body.TheVariants.{Plain, Block}
 use Rattle.es_event.specs.declared.row.Row.{Row}
-use Rattle.es_event.specs.Access.{access_of, is_same_access}
+use Rattle.es_event.specs.Access.{access_of, is_same_change}
 use Rattle.es_event.specs.Commands.{first}
 use Rattle.es_event.specs.Identities.{object_of}
 use Rattle.es_event.specs.Legal.{word_in}
@@ -28,7 +28,7 @@ use Rattle.es_event.specs.LegalLedger.{Reaches}
 use Rattle.es_event.specs.Rows.{row}
 use Rattle.es_event.specs.Runs.{heard_by, silence, a_word}
 use Rattle.es_event.specs.Sharing.{row_of}
-use Rattle.es_event.proofs.Accesses.{same_access}
+use Rattle.es_event.proofs.Accesses.{same_change}
 use Rattle.es_match.specs.Asks.{asks_did, given}
 use Rattle.es_deeds.specs.Deeds.{Deed, Opens, Posts, Accesses}
 use Rattle.es_match.specs.Meets.{Tickets, add_ticket, after, answers, carries, has_ticket, is_access, is_number, is_object, is_one, is_post, is_ticket, no_more, opening, opened_ticket, same_index, sole, some_if, ticket_in}
@@ -174,16 +174,16 @@ accessed n l t i m vs a ds met fit =
   where
     at : (d : Deed) → is_access t (first vs) i m (given a) d ≡ true → Fits l n d → ds ≡ d ∷ [] → IsAccessBy l t vs i m a ds
     at (Accesses s j done old) met fit is =
-        let parts = and_parts (is_ticket t (first vs) s) (same_index i j && (is_same_access m done && answers m (given a) old)) met in
-        let rest = and_parts (same_index i j) (is_same_access m done && answers m (given a) old) parts.1 in
-        let last = and_parts (is_same_access m done) (answers m (given a) old) rest.1 in
+        let parts = and_parts (is_ticket t (first vs) s) (same_index i j && (is_same_change m.change done && answers m (given a) old)) met in
+        let rest = and_parts (same_index i j) (is_same_change m.change done && answers m (given a) old) parts.1 in
+        let last = and_parts (is_same_change m.change done) (answers m (given a) old) rest.1 in
         let serial = its_serial t (first vs) s parts.0 in
         let index = its_index i j rest.0 in
         let word_is = its_word l s j old fit ∙ ap (λ s. word_at l s j) serial ∙ ap (word_at l (serial_at t (first vs))) index in
         record {
           deeds = is ∙ ap (λ s. Accesses s j done old ∷ []) serial ∙ ap (λ j. Accesses (serial_at t (first vs)) j done old ∷ []) index
-              ∙ ap (λ done. Accesses (serial_at t (first vs)) (unsigned_abs i) done old ∷ []) (same_access m done last.0)
-              ∙ ap (λ old. Accesses (serial_at t (first vs)) (unsigned_abs i) m old ∷ []) word_is;
+              ∙ ap (λ done. Accesses (serial_at t (first vs)) (unsigned_abs i) done old ∷ []) (same_change m.change done last.0)
+              ∙ ap (λ old. Accesses (serial_at t (first vs)) (unsigned_abs i) m.change old ∷ []) word_is;
           word = λ gives. its_answer a old (answered m.gives_word (is_number (given a) old) gives last.1) ∙ word_is;
         }
     at _ met fit is = cc

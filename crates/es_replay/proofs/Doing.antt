@@ -95,7 +95,7 @@ meant k l (Posted a r m) n d may is = meant_here l (Posted a r m) a n (Posts r m
 meant k l (Taken s r) n d may is = meant_here l (Taken s r) r n (taking l s (front l s r)) d is refl (refl, refl, may)
 meant k l (Spent s) n d may is = meant_by l (Spent s) n (Spends s) d (holder_of l s) is (λ a. refl) (λ a. tt)
 meant k l (Accessed s i m old) n d may is =
-    meant_by l (Accessed s i m old) n (Accesses s i m old) d (holder_of l s) is (λ a. refl) (λ a. reaches_so (holder_of l s) i (λ r. (old ≡ word l r.block i) × IsStorable m.change) (λ r. old ≡ word l r.block i) (λ r e. e.0) may)
+    meant_by l (Accessed s i m old) n (Accesses s i m old) d (holder_of l s) is (λ a. refl) (λ a. reaches_so (holder_of l s) i (λ r. (old ≡ word l r.block i) × IsStorable m) (λ r. old ≡ word l r.block i) (λ r e. e.0) may)
 meant k l (Waiting a s) n d may is = meant_here l (Waiting a s) a n (Waits s) d is refl tt
 meant k l (Passed a s) n d may is = meant_here l (Passed a s) a n (Passes s) d is refl (not-true (has_message l s a) (and_parts (not (has_message l s a)) _ may.1).0)
 meant k l (Ended a) n d may is = meant_here l (Ended a) a n Ends d is refl tt

@@ -1,7 +1,7 @@
 -- Ledgers that tell the same although an agent waited, or spent its tickets in another order; and such as do not.
 use Rattle.std.proofs.Common.{true, List, [], ◌∷◌, map, length, codes, refl, ap}
 use Rattle.es_value.specs.declared.value.Value.TheVariants.{Undefined, Boolean}
-use Rattle.es_event.specs.Access.{stores}
+use Rattle.es_event.specs.declared.access.Change.TheVariants.{Write as stores}
 use Rattle.es_event.specs.declared.event.Event.TheVariants.{JobBegun, JobEnded, Closed}
 use Rattle.es_event.specs.declared.ledger_event.Body.TheVariants.{Plain, Block}
 use Rattle.es_event.specs.declared.ledger_event.LedgerEvent.{LedgerEvent}

@@ -85,7 +85,7 @@ same_written : (l m : Ledger) (s i w : ℕ) → Alike l m → written_by l s i w
 same_written l m s i w alike = ap (λ o. option_map (λ p. (p.1.block, i, w)) o) (same_holder l m s alike)
 
 same_writes : (l m : Ledger) (e : LedgerEvent) → Alike l m → writes l e ≡ writes m e
-same_writes l m (Accessed s i done old) alike = by_written (written done.change old)
+same_writes l m (Accessed s i done old) alike = by_written (written done old)
   where
     by_written : (o : Option ℕ) → option_and_then (written_by l s i) o ≡ option_and_then (written_by m s i) o
     by_written None = refl

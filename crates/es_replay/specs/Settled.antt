@@ -36,7 +36,7 @@ body_for l t v = Plain v
 
 -- an access to the word at an index of the first value's block
 abbrev pub access_by : Ledger → Tickets → List Value → ℤ → Access → List Deed
-access_by l t vs i m = Accesses (serial_at t (first vs)) (unsigned_abs i) m (word_at l (serial_at t (first vs)) (unsigned_abs i)) ∷ []
+access_by l t vs i m = Accesses (serial_at t (first vs)) (unsigned_abs i) m.change (word_at l (serial_at t (first vs)) (unsigned_abs i)) ∷ []
 
 -- what a command with these values does
 abbrev pub deeds_of : Ledger → Tickets → Command → List Value → List Deed

@@ -128,9 +128,9 @@ fn write_event<W: Write>(
         LedgerEvent::Accessed {
             serial,
             index,
-            access,
+            change,
             ..
-        } => write_change(*index, *serial, access.change, writer),
+        } => write_change(*index, *serial, *change, writer),
         LedgerEvent::Waiting { agent, sender } => {
             write_wait(names, *agent, *sender, " waits for ", writer)
         }

@@ -44,7 +44,7 @@ pub(crate) fn write_told<W: Write>(
             ..
         } => write_ticket(names, *serial, *agent, *words, writer),
         LedgerEvent::Posted { body, .. } => write_body(body, writer),
-        LedgerEvent::Accessed { access, old, .. } => write_word(access.change, *old, writer),
+        LedgerEvent::Accessed { change, old, .. } => write_word(*change, *old, writer),
         LedgerEvent::Taken { .. }
         | LedgerEvent::Spent { .. }
         | LedgerEvent::Waiting { .. }

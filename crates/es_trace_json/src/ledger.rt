@@ -97,9 +97,9 @@ fn write_members<W: Write>(
         LedgerEvent::Accessed {
             serial,
             index,
-            access,
+            change,
             old,
-        } => write_change(*serial, *index, *old, access.change, writer),
+        } => write_change(*serial, *index, *old, *change, writer),
         LedgerEvent::Waiting { agent, sender } => {
             write_wait("waiting", names, *agent, *sender, writer)
         }

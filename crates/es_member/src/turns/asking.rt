@@ -126,7 +126,7 @@ pub(crate) fn access_word<L: Run>(
     ensures keeps { Keeps core.old ledger.old core.new stake.new ledger.new }
 {
     let _ = core.history();
-    let old = ledger.access(stake, core.ticket(buffer), index, access)?;
+    let old = ledger.access(stake, core.ticket(buffer), index, access.change)?;
     answer(core, access, old)?;
     Ok(Progress::Moved)
 }
