@@ -6,13 +6,18 @@ ghost use Rattle.es_value.specs.Spelling.{is_name};
 use es_event::OptionalName;
 use es_value::{Name, NameFault, Names, NoMemory};
 use std::alloc::Global;
+use std::array;
+
+/// How many names lie at hand. With fewer, names that are counted up (`k1`, `k2`, ..) drive out those that are
+/// read again and again.
+const PLACES: usize = 32;
 
 /// The names of an agent that were read so far. One of those that were read last is found by its length
 /// and its last byte, without a look into the table of all.
 #[derive(Drop)]
 pub struct KnownNames {
     all: Names,
-    last: [Option<Name>; 8],
+    last: [Option<Name>; PLACES],
     token: Option<OptionalName>,
 }
 
@@ -21,7 +26,7 @@ impl KnownNames {
     pub fn new(alloc: Global) -> KnownNames {
         KnownNames {
             all: Names::new(alloc),
-            last: [None, None, None, None, None, None, None, None],
+            last: array::from_fn(|_| None),
             token: None,
         }
     }
@@ -101,7 +106,7 @@ impl KnownNames {
 /// The place of a text.
 fn place_of(text: &[u8]) -> usize {
     match text.last() {
-        Some(byte) => (text.len() + *byte as usize) % 8,
+        Some(byte) => (text.len() % 4 * 8 + *byte as usize) % PLACES,
         None => 0,
     }
 }
