@@ -24,14 +24,14 @@ fn write_commands(
 }
 
 fn write_agent(names: &[Name], agent: &AgentPlan, told: &mut Vec<u8>) -> Result<(), Fail> {
-    write!(told, "{}\n", agent.name)?;
+    write!(told, "{}\n", agent.name.as_str())?;
     for callback in agent.callbacks.as_slice() {
-        write!(told, "callback {}:", callback.name)?;
+        write!(told, "callback {}:", callback.name.as_str())?;
         write_commands(names, agent, callback.run.as_slice(), told)?;
     }
     for job in agent.jobs.as_slice() {
         match &job.on {
-            Some((sender, variable)) => write!(told, "on {sender} {variable}:")?,
+            Some((sender, variable)) => write!(told, "on {sender} {}:", variable.as_str())?,
             None => write!(told, "job:")?,
         }
         write_commands(names, agent, job.run.as_slice(), told)?;

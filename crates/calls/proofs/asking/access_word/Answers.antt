@@ -1,6 +1,5 @@
-use Rattle.std.proofs.Common.{refl, sym, ◌∙◌, subst}
-use Rattle.es_rules.specs.Needs.{for_access, TakesWord, TakesDone}
-use Rattle.es_member.specs.Seats.{Holds}
+use Rattle.std.proofs.Common.{refl}
+use Rattle.es_rules.specs.Needs.{for_access}
 use Rattle.es_member.proofs.Aims.{aims_at_ticket, aims_inside}
 use Rattle.es_member.proofs.Counting.{ticket_held}
 use Rattle.calls.proofs.asking.access_word.Goals as goal
@@ -13,9 +12,3 @@ access-requires-clause-here g c = ticket_held c.args.core.now c.args.stake.now c
 
 pub access-requires-clause-inside : goal.access-requires-clause-inside
 access-requires-clause-inside g c = aims_inside c.args.core.now (for_access c.args.buffer c.args.index c.args.access) c.args.buffer c.args.index c.requires.due refl refl c.ticket.result.now c.ticket.ensures.named
-
-pub returns-then-gives_word-clause-ok : goal.returns-then-gives_word-clause-ok
-returns-then-gives_word-clause-ok g c = record {
-  asked = subst (λ n. TakesWord n) (sym c.requires.due) c.if-gives_word.true;
-  held = subst (Holds c.args.core.now) (sym c.access.ensures.stake) c.requires.held;
-}
