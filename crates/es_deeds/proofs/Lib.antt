@@ -1,4 +1,4 @@
-mod Lately
+mod Running
 mod Noted
 mod Posted
 pub mod Splitting

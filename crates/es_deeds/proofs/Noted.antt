@@ -1,6 +1,6 @@
 -- The tables of a pass say what the history says, after one more event.
 use Rattle.std.proofs.Common.{append-nil}
-use Rattle.std.proofs.Common.{◌≡◌, ℕ, Bool, true, false, true≢false, ◌||◌, ◌==◌, List, [], ◌∷◌, ◌++◌, Option, Some, None, refl, sym, subst, ◌∙◌, ap, if◌then◌else◌, eqb-true, eq-eqb}
+use Rattle.std.proofs.Common.{◌≡◌, ℕ, Bool, true, false, true≢false, ◌||◌, ◌==◌, List, [], ◌∷◌, ◌++◌, Option, Some, None, refl, sym, ◌∙◌, ap, if◌then◌else◌, eqb-true, eq-eqb}
 use Rattle.std.specs.Option.{option_and_then, option_map, option_map_or}
 use Rattle.es_event.specs.declared.ledger_event.Body.{Body}
 use Rattle.es_event.specs.declared.ledger_event.Body.TheVariants.{Plain, Block}
@@ -12,8 +12,8 @@ use Rattle.es_event.specs.declared.row.Holder.TheVariants.{Agent, Nobody}
 use Rattle.es_event.specs.Rows.{held_by, moved, line_of}
 use Rattle.es_event.specs.Ledger.{Ledger, front, serial_in, table, moved_if, posted_line, awaited, newest_size, opens, queued}
 use Rattle.es_deeds.specs.declared.tables.Tables.{Tables}
-use Rattle.es_deeds.specs.Patience.{drains}
-use Rattle.es_deeds.specs.Tables.{Says, HoldsLately, line_in, size_in, waits_in, port_in, put_line, move_line, post_line, taken_by, words_by, line_after}
+use Rattle.es_event.specs.Totals.{is_drained}
+use Rattle.es_deeds.specs.Tables.{Says, line_in, size_in, waits_in, port_in, put_line, move_line, post_line, taken_by, words_by, line_after}
 
 -- One serial's line
 
@@ -91,13 +91,12 @@ pub noted : (l : Ledger) (e : LedgerEvent) (t u : Tables) (m : Option Body) (w :
     → ((b : ℕ) → size_in u.sizes b ≡ newest_size (opens e) b (size_in t.sizes b))
     → ((s r : ℕ) → port_in u.mail s r ≡ queued e s r (port_in t.mail s r))
     → ((a : ℕ) → waits_in u.waiting a ≡ awaited e a (waits_in t.waiting a))
-    → u.drained ≡ (drains e || t.drained) → u.lately ≡ None → Says (e ∷ l) u
-noted l e t u m w says taken words lines sizes mail waiting drains_now nothing = record {
+    → u.drained ≡ (is_drained e || t.drained) → Says (e ∷ l) u
+noted l e t u m w says taken words lines sizes mail waiting drains_now = record {
   lines = λ q. lines q ∙ ap (λ x. line_after m w e q x) (says.lines q) ∙ ap (λ x. line_after x w e q (line_of q (table l))) taken
       ∙ ap (λ x. line_after (taken_by l e) x e q (line_of q (table l))) words ∙ sym (line_said l e q);
   sizes = λ b. sizes b ∙ ap (newest_size (opens e) b) (says.sizes b);
   mail = λ s r. mail s r ∙ ap (queued e s r) (says.mail s r);
   waiting = λ a. waiting a ∙ ap (awaited e a) (says.waiting a);
-  drains = drains_now ∙ ap (λ x. drains e || x) says.drains;
-  lately = subst (HoldsLately (e ∷ l)) (sym nothing) tt;
+  drains = drains_now ∙ ap (λ x. is_drained e || x) says.drains;
 }

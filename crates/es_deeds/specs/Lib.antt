@@ -4,3 +4,4 @@ pub mod Patience
 pub mod Shown
 pub mod Split
 pub mod Tables
+pub mod Words

@@ -1,8 +1,7 @@
 -- To believe: what an agent does after a wait ends the wait, and no agent does anything after a drain.
 use Rattle.std.specs.Prelude.{ℕ, Bool, true, false, not, ◌||◌, ◌&&◌, ◌==◌, [], ◌∷◌, Option, Some, None}
-use Rattle.es_event.specs.declared.ledger_event.LedgerEvent.{LedgerEvent}
-use Rattle.es_event.specs.declared.ledger_event.LedgerEvent.TheVariants.{Opened, Posted, Taken, Spent, Accessed, Waiting, Passed, Ended, Drained}
 use Rattle.es_event.specs.Ledger.{Ledger, waits}
+use Rattle.es_event.specs.Totals.{is_drained}
 use Rattle.es_deeds.specs.Deeds.{Deed, Opens, Posts, Takes, Spends, Accesses, Waits, Passes, Ends, Owned, deed}
 
 -- the deed ends a wait for this sender: the agent takes a message of it, or skips
@@ -29,21 +28,10 @@ abbrev pub patient : Ledger → Bool
 patient [] = true
 patient (e ∷ earlier) = is_patient earlier (deed earlier e) && patient earlier
 
-abbrev pub drains : LedgerEvent → Bool
-drains (Opened b w s a) = false
-drains (Posted a r m) = false
-drains (Taken s r) = false
-drains (Spent s) = false
-drains (Accessed s i m old) = false
-drains (Waiting a s) = false
-drains (Passed a s) = false
-drains (Ended a) = false
-drains (Drained s r) = true
-
 -- a message was drained
 abbrev pub drained : Ledger → Bool
 drained [] = false
-drained (e ∷ earlier) = drains e || drained earlier
+drained (e ∷ earlier) = is_drained e || drained earlier
 
 abbrev pub is_nobodys : Owned → Bool
 is_nobodys None = true

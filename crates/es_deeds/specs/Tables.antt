@@ -1,5 +1,5 @@
 -- Internal: the tables that a pass over a ledger's history keeps, and that they say what the history says.
-use Rattle.std.specs.Prelude.{ℕ, ◌≡◌, ⊤, Bool, true, false, ◌&&◌, ◌==◌, nat_eq, List, [], ◌∷◌, map, Option, Some, None, unwrap_or, if◌then◌else◌}
+use Rattle.std.specs.Prelude.{ℕ, ◌≡◌, Bool, false, ◌&&◌, ◌==◌, nat_eq, List, [], map, Option, Some, None, unwrap_or, if◌then◌else◌}
 use Rattle.std.specs.Option.{option_and_then, option_map, option_map_or, option_or}
 use Rattle.std.specs.declared.alloc.Global.{Global}
 use Rattle.std.specs.declared.hash.FoldHasher.{FoldHasher}
@@ -17,9 +17,8 @@ use Rattle.es_event.specs.declared.row.Holder.TheVariants.{Agent, Port, Nobody}
 use Rattle.es_event.specs.Rows.{row, held_by, line_of}
 use Rattle.es_event.specs.Ledger.{Ledger, size, port_of, front, serial_in, table, holder_of, waits}
 use Rattle.es_deeds.specs.declared.tables.Tables.{Tables}
-use Rattle.es_deeds.specs.Deeds.{Deed, Owned, by_holder, deed, words_in}
+use Rattle.es_deeds.specs.Deeds.{words_in}
 use Rattle.es_deeds.specs.Patience.{drained}
-use Rattle.es_deeds.specs.Orderly.{may_come}
 
 abbrev pub Map : Type 0 → Type 0 → Type 0
 Map K V = HashMap K V (BuildHasherDefault FoldHasher)
@@ -49,15 +48,11 @@ port_in m s r = option_map_or (λ q. bodies q.items) (get pair_eq m (s, r)) []
 abbrev pub body_of : Option (Bor Body) → Option Body
 body_of b = option_map (λ x. x.now) b
 
--- the agent p.1 has the ticket of serial p.0, waits for nobody, and may go on
+-- the agent p.1 has the ticket of serial p.0, waits for nobody, and no message was drained
 pub record HoldsStill (l : Ledger) (p : ℕ × ℕ) : Type 0 where
   pub holder : option_map (λ q. q.0) (holder_of l p.0) ≡ Some p.1
   pub waits : waits l p.1 ≡ None
   pub drains : drained l ≡ false
-
-abbrev pub HoldsLately : Ledger → Option (ℕ × ℕ) → Type 0
-HoldsLately l None = ⊤
-HoldsLately l (Some p) = HoldsStill l p
 
 -- the tables say what the history says
 pub record Says (l : Ledger) (t : Tables) : Type 0 where
@@ -66,7 +61,6 @@ pub record Says (l : Ledger) (t : Tables) : Type 0 where
   pub mail : (s r : ℕ) → port_in t.mail s r ≡ port_of l s r
   pub waiting : (a : ℕ) → waits_in t.waiting a ≡ waits l a
   pub drains : t.drained ≡ drained l
-  pub lately : HoldsLately l t.lately
 
 -- One serial's line
 
@@ -117,25 +111,3 @@ line_after m words (Waiting a s) q before = before
 line_after m words (Passed a s) q before = before
 line_after m words (Ended a) q before = before
 line_after m words (Drained s r) q before = before
-
--- the event is an access to a word
-abbrev pub is_word : LedgerEvent → Bool
-is_word (Opened b w s a) = false
-is_word (Posted a r m) = false
-is_word (Taken s r) = false
-is_word (Spent s) = false
-is_word (Accessed s i m old) = true
-is_word (Waiting a s) = false
-is_word (Passed a s) = false
-is_word (Ended a) = false
-is_word (Drained s r) = false
-
--- the event is done with the ticket of this serial, and leaves it with its holder
-abbrev pub WordBy : LedgerEvent → ℕ × Deed → Type 0
-WordBy e p = (is_word e ≡ true) × ((l : Ledger) → deed l e ≡ by_holder l p.0 p.1)
-
--- the event is this deed, may come in a cluster of n agents, and the tables stay as they are
-pub record IsAgain (n : ℕ) (l : Ledger) (e : LedgerEvent) (t : Tables) (o : Owned) : Type 0 where
-  pub deed : o ≡ deed l e
-  pub comes : may_come n l o ≡ true
-  pub says : Says (e ∷ l) t

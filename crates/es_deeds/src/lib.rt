@@ -1,13 +1,17 @@
 //! Each agent's part in a ledger's history: what an event of the ledger is to the agent that does it.
 #![tactic(auto)]
 
-mod again;
 mod deed;
 mod doing;
 mod lines;
 mod mail;
 mod parts;
+mod rest;
+mod stretch;
 mod tables;
+mod words;
 
 pub use deed::Deed;
 pub use parts::parts_of;
+pub use rest::Rest;
+pub use stretch::Stretch;

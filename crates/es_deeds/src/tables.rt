@@ -4,7 +4,7 @@ ghost use Rattle.std.specs.Prelude.{◌≡◌, ℕ, [], ◌∷◌, OnOk, ◌||�
 ghost use Rattle.es_event.specs.Ledger.{Ledger, awaited, newest_size, opens};
 ghost use Rattle.es_deeds.specs.Tables.{Says, body_of, size_in, taken_by, waits_in, words_by};
 ghost use Rattle.es_deeds.specs.Deeds.{words_in};
-ghost use Rattle.es_deeds.specs.Patience.{drains};
+ghost use Rattle.es_event.specs.Totals.{is_drained};
 
 use crate::lines::{self, Lines, put};
 use crate::mail::{self, Mail};
@@ -26,9 +26,6 @@ pub(crate) struct Tables<'a> {
     pub waiting: HashMap<usize, Option<usize>>,
     /// Whether a message was drained.
     pub drained: bool,
-    /// The serial of the ticket with which a word was read or written last, and its holder, where nothing else
-    /// came since.
-    pub lately: Option<(u64, usize)>,
 }
 
 impl<'a> Tables<'a> {
@@ -42,7 +39,6 @@ impl<'a> Tables<'a> {
             mail: HashMap::new(alloc),
             waiting: HashMap::new(alloc),
             drained: false,
-            lately: None,
         }
     }
 
@@ -87,7 +83,6 @@ impl<'a> Tables<'a> {
         mail::note(alloc, &mut self.mail, event)?;
         note_wait(&mut self.waiting, event)?;
         self.drained = drained_after(self.drained, event);
-        self.lately = None;
         Ok(())
     }
 }
@@ -137,7 +132,7 @@ fn note_wait(
 }
 
 fn drained_after(drained: bool, event: &LedgerEvent) -> bool
-    ensures { result ≡ (drains event.now || drained) }
+    ensures { result ≡ (is_drained event.now || drained) }
 {
     matches!(event, LedgerEvent::Drained { .. }) || drained
 }

@@ -11,7 +11,7 @@ use Rattle.es_event.specs.declared.command.Command.{Command}
 use Rattle.es_event.specs.declared.command.Command.TheVariants.{SharedArrayBuffer, Length, SameBlock, Atomic, Post}
 use Rattle.es_event.specs.declared.event.Answer.{Answer}
 use Rattle.es_event.specs.declared.event.Event.{Event}
-use Rattle.es_event.specs.declared.event.Event.TheVariants.{JobEnded, Skipped, Refused}
+use Rattle.es_event.specs.declared.event.Event.TheVariants.{Refused}
 use Rattle.es_event.specs.declared.ledger_event.LedgerEvent.{LedgerEvent}
 use Rattle.es_event.specs.declared.ledger_event.LedgerEvent.TheVariants.{Opened, Posted, Taken, Spent, Accessed, Passed, Drained}
 use Rattle.es_event.specs.declared.plan.AgentPlan.{AgentPlan}
@@ -22,7 +22,7 @@ use Rattle.es_event.specs.History.{History}
 use Rattle.es_event.specs.Jobs.{receivers, job, stays_alone}
 use Rattle.es_event.specs.Sharing.{Buffers}
 use Rattle.es_event.specs.Legal.{LegalBy}
-use Rattle.es_event.specs.Order.{Phase, between, inside, phase, queue, due_job, due_between, due_at}
+use Rattle.es_event.specs.Order.{Phase, between, phase, queue, due_job, due_between, due_at}
 use Rattle.es_event.specs.Follows.{Follows}
 use Rattle.es_event.specs.Rows.{line_of}
 use Rattle.es_event.specs.Ledger.{Ledger, opened, port_of, table, holder_of, by_agent}
@@ -37,6 +37,7 @@ use Rattle.es_match.proofs.Bridge.{mapped}
 use Rattle.es_match.specs.Meets.{Came, Tickets, after}
 use Rattle.es_match.specs.Cluster.{Ties}
 use Rattle.es_outcome.proofs.Closing.{is_end}
+use Rattle.es_outcome.proofs.Silent.{inside_job}
 
 -- An agent that stays alone
 
@@ -64,17 +65,6 @@ calm_command (SameBlock to b c) cs vs r e = cc
 calm_command (Atomic a) cs vs r e = cc
 calm_command (Post a y) cs vs r e = cc
 calm_command _ cs vs r e = refl
-
--- a job is skipped between jobs, so the phase after it is not inside one
-skips_between : (over : Buffers) (plan : AgentPlan) (h : History) (at : Phase) (n s : ℕ) → Comes over (receivers plan.jobs) plan h at (Skipped n s) → at ≡ between
-skips_between over plan h at _ _ (skips k j s b none is on same) = b
-
--- inside a job, so that a refusal there is none of a receipt
-inside_job : (over : Buffers) (plan : AgentPlan) (h : History) → Follows over plan h → phase h ≡ inside → between_jobs h ≡ false
-inside_job over plan [] follows e = cc
-inside_job over plan (JobEnded ∷ h) follows e = cc
-inside_job over plan (Skipped n s ∷ h) follows e = let b = sym (skips_between over plan h (phase h) n s (comes over plan h (Skipped n s) follows.0)) ∙ e in cc
-inside_job over plan (_ ∷ h) follows e = refl
 
 -- no job waits for a message, so none is received, refused or skipped
 no_receipt : (plan : AgentPlan) (h : History) (j : Job) (on : Option (ℕ × List ℕ)) → stays_alone plan ≡ true → phase h ≡ between → queue h ≡ [] → slice_get plan.jobs (job h - 1) ≡ Some j

@@ -8,7 +8,7 @@ use Rattle.std.proofs.lemmas.Bool.Decides.{nat_tests}
 use Rattle.es_event.specs.declared.event.Event.{Event}
 use Rattle.es_event.specs.History.{History}
 use Rattle.es_event.specs.Ledger.{Ledger}
-use Rattle.es_deeds.specs.declared.deed.Deed.{Deed}
+use Rattle.es_deeds.specs.declared.stretch.Stretch.{Stretch}
 use Rattle.es_deeds.specs.Deeds.{Deed as DeedSaid, Owned, deed, part, part_of, is_wait}
 use Rattle.es_match.specs.Meets.{Came, nothing_came}
 use Rattle.es_deeds.specs.Patience.{patient, drained_last, drained, is_patient, is_nobodys}
@@ -94,7 +94,7 @@ history_said hs a = get_or-map reverse hs a []
 none_came : (hs : List (List Event)) (cs : List Came) (a : ℕ) → length cs ≡ length hs → length hs ≤ a → slice_index_or cs a nothing_came ≡ nothing_came
 none_came hs cs a size far = past cs a nothing_came (omega (arith, size, far))
 
-all : (hs : List (List Event)) (l : Ledger) (ps : List (List Deed)) (cs : List Came) → IsSplit (length hs) l ps → length cs ≡ length hs → AllGo hs ps cs
+all : (hs : List (List Event)) (l : Ledger) (ps : List (List Stretch)) (cs : List Came) → IsSplit (length hs) l ps → length cs ≡ length hs → AllGo hs ps cs
     → (a : ℕ) → goes true nothing_came (slice_index_or hs a []) (part_at ps a) ≡ Some (slice_index_or cs a nothing_came)
 all hs l ps cs s size go a = case-of (nat_lt a (length hs)) refl
   where
@@ -106,7 +106,7 @@ all hs l ps cs s size go a = case-of (nat_lt a (length hs)) refl
         let off : length ps ≤ a = omega (arith, n, far) in
         rw (past hs a [] far) (rw (past ps a [] off) (rw (none_came hs cs a size far) refl))
 
-ties_at : (hs : List (List Event)) (l : Ledger) (ps : List (List Deed)) (cs : List Came) → IsSplit (length hs) l ps → length cs ≡ length hs → AllGo hs ps cs
+ties_at : (hs : List (List Event)) (l : Ledger) (ps : List (List Stretch)) (cs : List Came) → IsSplit (length hs) l ps → length cs ≡ length hs → AllGo hs ps cs
     → (a : ℕ) → Ties (history_of (map reverse hs) a) (part l a) (slice_index_or cs a nothing_came)
 ties_at hs l ps cs s size go a =
     let here = subst (λ (h : List Event). goes true nothing_came h (part_at ps a) ≡ Some (slice_index_or cs a nothing_came))
@@ -115,7 +115,7 @@ ties_at hs l ps cs s size go a =
     subst (λ (h : History). Ties h (part l a) (slice_index_or cs a nothing_came)) (sym (history_said hs a))
     (subst (λ (p : List DeedSaid). Ties (reverse (slice_index_or hs a [])) p (slice_index_or cs a nothing_came)) (s.parts a) tied)
 
-pub makes_cluster : (hs : List (List Event)) (l : Ledger) (ps : List (List Deed)) (cs : List Came) → IsSplit (length hs) l ps → length cs ≡ length hs → AllGo hs ps cs
+pub makes_cluster : (hs : List (List Event)) (l : Ledger) (ps : List (List Stretch)) (cs : List Came) → IsSplit (length hs) l ps → length cs ≡ length hs → AllGo hs ps cs
     → HaveCome (map reverse hs) l cs
 makes_cluster hs l ps cs s size go = record {
   cluster = record {
@@ -134,7 +134,7 @@ went hs l c a =
     ∙ ties_mean_goes (history_of (map reverse hs) a) (part l a) (c.parts a).0 (c.parts a).1
 
 -- one that stops is that of no cluster
-pub stops : (hs : List (List Event)) (l : Ledger) (ps : List (List Deed)) → IsSplit (length hs) l ps → SomeStops hs ps → IsCluster (map reverse hs) l → ⊥
+pub stops : (hs : List (List Event)) (l : Ledger) (ps : List (List Stretch)) → IsSplit (length hs) l ps → SomeStops hs ps → IsCluster (map reverse hs) l → ⊥
 stops hs l ps s some c =
     let on = went hs l c some.0 in
     let off = ap (goes true nothing_came (slice_index_or hs some.0 [])) (sym (s.parts some.0)) ∙ some.1 in
@@ -151,14 +151,14 @@ cluster_orders hs l c = orders (length hs) l c.waits c.drains
     ∙ ap reverse (past hs a [] far)) (c.parts a).1)
 
 -- what each history's way decides
-pub all_came : {E X : Type 0} (items : X → List Came) (r : Result (Option X) E) (hs : List (List Event)) (l : Ledger) (ps qs : List (List Deed))
+pub all_came : {E X : Type 0} (items : X → List Came) (r : Result (Option X) E) (hs : List (List Event)) (l : Ledger) (ps qs : List (List Stretch))
     → IsSplit (length hs) l ps → qs ≡ ps → IfOk r (λ o. IfSome o (λ cs. length (items cs) ≡ length hs)) → IfOk r (λ o. IfSome o (λ cs. AllGo hs qs (items cs)))
     → IfOk r (λ o. IfSome o (λ cs. HaveCome (map reverse hs) l (items cs)))
 all_came items (Err e) hs l ps qs s same size go = tt
 all_came items (Ok None) hs l ps qs s same size go = tt
-all_came items (Ok (Some cs)) hs l ps qs s same size go = makes_cluster hs l ps (items cs) s size (subst (λ (p : List (List Deed)). AllGo hs p (items cs)) same go)
+all_came items (Ok (Some cs)) hs l ps qs s same size go = makes_cluster hs l ps (items cs) s size (subst (λ (p : List (List Stretch)). AllGo hs p (items cs)) same go)
 
-pub some_stops : {E X : Type 0} (r : Result (Option X) E) (hs : List (List Event)) (l : Ledger) (ps qs : List (List Deed))
+pub some_stops : {E X : Type 0} (r : Result (Option X) E) (hs : List (List Event)) (l : Ledger) (ps qs : List (List Stretch))
     → IsSplit (length hs) l ps → qs ≡ ps → IfOk r (λ o. IfNone o (SomeStops hs qs)) → IfOk r (λ o. IfNone o (IsCluster (map reverse hs) l → ⊥))
 some_stops (Err e) hs l ps qs s same none = tt
 some_stops (Ok None) hs l ps qs s same none = stops hs l ps s (subst (SomeStops hs) same none)

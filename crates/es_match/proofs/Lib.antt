@@ -1,12 +1,13 @@
 pub mod Accounts
 mod Calls
 pub mod Bridge
+pub mod Calming
 pub mod Counting
 pub mod Deciding
 pub mod ExampleCluster
 mod ExampleNeighbours
 mod ExampleReceipt
 pub mod Examples
-pub mod Lists
+mod Lists
 pub mod Passing
 pub mod Racked

@@ -1,4 +1,5 @@
 pub mod Asks
+pub mod Calm
 pub mod Cluster
 pub mod Counts
 pub mod Goes

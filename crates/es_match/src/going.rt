@@ -1,11 +1,12 @@
 //! Going through an agent's history and its deeds.
 
-ghost use Rattle.std.specs.Prelude.{◌≡◌, true, take, drop, length, IfOk};
+ghost use Rattle.std.specs.Prelude.{◌≡◌, true, take, drop, length, IfOk, OnOk};
 ghost use Rattle.std.specs.Option.{option_map};
 ghost use Rattle.es_match.specs.Asks.{to_open, to_receive, to_empty, to_close};
 ghost use Rattle.es_match.specs.Meets.{after, gives, nothing_came, pair, some_if, sole, within, add_ticket};
 ghost use Rattle.es_match.specs.Goes.{asked, goes};
 ghost use Rattle.es_deeds.specs.Shown.{all_shown, shown};
+ghost use Rattle.es_deeds.specs.Split.{stretches_said};
 ghost use Rattle.es_match.specs.Shown.{asking, said};
 
 use crate::came::Came;
@@ -13,7 +14,7 @@ use crate::meets::{compares, is_access, is_length, is_pass, is_plain, is_post, i
 use crate::spending::are_spent;
 use crate::tickets::{Rack, object_in, serials_of, serials_within};
 use crate::want::{Want, asks_nothing, ends_job, want_at};
-use es_deeds::Deed;
+use es_deeds::{Deed, Rest, Stretch};
 use es_event::{Body, Event, Row};
 use es_value::{Id, IdSet, NoMemory, Value};
 use std::alloc::Global;
@@ -220,64 +221,52 @@ fn asked(tickets: &Rack, want: &Want<'_>) -> usize
     }
 }
 
-#[tactic(auto, using(crate::proofs::Lists::take_shown))]
-fn front<'a, 'b>(deeds: &'b [Deed<'a>], n: usize) -> &'b [Deed<'a>]
-    ensures { all_shown result.now ≡ take n (all_shown deeds.now) }
+/// Takes so many deeds out of those that are left, as many as there are, in place of these.
+fn take_next<'a>(
+    deeds: &mut Vec<Deed<'a>>,
+    rest: &mut Rest<'a, '_>,
+    count: usize,
+) -> Result<(), NoMemory>
+    ensures taken { OnOk result (all_shown deeds.new.items ≡ take count rest.old) }
+    ensures left { OnOk result (rest.new ≡ drop count rest.old) }
 {
-    first_of(deeds, n)
-}
-
-fn first_of<'a, 'b>(deeds: &'b [Deed<'a>], n: usize) -> &'b [Deed<'a>]
-    ensures { result.now ≡ take n deeds.now }
-{
-    if n < deeds.len() { &deeds[..n] } else { deeds }
-}
-
-#[tactic(auto, using(crate::proofs::Lists::drop_shown))]
-fn back<'a, 'b>(deeds: &'b [Deed<'a>], n: usize) -> &'b [Deed<'a>]
-    ensures { all_shown result.now ≡ drop n (all_shown deeds.now) }
-{
-    rest_of(deeds, n)
-}
-
-fn rest_of<'a, 'b>(deeds: &'b [Deed<'a>], n: usize) -> &'b [Deed<'a>]
-    ensures { result.now ≡ drop n deeds.now }
-{
-    if n < deeds.len() {
-        &deeds[n..]
-    } else {
-        &deeds[deeds.len()..]
+    deeds.clear();
+    for _ in 0..count {
+        match rest.next() {
+            Some(deed) => deeds.push(deed)?,
+            None => return Ok(()),
+        }
     }
+    Ok(())
 }
 
-/// What has come to the agent, if the deeds are what the history asks.
+/// What has come to the agent, if the deeds of its part are what the history asks.
 pub(crate) fn goes(
     alloc: Global,
     history: &[Event],
-    deeds: &[Deed<'_>],
+    part: &[Stretch<'_>],
 ) -> Result<Option<Came>, NoMemory>
-    ensures { IfOk result (λ o. o ≡ goes true nothing_came history.now (all_shown deeds.now)) }
+    ensures { IfOk result (λ o. o ≡ goes true nothing_came history.now (stretches_said part.now)) }
 {
     let mut came = Came::nothing(alloc);
     let mut between = true;
-    let mut rest = deeds;
+    let mut rest = Rest::of(part);
+    let mut deeds = Vec::new(alloc);
     for event in history {
         if asks_nothing(event) {
             between = ends_job(event);
             continue;
         }
         let want = want_at(between, event);
-        let n = asked(&came.tickets, &want);
-        let is_met = came.take_in(alloc, &want, front(rest, n))?;
+        take_next(&mut deeds, &mut rest, asked(&came.tickets, &want))?;
+        let is_met = came.take_in(alloc, &want, deeds.as_slice())?;
         if !is_met {
             return Ok(None);
         }
-        rest = back(rest, n);
         between = ends_job(event);
     }
-    if rest.is_empty() {
-        Ok(Some(came))
-    } else {
-        Ok(None)
+    match rest.next() {
+        Some(_) => Ok(None),
+        None => Ok(Some(came)),
     }
 }

@@ -2,6 +2,7 @@
 #![tactic(auto)]
 
 mod beside;
+mod calm;
 mod came;
 mod going;
 mod matching;

@@ -15,12 +15,13 @@ use Rattle.es_event.specs.History.{History}
 use Rattle.es_event.specs.Jobs.{job}
 use Rattle.es_event.specs.declared.ledger_event.LedgerEvent.{LedgerEvent}
 use Rattle.es_event.specs.declared.ledger_event.LedgerEvent.TheVariants.{Spent, Waiting, Drained}
+use Rattle.es_event.specs.Totals.{is_drained}
 use Rattle.es_event.specs.Ledger.{Ledger, waits, ended as has_ended, is_end_of}
 use Rattle.es_event.specs.LegalLedger.{ComesNext, LegalSoFar, LegalLedger, all_ended, owed}
 use Rattle.es_event.specs.Order.{phase}
 use Rattle.es_ledger.specs.Books.{Books}
 use Rattle.es_match.specs.Asks.{Asking, to_open, to_receive, to_refuse, between_jobs, asks, asks_did}
-use Rattle.es_deeds.specs.Patience.{patient, may_do, is_patient, drained, drains, drained_last, is_nobodys}
+use Rattle.es_deeds.specs.Patience.{patient, may_do, is_patient, drained, drained_last, is_nobodys}
 use Rattle.es_match.specs.Cluster.{Ties, awaited, is_refusal_asked, refused_senders}
 use Rattle.es_deeds.specs.Deeds.{Deed, Opens, Takes, Waits, deed, is_wait, part}
 use Rattle.es_match.specs.Meets.{Tickets, after, came_after, opened_ticket, refused_in, taken_ticket, ticket_in}
@@ -180,16 +181,16 @@ still_over e l (suc n) over =
     either true = refl
     either false = refl
 
-drained_next : (n : ℕ) (e : LedgerEvent) (l : Ledger) (o : Option ℕ) → ComesNext n l e o → drains e ≡ true → all_ended l n ≡ true
+drained_next : (n : ℕ) (e : LedgerEvent) (l : Ledger) (o : Option ℕ) → ComesNext n l e o → is_drained e ≡ true → all_ended l n ≡ true
 drained_next n (Drained s r) l None c is = c.0
-drained_next n e l (Some k) c is = let spends : drains (Spent k) ≡ true = ap drains (sym c) ∙ is in cc
+drained_next n e l (Some k) c is = let spends : is_drained (Spent k) ≡ true = ap is_drained (sym c) ∙ is in cc
 drained_next n _ l None c is = cc
 
 pub over_where_drained : (n : ℕ) (l : Ledger) → LegalSoFar n l → drained l ≡ true → all_ended l n ≡ true
 over_where_drained n [] legal is = cc
-over_where_drained n (e ∷ l) legal is = still_over e l n (by_event (drains e) refl is (over_where_drained n l legal.1))
+over_where_drained n (e ∷ l) legal is = still_over e l n (by_event (is_drained e) refl is (over_where_drained n l legal.1))
   where
-    by_event : (b : Bool) → drains e ≡ b → (b || drained l) ≡ true → (drained l ≡ true → all_ended l n ≡ true) → all_ended l n ≡ true
+    by_event : (b : Bool) → is_drained e ≡ b → (b || drained l) ≡ true → (drained l ≡ true → all_ended l n ≡ true) → all_ended l n ≡ true
     by_event true d o before = drained_next n e l (owed l) legal.0 d
     by_event false d o before = before o
 

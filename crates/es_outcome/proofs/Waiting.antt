@@ -16,7 +16,7 @@ none : {A : Type 0} (o : Option A) → is_none o ≡ true → o ≡ None
 none None e = refl
 none (Some x) e = cc
 
-none_on : (jobs : List Job) → list_all (λ j. is_none j.on) jobs ≡ true → (i : ℕ) → option_and_then (λ j. j.on) (slice_get jobs i) ≡ None
+pub none_on : (jobs : List Job) → list_all (λ j. is_none j.on) jobs ≡ true → (i : ℕ) → option_and_then (λ j. j.on) (slice_get jobs i) ≡ None
 none_on [] each i = refl
 none_on (j ∷ jobs) each zero = none j.on (and_parts (is_none j.on) (list_all (λ j. is_none j.on) jobs) each).0
 none_on (j ∷ jobs) each (suc i) = none_on jobs (and_parts (is_none j.on) (list_all (λ j. is_none j.on) jobs) each).1 i

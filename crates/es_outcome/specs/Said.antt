@@ -1,11 +1,12 @@
 -- Internal: what an agent says came to it from the ledger, and where it is in its plan.
-use Rattle.std.specs.Prelude.{ℕ, ◌≡◌, List, [], ◌∷◌, drop, is_some, map, reverse, slice_get, if◌then◌else◌}
+use Rattle.std.specs.Prelude.{ℕ, ◌≡◌, Bool, ◌==◌, ◌&&◌, List, [], ◌∷◌, length, drop, is_some, map, reverse, slice_get, if◌then◌else◌}
 use Rattle.std.specs.Option.{option_and_then, option_map_or}
 use Rattle.es_event.specs.declared.event.Event.{Event}
 use Rattle.es_event.specs.declared.plan.AgentPlan.{AgentPlan}
 use Rattle.es_event.specs.declared.plan.Job.{Job}
 use Rattle.es_event.specs.History.{History, total}
-use Rattle.es_event.specs.Jobs.{cleaning, job, passes_job}
+use Rattle.es_event.specs.Jobs.{cleaning, job, passes_job, waits_for_nobody}
+use Rattle.es_event.specs.Sharing.{messages_posted}
 use Rattle.es_match.specs.Asks.{asks, between_jobs}
 use Rattle.es_event.specs.Ledger.{Ledger}
 use Rattle.es_match.specs.Cluster.{HaveCome, awaited, is_refusal_asked, refused_senders}
@@ -43,3 +44,7 @@ pub record IsTold (hs : List History) (l : Ledger) (all : List Told) : Type 0 wh
   pub came : List Came
   pub have : HaveCome hs l came
   pub said : map told_of came ≡ all
+
+-- the agent never had a buffer, posted nothing and waits for nobody: so it asks the ledger for nothing before its end
+abbrev pub is_calm : Book → Bool
+is_calm b = (length b.over == 0) && ((messages_posted b.history == 0) && waits_for_nobody b.plan)

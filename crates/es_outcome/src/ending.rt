@@ -6,10 +6,12 @@ ghost use Rattle.es_event.specs.LegalLedger.{LegalLedger};
 ghost use Rattle.es_cluster.specs.Ends.{AreEnded, AreHistories, HaveNoTicket};
 ghost use Rattle.es_cluster.specs.State.{books};
 ghost use Rattle.es_count.specs.Counts.{IsCountsOf};
+ghost use Rattle.es_match.specs.Calm.{AreCalm};
 ghost use Rattle.es_outcome.specs.Outcomes.{DoNotMatch, IsClusterOutcome, at_last};
 ghost use Rattle.es_outcome.specs.Places.{AreAtPlaces, ArePlanned, SomeGoesOn};
 ghost use Rattle.es_outcome.specs.Said.{IsTold};
 
+use crate::calm::all_calm;
 use crate::counting::tallies_of;
 use crate::said::{Said, all_said, are_said};
 use crate::stop::RunStop;
@@ -65,8 +67,15 @@ pub fn outcome_of<R: Threads + Sync, L: Planned>(
             return Err(error.into());
         }
     };
+    let calm = match all_calm(alloc, parts.members.as_slice()) {
+        Ok(calm) => calm,
+        Err(error) => {
+            abandon(parts);
+            return Err(error.into());
+        }
+    };
     let outcome = finish(parts);
-    if is_told(rt, alloc, &outcome, &said)? {
+    if is_told(rt, alloc, &outcome, &calm, &said)? {
         let counts = Counts::of_ended(&outcome, tallies);
         Ok(Counted { outcome, counts })
     } else {
@@ -79,12 +88,14 @@ fn is_told<R: Threads + Sync>(
     rt: &R,
     alloc: Global,
     outcome: &Outcome,
+    calm: &[bool],
     said: &[Said],
 ) -> Result<bool, NoMemory>
+    requires { AreCalm calm.now outcome.now.histories }
     ensures { IfOk result (λ b. (b ≡ true) ↔ IsTold (map (λ h. reverse h) outcome.now.histories) (reverse outcome.now.ledger) said.now) }
 {
     let histories = outcome.histories.as_slice();
-    match came_of(rt, alloc, histories, outcome.ledger.as_slice())? {
+    match came_of(rt, alloc, histories, calm, outcome.ledger.as_slice())? {
         Some(came) => Ok(are_said(&came, said)),
         None => Ok(false),
     }

@@ -3,6 +3,7 @@
 #![tactic(auto)]
 
 mod auditing;
+mod calm;
 mod counting;
 mod ending;
 mod said;

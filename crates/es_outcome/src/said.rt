@@ -236,7 +236,7 @@ fn refused_senders(
 }
 
 /// Whether no job of the plan waits for a message.
-fn waits_for_nobody(plan: &AgentPlan) -> bool
+pub(crate) fn waits_for_nobody(plan: &AgentPlan) -> bool
     ensures { result ≡ waits_for_nobody plan.now }
 {
     plan.jobs.as_slice().iter().all(|job| job.on.is_none())

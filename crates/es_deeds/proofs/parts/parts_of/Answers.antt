@@ -1,34 +1,31 @@
-use Rattle.std.proofs.Common.{reverse, take, subst, sym, arith}
+use Rattle.std.proofs.Common.{◌≡◌, ◌+◌, ◌++◌, ◌∷◌, reverse, take, ap, ◌∙◌, subst, sym, arith}
 use Rattle.es_event.specs.Ledger.{Ledger}
 use Rattle.es_deeds.specs.Split.{IsSplit}
 use Rattle.es_deeds.specs.Tables.{Says}
-use Rattle.es_deeds.proofs.Splitting.{stepped, refused_step, done_step, reverse_more, spoiled, take_all}
+use Rattle.es_deeds.proofs.Splitting.{may_not_come, reverse_on, spoiled, stepped, take_all, within_all}
 use Rattle.es_deeds.proofs.parts.parts_of.Goals as goal
 
-pub returns-then-not-came : goal.returns-then-not-came
-returns-then-not-came c =
-    let l : Ledger = reverse (take c.loop-event.event-index c.args.ledger.now) in
-    let step = stepped c.in_ok-came.came c.args.agents l c.event-item.result c.step.new.tables c.loop-event.parts.items
-    c.step.new.parts.items c.loop-event.invariant.split
-    (c.in_ok-came.ensures l c.loop-event.invariant.says) in
-    spoiled c.args.agents c.args.ledger.now c.loop-event.event-index c.event-item.result (omega arith) c.event-item.is
-    (refused_step c.in_ok-came.came c.args.agents l c.event-item.result c.step.new.tables c.step.new.parts.items
-    c.if-not-came.true step)
+pub returns-in-None : goal.returns-in-None
+returns-in-None c =
+    let l : Ledger = reverse (take c.loop-place.place c.args.ledger.now) in
+    spoiled c.args.agents c.args.ledger.now c.loop-place.place c.index-ledger-place.result (omega arith) c.index-ledger-place.is
+    (may_not_come c.in_ok-came.came c.args.agents l c.index-ledger-place.result _ c.step.new.tables c.step.new.parts.items c.in-None.is
+    (c.in_ok-came.ensures.step c.args.agents l c.loop-place.invariant.says c.loop-place.invariant.split))
 
-pub loop-event-preserved : goal.loop-event-preserved
-loop-event-preserved c =
-    let l : Ledger = reverse (take c.loop-event.event-index c.args.ledger.now) in
-    let step = stepped c.in_ok-came.came c.args.agents l c.event-item.result c.step.new.tables c.loop-event.parts.items
-    c.step.new.parts.items c.loop-event.invariant.split
-    (c.in_ok-came.ensures l c.loop-event.invariant.says) in
-    let both = done_step c.in_ok-came.came c.args.agents l c.event-item.result c.step.new.tables c.step.new.parts.items
-    c.if-not-came.false step in
-    let more = reverse_more c.args.ledger.now c.loop-event.event-index c.event-item.result (omega arith) c.event-item.is in
+pub loop-place-preserved : goal.loop-place-preserved
+loop-place-preserved c =
+    let l : Ledger = reverse (take c.loop-place.place c.args.ledger.now) in
+    let on = reverse_on c.args.ledger.now c.loop-place.place c.in-Some.count c.index-ledger-place.result (omega arith) c.index-ledger-place.is in
+    let both = stepped c.in_ok-came.came c.in-Some.count c.args.agents l c.index-ledger-place.result _ c.step.new.tables c.step.new.parts.items c.in-Some.is
+    (c.in_ok-came.ensures.step c.args.agents l c.loop-place.invariant.says c.loop-place.invariant.split) in
+    let same : reverse (take (c.loop-place.place + (1 + c.in-Some.count)) c.args.ledger.now) ≡ reverse (take c.in-Some.count c.after-later.result.now) ++ c.index-ledger-place.result ∷ l =
+    on ∙ ap (λ xs. reverse (take c.in-Some.count xs) ++ c.index-ledger-place.result ∷ l) (sym c.after-later.ensures) in
     record {
-      says = subst (λ (m : Ledger). Says m c.step.new.tables) (sym more) both.0;
-      split = subst (λ (m : Ledger). IsSplit c.args.agents m c.step.new.parts.items) (sym more) both.1;
+      within = within_all c.args.ledger.now c.after-later.result.now c.loop-place.place c.in-Some.count c.in_ok-came.came c.in-Some.is c.in_ok-came.ensures.within c.after-later.ensures (omega arith);
+      says = subst (λ (m : Ledger). Says m c.step.new.tables) (sym same) both.0;
+      split = subst (λ (m : Ledger). IsSplit c.args.agents m c.step.new.parts.items) (sym same) both.1;
     }
 
 pub returns : goal.returns
-returns c = subst (λ (m : Ledger). IsSplit c.args.agents (reverse m) c.loop-event.parts.items)
-    (take_all c.args.ledger.now c.loop-event.event-index c.loop-event-test.false) c.loop-event.invariant.split
+returns c = subst (λ (m : Ledger). IsSplit c.args.agents (reverse m) c.loop-place.parts.items)
+    (take_all c.args.ledger.now c.loop-place.place c.loop-place-test.false) c.loop-place.invariant.split

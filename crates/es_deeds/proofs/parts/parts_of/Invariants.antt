@@ -1,10 +1,14 @@
-use Rattle.std.proofs.Common.{reverse, take}
+use Rattle.std.proofs.Common.{length, ◌≤◌, ◌-◌, reverse, take}
 use Rattle.es_deeds.specs.Split.{IsSplit}
 use Rattle.es_deeds.specs.Tables.{Says}
 use Rattle.es_deeds.proofs.parts.parts_of.Given as goal
 
-abbrev pub invariant-loop-event : goal.invariant-loop-event
-invariant-loop-event l = record {
-  says : Says (reverse (take l.event-index l.ledger)) l.tables;
-  split : IsSplit l.agents (reverse (take l.event-index l.ledger)) l.parts.items;
+abbrev pub invariant-loop-place : goal.invariant-loop-place
+invariant-loop-place l = record {
+  within : l.place ≤ length l.ledger;
+  says : Says (reverse (take l.place l.ledger)) l.tables;
+  split : IsSplit l.agents (reverse (take l.place l.ledger)) l.parts.items;
 }
+
+abbrev pub decreases-loop-place : goal.decreases-loop-place
+decreases-loop-place l = length l.ledger - l.place

@@ -1,5 +1,4 @@
 use Rattle.std.proofs.Common.{◌∙◌, refl}
-use Rattle.es_deeds.specs.Shown.{all_shown}
 use Rattle.es_match.proofs.Passing.{passes_by}
 use Rattle.es_match.proofs.going.goes.Goals as goal
 
@@ -7,5 +6,5 @@ pub loop-event-preserved-then-asks_nothing : goal.loop-event-preserved-then-asks
 loop-event-preserved-then-asks_nothing c =
     rw c.ends_job-between.ensures
     (c.loop-event.invariant
-    ∙ passes_by c.args.history.now c.loop-event.event-index c.loop-event.between c.loop-event.came c.event-item.result (all_shown c.loop-event.rest.now) c.loop-event-test.true c.event-item.is
+    ∙ passes_by c.args.history.now c.loop-event.event-index c.loop-event.between c.loop-event.came c.event-item.result c.loop-event.rest c.loop-event-test.true c.event-item.is
     (c.if-asks_nothing.ensures refl c.loop-event.between))

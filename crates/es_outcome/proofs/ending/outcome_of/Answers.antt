@@ -1,9 +1,11 @@
 use Rattle.std.proofs.Common.{◌≡◌, true, false, map, reverse, sym, ap, ◌∙◌, subst}
-use Rattle.es_outcome.specs.Said.{IsTold, said_by}
+use Rattle.es_outcome.specs.Said.{IsTold, is_calm, said_by}
 use Rattle.es_count.specs.Tallies.{end_tally}
 use Rattle.es_cluster.proofs.Standing.{books_length}
 use Rattle.es_cluster.specs.State.{books}
 use Rattle.es_outcome.specs.Places.{AreAtPlaces, ArePlanned, SomeGoesOn}
+use Rattle.es_match.specs.Calm.{AreCalm}
+use Rattle.es_outcome.proofs.Silent.{calm_histories}
 use Rattle.es_outcome.proofs.Ended.{comes_to, goes_on_alone, none_left, not_told, tallies_are}
 use Rattle.es_outcome.proofs.ending.outcome_of.Goals.{then-len-agents-via-then-len-agents, then-len-agents-via-else-len-agents+then-not-are_at_places, then-len-agents-via-else-len-agents+else-not-are_at_places+then-not-have_closed}
 use Rattle.es_outcome.proofs.ending.outcome_of.Goals as goal
@@ -21,7 +23,7 @@ returns-then-len-agents-clause-mismatch g c = λ is placed size cluster.
 pub returns-then-branch-clause-outcome : goal.returns-then-branch-clause-outcome
 returns-then-branch-clause-outcome g c =
     let size = books_length c.args.parts.members.items in
-    let all = c.deref.ensures.value ∙ c.in-Ok-all_said.ensures ∙ ap (λ ms. map said_by (books ms)) c.as_slice-3.ensures.value in
+    let all = c.deref-2.ensures.value ∙ c.in-Ok-all_said.ensures ∙ ap (λ ms. map said_by (books ms)) c.as_slice-3.ensures.value in
     let told = subst (IsTold (map (λ h. reverse h) c.finish-outcome.result.histories) (reverse c.finish-outcome.result.ledger)) all (c.in_ok-is_told.ensures.0 c.if-branch.true) in
     comes_to g.L.Planned.plan (books c.args.parts.members.items) c.args.parts.ledger.agents
     (record { names = c.finish-outcome.result.names; histories = c.finish-outcome.result.histories; ledger = c.finish-outcome.result.ledger })
@@ -35,7 +37,7 @@ returns-then-branch-clause-outcome g c =
 
 pub returns-else-branch-clause-mismatch : goal.returns-else-branch-clause-mismatch
 returns-else-branch-clause-mismatch g c = λ is placed size cluster.
-    let all = c.deref.ensures.value ∙ c.in-Ok-all_said.ensures ∙ ap (λ ms. map said_by (books ms)) c.as_slice-3.ensures.value in
+    let all = c.deref-2.ensures.value ∙ c.in-Ok-all_said.ensures ∙ ap (λ ms. map said_by (books ms)) c.as_slice-3.ensures.value in
     let never : IsTold (map (λ h. reverse h) c.finish-outcome.result.histories) (reverse c.finish-outcome.result.ledger) (map said_by (books c.args.parts.members.items)) → ⊥ =
     λ told. (let clash : false ≡ true = sym c.if-branch.false ∙ c.in_ok-is_told.ensures.1 (subst (IsTold (map (λ h. reverse h) c.finish-outcome.result.histories) (reverse c.finish-outcome.result.ledger)) (sym all) told) in cc)
     in
@@ -55,3 +57,9 @@ of_ended-counts-requires-clause-tallies g c =
     tallies_are (books c.args.parts.members.items) (record { names = c.finish-outcome.result.names; histories = c.finish-outcome.result.histories; ledger = c.finish-outcome.result.ledger }) c.in-Ok.tallies.items
     c.finish-outcome.ensures.histories
     (c.in-Ok.ensures ∙ ap (λ ms. map (λ b. end_tally b.history) (books ms)) c.as_slice-2.ensures.value)
+
+pub is_told-requires-after_bounds : goal.is_told-requires-after_bounds
+is_told-requires-after_bounds g c κs within =
+    let calm = c.deref.ensures.value ∙ c.in-Ok-all_calm.ensures ∙ ap (λ ms. map is_calm (books ms)) c.as_slice-4.ensures.value in
+    subst (λ calm. AreCalm calm c.finish-outcome.result.histories) (sym calm)
+    (calm_histories (books c.args.parts.members.items) c.finish-outcome.result.histories c.finish-outcome.ensures.histories.are c.finish-outcome.ensures.histories.runs)
