@@ -325,12 +325,18 @@ last_growths "$room/wide.json" 2 80
 last_growths "$room/wide.json" 8 120
 
 # Eight long histories: seven threads run agents, seven compare histories, and seven make lines. A growth that is refused
-# while histories are compared ends the run; one that is refused after that changes nothing.
+# while histories are compared ends the run; one that is refused after that changes nothing. Where no agent has a buffer, nothing
+# is compared but their ends.
 commands=$(yes '["let","x",1]' | head -n 5000 | paste -s -d ,)
-for name in a b c d e f g h; do
-    printf '{"name":"%s","callbacks":{},"jobs":[{"run":[%s]},{"run":[%s]}]}\n' "$name" "$commands" "$commands"
-done | paste -s -d , | sed 's/.*/{"version":1,"agents":[&]}/' >"$room/long.json"
+eight_long() {
+    for name in a b c d e f g h; do
+        printf '{"name":"%s","callbacks":{},"jobs":[{"run":[%s%s]},{"run":[%s]}]}\n' "$name" "$1" "$commands" "$commands"
+    done | paste -s -d , | sed 's/.*/{"version":1,"agents":[&]}/'
+}
+eight_long '["buffer","b",1],' >"$room/long.json"
 makes_threads 21 "$room/long.json"
+eight_long "" >"$room/calm.json"
+makes_threads 14 "$room/calm.json"
 makes_threads 0 "$room/long.json" --turns
 run 0 run "$room/long.json" --turns
 cp "$room/out" "$room/wanted"
