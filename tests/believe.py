@@ -39,7 +39,7 @@ INSIDE = {
     ("es_deeds", "Orderly"),
     ("es_deeds", "Shown"),
     ("es_deeds", "Split"),
-    ("es_deeds", "Tables"),
+    ("es_deeds", "LedgerPass"),
     ("es_reading", None),
     ("es_tokens", None),
     ("es_event", "Log"),

@@ -3,7 +3,7 @@
 the row's report. The rows stand in growths.txt, with reports that were worked out by hand.
 
 Usage: refused_growths.py PROGRAM [TURNS] [--long] [--jobs N]. PROGRAM is clusterrun, TURNS the program of the crate
-`turns`. Prints each run that ends otherwise, how many growths were refused, and `N passed, M failed` last. It needs a C
+`turn_tests`. Prints each run that ends otherwise, how many growths were refused, and `N passed, M failed` last. It needs a C
 compiler.
 
 Each row is run by turns, in threads, and in threads with helpers beside a watcher (one of version 2 with one helper, with

@@ -28,12 +28,12 @@ judge() {
     cat >"$room/bodies"
     {
         echo "//! Bodies that the compiler judges."
-        echo "use es_ticket::{Run, Ticket};"
+        echo "use es_ticket::{LedgerName, Ticket};"
         echo "fn main() {}"
         number=0
         while IFS=@ read -r _ _ body; do
             number=$((number + 1))
-            echo "pub fn body_$number<L: Run>$body"
+            echo "pub fn body_$number<L: LedgerName>$body"
         done <"$room/bodies"
     } >"$room/crates/bodies/src/main.rt"
     (cd "$room/crates/bodies" && rt try) >"$room/said" 2>&1 </dev/null

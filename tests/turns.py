@@ -1,5 +1,5 @@
 #!/usr/bin/env python3
-"""Random plans by random lists of turns, through the crate `turns` and through rules.py: each turn, each audit after it,
+"""Random plans by random lists of turns, through the crate `turn_tests` and through rules.py: each turn, each audit after it,
 all lines of the agents and whether the histories match must be the same. And before them the rows of turns.txt, with
 audits that were worked out by hand: they are as those of scripts.py, and have lines `turns NUMBERS: AUDIT` for the audit
 after the turns of these agents, and `ended NUMBER: AUDIT` for one turn of an agent that has ended.

@@ -2,19 +2,19 @@
 use Rattle.std.specs.Prelude.{ℕ, ◌≡◌, None}
 use Rattle.es_value.specs.declared.value.Value.{Value}
 use Rattle.es_value.specs.Values.{identity}
-use Rattle.es_ticket.specs.Shares.{Share}
-use Rattle.es_record.specs.Book.{Book}
+use Rattle.es_ticket.specs.Stakes.{StakeView}
+use Rattle.es_record.specs.AgentView.{AgentView}
 use Rattle.es_rules.specs.Needs.{need, asks_message, TakesTicket, TakesWord, TakesDone}
-use Rattle.es_member.specs.Seats.{Holds, HoldsBeside}
+use Rattle.es_member.specs.Members.{Holds, HoldsBeside}
 use Rattle.calls.specs.declared.given.Given.{Given}
 use Rattle.calls.specs.declared.given.Given.TheVariants.{Alone, Block, Plain, Word, Done, Skip, Wait, End}
 
 -- the agent asks for a message
-abbrev pub AsksMessage : Book → Type 0
+abbrev pub AsksMessage : AgentView → Type 0
 AsksMessage b = (s : ℕ) × (need b ≡ asks_message s)
 
 -- a value that may come in a message, and an agent that asks for one
-pub record Comes (v : Value) (b : Book) : Type 0 where
+pub record Comes (v : Value) (b : AgentView) : Type 0 where
   pub plain : identity v ≡ None
   pub message : AsksMessage b
 
@@ -23,7 +23,7 @@ pub record Ready (Asked Held : Type 0) : Type 0 where
   pub asked : Asked
   pub held : Held
 
-abbrev pub Suits : {L : Type 0} → Given L → Book → Share → Type 0
+abbrev pub Suits : {L : Type 0} → Given L → AgentView → StakeView → Type 0
 Suits Alone b s = Holds b s
 Suits (Block ticket) b s = Ready (TakesTicket (need b) ticket) (HoldsBeside ticket b s)
 Suits (Plain v) b s = Ready (Comes v b) (Holds b s)

@@ -4,15 +4,15 @@ ghost use Rattle.std.specs.Prelude.{◌≡◌, ◌+◌, Bool, count_by};
 ghost use Rattle.es_event.specs.declared.row.Row.{Row};
 ghost use Rattle.es_ticket.specs.Owned.{Owns};
 ghost use Rattle.es_rules.specs.Needs.{need, asks_nobody, asks_marks, asks_copy, asks_late_marks, asks_closing};
-ghost use Rattle.es_member.specs.Seats.{Holds};
+ghost use Rattle.es_member.specs.Members.{Holds};
 
 use es_agent::{AgentCore, Need};
 use es_ledger::LedgerCore;
-use es_ticket::{Rack, Run, Stake};
+use es_ticket::{LedgerName, Rack, Stake};
 use es_value::NoMemory;
 
 /// The next event of an agent that asks neither the ledger nor for a message.
-pub(crate) fn go_on<L: Run>(
+pub(crate) fn go_on<L: LedgerName>(
     core: &mut AgentCore<L>,
     stake: &mut Stake<L>,
     ledger: &mut LedgerCore<L>,
@@ -34,7 +34,7 @@ pub(crate) fn go_on<L: Run>(
     }
 }
 
-fn perform<L: Run>(core: &mut AgentCore<L>, stake: &Stake<L>) -> Result<(), NoMemory>
+fn perform<L: LedgerName>(core: &mut AgentCore<L>, stake: &Stake<L>) -> Result<(), NoMemory>
     requires due { need core.old ≡ asks_nobody }
     requires held { Holds core.old stake.now }
     ensures { Holds core.new stake.now }
@@ -43,7 +43,7 @@ fn perform<L: Run>(core: &mut AgentCore<L>, stake: &Stake<L>) -> Result<(), NoMe
     Ok(())
 }
 
-fn begin_later<L: Run>(core: &mut AgentCore<L>, stake: &Stake<L>) -> Result<(), NoMemory>
+fn begin_later<L: LedgerName>(core: &mut AgentCore<L>, stake: &Stake<L>) -> Result<(), NoMemory>
     requires due { need core.old ≡ asks_copy }
     requires held { Holds core.old stake.now }
     ensures { Holds core.new stake.now }
@@ -52,7 +52,7 @@ fn begin_later<L: Run>(core: &mut AgentCore<L>, stake: &Stake<L>) -> Result<(), 
     Ok(())
 }
 
-fn collect<L: Run>(
+fn collect<L: LedgerName>(
     core: &mut AgentCore<L>,
     stake: &mut Stake<L>,
     ledger: &mut LedgerCore<L>,
@@ -68,7 +68,7 @@ fn collect<L: Run>(
     Ok(())
 }
 
-fn finish<L: Run>(
+fn finish<L: LedgerName>(
     core: &mut AgentCore<L>,
     stake: &mut Stake<L>,
     ledger: &mut LedgerCore<L>,
@@ -84,7 +84,7 @@ fn finish<L: Run>(
     Ok(())
 }
 
-fn close<L: Run>(core: &mut AgentCore<L>, stake: &mut Stake<L>, ledger: &mut LedgerCore<L>)
+fn close<L: LedgerName>(core: &mut AgentCore<L>, stake: &mut Stake<L>, ledger: &mut LedgerCore<L>)
     requires due { need core.old ≡ asks_closing }
     requires held { Holds core.old stake.old }
     ensures held { Holds core.new stake.new }
@@ -95,7 +95,7 @@ fn close<L: Run>(core: &mut AgentCore<L>, stake: &mut Stake<L>, ledger: &mut Led
     end_one(ledger, core.number());
 }
 
-fn end_one<L: Run>(ledger: &mut LedgerCore<L>, agent: usize)
+fn end_one<L: LedgerName>(ledger: &mut LedgerCore<L>, agent: usize)
     ensures { ledger.new.agents ≡ ledger.old.agents }
 {
     if agent < ledger.agents() && !ledger.has_ended(agent) {
@@ -104,7 +104,7 @@ fn end_one<L: Run>(ledger: &mut LedgerCore<L>, agent: usize)
 }
 
 /// Spends all tickets of a rack, the newest buffer object's first. It takes no memory.
-pub(crate) fn spend_all<L: Run>(ledger: &mut LedgerCore<L>, stake: &mut Stake<L>, mut rack: Rack<L>)
+pub(crate) fn spend_all<L: LedgerName>(ledger: &mut LedgerCore<L>, stake: &mut Stake<L>, mut rack: Rack<L>)
     requires { Owns stake.old.rows rack.tickets }
     ensures agents { ledger.new.agents ≡ ledger.old.agents }
     ensures agent { stake.new.agent ≡ stake.old.agent }

@@ -4,18 +4,18 @@
 ghost use Rattle.std.specs.Prelude.{◌≡◌, ◌<◌, false, IfOk, OnErr};
 ghost use Rattle.es_event.specs.Ledger.{ended};
 ghost use Rattle.es_rules.specs.Needs.{need, asks_ledger, asks_message, for_block, for_post, for_buffer_post, for_access};
-ghost use Rattle.es_member.specs.Seats.{Holds};
+ghost use Rattle.es_member.specs.Members.{Holds};
 ghost use Rattle.calls.specs.Suiting.{Suits};
 
 use crate::given::Given;
 use es_agent::{AgentCore, Need, Request};
 use es_event::Access;
 use es_ledger::{LedgerCore, Letter, Message, Turn};
-use es_ticket::{Run, Stake};
+use es_ticket::{LedgerName, Stake};
 use es_value::{Id, NoMemory, Value};
 
 /// What the agent is handed for its next event.
-pub(crate) fn ask<L: Run>(
+pub(crate) fn ask<L: LedgerName>(
     core: &AgentCore<L>,
     stake: &mut Stake<L>,
     ledger: &mut LedgerCore<L>,
@@ -52,7 +52,7 @@ pub(crate) fn ask<L: Run>(
 }
 
 /// The first ticket of a new block.
-fn open<L: Run>(
+fn open<L: LedgerName>(
     core: &AgentCore<L>,
     stake: &mut Stake<L>,
     ledger: &mut LedgerCore<L>,
@@ -70,7 +70,7 @@ fn open<L: Run>(
 }
 
 /// That a value was posted.
-fn post<L: Run>(
+fn post<L: LedgerName>(
     core: &AgentCore<L>,
     stake: &Stake<L>,
     ledger: &mut LedgerCore<L>,
@@ -93,7 +93,7 @@ fn post<L: Run>(
 }
 
 /// That a buffer object's block was posted.
-fn post_buffer<L: Run>(
+fn post_buffer<L: LedgerName>(
     core: &AgentCore<L>,
     stake: &mut Stake<L>,
     ledger: &mut LedgerCore<L>,
@@ -117,7 +117,7 @@ fn post_buffer<L: Run>(
 }
 
 /// The word of a buffer object's block that was there, or that the access was done where it gives none.
-fn access_word<L: Run>(
+fn access_word<L: LedgerName>(
     core: &AgentCore<L>,
     stake: &mut Stake<L>,
     ledger: &mut LedgerCore<L>,
@@ -141,7 +141,7 @@ fn access_word<L: Run>(
 }
 
 /// What came in a message, that none comes any more, or nothing.
-fn hear<L: Run>(
+fn hear<L: LedgerName>(
     core: &AgentCore<L>,
     stake: &mut Stake<L>,
     ledger: &mut LedgerCore<L>,
@@ -167,7 +167,7 @@ fn hear<L: Run>(
 }
 
 /// What came in the message of a sender. It takes no memory.
-fn take<L: Run>(
+fn take<L: LedgerName>(
     core: &AgentCore<L>,
     stake: &mut Stake<L>,
     ledger: &mut LedgerCore<L>,

@@ -1,10 +1,10 @@
 //! What an agent is handed for its next event.
 
-use es_ticket::{Run, Ticket};
+use es_ticket::{LedgerName, Ticket};
 use es_value::Value;
 
 /// What an agent is handed for its next event, by the ledger where the agent asks that.
-pub enum Given<L: Run> {
+pub enum Given<L: LedgerName> {
     /// Nothing: it goes on alone.
     Alone,
     /// A ticket: of a block that it asked for, or of one that came in a message.

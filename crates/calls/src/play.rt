@@ -11,7 +11,7 @@ use es_cluster::{Planned, Progress, end_all};
 use es_event::{AgentPlan, Plan};
 use es_ledger::LedgerCore;
 use es_script::read_plan;
-use es_ticket::{Opened, Run, Stake};
+use es_ticket::{LedgerName, Opened, Stake};
 use std::alloc::Global;
 use std::io::{BufWriter, Read, Write};
 use std::marker::Brand;
@@ -64,7 +64,7 @@ fn play_plan<L: Planned, W: Write>(
 }
 
 /// The turns of the agents with these plans, who are given up in the end, however far they are.
-fn play_agents<L: Run, W: Write>(
+fn play_agents<L: LedgerName, W: Write>(
     alloc: Global,
     plans: Vec<AgentPlan>,
     stakes: Vec<Stake<L>>,
@@ -91,7 +91,7 @@ fn play_agents<L: Run, W: Write>(
 }
 
 /// Plays each turn, up to one that finds no memory, and tells what all agents said.
-fn play_all<L: Run, W: Write>(
+fn play_all<L: LedgerName, W: Write>(
     players: &mut Vec<Player<L>>,
     ledger: &mut LedgerCore<L>,
     turns: &[u8],
@@ -109,7 +109,7 @@ fn play_all<L: Run, W: Write>(
 }
 
 /// The turn of the agent with this digit, if there is one; whether there was memory for it.
-fn play_digit<L: Run, W: Write>(
+fn play_digit<L: LedgerName, W: Write>(
     players: &mut Vec<Player<L>>,
     digit: u8,
     ledger: &mut LedgerCore<L>,
@@ -126,7 +126,7 @@ fn play_digit<L: Run, W: Write>(
 }
 
 /// One turn, the agent's newest line where it moved, and an audit; whether there was memory for it.
-fn play_one<L: Run, W: Write>(
+fn play_one<L: LedgerName, W: Write>(
     players: &mut Vec<Player<L>>,
     agent: usize,
     ledger: &mut LedgerCore<L>,

@@ -1,7 +1,7 @@
 //! An agent with its stake, and its turns.
 
 ghost use Rattle.std.specs.Prelude.{◌≡◌, [], IfOk, IfErr, OnOk, OnErr};
-ghost use Rattle.es_member.specs.Seats.{Holds};
+ghost use Rattle.es_member.specs.Members.{Holds};
 ghost use Rattle.calls.specs.Suiting.{Suits};
 
 use crate::alone::spend_all;
@@ -12,27 +12,27 @@ use crate::taking::take_in;
 use es_agent::{AgentCore, Need, Request};
 use es_ledger::LedgerCore;
 use es_member::Progress;
-use es_ticket::{Run, Stake};
+use es_ticket::{LedgerName, Stake};
 use es_value::NoMemory;
 use std::marker::Model;
 
 /// An agent with its side of the ledger, which has its tickets.
-pub(crate) struct Player<L: Run> {
+pub(crate) struct Player<L: LedgerName> {
     core: AgentCore<L>,
     stake: Stake<L>,
 }
 
-impl<L: Run> Model for Player<L> {
-    ghost use Rattle.es_member.specs.Seats.{Seat, Holds};
+impl<L: LedgerName> Model for Player<L> {
+    ghost use Rattle.es_member.specs.Members.{MemberView, Holds};
 
-    ghost Value = { Seat };
+    ghost Value = { MemberView };
 
-    ghost view = { λ p. record { book = p.core; share = p.stake } };
+    ghost view = { λ p. record { core = p.core; stake = p.stake } };
 
     ghost invariant = { λ p. Holds p.core p.stake };
 }
 
-impl<L: Run> Player<L> {
+impl<L: LedgerName> Player<L> {
     /// An agent with the stake of its number, neither of which has a ticket.
     pub(crate) fn new(core: AgentCore<L>, stake: Stake<L>) -> Option<Player<L>>
         requires bare { core.over ≡ [] }
@@ -72,7 +72,7 @@ impl<L: Run> Player<L> {
     }
 }
 
-fn turn<L: Run>(
+fn turn<L: LedgerName>(
     core: &mut AgentCore<L>,
     stake: &mut Stake<L>,
     ledger: &mut LedgerCore<L>,
@@ -94,7 +94,7 @@ fn turn<L: Run>(
 }
 
 /// What comes of a turn with this.
-fn progress_of<L: Run>(given: &Given<L>) -> Progress {
+fn progress_of<L: LedgerName>(given: &Given<L>) -> Progress {
     match given {
         Given::Wait => Progress::Waiting,
         Given::End => Progress::Ended,
@@ -102,7 +102,7 @@ fn progress_of<L: Run>(given: &Given<L>) -> Progress {
     }
 }
 
-fn ask_again<L: Run>(
+fn ask_again<L: LedgerName>(
     core: &AgentCore<L>,
     stake: &mut Stake<L>,
     ledger: &mut LedgerCore<L>,
@@ -124,7 +124,7 @@ fn ask_again<L: Run>(
     }
 }
 
-fn take_in_again<L: Run>(
+fn take_in_again<L: LedgerName>(
     core: &mut AgentCore<L>,
     stake: &mut Stake<L>,
     ledger: &mut LedgerCore<L>,
@@ -148,7 +148,7 @@ fn take_in_again<L: Run>(
 }
 
 /// Gives up what came to the agent: a ticket is spent. It takes no memory.
-fn give_back<L: Run>(
+fn give_back<L: LedgerName>(
     core: &AgentCore<L>,
     stake: &mut Stake<L>,
     ledger: &mut LedgerCore<L>,
@@ -191,7 +191,7 @@ fn call_of(need: &Need<'_>) -> Call {
 }
 
 /// The agent's call that takes this.
-fn taker_of<L: Run>(given: &Given<L>, need: &Need<'_>) -> Call {
+fn taker_of<L: LedgerName>(given: &Given<L>, need: &Need<'_>) -> Call {
     match given {
         Given::Block(_) => Call::Admit,
         Given::Plain(_) => Call::Receive,

@@ -6,12 +6,12 @@ use crate::player::Player;
 use es_agent::AgentCore;
 use es_event::AgentPlan;
 use es_ledger::LedgerCore;
-use es_ticket::{Run, Stake};
+use es_ticket::{LedgerName, Stake};
 use std::alloc::Global;
 
 /// The agents with these plans, by rising number, each with the stake of its number; where there is no
 /// memory, those that there are.
-pub(crate) fn seat_all<L: Run>(
+pub(crate) fn seat_all<L: LedgerName>(
     alloc: Global,
     plans: Vec<AgentPlan>,
     mut stakes: Vec<Stake<L>>,
@@ -44,7 +44,7 @@ pub(crate) fn seat_all<L: Run>(
 }
 
 /// Gives agents up: all their tickets are spent. It takes no memory.
-pub(crate) fn give_up<L: Run>(mut players: Vec<Player<L>>, ledger: &mut LedgerCore<L>)
+pub(crate) fn give_up<L: LedgerName>(mut players: Vec<Player<L>>, ledger: &mut LedgerCore<L>)
     ensures { ledger.new.agents ≡ ledger.old.agents }
 {
     for _ in 0..players.len() {

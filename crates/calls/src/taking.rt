@@ -4,18 +4,18 @@
 ghost use Rattle.std.specs.Prelude.{◌≡◌, None, OnOk, IfErr};
 ghost use Rattle.es_value.specs.Values.{identity};
 ghost use Rattle.es_rules.specs.Needs.{need, TakesTicket, TakesWord, TakesDone};
-ghost use Rattle.es_member.specs.Seats.{Holds, HoldsBeside};
+ghost use Rattle.es_member.specs.Members.{Holds, HoldsBeside};
 ghost use Rattle.calls.specs.Suiting.{AsksMessage, Comes, Suits};
 
 use crate::alone::go_on;
 use crate::given::Given;
 use es_agent::{AdmitFault, AgentCore};
 use es_ledger::LedgerCore;
-use es_ticket::{Run, Stake, Ticket};
+use es_ticket::{LedgerName, Stake, Ticket};
 use es_value::Value;
 
 /// The agent takes what it is handed, as its next event.
-pub(crate) fn take_in<L: Run>(
+pub(crate) fn take_in<L: LedgerName>(
     core: &mut AgentCore<L>,
     stake: &mut Stake<L>,
     ledger: &mut LedgerCore<L>,
@@ -39,7 +39,7 @@ pub(crate) fn take_in<L: Run>(
 }
 
 /// Nothing: it goes on alone.
-fn go_alone<L: Run>(
+fn go_alone<L: LedgerName>(
     core: &mut AgentCore<L>,
     stake: &mut Stake<L>,
     ledger: &mut LedgerCore<L>,
@@ -56,7 +56,7 @@ fn go_alone<L: Run>(
 }
 
 /// A ticket, which is spent where there is no room for one more identity.
-fn admit<L: Run>(
+fn admit<L: LedgerName>(
     core: &mut AgentCore<L>,
     stake: &mut Stake<L>,
     ledger: &mut LedgerCore<L>,
@@ -82,7 +82,7 @@ fn admit<L: Run>(
 }
 
 /// A value, of which the agent gets a copy.
-fn receive<L: Run>(core: &mut AgentCore<L>, stake: &Stake<L>, value: Value) -> Result<(), Given<L>>
+fn receive<L: LedgerName>(core: &mut AgentCore<L>, stake: &Stake<L>, value: Value) -> Result<(), Given<L>>
     requires comes { Comes value core.old }
     requires held { Holds core.old stake.now }
     ensures ok { OnOk result (Holds core.new stake.now) }
@@ -98,7 +98,7 @@ fn receive<L: Run>(core: &mut AgentCore<L>, stake: &Stake<L>, value: Value) -> R
 }
 
 /// A word.
-fn answer_word<L: Run>(core: &mut AgentCore<L>, stake: &Stake<L>, word: u32) -> Result<(), Given<L>>
+fn answer_word<L: LedgerName>(core: &mut AgentCore<L>, stake: &Stake<L>, word: u32) -> Result<(), Given<L>>
     requires takes { TakesWord (need core.old) }
     requires held { Holds core.old stake.now }
     ensures ok { OnOk result (Holds core.new stake.now) }
@@ -111,7 +111,7 @@ fn answer_word<L: Run>(core: &mut AgentCore<L>, stake: &Stake<L>, word: u32) -> 
 }
 
 /// That what it asked for was done.
-fn answer_done<L: Run>(core: &mut AgentCore<L>, stake: &Stake<L>) -> Result<(), Given<L>>
+fn answer_done<L: LedgerName>(core: &mut AgentCore<L>, stake: &Stake<L>) -> Result<(), Given<L>>
     requires takes { TakesDone (need core.old) }
     requires held { Holds core.old stake.now }
     ensures ok { OnOk result (Holds core.new stake.now) }
@@ -124,7 +124,7 @@ fn answer_done<L: Run>(core: &mut AgentCore<L>, stake: &Stake<L>) -> Result<(), 
 }
 
 /// That no message comes any more.
-fn skip<L: Run>(core: &mut AgentCore<L>, stake: &Stake<L>) -> Result<(), Given<L>>
+fn skip<L: LedgerName>(core: &mut AgentCore<L>, stake: &Stake<L>) -> Result<(), Given<L>>
     requires message { AsksMessage core.old }
     requires held { Holds core.old stake.now }
     ensures ok { OnOk result (Holds core.new stake.now) }

@@ -5,7 +5,7 @@ use crate::player::Player;
 use es_event::LedgerEvent;
 use es_ledger::LedgerCore;
 use es_report::write_lines;
-use es_ticket::Run;
+use es_ticket::LedgerName;
 use std::io::Write;
 
 /// How many blocks were made.
@@ -20,7 +20,7 @@ fn blocks_made(history: &[LedgerEvent]) -> u64 {
 }
 
 /// How many tickets there are of each block, each number after a space.
-fn write_counts<L: Run, W: Write>(ledger: &LedgerCore<L>, writer: &mut W) -> Result<(), Fault> {
+fn write_counts<L: LedgerName, W: Write>(ledger: &LedgerCore<L>, writer: &mut W) -> Result<(), Fault> {
     for block in 0..blocks_made(ledger.history()) {
         write!(writer, " {}", ledger.count(block + 1))?;
     }
@@ -29,7 +29,7 @@ fn write_counts<L: Run, W: Write>(ledger: &LedgerCore<L>, writer: &mut W) -> Res
 
 /// The blocks, how many of them are released, the tickets in agents and in messages, and those of each
 /// block.
-pub(crate) fn write_audit<L: Run, W: Write>(
+pub(crate) fn write_audit<L: LedgerName, W: Write>(
     players: &[Player<L>],
     ledger: &LedgerCore<L>,
     writer: &mut W,
@@ -54,7 +54,7 @@ pub(crate) fn write_audit<L: Run, W: Write>(
 }
 
 /// The tickets of each block that are left.
-pub(crate) fn write_left<L: Run, W: Write>(
+pub(crate) fn write_left<L: LedgerName, W: Write>(
     ledger: &LedgerCore<L>,
     writer: &mut W,
 ) -> Result<(), Fault> {
@@ -63,7 +63,7 @@ pub(crate) fn write_left<L: Run, W: Write>(
 }
 
 /// The newest line of an agent, where its newest event has one.
-pub(crate) fn write_newest<L: Run, W: Write>(
+pub(crate) fn write_newest<L: LedgerName, W: Write>(
     player: &Player<L>,
     writer: &mut W,
 ) -> Result<(), Fault> {
@@ -75,7 +75,7 @@ pub(crate) fn write_newest<L: Run, W: Write>(
 }
 
 /// All lines of each agent.
-pub(crate) fn write_agents<L: Run, W: Write>(
+pub(crate) fn write_agents<L: LedgerName, W: Write>(
     players: &[Player<L>],
     writer: &mut W,
 ) -> Result<(), Fault> {

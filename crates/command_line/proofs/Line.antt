@@ -1,5 +1,5 @@
 -- What was found for the arguments, by the rows of it; and an option that may not stand beside another.
-use Rattle.std.proofs.Common.{◌≡◌, ◌∙◌, ap, refl, ℕ, List, [], ◌∷◌, ◌++◌, length, Bool, true, false, codes, arith, length-append, ne_eqb}
+use Rattle.std.proofs.Common.{◌≡◌, ◌∙◌, ap, refl, ℕ, List, [], ◌∷◌, length, Bool, true, false, codes, arith, length-append, ne_eqb}
 use Rattle.std.specs.Prelude.{not, ◌&&◌, ◌==◌}
 use Rattle.std.specs.Borrow.{Bor}
 use Rattle.std.proofs.lemmas.Bool.{and_parts}

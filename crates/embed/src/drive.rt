@@ -10,7 +10,7 @@ ghost use Rattle.embed.specs.Steps.{Goes};
 
 use es_agent::{AdmitFault, AgentCore, Need, Request};
 use es_event::{AgentPlan, Event, Sequence};
-use es_ticket::{Run, Ticket};
+use es_ticket::{LedgerName, Ticket};
 use es_value::{NoMemory, Value};
 use std::alloc::Global;
 use std::marker::Brand;
@@ -66,7 +66,7 @@ pub fn run(
 }
 
 /// Takes events of the agent until it has ended, at most so many.
-fn advance<L: Run>(
+fn advance<L: LedgerName>(
     agent: &mut AgentCore<L>,
     outside: &mut Outside,
     limit: usize,
@@ -86,7 +86,7 @@ fn advance<L: Run>(
 
 /// Takes the next event of an agent that has no buffer object, and tells whether there was one. If it
 /// fails the agent has not changed.
-fn step<L: Run>(agent: &mut AgentCore<L>, outside: &mut Outside) -> Result<bool, Stopped>
+fn step<L: LedgerName>(agent: &mut AgentCore<L>, outside: &mut Outside) -> Result<bool, Stopped>
     requires { agent.old.over ≡ [] }
     ensures ok { IfOk result (λ went. Goes went agent.old agent.new) }
     ensures err { OnErr result (agent.new ≡ agent.old) }
@@ -131,7 +131,7 @@ fn step<L: Run>(agent: &mut AgentCore<L>, outside: &mut Outside) -> Result<bool,
 }
 
 /// Hands the agent the message that its next job waits for, or skips that job if none comes any more.
-fn hear<L: Run>(agent: &mut AgentCore<L>, message: Option<u32>) -> Result<bool, Stopped>
+fn hear<L: LedgerName>(agent: &mut AgentCore<L>, message: Option<u32>) -> Result<bool, Stopped>
     requires { (s : ℕ) × (need agent.old ≡ asks_message s) }
     ensures ok { IfOk result (λ went. Goes went agent.old agent.new) }
     ensures err { OnErr result (agent.new ≡ agent.old) }
@@ -155,7 +155,7 @@ fn keep(outbox: &mut Vec<Value>, value: &Value) -> Result<(), NoMemory> {
 }
 
 /// Hands a ticket to the agent that asked for it. One that comes back is owed to the ledger.
-pub fn admit<L: Run>(agent: &mut AgentCore<L>, ticket: Ticket<L>) -> Option<(Ticket<L>, AdmitFault)>
+pub fn admit<L: LedgerName>(agent: &mut AgentCore<L>, ticket: Ticket<L>) -> Option<(Ticket<L>, AdmitFault)>
     requires { TakesTicket (need agent.old) ticket }
     ensures taken { IfNone result (Admits agent.old ticket agent.new) }
     ensures back { IfSome result (λ r. r.0 ≡ ticket) }

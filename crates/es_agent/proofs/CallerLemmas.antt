@@ -9,9 +9,9 @@ use Rattle.es_event.specs.Identities.{is_in, is_made}
 use Rattle.es_event.specs.Later.{snapshot, derefed_since}
 use Rattle.es_event.proofs.Rising.{in_filter}
 use Rattle.es_mark.specs.Graph.{HasAll}
-use Rattle.es_parmark.specs.Snapshot.{Copied, are_made, AreMarksWith}
+use Rattle.es_parmark.specs.Snapshot.{SnapshotView, are_made, AreMarksWith}
 use Rattle.es_parmark.proofs.CallerLemmas.{more_serve}
-use Rattle.es_record.specs.Book.{Book}
+use Rattle.es_record.specs.AgentView.{AgentView}
 use Rattle.es_record.specs.Graph.{HasDerefed, AreLateMarks}
 use Rattle.es_agent.specs.Later.{IsLaterCopy, AreDerefed, AreThen}
 
@@ -37,13 +37,13 @@ some_is None e = cc
 some_is (Some p) e = (p, refl)
 
 -- what derefs gave was made when the copy was taken
-pub then_made : (b : Book) (s : Copied) (ids : List ℕ) → is_some (snapshot b.history) ≡ true → IsLaterCopy b s → AreThen b ids → are_made s.made ids ≡ true
+pub then_made : (b : AgentView) (s : SnapshotView) (ids : List ℕ) → is_some (snapshot b.history) ≡ true → IsLaterCopy b s → AreThen b ids → are_made s.made ids ≡ true
 then_made b s ids here copy good =
     let p = some_is (snapshot b.history) here in
     subst (λ m. are_made m ids ≡ true) (sym (copy p.0 p.1).made_same) (good p.0 p.1)
 
 -- the marks of the copy with what derefs gave are those by which the collection is finished
-pub late_marks_are : (b : Book) (s : Copied) (ids : List ℕ) (marks : List Bool) → IsLaterCopy b s → AreDerefed b ids → AreThen b ids → AreMarksWith s ids marks → AreLateMarks b marks
+pub late_marks_are : (b : AgentView) (s : SnapshotView) (ids : List ℕ) (marks : List Bool) → IsLaterCopy b s → AreDerefed b ids → AreThen b ids → AreMarksWith s ids marks → AreLateMarks b marks
 late_marks_are b s ids marks copy given good least p is =
     let same : reverse ids ≡ filter (is_made p) (derefed_since b.history) = given p is in
     let in_ids : (i : ℕ) → is_in ids i ≡ (is_made p i && is_in (derefed_since b.history) i) =

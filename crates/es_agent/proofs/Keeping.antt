@@ -18,9 +18,9 @@ use Rattle.es_event.specs.Derefs.{derefs}
 use Rattle.es_event.specs.Later.{is_later, begins_later, taken_by, snapshot, derefed_since}
 use Rattle.es_event.proofs.Cells.{fate_same}
 use Rattle.es_mark.specs.Graph.{IsNumbered}
-use Rattle.es_parmark.specs.Snapshot.{Copied, IsCopyOf, are_made}
+use Rattle.es_parmark.specs.Snapshot.{SnapshotView, IsCopyOf, are_made}
 use Rattle.es_tables.specs.Effects.{IsQuiet}
-use Rattle.es_record.specs.Book.{Book, Records, with_buffer}
+use Rattle.es_record.specs.AgentView.{AgentView, Records, with_buffer}
 use Rattle.es_record.specs.Graph.{HasRoots, HasEdges, HasEntries, as_at}
 use Rattle.es_agent.specs.Keeping.{noted, IsKept}
 use Rattle.es_agent.specs.Later.{opening, IsCopyAt}
@@ -45,7 +45,7 @@ noted_is p n (Some i) given ids rest count is same =
     subst (λ g. noted n (Some i) ids ≡ filter (is_made p) (g ++ rest)) is
     (ap (λ m. cond (nat_lt 0 i && nat_le i m) (i ∷ ids) ids) count ∙ ap (λ l. cond (is_made p i) (i ∷ l) l) same)
 
-kept_at : (b : Book) (e : Event) (o : Option ℕ) (q : Option History) (k : Option (Copied × List ℕ)) → option_to_list o ≡ derefs e → begins_later e ≡ false → IsKept b q k
+kept_at : (b : AgentView) (e : Event) (o : Option ℕ) (q : Option History) (k : Option (SnapshotView × List ℕ)) → option_to_list o ≡ derefs e → begins_later e ≡ false → IsKept b q k
     → IsKept (record b { history = e ∷ b.history }) q (option_map (λ k. (k.0, noted k.0.made o k.1)) k)
 kept_at b e o None None is plain kept = tt
 kept_at b e o None (Some k) is plain kept = absurd kept
@@ -53,29 +53,29 @@ kept_at b e o (Some p) None is plain kept = absurd kept
 kept_at b e o (Some p) (Some k) is plain kept =
     (kept.0, noted_is p k.0.made o (derefs e) k.1 (derefed_since b.history) kept.0.made_same is kept.1 ∙ ap (filter (is_made p)) (sym (more_derefed e b.history plain)))
 
-pub kept_after : (b : Book) (e : Event) (o : Option ℕ) (k : Option (Copied × List ℕ)) → IsQuiet e → begins_later e ≡ false → option_to_list o ≡ derefs e → IsKept b (snapshot b.history) k
+pub kept_after : (b : AgentView) (e : Event) (o : Option ℕ) (k : Option (SnapshotView × List ℕ)) → IsQuiet e → begins_later e ≡ false → option_to_list o ≡ derefs e → IsKept b (snapshot b.history) k
     → IsKept (record b { history = e ∷ b.history }) (snapshot (e ∷ b.history)) (option_map (λ k. (k.0, noted k.0.made o k.1)) k)
 kept_after b e o k quiet plain is kept =
     subst (λ q. IsKept (record b { history = e ∷ b.history }) q (option_map (λ k. (k.0, noted k.0.made o k.1)) k)) (sym (same_snapshot e b.history quiet plain)) (kept_at b e o (snapshot b.history) k is plain kept)
 
 -- and gives nothing by a deref
 
-none_noted : (k : Option (Copied × List ℕ)) → option_map (λ k. (k.0, noted k.0.made None k.1)) k ≡ k
+none_noted : (k : Option (SnapshotView × List ℕ)) → option_map (λ k. (k.0, noted k.0.made None k.1)) k ≡ k
 none_noted None = refl
 none_noted (Some k) = refl
 
-pub kept_plain : (b : Book) (e : Event) (k : Option (Copied × List ℕ)) → IsQuiet e → begins_later e ≡ false → derefs e ≡ [] → IsKept b (snapshot b.history) k
+pub kept_plain : (b : AgentView) (e : Event) (k : Option (SnapshotView × List ℕ)) → IsQuiet e → begins_later e ≡ false → derefs e ≡ [] → IsKept b (snapshot b.history) k
     → IsKept (record b { history = e ∷ b.history }) (snapshot (e ∷ b.history)) k
 kept_plain b e k quiet plain none kept = subst (IsKept (record b { history = e ∷ b.history }) (snapshot (e ∷ b.history))) (none_noted k) (kept_after b e None k quiet plain (sym none) kept)
 
 -- over one buffer object more
-kept_over : (r : Row) (b : Book) (q : Option History) (k : Option (Copied × List ℕ)) → IsKept b q k → IsKept (with_buffer r b) q k
+kept_over : (r : Row) (b : AgentView) (q : Option History) (k : Option (SnapshotView × List ℕ)) → IsKept b q k → IsKept (with_buffer r b) q k
 kept_over r b None None kept = tt
 kept_over r b None (Some k) kept = absurd kept
 kept_over r b (Some p) None kept = absurd kept
 kept_over r b (Some p) (Some k) kept = kept
 
-pub kept_buffer : (r : Row) (b : Book) (e : Event) (k : Option (Copied × List ℕ)) → IsQuiet e → begins_later e ≡ false → derefs e ≡ [] → IsKept b (snapshot b.history) k
+pub kept_buffer : (r : Row) (b : AgentView) (e : Event) (k : Option (SnapshotView × List ℕ)) → IsQuiet e → begins_later e ≡ false → derefs e ≡ [] → IsKept b (snapshot b.history) k
     → IsKept (record (with_buffer r b) { history = e ∷ b.history }) (snapshot (e ∷ b.history)) k
 kept_buffer r b e k quiet plain none kept = kept_plain (with_buffer r b) e k quiet plain none (kept_over r b (snapshot b.history) k kept)
 
@@ -90,7 +90,7 @@ opened_fate h n = fate_same opening h n refl refl refl
 opened_there : (h : History) (i : ℕ) → is_there (opening ∷ h) i ≡ is_there h i
 opened_there h i = ap (λ m. (nat_lt 0 i && nat_le i m) && not (is_gone h i)) (opened_made h)
 
-module _ (b : Book) where
+module _ (b : AgentView) where
   roots_back : (t : ℕ → Bool) → HasRoots (as_at b (opening ∷ b.history)) t → HasRoots b t
   roots_back t r = record {
     variables = r.variables;
@@ -119,7 +119,7 @@ module _ (b : Book) where
   entries_on : (k : ℕ) (t : ℕ → Bool) → HasEntries b k t → HasEntries (as_at b (opening ∷ b.history)) k t
   entries_on k t f m v i there = f m v i (sym (opened_there b.history m) ∙ there)
 
-  pub copy_opened : (s : Copied) → IsCopyOf (made b.history) (HasRoots b) (HasEdges b) (HasEntries b) s → IsCopyAt (record b { history = opening ∷ b.history }) (opening ∷ b.history) s
+  pub copy_opened : (s : SnapshotView) → IsCopyOf (made b.history) (HasRoots b) (HasEdges b) (HasEntries b) s → IsCopyAt (record b { history = opening ∷ b.history }) (opening ∷ b.history) s
   copy_opened s c = record {
     sound = c.sound;
     made_same = c.made_same ∙ sym (opened_made b.history);
@@ -133,21 +133,21 @@ module _ (b : Book) where
     numbered : (i : ℕ) → IsNumbered (made (opening ∷ b.history)) i → IsNumbered (made b.history) i
     numbered i n = subst (λ m. IsNumbered m i) (opened_made b.history) n
 
-  pub kept_opened : (s : Copied) → IsCopyOf (made b.history) (HasRoots b) (HasEdges b) (HasEntries b) s → IsKept (record b { history = opening ∷ b.history }) (snapshot (opening ∷ b.history)) (Some (s, []))
+  pub kept_opened : (s : SnapshotView) → IsCopyOf (made b.history) (HasRoots b) (HasEdges b) (HasEntries b) s → IsKept (record b { history = opening ∷ b.history }) (snapshot (opening ∷ b.history)) (Some (s, []))
   kept_opened s c = (copy_opened s c, refl)
 
   -- what the opened copy is of
-  pub later_opened : (s : Copied) → IsCopyOf (made b.history) (HasRoots b) (HasEdges b) (HasEntries b) s → (p : History) → snapshot (opening ∷ b.history) ≡ Some p → IsCopyAt (record b { history = opening ∷ b.history }) p s
+  pub later_opened : (s : SnapshotView) → IsCopyOf (made b.history) (HasRoots b) (HasEdges b) (HasEntries b) s → (p : History) → snapshot (opening ∷ b.history) ≡ Some p → IsCopyAt (record b { history = opening ∷ b.history }) p s
   later_opened s c p is = let same : opening ∷ b.history ≡ p = cc in subst (λ p. IsCopyAt (record b { history = opening ∷ b.history }) p s) same (copy_opened s c)
 
 -- What is kept
 
-pub some_kept : (b : Book) (q : Option History) (k : Option (Copied × List ℕ)) → is_some q ≡ true → IsKept b q k → is_some k ≡ true
+pub some_kept : (b : AgentView) (q : Option History) (k : Option (SnapshotView × List ℕ)) → is_some q ≡ true → IsKept b q k → is_some k ≡ true
 some_kept b None k e kept = cc
 some_kept b (Some p) None e kept = absurd kept
 some_kept b (Some p) (Some k) e kept = refl
 
-pub copy_kept : (b : Book) (q : Option History) (k : Option (Copied × List ℕ)) (s : Copied) (ids : List ℕ) → k ≡ Some (s, ids) → IsKept b q k → (p : History) → q ≡ Some p
+pub copy_kept : (b : AgentView) (q : Option History) (k : Option (SnapshotView × List ℕ)) (s : SnapshotView) (ids : List ℕ) → k ≡ Some (s, ids) → IsKept b q k → (p : History) → q ≡ Some p
     → IsCopyAt b p s × (ids ≡ filter (is_made p) (derefed_since b.history))
 copy_kept b None k s ids is kept p at = cc
 copy_kept b (Some q) None s ids is kept p at = absurd kept
@@ -158,13 +158,13 @@ copy_kept b (Some q) (Some k) s ids is kept p at =
 
 -- A later collection that was opened
 
-module _ (b n : Book) (e : Event) (s t : Copied) (copy : IsCopyOf (made b.history) (HasRoots b) (HasEdges b) (HasEntries b) s) (is : e ≡ opening) (records : Records b e n) (own : t ≡ s) where
+module _ (b n : AgentView) (e : Event) (s t : SnapshotView) (copy : IsCopyOf (made b.history) (HasRoots b) (HasEdges b) (HasEntries b) s) (is : e ≡ opening) (records : Records b e n) (own : t ≡ s) where
   after_opening : n ≡ record b { history = opening ∷ b.history }
   after_opening = records ∙ ap (λ e. record b { history = e ∷ b.history }) is
 
-  pub begun_kept : (u : Copied) (ids : List ℕ) → u ≡ t → ids ≡ [] → IsKept n (snapshot n.history) (Some (u, ids))
+  pub begun_kept : (u : SnapshotView) (ids : List ℕ) → u ≡ t → ids ≡ [] → IsKept n (snapshot n.history) (Some (u, ids))
   begun_kept u ids same none =
-      let pair : ◌≡◌ {A = Copied × List ℕ} (s, []) (u, ids) = λ i. (sym (same ∙ own) i, sym none i) in
+      let pair : ◌≡◌ {A = SnapshotView × List ℕ} (s, []) (u, ids) = λ i. (sym (same ∙ own) i, sym none i) in
       subst (λ n. IsKept n (snapshot n.history) (Some (u, ids))) (sym after_opening)
       (subst (λ k. IsKept (record b { history = opening ∷ b.history }) (snapshot (opening ∷ b.history)) (Some k)) pair (kept_opened b s copy))
 
@@ -187,6 +187,6 @@ given_then p ids rest is =
     all_from_members (is_made p) ids (λ i e. all_in (is_made p) (reverse ids) (subst (λ l. list_all (is_made p) l ≡ true) (sym is) (passed (is_made p) rest)) i (sym (list_any-IsPermutation (λ j. j == i) ids (reverse ids) (IsPermutation-reverse ids)) ∙ e))
 
 -- what is kept, as the call that shows it has it
-pub derefed_kept : (b : Book) (k : Option (Copied × List ℕ)) (s : Copied) (given ids : List ℕ) → k ≡ Some (s, given) → reverse ids ≡ given → IsKept b (snapshot b.history) k → (p : History) → snapshot b.history ≡ Some p
+pub derefed_kept : (b : AgentView) (k : Option (SnapshotView × List ℕ)) (s : SnapshotView) (given ids : List ℕ) → k ≡ Some (s, given) → reverse ids ≡ given → IsKept b (snapshot b.history) k → (p : History) → snapshot b.history ≡ Some p
     → reverse ids ≡ filter (is_made p) (derefed_since b.history)
 derefed_kept b k s given ids is same kept p at = same ∙ (copy_kept b (snapshot b.history) k s given is kept p at).1

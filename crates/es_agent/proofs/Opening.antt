@@ -21,7 +21,7 @@ use Rattle.es_event.specs.Follows.{Permits}
 use Rattle.es_event.specs.Rules.{refusal}
 use Rattle.es_event.specs.Sharing.{Buffers}
 use Rattle.es_event.proofs.Accepted.{is_accepted, first_holds}
-use Rattle.es_record.specs.Book.{Book, IsNext}
+use Rattle.es_record.specs.AgentView.{AgentView, IsNext}
 use Rattle.es_rules.specs.Needs.{unless_refused, Need, asks_nobody, asks_copy, ledger_or_nobody, need_of, need, TakesTicket, TakesWord, TakesDone, IsDone, Brings}
 
 -- A step that asks nobody
@@ -31,16 +31,16 @@ none_open None e = refl
 none_open (Some p) e = cc
 
 -- a later collection that may be opened asks for a copy
-asks_a_copy : (b : Book) (o : Option History) → o ≡ None → cond (is_none o) asks_copy (ledger_or_nobody (unless_refused (refusal b.over b.history CollectLater []) None)) ≡ asks_nobody → ⊥
+asks_a_copy : (b : AgentView) (o : Option History) → o ≡ None → cond (is_none o) asks_copy (ledger_or_nobody (unless_refused (refusal b.over b.history CollectLater []) None)) ≡ asks_nobody → ⊥
 asks_a_copy b None is e = cc
 asks_a_copy b (Some p) is e = cc
 
-opens_at : (b : Book) (over : Buffers) (into : Receivers) (d : Due) (vs : List Value) (r : Answer) → snapshot b.history ≡ None → need_of b d ≡ asks_nobody → Permits over into b.history d (Did (CollectLater, vs, r)) → ⊥
+opens_at : (b : AgentView) (over : Buffers) (into : Receivers) (d : Due) (vs : List Value) (r : Answer) → snapshot b.history ≡ None → need_of b d ≡ asks_nobody → Permits over into b.history d (Did (CollectLater, vs, r)) → ⊥
 opens_at b over into (run c) vs r none e p =
     asks_a_copy b (snapshot b.history) none (subst (λ c. need_of b (run c) ≡ asks_nobody) (sym p) e)
 opens_at b over into _ vs r none e p = absurd p
 
-pub local_opens : (b : Book) (e : Event) → need b ≡ asks_nobody → IsNext b e → begins_later e ≡ false
+pub local_opens : (b : AgentView) (e : Event) → need b ≡ asks_nobody → IsNext b e → begins_later e ≡ false
 local_opens b (Did (CollectLater, vs, r)) asked next =
     let accepted = is_accepted b.over b.history CollectLater vs (word_in r) r next.lawful.1 in
     let none = none_open (snapshot b.history) (first_holds (is_none (snapshot b.history)) CollectionOpen [] accepted).0 in
@@ -55,26 +55,26 @@ lone_command T nobody copy f true t = copy t
 lone_command T nobody copy None false t = nobody t
 lone_command T nobody copy (Some code) false t = nobody t
 
-opens_none : (T : Need → Type 0) → (T asks_nobody → ⊥) → (T asks_copy → ⊥) → (b : Book) (c : Command) → T (need_of b (run c)) → is_later c ≡ false
+opens_none : (T : Need → Type 0) → (T asks_nobody → ⊥) → (T asks_copy → ⊥) → (b : AgentView) (c : Command) → T (need_of b (run c)) → is_later c ≡ false
 opens_none T nobody copy b CollectLater t = absurd (lone_command T nobody copy (refusal b.over b.history CollectLater (values_of (receivers b.plan.jobs) b.history (reads CollectLater))) (is_none (snapshot b.history)) t)
 opens_none T nobody copy b _ t = refl
 
-derefs_none : (b : Book) (c : Command) (r : Answer) (row : Row) → TakesTicket (need_of b (run c)) row → derefs_by c r ≡ []
+derefs_none : (b : AgentView) (c : Command) (r : Answer) (row : Row) → TakesTicket (need_of b (run c)) row → derefs_by c r ≡ []
 derefs_none b (Deref to w) r row t =
     absurd (lone_command (λ n. TakesTicket n row) (λ x. x) (λ x. x) (refusal b.over b.history (Deref to w) (values_of (receivers b.plan.jobs) b.history (reads (Deref to w)))) false t)
 derefs_none b _ r row t = refl
 
-done_opens : (T : Need → Type 0) → (T asks_nobody → ⊥) → (T asks_copy → ⊥) → (b : Book) (r : Answer) (e : Event) → T (need b) → IsDone b r e → begins_later e ≡ false
+done_opens : (T : Need → Type 0) → (T asks_nobody → ⊥) → (T asks_copy → ⊥) → (b : AgentView) (r : Answer) (e : Event) → T (need b) → IsDone b r e → begins_later e ≡ false
 done_opens T nobody copy b r e t is =
     subst (λ e. begins_later e ≡ false) (sym is.2) (opens_none T nobody copy b is.0 (subst (λ d. T (need_of b d)) is.1 t))
 
-pub word_opens : (b : Book) (r : Answer) (e : Event) → TakesWord (need b) → IsDone b r e → begins_later e ≡ false
+pub word_opens : (b : AgentView) (r : Answer) (e : Event) → TakesWord (need b) → IsDone b r e → begins_later e ≡ false
 word_opens = done_opens TakesWord (λ x. x) (λ x. x)
 
-pub done_opens_nothing : (b : Book) (r : Answer) (e : Event) → TakesDone (need b) → IsDone b r e → begins_later e ≡ false
+pub done_opens_nothing : (b : AgentView) (r : Answer) (e : Event) → TakesDone (need b) → IsDone b r e → begins_later e ≡ false
 done_opens_nothing = done_opens TakesDone (λ x. x) (λ x. x)
 
-brings_at : (b : Book) (row : Row) (d : Due) (o : ℕ) (e : Event) → TakesTicket (need_of b d) row → Brings d o e → (begins_later e ≡ false) × (derefs e ≡ [])
+brings_at : (b : AgentView) (row : Row) (d : Due) (o : ℕ) (e : Event) → TakesTicket (need_of b d) row → Brings d o e → (begins_later e ≡ false) × (derefs e ≡ [])
 brings_at b row (receive n s) o e t is = subst (λ e. (begins_later e ≡ false) × (derefs e ≡ [])) (sym is) (refl, refl)
 brings_at b row (run c) o e t is =
     subst (λ e. (begins_later e ≡ false) × (derefs e ≡ [])) (sym is) (opens_none (λ n. TakesTicket n row) (λ x. x) (λ x. x) b c t, derefs_none b c _ row t)
@@ -87,5 +87,5 @@ brings_at b row close o e t is = absurd is
 brings_at b row nothing o e t is = absurd is
 
 -- the coming of a buffer object opens none, and derefs nothing
-pub brings_plain : (b : Book) (row : Row) (o : ℕ) (e : Event) → TakesTicket (need b) row → Brings (due b.plan b.history) o e → (begins_later e ≡ false) × (derefs e ≡ [])
+pub brings_plain : (b : AgentView) (row : Row) (o : ℕ) (e : Event) → TakesTicket (need b) row → Brings (due b.plan b.history) o e → (begins_later e ≡ false) × (derefs e ≡ [])
 brings_plain b row o e t is = brings_at b row (due b.plan b.history) o e t is

@@ -9,14 +9,14 @@ use Rattle.es_event.specs.declared.row.Row.{Row}
 use Rattle.es_event.specs.Identities.{is_in, gone, made, empties}
 use Rattle.es_event.specs.Order.{phase}
 use Rattle.es_ticket.specs.Owned.{Owns}
-use Rattle.es_ticket.specs.Shares.{besides}
+use Rattle.es_ticket.specs.Stakes.{besides}
 use Rattle.es_ticket.proofs.Counted.{owned_parts}
-use Rattle.es_record.specs.Book.{Book, IsNext, Records, with_buffer}
+use Rattle.es_record.specs.AgentView.{AgentView, IsNext, Records, with_buffer}
 use Rattle.es_agent.specs.Tickets.{is_ended, tickets, Admits, Empties}
 use Rattle.es_agent.proofs.Racks.{still, opened, in_both, filtered_twice, open_before, emptied_tickets}
 
 -- those after an event are among those before
-besides_emptied : (b : Book) (e : Event) → IsNext b e → filter (still (e ∷ b.history)) (reverse b.over) ≡ besides (empties e) (tickets b)
+besides_emptied : (b : AgentView) (e : Event) → IsNext b e → filter (still (e ∷ b.history)) (reverse b.over) ≡ besides (empties e) (tickets b)
 besides_emptied b e next =
     filter_agree (still (e ∷ b.history)) (λ t. not (is_in (empties e) t.0) && still b.history t) (λ t. in_both (empties e) (gone b.history) t.0) (reverse b.over)
     ∙ filtered_twice (λ t. not (is_in (empties e) t.0)) (still b.history) (reverse b.over)
@@ -26,7 +26,7 @@ none_owned : (rows : List Row) → Owns rows []
 none_owned rows p = omega arith
 
 -- whoever holds the tickets before an event holds those after it
-pub still_owned : (b : Book) (e : Event) → IsNext b e → (rows : List Row) → Owns rows (tickets b) → Owns rows (tickets (record b { history = e ∷ b.history }))
+pub still_owned : (b : AgentView) (e : Event) → IsNext b e → (rows : List Row) → Owns rows (tickets b) → Owns rows (tickets (record b { history = e ∷ b.history }))
 still_owned b e next rows owns = of_closed (is_ended (phase (e ∷ b.history)))
   where
     of_closed : (c : Bool) → Owns rows (cond c [] (filter (still (e ∷ b.history)) (reverse b.over)))
@@ -34,11 +34,11 @@ still_owned b e next rows owns = of_closed (is_ended (phase (e ∷ b.history)))
     of_closed false = λ p. (let parts = (owned_parts rows (empties e) owns refl (besides_emptied b e next)).owned p in omega (arith, parts))
 
 -- the same, of the record after it
-pub owned_after : (old new : Book) (e : Event) → IsNext old e → Records old e new → (rows : List Row) → Owns rows (tickets old) → Owns rows (tickets new)
+pub owned_after : (old new : AgentView) (e : Event) → IsNext old e → Records old e new → (rows : List Row) → Owns rows (tickets old) → Owns rows (tickets new)
 owned_after old new e next records rows owns = rw records (still_owned old e next rows owns)
 
 -- with one row more it holds one more ticket
-pub admitted_owned : (old new : Book) (r : Row) → Admits old r new → (rows : List Row) → Owns rows (tickets old) → Owns (rows ++ r ∷ []) (tickets new)
+pub admitted_owned : (old new : AgentView) (r : Row) → Admits old r new → (rows : List Row) → Owns rows (tickets old) → Owns (rows ++ r ∷ []) (tickets new)
 admitted_owned old new r admits rows owns =
     let i = made old.history + 1 in
     let before = open_before (with_buffer r old) admits.0 admits.2 in
@@ -59,7 +59,7 @@ admitted_owned old new r admits rows owns =
     one_more i r p ts false = (let a = ap (λ us. count_by (λ t. p t.1) us) (append-nil ts) in omega (arith, a))
 
 -- of those that a collection hands out and those that stay, it held each
-pub collected_parts : (chosen : List ℕ → Type 0) (old new : Book) (out : List (ℕ × Row)) → Empties chosen old out new → (rows : List Row) → Owns rows (tickets old) → (p : Row → Bool)
+pub collected_parts : (chosen : List ℕ → Type 0) (old new : AgentView) (out : List (ℕ × Row)) → Empties chosen old out new → (rows : List Row) → Owns rows (tickets old) → (p : Row → Bool)
     → count_by (λ t. p t.1) out + count_by (λ t. p t.1) (tickets new) ≤ count_by p rows
 collected_parts chosen old new out collects rows owns =
     let left = ap tickets collects.3 ∙ emptied_tickets old collects.0 collects.2 in

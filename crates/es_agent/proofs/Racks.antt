@@ -23,9 +23,9 @@ use Rattle.es_event.specs.Later.{snapshot}
 use Rattle.es_event.proofs.Finishing.{is_open}
 use Rattle.es_tables.specs.Effects.{IsQuiet}
 use Rattle.es_tables.proofs.Registering.{quiet_empties}
-use Rattle.es_ticket.specs.Shares.{at, placed, besides, is_rising_from}
+use Rattle.es_ticket.specs.Stakes.{at, placed, besides, is_rising_from}
 use Rattle.es_ticket.proofs.Racked.{rest_rises}
-use Rattle.es_record.specs.Book.{Book, IsNext, Records, with_buffer}
+use Rattle.es_record.specs.AgentView.{AgentView, IsNext, Records, with_buffer}
 use Rattle.es_record.specs.Newest.{newest}
 use Rattle.es_record.proofs.Buffered.{rises_added, same_row}
 use Rattle.es_rules.specs.Needs.{asks_nobody, asks_marks, asks_late_marks, need_of, need, IsDone, Brings}
@@ -42,7 +42,7 @@ open_at over into plan h stopped e p = refl
 open_at over into plan h ended e p = absurd p
 
 -- an agent to which something comes next has not closed
-pub open_before : (b : Book) (e : Event) → IsNext b e → is_ended (phase b.history) ≡ false
+pub open_before : (b : AgentView) (e : Event) → IsNext b e → is_ended (phase b.history) ≡ false
 open_before b e next = open_at b.over (receivers b.plan.jobs) b.plan b.history (phase b.history) e next.permitted
 
 -- only its closing closes it
@@ -58,12 +58,12 @@ open_after h JobEnded other before = refl
 open_after h (Skipped j t) other before = before
 open_after h Closed other before = absurd (other refl)
 
-no_close_at : (b : Book) (over : Buffers) (into : Receivers) (h : History) (d : Due) → need_of b d ≡ asks_nobody → Permits over into h d Closed → ⊥
+no_close_at : (b : AgentView) (over : Buffers) (into : Receivers) (h : History) (d : Due) → need_of b d ≡ asks_nobody → Permits over into h d Closed → ⊥
 no_close_at b over into h close e p = cc
 no_close_at b over into h _ e p = absurd p
 
 -- a step that asks nobody is no closing
-pub local_stays : (b : Book) (e : Event) → need b ≡ asks_nobody → IsNext b e → e ≡ Closed → ⊥
+pub local_stays : (b : AgentView) (e : Event) → need b ≡ asks_nobody → IsNext b e → e ≡ Closed → ⊥
 local_stays b Closed asked next is = no_close_at b b.over (receivers b.plan.jobs) b.history (due b.plan b.history) asked next.permitted
 local_stays b _ asked next is = cc
 
@@ -76,7 +76,7 @@ pub opened : (h : History) (over : Buffers) → is_ended (phase h) ≡ false →
 opened h over is = ap (λ b. cond b [] (filter (still h) (reverse over))) is
 
 -- an agent without buffer objects has none
-pub no_tickets : (b : Book) → b.over ≡ [] → tickets b ≡ []
+pub no_tickets : (b : AgentView) → b.over ≡ [] → tickets b ≡ []
 no_tickets b bare = of_closed (is_ended (phase b.history))
   where
     of_closed : (c : Bool) → cond c [] (filter (still b.history) (reverse b.over)) ≡ []
@@ -87,7 +87,7 @@ same_gone : (h : History) (e : Event) → IsQuiet e → gone (e ∷ h) ≡ gone 
 same_gone h e quiet = ap (λ ids. ids ++ gone h) (quiet_empties e quiet)
 
 -- an event that empties nothing, and is no closing, leaves them as they are
-pub kept_tickets : (b : Book) (e : Event) → IsNext b e → IsQuiet e → (e ≡ Closed → ⊥) → tickets (record b { history = e ∷ b.history }) ≡ tickets b
+pub kept_tickets : (b : AgentView) (e : Event) → IsNext b e → IsQuiet e → (e ≡ Closed → ⊥) → tickets (record b { history = e ∷ b.history }) ≡ tickets b
 kept_tickets b e next quiet other =
     let before = open_before b e next in
     opened (e ∷ b.history) b.over (open_after b.history e other before)
@@ -111,7 +111,7 @@ filtered_twice p q (x ∷ xs) = of_tests (p x) (q x) refl (filtered_twice p q xs
     of_tests true false pb rest = rest
     of_tests false false pb rest = rest
 
-pub emptied_tickets : (b : Book) (ids : List ℕ) → IsNext b (Emptied ids) → tickets (record b { history = Emptied ids ∷ b.history }) ≡ besides ids (tickets b)
+pub emptied_tickets : (b : AgentView) (ids : List ℕ) → IsNext b (Emptied ids) → tickets (record b { history = Emptied ids ∷ b.history }) ≡ besides ids (tickets b)
 emptied_tickets b ids next =
     let before = open_before b (Emptied ids) next in
     opened (Emptied ids ∷ b.history) b.over before
@@ -169,7 +169,7 @@ below_all : (over : Buffers) (i : ℕ) (r : Row) → is_rising_from 0 (reverse o
 below_all over i r h above = below_last (reverse over) 0 i r (ap (is_rising_from 0) (sym (reverse-append ((i, r) ∷ []) over)) ∙ still_rises over i r h above)
 
 -- a new buffer object has no ticket yet
-pub no_ticket : (b : Book) (i : ℕ) (r : Row) → is_rising_from 0 (reverse b.over) ≡ true → newest b.over < i → at i (tickets b) ≡ None
+pub no_ticket : (b : AgentView) (i : ℕ) (r : Row) → is_rising_from 0 (reverse b.over) ≡ true → newest b.over < i → at i (tickets b) ≡ None
 no_ticket b i r h above = of_closed (is_ended (phase b.history))
   where
     of_closed : (c : Bool) → at i (cond c [] (filter (still b.history) (reverse b.over))) ≡ None
@@ -177,7 +177,7 @@ no_ticket b i r h above = of_closed (is_ended (phase b.history))
     of_closed false = none_there i (filter (still b.history) (reverse b.over)) (below_picked (still b.history) i (reverse b.over) (below_all b.over i r h above))
 
 -- with its ticket it comes last
-pub one_more_ticket : (b : Book) (e : Event) (r : Row) → IsNext (with_buffer r b) e → IsQuiet e → (e ≡ Closed → ⊥) → is_rising_from 0 (reverse b.over) ≡ true → newest b.over ≤ made b.history
+pub one_more_ticket : (b : AgentView) (e : Event) (r : Row) → IsNext (with_buffer r b) e → IsQuiet e → (e ≡ Closed → ⊥) → is_rising_from 0 (reverse b.over) ≡ true → newest b.over ≤ made b.history
     → is_gone b.history (made b.history + 1) ≡ false → tickets (record (with_buffer r b) { history = e ∷ b.history }) ≡ placed (made b.history + 1) r (tickets b)
 one_more_ticket b e r next quiet other h below fresh =
     let i = made b.history + 1 in
@@ -223,7 +223,7 @@ picked_at p n (t ∷ ts) o r h e = let rest = rest_rises n t ts h in one (p t) (
     one false false is rest ih e = ih e
 
 -- it names what the table has
-pub ticket_named : (b : Book) (o : ℕ) (r : Row) → is_rising_from 0 (reverse b.over) ≡ true → Some r ≡ at o (tickets b) → Some r ≡ row_at b.over o
+pub ticket_named : (b : AgentView) (o : ℕ) (r : Row) → is_rising_from 0 (reverse b.over) ≡ true → Some r ≡ at o (tickets b) → Some r ≡ row_at b.over o
 ticket_named b o r h e = of_closed (is_ended (phase b.history)) e
   where
     of_closed : (c : Bool) → Some r ≡ at o (cond c [] (filter (still b.history) (reverse b.over))) → Some r ≡ row_at b.over o
@@ -232,18 +232,18 @@ ticket_named b o r h e = of_closed (is_ended (phase b.history)) e
 
 -- What the agent's type says of its tickets
 
-abbrev pub HasTickets : List (ℕ × Row) → Book → Type 0
+abbrev pub HasTickets : List (ℕ × Row) → AgentView → Type 0
 HasTickets ts b = (ts ≡ tickets b) × (is_rising_from 0 (reverse b.over) ≡ true) × (newest b.over ≤ made b.history)
 
 -- an event that leaves them as they are
-pub has_after : {A E : Type 0} (r : Result A E) (ts : List (ℕ × Row)) (old new : Book) (e : Event) → HasTickets ts old → IsNext old e → IsQuiet e → (e ≡ Closed → ⊥) → OnOk r (Records old e new)
+pub has_after : {A E : Type 0} (r : Result A E) (ts : List (ℕ × Row)) (old new : AgentView) (e : Event) → HasTickets ts old → IsNext old e → IsQuiet e → (e ≡ Closed → ⊥) → OnOk r (Records old e new)
     → OnErr r (new ≡ old) → HasTickets ts new
 has_after (Ok u) ts old new e has next quiet other ok err =
     rw ok (has.0 ∙ sym (kept_tickets old e next quiet other), has.1, (let small = has.2 in omega (arith, small)))
 has_after (Err f) ts old new e has next quiet other ok err = rw err has
 
 -- the answer of a command is one
-pub done_leaves : (b : Book) (r : Answer) (e : Event) → IsDone b r e → IsQuiet e × (e ≡ Closed → ⊥)
+pub done_leaves : (b : AgentView) (r : Answer) (e : Event) → IsDone b r e → IsQuiet e × (e ≡ Closed → ⊥)
 done_leaves b r e is = subst (λ e. IsQuiet e × (e ≡ Closed → ⊥)) (sym is.2) (tt, λ f. cc)
 
 -- and so is the coming of a buffer object
@@ -259,7 +259,7 @@ brings_leaves close o e is = absurd is
 brings_leaves nothing o e is = absurd is
 
 -- a buffer object that came, with its ticket put in its place
-pub has_admitted : (ts : List (ℕ × Row)) (old new : Book) (r : Row) → HasTickets ts old → is_gone old.history (made old.history + 1) ≡ false → Admits old r new → made new.history ≡ made old.history + 1
+pub has_admitted : (ts : List (ℕ × Row)) (old new : AgentView) (r : Row) → HasTickets ts old → is_gone old.history (made old.history + 1) ≡ false → Admits old r new → made new.history ≡ made old.history + 1
     → HasTickets (placed (made old.history + 1) r ts) new
 has_admitted ts old new r has fresh admits comes =
     let leaves = brings_leaves (due old.plan old.history) (made old.history + 1) admits.0 admits.1 in
@@ -272,13 +272,13 @@ has_admitted ts old new r has fresh admits comes =
     )
 
 -- what was emptied, with its tickets taken out
-pub has_collected : (ts : List (ℕ × Row)) (old new : Book) (ids : List ℕ) → HasTickets ts old → IsNext old (Emptied ids) → Records old (Emptied ids) new → HasTickets (besides ids ts) new
+pub has_collected : (ts : List (ℕ × Row)) (old new : AgentView) (ids : List ℕ) → HasTickets ts old → IsNext old (Emptied ids) → Records old (Emptied ids) new → HasTickets (besides ids ts) new
 has_collected ts old new ids has next records =
     subst (HasTickets (besides ids ts)) (sym records)
     (ap (besides ids) has.0 ∙ sym (emptied_tickets old ids next), has.1, (let small = has.2 in omega (arith, small)))
 
 -- a collection that is due empties all that is dead
-pub dead_next : (b : Book) (ids : List ℕ) → need b ≡ asks_marks → AreDead (receivers b.plan.jobs) b.history ids → list_all (is_there b.history) ids ≡ true → is_rising ids ≡ true → IsNext b (Emptied ids)
+pub dead_next : (b : AgentView) (ids : List ℕ) → need b ≡ asks_marks → AreDead (receivers b.plan.jobs) b.history ids → list_all (is_there b.history) ids ≡ true → is_rising ids ≡ true → IsNext b (Emptied ids)
 dead_next b ids asked dead there rising =
     let command = collects_due b (due b.plan b.history) asked in
     record {
@@ -287,12 +287,12 @@ dead_next b ids asked dead there rising =
     }
 
 -- the same, told of what the record shows
-pub dead_next_of : (b q : Book) (ids : List ℕ) → q ≡ b → need b ≡ asks_marks → AreDead (receivers q.plan.jobs) q.history ids → list_all (is_there q.history) ids ≡ true → is_rising ids ≡ true → IsNext b (Emptied ids)
+pub dead_next_of : (b q : AgentView) (ids : List ℕ) → q ≡ b → need b ≡ asks_marks → AreDead (receivers q.plan.jobs) q.history ids → list_all (is_there q.history) ids ≡ true → is_rising ids ≡ true → IsNext b (Emptied ids)
 dead_next_of b q ids same asked dead there rising =
     dead_next b ids asked (subst (λ q. AreDead (receivers q.plan.jobs) q.history ids) same dead) (subst (λ q. list_all (is_there q.history) ids ≡ true) same there) rising
 
 -- a later collection that is to be finished empties all that is late
-pub late_next : (b : Book) (ids : List ℕ) → need b ≡ asks_late_marks → AreLateNow b ids → list_all (is_there b.history) ids ≡ true → is_rising ids ≡ true → IsNext b (Emptied ids)
+pub late_next : (b : AgentView) (ids : List ℕ) → need b ≡ asks_late_marks → AreLateNow b ids → list_all (is_there b.history) ids ≡ true → is_rising ids ≡ true → IsNext b (Emptied ids)
 late_next b ids asked late there rising =
     let at = finish_due b (due b.plan b.history) asked in
     record {
@@ -300,12 +300,12 @@ late_next b ids asked late there rising =
       permitted = subst (λ d. Permits b.over (receivers b.plan.jobs) b.history d (Emptied ids)) (sym at.1) (late at.0 (is_open b.plan b.history at.0 at.1));
     }
 
-pub late_next_of : (b q : Book) (ids : List ℕ) → q ≡ b → need b ≡ asks_late_marks → AreLateNow q ids → list_all (is_there q.history) ids ≡ true → is_rising ids ≡ true → IsNext b (Emptied ids)
+pub late_next_of : (b q : AgentView) (ids : List ℕ) → q ≡ b → need b ≡ asks_late_marks → AreLateNow q ids → list_all (is_there q.history) ids ≡ true → is_rising ids ≡ true → IsNext b (Emptied ids)
 late_next_of b q ids same asked late there rising =
     late_next b ids asked (subst (λ q. AreLateNow q ids) same late) (subst (λ q. list_all (is_there q.history) ids ≡ true) same there) rising
 
 -- where it is to be finished, it is open
-pub finish_open : (b : Book) → need b ≡ asks_late_marks → is_some (snapshot b.history) ≡ true
+pub finish_open : (b : AgentView) → need b ≡ asks_late_marks → is_some (snapshot b.history) ≡ true
 finish_open b asked =
     let at = finish_due b (due b.plan b.history) asked in
     ap is_some (is_open b.plan b.history at.0 at.1)

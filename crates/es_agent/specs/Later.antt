@@ -8,8 +8,8 @@ use Rattle.es_event.specs.declared.command.Command.TheVariants.{CollectLater}
 use Rattle.es_event.specs.History.{History}
 use Rattle.es_event.specs.Identities.{is_made, made}
 use Rattle.es_event.specs.Later.{snapshot, derefed_since}
-use Rattle.es_parmark.specs.Snapshot.{Copied, IsCopyOf, are_made}
-use Rattle.es_record.specs.Book.{Book}
+use Rattle.es_parmark.specs.Snapshot.{SnapshotView, IsCopyOf, are_made}
+use Rattle.es_record.specs.AgentView.{AgentView}
 use Rattle.es_record.specs.Graph.{HasRoots, HasEdges, HasEntries, as_at}
 
 -- the event by which a later collection is opened
@@ -17,17 +17,17 @@ abbrev pub opening : Event
 opening = Did (CollectLater, [], Nothing)
 
 -- the copy is of the agent's graph as it was at p
-abbrev pub IsCopyAt : Book → History → Copied → Type 0
+abbrev pub IsCopyAt : AgentView → History → SnapshotView → Type 0
 IsCopyAt b p s = IsCopyOf (made p) (HasRoots (as_at b p)) (HasEdges (as_at b p)) (HasEntries (as_at b p)) s
 
 -- it is the copy of the open later collection
-abbrev pub IsLaterCopy : Book → Copied → Type 0
+abbrev pub IsLaterCopy : AgentView → SnapshotView → Type 0
 IsLaterCopy b s = (p : History) → snapshot b.history ≡ Some p → IsCopyAt b p s
 
 -- these are what derefs gave since, of what was made then, in order
-abbrev pub AreDerefed : Book → List ℕ → Type 0
+abbrev pub AreDerefed : AgentView → List ℕ → Type 0
 AreDerefed b ids = (p : History) → snapshot b.history ≡ Some p → reverse ids ≡ filter (is_made p) (derefed_since b.history)
 
 -- all of these were made when the copy was taken
-abbrev pub AreThen : Book → List ℕ → Type 0
+abbrev pub AreThen : AgentView → List ℕ → Type 0
 AreThen b ids = (p : History) → snapshot b.history ≡ Some p → are_made (made p) ids ≡ true

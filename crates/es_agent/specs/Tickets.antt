@@ -14,8 +14,8 @@ use Rattle.es_event.specs.Late.{AreLate}
 use Rattle.es_event.specs.Later.{snapshot, derefed_since}
 use Rattle.es_event.specs.Reach.{AreDead}
 use Rattle.es_event.specs.Order.{Phase, between, handed, inside, stopped, ended, phase, Due, begin, receive, run, clean, take_cell, finish, end_job, close, nothing, due}
-use Rattle.es_ticket.specs.Shares.{among}
-use Rattle.es_record.specs.Book.{Book, IsNext, Records, with_buffer}
+use Rattle.es_ticket.specs.Stakes.{among}
+use Rattle.es_record.specs.AgentView.{AgentView, IsNext, Records, with_buffer}
 use Rattle.es_rules.specs.Needs.{asks_message, need, IsDone, Brings}
 
 abbrev pub is_ended : Phase → Bool
@@ -27,7 +27,7 @@ is_ended ended = true
 
 -- what the agent's tickets name, by rising identity of their buffer objects: those of buffer objects that are not emptied,
 -- until it closes, when it hands out all
-abbrev pub tickets : Book → List (ℕ × Row)
+abbrev pub tickets : AgentView → List (ℕ × Row)
 tickets b = if is_ended (phase b.history) then [] else filter (λ t. not (is_gone b.history t.0)) (reverse b.over)
 
 -- a command comes next, of a job or of a callback
@@ -43,41 +43,41 @@ is_command close = false
 is_command nothing = false
 
 -- one event was appended, the next by the rules and the plan
-abbrev pub RecordsNext : Book → Book → Type 0
+abbrev pub RecordsNext : AgentView → AgentView → Type 0
 RecordsNext old new = (e : Event) × IsNext old e × Records old e new
 
 -- these were emptied in one event, and the tickets of the buffer objects among them came out
-abbrev pub Empties : (List ℕ → Type 0) → Book → List (ℕ × Row) → Book → Type 0
+abbrev pub Empties : (List ℕ → Type 0) → AgentView → List (ℕ × Row) → AgentView → Type 0
 Empties chosen old out new = (ids : List ℕ) × chosen ids × IsNext old (Emptied ids) × Records old (Emptied ids) new × (out ≡ among ids (tickets old))
 
 -- all that was dead was emptied
-abbrev pub Collects : Book → List (ℕ × Row) → Book → Type 0
+abbrev pub Collects : AgentView → List (ℕ × Row) → AgentView → Type 0
 Collects old out new = Empties (AreDead (receivers old.plan.jobs) old.history) old out new
 
 -- all that is late, by the copy of the open later collection and what derefs gave since
-abbrev pub AreLateNow : Book → List ℕ → Type 0
+abbrev pub AreLateNow : AgentView → List ℕ → Type 0
 AreLateNow b ids = (p : History) → snapshot b.history ≡ Some p → AreLate (receivers b.plan.jobs) p (derefed_since b.history) ids
 
 -- all that was late was emptied, and so the later collection was finished
-abbrev pub Finishes : Book → List (ℕ × Row) → Book → Type 0
+abbrev pub Finishes : AgentView → List (ℕ × Row) → AgentView → Type 0
 Finishes old out new = Empties (AreLateNow old) old out new
 
 -- a new buffer object over the row's block came, by the answer of the due command or by a receipt
-abbrev pub Admits : Book → Row → Book → Type 0
+abbrev pub Admits : AgentView → Row → AgentView → Type 0
 Admits old r new = (e : Event) × Brings (due old.plan old.history) (made old.history + 1) e × IsNext (with_buffer r old) e × Records (with_buffer r old) e new
 
 -- the message with a buffer was refused for want of room
-abbrev pub RefusesMessage : Book → Book → Type 0
+abbrev pub RefusesMessage : AgentView → AgentView → Type 0
 RefusesMessage old new = (s : ℕ) × (need old ≡ asks_message s) × IsNext old (Refused TooManyValues) × Records old (Refused TooManyValues) new
 
 -- a message with this value was received
-abbrev pub Receives : Book → Value → Book → Type 0
+abbrev pub Receives : AgentView → Value → AgentView → Type 0
 Receives old v new = (s : ℕ) × (need old ≡ asks_message s) × IsNext old (Received s v) × Records old (Received s v) new
 
 -- the due command was done with this answer
-abbrev pub DoesWith : Book → Answer → Book → Type 0
+abbrev pub DoesWith : AgentView → Answer → AgentView → Type 0
 DoesWith old r new = (e : Event) × IsDone old r e × IsNext old e × Records old e new
 
 -- the job that waited was skipped
-abbrev pub Skips : Book → Book → Type 0
+abbrev pub Skips : AgentView → AgentView → Type 0
 Skips old new = (n s : ℕ) × (due old.plan old.history ≡ receive n s) × IsNext old (Skipped n s) × Records old (Skipped n s) new

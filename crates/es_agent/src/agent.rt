@@ -12,8 +12,8 @@ ghost use Rattle.es_event.specs.Live.{Honest};
 ghost use Rattle.es_event.specs.Order.{due, run, is_cleaning_up};
 ghost use Rattle.es_event.specs.declared.command.Command.{Command as CommandSaid};
 ghost use Rattle.es_event.specs.Runs.{IsRunOver};
-ghost use Rattle.es_ticket.specs.Shares.{at};
-ghost use Rattle.es_record.specs.Book.{Records};
+ghost use Rattle.es_ticket.specs.Stakes.{at};
+ghost use Rattle.es_record.specs.AgentView.{Records};
 ghost use Rattle.es_event.specs.Later.{snapshot};
 ghost use Rattle.es_record.specs.Graph.{AreMarksOf, AreLateMarks};
 ghost use Rattle.std.specs.Arc.{arc_value};
@@ -37,7 +37,7 @@ use es_rules::{
     Need, Stop, answered_done, answered_word, asks, asks_nobody, asks_somebody, begun, do_alone,
     next_event, received, skipped,
 };
-use es_ticket::{Rack, Run, Ticket};
+use es_ticket::{LedgerName, Rack, Ticket};
 use es_value::{Id, NoMemory, Value};
 use std::alloc::Global;
 use std::marker::Model;
@@ -49,28 +49,28 @@ use std::sync::Arc;
 /// Its stored history is legal and follows its plan so far; nothing that is reached is emptied, and
 /// no set that was emptied was live. It has the tickets of its buffer objects that are not emptied,
 /// and those alone: so it can't be dropped, but ends by `into_history` or `abandon`.
-pub struct AgentCore<L: Run> {
+pub struct AgentCore<L: LedgerName> {
     alloc: Global,
     record: Recorder,
     rack: Rack<L>,
 }
 
-impl<L: Run> Model for AgentCore<L> {
+impl<L: LedgerName> Model for AgentCore<L> {
     ghost use Rattle.std.specs.Prelude.{◌≡◌, ◌≤◌, true, reverse};
     ghost use Rattle.es_event.specs.Identities.{made};
-    ghost use Rattle.es_ticket.specs.Shares.{is_rising_from};
-    ghost use Rattle.es_record.specs.Book.{Book};
+    ghost use Rattle.es_ticket.specs.Stakes.{is_rising_from};
+    ghost use Rattle.es_record.specs.AgentView.{AgentView};
     ghost use Rattle.es_record.specs.Newest.{newest};
     ghost use Rattle.es_agent.specs.Tickets.{tickets};
 
-    ghost Value = { Book };
+    ghost Value = { AgentView };
 
     ghost view = { λ a. a.record };
 
     ghost invariant = { λ a. (a.rack.tickets ≡ tickets a.record) × (is_rising_from 0 (reverse a.record.over) ≡ true) × (newest a.record.over ≤ made a.record.history) };
 }
 
-impl<L: Run> AgentCore<L> {
+impl<L: LedgerName> AgentCore<L> {
     /// The agent of this number, counted from 0, of so many agents, before its first event.
     pub fn new(
         alloc: Global,

@@ -8,7 +8,7 @@ ghost use Rattle.es_event.specs.Identities.{made};
 ghost use Rattle.es_event.specs.Later.{begins_later, snapshot};
 ghost use Rattle.es_event.specs.Order.{due, close};
 ghost use Rattle.es_mark.specs.Made.{is_made};
-ghost use Rattle.es_record.specs.Book.{IsNext, Records, with_buffer};
+ghost use Rattle.es_record.specs.AgentView.{IsNext, Records, with_buffer};
 ghost use Rattle.es_rules.specs.Needs.{need, asks_copy};
 ghost use Rattle.es_tables.specs.Effects.{IsQuiet};
 ghost use Rattle.es_agent.specs.Keeping.{kept_of, HasRoom, noted};
@@ -43,10 +43,10 @@ pub(crate) struct Recorder {
 
 impl Model for Recorder {
     ghost use Rattle.es_event.specs.Later.{snapshot};
-    ghost use Rattle.es_record.specs.Book.{Book};
+    ghost use Rattle.es_record.specs.AgentView.{AgentView};
     ghost use Rattle.es_agent.specs.Keeping.{IsKept, kept_of};
 
-    ghost Value = { Book };
+    ghost Value = { AgentView };
 
     ghost view = { λ r. r.record };
 

@@ -14,18 +14,18 @@ use Rattle.es_event.specs.declared.row.Holder.TheVariants.{Agent, Port, Nobody}
 use Rattle.es_event.specs.Rows.{held_by, line_of}
 use Rattle.es_event.specs.Ledger.{Ledger, front, port_of, serial_in, table, by_agent, holder_of, waits, ended}
 use Rattle.es_event.specs.LegalLedger.{ComesNext, LegalLedger, LegalSoFar, all_ended, owed}
-use Rattle.es_ledger.specs.Books.{Books}
-use Rattle.es_ledger.specs.Draining.{drained_one, drained_each, drained_to, drained_below, drained}
+use Rattle.es_ledger.specs.LedgerView.{LedgerView}
+use Rattle.es_ledger.specs.Draining.{drained_one, drained_each, drained_to, drained_below, after_drain}
 use Rattle.es_ledger.proofs.Lying.{lies_in_front, lying_all}
 use Rattle.es_deeds.specs.Patience.{is_patient, patient, is_nobodys, drained_last}
-use Rattle.es_match.specs.Cluster.{Ties, IsCluster, history_of}
-use Rattle.es_deeds.specs.Patience.{drained as was_drained}
+use Rattle.es_match.specs.Cluster.{DeedsMeet, IsCluster, history_of}
+use Rattle.es_deeds.specs.Patience.{has_drained as was_drained}
 use Rattle.es_deeds.specs.Deeds.{Spends, deed, part, part_of}
 use Rattle.es_member.proofs.Midway.{still_over}
 use Rattle.es_member.specs.Tied.{came_to}
-use Rattle.es_record.specs.Book.{Book}
+use Rattle.es_record.specs.AgentView.{AgentView}
 use Rattle.es_cluster.specs.Moves.{with_drained}
-use Rattle.es_cluster.specs.State.{Cluster, ArePlaced, AreTied}
+use Rattle.es_cluster.specs.State.{ClusterView, ArePlaced, AreTied}
 
 -- all agents have ended, nothing is owed, and something holds of the ledger's history
 pub record Over (P : Ledger → Type 0) (n : ℕ) (l : Ledger) : Type 0 where
@@ -98,7 +98,7 @@ below P n l zero keeps o = o
 below P n l (suc m) keeps o = to P n (drained_below l n m) m n keeps (below P n l m keeps o)
 
 -- it holds after the drain
-pub drained_over : (P : Ledger → Type 0) (n : ℕ) (l : Ledger) → Outlasts P → Over P n l → Over P n (drained l n)
+pub drained_over : (P : Ledger → Type 0) (n : ℕ) (l : Ledger) → Outlasts P → Over P n l → Over P n (after_drain l n)
 drained_over P n l keeps o = below P n l n keeps o
 
 -- Histories of one cluster
@@ -106,7 +106,7 @@ drained_over P n l keeps o = below P n l n keeps o
 -- an event that is nobody's deed
 nobodys : (hs : List History) (l : Ledger) (e : LedgerEvent) → deed l e ≡ None → IsCluster hs l → IsCluster hs (e ∷ l)
 nobodys hs l e none c = record {
-  parts = λ a. (let was = c.parts a in (was.0, subst (λ p. Ties (history_of hs a) p was.0) (sym (ap (λ o. part l a ++ part_of a o) none ∙ append-nil (part l a))) was.1));
+  parts = λ a. (let was = c.parts a in (was.0, subst (λ p. DeedsMeet (history_of hs a) p was.0) (sym (ap (λ o. part l a ++ part_of a o) none ∙ append-nil (part l a))) was.1));
   waits = ap (λ o. is_patient l o && patient l) none ∙ c.waits;
   drains = ap (λ o. (is_nobodys o || not (was_drained l)) && drained_last l) none ∙ c.drains;
 }
@@ -119,13 +119,13 @@ cluster_outlasts hs = record {
 
 -- The agents and their places
 
-abbrev pub Stands : List Book → ℕ → Ledger → Type 0
+abbrev pub Stands : List AgentView → ℕ → Ledger → Type 0
 Stands bs n l = ArePlaced bs (record { agents = n; history = l }) × AreTied bs (record { agents = n; history = l })
 
 part_still : (l : Ledger) (e : LedgerEvent) (a : ℕ) → deed l e ≡ None → part (e ∷ l) a ≡ part l a
 part_still l e a none = ap (λ o. part l a ++ part_of a o) none ∙ append-nil (part l a)
 
-still : (bs : List Book) (n : ℕ) (l : Ledger) (e : LedgerEvent) → deed l e ≡ None → ((a : ℕ) → waits (e ∷ l) a ≡ waits l a) → ((a : ℕ) → ended (e ∷ l) a ≡ ended l a) → Stands bs n l → Stands bs n (e ∷ l)
+still : (bs : List AgentView) (n : ℕ) (l : Ledger) (e : LedgerEvent) → deed l e ≡ None → ((a : ℕ) → waits (e ∷ l) a ≡ waits l a) → ((a : ℕ) → ended (e ∷ l) a ≡ ended l a) → Stands bs n l → Stands bs n (e ∷ l)
 still bs n l e none same ends stands = (
   record {
     size = stands.0.size;
@@ -141,7 +141,7 @@ still bs n l e none same ends stands = (
     each = λ i b is.
         (let was = stands.1.each i b is in
         record {
-          ties = subst (λ p. Ties b.history p (came_to b)) (sym (part_still l e b.number none)) was.ties;
+          ties = subst (λ p. DeedsMeet b.history p (came_to b)) (sym (part_still l e b.number none)) was.ties;
           awaits = λ s waiting. was.awaits s (sym (same b.number) ∙ waiting);
           waits_end = ap (λ o. is_patient l o && patient l) none ∙ was.waits_end;
           drains_end = ap (λ o. (is_nobodys o || not (was_drained l)) && drained_last l) none ∙ was.drains_end;
@@ -152,19 +152,19 @@ still bs n l e none same ends stands = (
   },
 )
 
-pub stands_outlasts : (bs : List Book) (n : ℕ) → Outlasts (Stands bs n)
+pub stands_outlasts : (bs : List AgentView) (n : ℕ) → Outlasts (Stands bs n)
 stands_outlasts bs n = record {
   drains = λ l r s stands. still bs n l (Drained s r) refl (λ a. refl) (λ a. refl) stands;
   spends = λ l k none stands. still bs n l (Spent k) none (λ a. refl) (λ a. refl) stands;
 }
 
 -- the agents have their places after a drain, and all have ended
-pub drained_stands : (bs : List Book) (l m : Books) → ArePlaced bs l → AreTied bs l → LegalLedger l.agents l.history → all_ended l.history l.agents ≡ true → m.agents ≡ l.agents → m.history ≡ drained l.history l.agents
+pub drained_stands : (bs : List AgentView) (l m : LedgerView) → ArePlaced bs l → AreTied bs l → LegalLedger l.agents l.history → all_ended l.history l.agents ≡ true → m.agents ≡ l.agents → m.history ≡ after_drain l.history l.agents
     → ArePlaced bs m × AreTied bs m × (all_ended m.history m.agents ≡ true)
 drained_stands bs l m placed tied legal over agents history =
     let end = drained_over (Stands bs l.agents) l.agents l.history (stands_outlasts bs l.agents) (record { legal = legal.0; paid = legal.1; over = over; kept = (placed, tied) }) in
-    let same : ◌≡◌ {A = Books} (record { agents = l.agents; history = drained l.history l.agents }) m = λ i. record { agents = sym agents i; history = sym history i } in
+    let same : ◌≡◌ {A = LedgerView} (record { agents = l.agents; history = after_drain l.history l.agents }) m = λ i. record { agents = sym agents i; history = sym history i } in
     (subst (ArePlaced bs) same end.kept.0, subst (AreTied bs) same end.kept.1, subst (λ b. all_ended b.history b.agents ≡ true) same end.over)
 
-pub as_drained : (c : Cluster) (m : Books) → m.agents ≡ c.ledger.agents → m.history ≡ drained c.ledger.history c.ledger.agents → ◌≡◌ {A = Cluster} (record { agents = c.agents; ledger = m; failed = c.failed }) (with_drained c)
+pub as_drained : (c : ClusterView) (m : LedgerView) → m.agents ≡ c.ledger.agents → m.history ≡ after_drain c.ledger.history c.ledger.agents → ◌≡◌ {A = ClusterView} (record { agents = c.agents; ledger = m; failed = c.failed }) (with_drained c)
 as_drained c m agents history = λ i. record { agents = c.agents; ledger = record { agents = agents i; history = history i }; failed = c.failed }

@@ -5,30 +5,30 @@ use Rattle.es_event.specs.declared.outcome.Outcome.{Outcome}
 use Rattle.es_event.specs.Ledger.{count, port_of, table}
 use Rattle.es_event.specs.LegalLedger.{LegalLedger, all_ended}
 use Rattle.es_event.specs.Rows.{held}
-use Rattle.es_ledger.specs.Books.{Books}
-use Rattle.es_ledger.specs.Draining.{drained}
+use Rattle.es_ledger.specs.LedgerView.{LedgerView}
+use Rattle.es_ledger.specs.Draining.{after_drain}
 use Rattle.es_match.specs.Cluster.{IsClusterOf}
-use Rattle.es_record.specs.Book.{Book}
+use Rattle.es_record.specs.AgentView.{AgentView}
 use Rattle.es_cluster.specs.Ends.{AreHistories, HaveNoTicket, EndsIn}
-use Rattle.es_cluster.specs.State.{Cluster, ArePlaced, AreTied, accounts, names_of}
+use Rattle.es_cluster.specs.State.{ClusterView, ArePlaced, AreTied, accounts, names_of}
 use Rattle.es_cluster.proofs.Draining.{drained_stands}
 use Rattle.es_ledger.proofs.Mailed.{none_counted}
 use Rattle.es_cluster.proofs.Standing.{are_cluster}
 
 -- an agent stands at each place
-pub there : (bs : List Book) (i : ℕ) → i < length bs → (b : Book) × (slice_get bs i ≡ Some b)
+pub there : (bs : List AgentView) (i : ℕ) → i < length bs → (b : AgentView) × (slice_get bs i ≡ Some b)
 there [] i within = absurd (omega (arith, within))
 there (b ∷ bs) zero within = (b, refl)
 there (b ∷ bs) (suc i) within = there bs i (omega (arith, within))
 
 -- no agent holds a ticket
-none_below : (bs : List Book) (l : Books) → ArePlaced bs l → HaveNoTicket bs l.history → (a : ℕ) → a < l.agents → held a (table l.history) ≡ []
+none_below : (bs : List AgentView) (l : LedgerView) → ArePlaced bs l → HaveNoTicket bs l.history → (a : ℕ) → a < l.agents → held a (table l.history) ≡ []
 none_below bs l placed none a within =
     let found = there bs a (let size = placed.size in omega (arith, size, within)) in
     ap (λ n. held n (table l.history)) (sym (placed.each a found.0 found.1).number) ∙ none a found.0 found.1
 
-pub ends_in : (c : Cluster) (m : Books) (o : Outcome) → ArePlaced c.agents c.ledger → AreTied c.agents c.ledger → LegalLedger c.ledger.agents c.ledger.history → all_ended c.ledger.history c.ledger.agents ≡ true
-    → m.agents ≡ c.ledger.agents → m.history ≡ drained c.ledger.history c.ledger.agents → o.names ≡ names_of c.agents → AreHistories c.agents o.histories
+pub ends_in : (c : ClusterView) (m : LedgerView) (o : Outcome) → ArePlaced c.agents c.ledger → AreTied c.agents c.ledger → LegalLedger c.ledger.agents c.ledger.history → all_ended c.ledger.history c.ledger.agents ≡ true
+    → m.agents ≡ c.ledger.agents → m.history ≡ after_drain c.ledger.history c.ledger.agents → o.names ≡ names_of c.agents → AreHistories c.agents o.histories
     → reverse o.ledger ≡ m.history → LegalLedger m.agents m.history → HaveNoTicket c.agents m.history → ((s r : ℕ) → port_of m.history s r ≡ []) → EndsIn c o
 ends_in c m o placed tied legal over agents history names histories events legal_end none empty = record {
   names = names;

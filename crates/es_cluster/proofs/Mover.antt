@@ -14,7 +14,7 @@ use Rattle.es_ledger.specs.declared.turn.Turn.{Turn}
 use Rattle.es_ledger.specs.declared.turn.Turn.TheVariants.{Ready, Stay, Skip}
 use Rattle.es_member.proofs.Hearing.{where_stay}
 use Rattle.es_member.proofs.Midway.{still_over}
-use Rattle.es_record.specs.Book.{Book}
+use Rattle.es_record.specs.AgentView.{AgentView}
 use Rattle.es_rules.specs.Needs.{asks_message, asks_nothing, need_of, need}
 use Rattle.es_cluster.specs.Moves.{goes_on_by, goes_on, is_over}
 
@@ -58,7 +58,7 @@ settled_at l (suc n) i all less = elim (cases_Bool (i == n)) [
     below : (i n : ℕ) → i < suc n → (i ≡ n → ⊥) → i < n
     below i n less other = omega (arith, less, other)
 
-over_at : (b : Book) (at : Phase) → is_ended at ≡ true → need_of b (due_at b.plan b.history at) ≡ asks_nothing
+over_at : (b : AgentView) (at : Phase) → is_ended at ≡ true → need_of b (due_at b.plan b.history at) ≡ asks_nothing
 over_at b between is = cc
 over_at b handed is = cc
 over_at b inside is = cc
@@ -66,11 +66,11 @@ over_at b stopped is = cc
 over_at b at_end is = refl
 
 -- an agent that has ended asks for nothing
-pub over_asks_nothing : (b : Book) → is_over b ≡ true → need b ≡ asks_nothing
+pub over_asks_nothing : (b : AgentView) → is_over b ≡ true → need b ≡ asks_nothing
 over_asks_nothing b is = over_at b (phase b.history) is
 
 -- it does not go on
-pub settled_stays : (l : Ledger) (b : Book) → ended l b.number ≡ is_over b → ((s : ℕ) → waits l b.number ≡ Some s → need b ≡ asks_message s) → is_settled l b.number ≡ true → goes_on l b ≡ false
+pub settled_stays : (l : Ledger) (b : AgentView) → ended l b.number ≡ is_over b → ((s : ℕ) → waits l b.number ≡ Some s → need b ≡ asks_message s) → is_settled l b.number ≡ true → goes_on l b ≡ false
 settled_stays l b over awaits is = by_end (ended l b.number) refl is
   where
     by_wait : (w : Option ℕ) → waits l b.number ≡ w → option_map_or (λ s. not (has_message l s b.number) && not (ended l s)) w false ≡ true → goes_on l b ≡ false
@@ -110,7 +110,7 @@ asked_waits l a s t other = by_asked (λ k. waits k t ≡ waits l t) l a s refl 
 ])
 
 -- its wait is recorded
-pub asked_awaits : (b : Book) (l : Ledger) (s : ℕ) → ((t : ℕ) → waits l b.number ≡ Some t → need b ≡ asks_message t) → need b ≡ asks_message s → waits (asked l b.number s) b.number ≡ Some s
+pub asked_awaits : (b : AgentView) (l : Ledger) (s : ℕ) → ((t : ℕ) → waits l b.number ≡ Some t → need b ≡ asks_message t) → need b ≡ asks_message s → waits (asked l b.number s) b.number ≡ Some s
 asked_awaits b l s awaits is = at (waits l b.number) refl
   where
     at : (w : Option ℕ) → waits l b.number ≡ w → waits (cond (is_some w) l (WaitingEvent b.number s ∷ l)) b.number ≡ Some s
@@ -149,12 +149,12 @@ pub asked_all_ended : (l : Ledger) (a s n : ℕ) → all_ended l n ≡ true → 
 asked_all_ended l a s n all = by_asked (λ k. all_ended k n ≡ true) l a s all (still_over (WaitingEvent a s) l n all)
 
 -- one that is told to stay waits in vain from then on, and is not the lowest of agents that all do
-pub record StaysHere (l k : Ledger) (n : ℕ) (b : Book) (s : ℕ) : Type 0 where
+pub record StaysHere (l k : Ledger) (n : ℕ) (b : AgentView) (s : ℕ) : Type 0 where
   pub history : k ≡ asked l b.number s
   pub stuck : is_stuck k b.number ≡ true
   pub unchosen : is_chosen k n b.number ≡ false
 
-pub stays_here : (b : Book) (l k : Ledger) (n s : ℕ) → ((t : ℕ) → waits l b.number ≡ Some t → need b ≡ asks_message t) → need b ≡ asks_message s → ◌≡◌ {A = Turn × Ledger} (Stay, k) (told l n b.number s) → StaysHere l k n b s
+pub stays_here : (b : AgentView) (l k : Ledger) (n s : ℕ) → ((t : ℕ) → waits l b.number ≡ Some t → need b ≡ asks_message t) → need b ≡ asks_message s → ◌≡◌ {A = Turn × Ledger} (Stay, k) (told l n b.number s) → StaysHere l k n b s
 stays_here b l k n s awaits is heard = subst (λ k. StaysHere l k n b s) (sym recorded) (at_port (has_message l s b.number) refl heard)
   where
     recorded : k ≡ asked l b.number s
@@ -186,7 +186,7 @@ stays_here b l k n s awaits is heard = subst (λ k. StaysHere l k n b s) (sym re
         (ap (λ w. option_map_or (λ t. t == s) w false) waiting ∙ eq-eqb s s refl))
 
 -- one that is not told to stay goes on, or is the lowest of agents that all wait in vain once it is asked
-pub goes_or_chosen : (b : Book) (l : Ledger) (n s : ℕ) → ((t : ℕ) → waits l b.number ≡ Some t → need b ≡ asks_message t) → need b ≡ asks_message s → ((told l n b.number s).0 ≡ Stay → ⊥) → goes_on l b ≡ false
+pub goes_or_chosen : (b : AgentView) (l : Ledger) (n s : ℕ) → ((t : ℕ) → waits l b.number ≡ Some t → need b ≡ asks_message t) → need b ≡ asks_message s → ((told l n b.number s).0 ≡ Stay → ⊥) → goes_on l b ≡ false
     → is_chosen (asked l b.number s) n b.number ≡ true
 goes_or_chosen b l n s awaits is heard stays = at_port (has_message l s b.number) (ended l s) refl refl (sym (ap (goes_on_by l b.number) is) ∙ stays) heard
   where

@@ -23,7 +23,7 @@ use Rattle.es_event.specs.Registrations.{callback, first_awaiting}
 use Rattle.es_event.specs.Rules.{refusal}
 use Rattle.es_event.specs.Legal.{values_of}
 use Rattle.es_event.specs.Order.{Phase, between, handed, inside, stopped, ended, phase, Due, begin, receive, run, clean, take_cell, finish, end_job, due_end, close, nothing, left, queue, job_commands, callback_commands, due_after, due_inside, due_job, due_between, due_at, due}
-use Rattle.es_record.specs.Book.{Book}
+use Rattle.es_record.specs.AgentView.{AgentView}
 use Rattle.es_rules.specs.Needs.{Request, posts_to, asked, unless_refused, request, Need, asks_marks, asks_copy, asks_ledger, ledger_or_nobody, opens_now, need_of, need}
 use Rattle.es_member.specs.Turned.{NamesOthers}
 
@@ -146,7 +146,7 @@ marks_or n agents true o m is = tt
 marks_or n agents false true m is = tt
 marks_or n agents false false m is = is
 
-pub names : (b : Book) (agents n : ℕ) → b.number ≡ n → names_others agents n b.plan ≡ true → NamesOthers (need b) b.number agents
+pub names : (b : AgentView) (agents n : ℕ) → b.number ≡ n → names_others agents n b.plan ≡ true → NamesOthers (need b) b.number agents
 names b agents n number is = subst (λ m. NamesOthers (need b) m agents) (sym number) (at (due b.plan b.history) refl)
   where
     parts : (list_all (speaks_where (is_other agents n)) b.plan.jobs ≡ true) × (list_all (λ c. list_all (posts_where (is_other agents n)) c.run) b.plan.callbacks ≡ true)

@@ -14,10 +14,10 @@ use Rattle.es_event.proofs.Awaiting.{between_clean}
 use Rattle.es_event.proofs.Coming.{Comes, begins_job, begins_handed, receives, skips, refuses_message, begins_cleanup, does, refuses, empties_dead, takes, ends, stops, finishes, finishes_stopped, closes, comes, next_cell}
 use Rattle.es_event.proofs.Work.{plan_work, cleanup_work, cleanup_less, plan_less}
 use Rattle.es_agent.specs.Tickets.{is_ended}
-use Rattle.es_member.specs.Turned.{Moves}
+use Rattle.es_member.specs.Turned.{GrowsByOne}
 use Rattle.es_member.specs.declared.member.Progress.{Progress}
 use Rattle.es_member.specs.declared.member.Progress.TheVariants.{Moved, Waiting, Ended}
-use Rattle.es_record.specs.Book.{Book, with_row}
+use Rattle.es_record.specs.AgentView.{AgentView, with_row}
 use Rattle.es_rules.specs.Needs.{Request, request, Need, asks_nobody, asks_marks, asks_copy, asks_late_marks, asks_ledger, asks_message, asks_closing, asks_nothing, ledger_or_nobody, opens_now, need_of, need}
 use Rattle.es_cluster.specs.Moves.{is_between, rests}
 use Rattle.es_cluster.specs.Turns.{Takes}
@@ -96,27 +96,27 @@ idle_command false true q idle = cc
 idle_command false false None idle = cc
 idle_command false false (Some r) idle = cc
 
-idle_end : {P : Type 0} (b : Book) (o : Option History) → is_idle (need_of b (due_end o)) ≡ true → P
+idle_end : {P : Type 0} (b : AgentView) (o : Option History) → is_idle (need_of b (due_end o)) ≡ true → P
 idle_end b None idle = cc
 idle_end b (Some p) idle = cc
 
-idle_after : {P : Type 0} (b : Book) (h : History) (o : Option ℕ) → is_idle (need_of b (due_after h o)) ≡ true → P
+idle_after : {P : Type 0} (b : AgentView) (h : History) (o : Option ℕ) → is_idle (need_of b (due_after h o)) ≡ true → P
 idle_after b h None idle = idle_end b (snapshot h) idle
 idle_after b h (Some n) idle = cc
 
-idle_inside : {P : Type 0} (b : Book) (h : History) (cs : List Command) → is_idle (need_of b (due_inside h cs)) ≡ true → P
+idle_inside : {P : Type 0} (b : AgentView) (h : History) (cs : List Command) → is_idle (need_of b (due_inside h cs)) ≡ true → P
 idle_inside b h [] idle = idle_after b h (next_cell h) idle
 idle_inside b h (c ∷ cs) idle = idle_command (collects_now b.history c) (opens_now b.history c) (request b c) idle
 
-resting : (h : History) (at : Phase) (q : List ℕ) → phase h ≡ at → queue h ≡ q → is_outside at ≡ true → is_between h ≡ true → cleans_up None at q ≡ false → cleaning h ≡ None → (b : Book) → b.history ≡ h → rests b ≡ true
+resting : (h : History) (at : Phase) (q : List ℕ) → phase h ≡ at → queue h ≡ q → is_outside at ≡ true → is_between h ≡ true → cleans_up None at q ≡ false → cleaning h ≡ None → (b : AgentView) → b.history ≡ h → rests b ≡ true
 resting h at q here queued out newest none clean b is = rw (is, newest, here, queued, clean, none) refl
 
-idle_between : (b : Book) (q : List ℕ) → IsRunOver b.over b.plan b.history → phase b.history ≡ between → queue b.history ≡ q → is_idle (need_of b (due_between b.plan b.history q)) ≡ true → rests b ≡ true
+idle_between : (b : AgentView) (q : List ℕ) → IsRunOver b.over b.plan b.history → phase b.history ≡ between → queue b.history ≡ q → is_idle (need_of b (due_between b.plan b.history q)) ≡ true → rests b ≡ true
 idle_between b [] run here queued idle =
     resting b.history between [] here queued refl (newest b.over b.plan b.history run.1 (ap is_outside here)) refl (between_clean b.history here) b refl
 idle_between b (r ∷ rs) run here queued idle = cc
 
-idle_at : (b : Book) (at : Phase) → IsRunOver b.over b.plan b.history → phase b.history ≡ at → is_idle (need_of b (due_at b.plan b.history at)) ≡ true → rests b ≡ true
+idle_at : (b : AgentView) (at : Phase) → IsRunOver b.over b.plan b.history → phase b.history ≡ at → is_idle (need_of b (due_at b.plan b.history at)) ≡ true → rests b ≡ true
 idle_at b between run here idle = idle_between b (queue b.history) run here refl idle
 idle_at b handed run here idle = cc
 idle_at b inside run here idle = idle_inside b b.history (left b.plan b.history) idle
@@ -125,43 +125,43 @@ idle_at b ended run here idle =
     resting b.history ended (queue b.history) here refl refl (newest b.over b.plan b.history run.1 (ap is_outside here)) refl (ended_clean b.over b.plan b.history run.1 here) b refl
 
 -- it rests
-pub idle_rests : (b : Book) → IsRunOver b.over b.plan b.history → is_idle (need b) ≡ true → rests b ≡ true
+pub idle_rests : (b : AgentView) → IsRunOver b.over b.plan b.history → is_idle (need b) ≡ true → rests b ≡ true
 idle_rests b run idle = idle_at b (phase b.history) run refl idle
 
 -- one that asks for nothing has ended
 
-job_asks : {P : Type 0} (b : Book) (n : ℕ) (o : Option (Option (ℕ × List ℕ))) → need_of b (due_job n o) ≡ asks_nothing → P
+job_asks : {P : Type 0} (b : AgentView) (n : ℕ) (o : Option (Option (ℕ × List ℕ))) → need_of b (due_job n o) ≡ asks_nothing → P
 job_asks b n None is = cc
 job_asks b n (Some None) is = cc
 job_asks b n (Some (Some on)) is = cc
 
-between_asks : {P : Type 0} (b : Book) (q : List ℕ) → need_of b (due_between b.plan b.history q) ≡ asks_nothing → P
+between_asks : {P : Type 0} (b : AgentView) (q : List ℕ) → need_of b (due_between b.plan b.history q) ≡ asks_nothing → P
 between_asks b [] is = job_asks b (job b.history) _ is
 between_asks b (r ∷ rs) is = cc
 
-nothing_at : (b : Book) (at : Phase) → need_of b (due_at b.plan b.history at) ≡ asks_nothing → is_ended at ≡ true
+nothing_at : (b : AgentView) (at : Phase) → need_of b (due_at b.plan b.history at) ≡ asks_nothing → is_ended at ≡ true
 nothing_at b between is = between_asks b (queue b.history) is
 nothing_at b handed is = cc
 nothing_at b inside is = idle_inside b b.history (left b.plan b.history) (ap is_idle is)
 nothing_at b stopped is = idle_end b (snapshot b.history) (ap is_idle is)
 nothing_at b ended is = refl
 
-pub nothing_over : (b : Book) → need b ≡ asks_nothing → is_ended (phase b.history) ≡ true
+pub nothing_over : (b : AgentView) → need b ≡ asks_nothing → is_ended (phase b.history) ≡ true
 nothing_over b is = nothing_at b (phase b.history) is
 
 -- an agent that does not rest moves
-pub moves_on : (p : Progress) (old new : Book) → IsRunOver old.over old.plan old.history → rests old ≡ false → Takes p old new → p ≡ Moved
+pub moves_on : (p : Progress) (old new : AgentView) → IsRunOver old.over old.plan old.history → rests old ≡ false → Takes p old new → p ≡ Moved
 moves_on Moved old new run not_yet turn = refl
 moves_on Waiting old new run not_yet turn = let clash : true ≡ false = sym (idle_rests old run (ap is_idle turn.1)) ∙ not_yet in cc
 moves_on Ended old new run not_yet turn = let clash : true ≡ false = sym (idle_rests old run (ap is_idle turn.0)) ∙ not_yet in cc
 
 -- A turn leaves less
 
-pub less_cleaning : (old new : Book) → callbacks_collect_nothing old.plan ≡ true → IsRunOver old.over old.plan old.history → is_cleaning_up old.history ≡ true → Moves old new
+pub less_cleaning : (old new : AgentView) → callbacks_collect_nothing old.plan ≡ true → IsRunOver old.over old.plan old.history → is_cleaning_up old.history ≡ true → GrowsByOne old new
     → (plan_work new.plan new.history ≡ plan_work old.plan old.history) × (cleanup_work new.plan new.history < cleanup_work old.plan old.history)
 less_cleaning old new quiet run up step =
     let less = cleanup_less old.over (with_row step.1 old).over old.plan old.history step.0 quiet run.0 run.1 up (step.2.lawful, step.2.permitted) in
     rw step.3 (less.1, less.0)
 
-pub less_next : (old new : Book) → IsRunOver old.over old.plan old.history → is_cleaning_up old.history ≡ false → Moves old new → plan_work new.plan new.history < plan_work old.plan old.history
+pub less_next : (old new : AgentView) → IsRunOver old.over old.plan old.history → is_cleaning_up old.history ≡ false → GrowsByOne old new → plan_work new.plan new.history < plan_work old.plan old.history
 less_next old new run still step = rw step.3 (plan_less old.over (with_row step.1 old).over old.plan old.history step.0 run.1 still (step.2.lawful, step.2.permitted))

@@ -12,16 +12,16 @@ use Rattle.es_event.specs.Ledger.{Ledger, ended, waits}
 use Rattle.es_event.specs.LegalLedger.{has_message, is_stuck, all_stuck, all_ended, is_chosen}
 use Rattle.es_event.specs.Order.{Due, begin, receive, run, clean, take_cell, finish, end_job, close, nothing, due}
 use Rattle.es_event.specs.Sharing.{Buffers}
-use Rattle.es_ledger.specs.Books.{Books}
+use Rattle.es_ledger.specs.LedgerView.{LedgerView}
 use Rattle.es_ledger.specs.Turns.{asked}
-use Rattle.es_member.specs.Turned.{Heard, Moves}
+use Rattle.es_member.specs.Turned.{WaitsRightly, GrowsByOne}
 use Rattle.es_member.specs.declared.member.Progress.{Progress}
 use Rattle.es_member.specs.declared.member.Progress.TheVariants.{Moved, Waiting, Ended}
-use Rattle.es_record.specs.Book.{Book, with_row}
+use Rattle.es_record.specs.AgentView.{AgentView, with_row}
 use Rattle.es_rules.specs.Needs.{Request, request, Need, asks_nobody, asks_marks, asks_copy, asks_late_marks, asks_ledger, asks_message, asks_closing, asks_nothing, ledger_or_nobody, opens_now, need_of, need}
 use Rattle.es_cluster.specs.Asked.{Hears}
 use Rattle.es_cluster.specs.Moves.{goes_on_by, goes_on, is_over, or_else}
-use Rattle.es_cluster.specs.State.{Cluster, ArePlaced, AreTied}
+use Rattle.es_cluster.specs.State.{ClusterView, ArePlaced, AreTied}
 use Rattle.es_cluster.specs.Turns.{Turned}
 use Rattle.es_cluster.proofs.Mover.{first_at, none_at_all, is_settled, settled_at, settled_stays, over_asks_nothing, asked_message, asked_ends, asked_waits, asked_awaits, asked_stuck, asked_all_ended, StaysHere, stays_here, goes_or_chosen}
 use Rattle.es_cluster.proofs.Resting.{nothing_over}
@@ -35,7 +35,7 @@ no_request false true q is = cc
 no_request false false None is = cc
 no_request false false (Some r) is = cc
 
-nothing_permitted : (b : Book) (over : Buffers) (into : Receivers) (h : History) (d : Due) (e : Event) → need_of b d ≡ asks_nothing → Permits over into h d e → ⊥
+nothing_permitted : (b : AgentView) (over : Buffers) (into : Receivers) (h : History) (d : Due) (e : Event) → need_of b d ≡ asks_nothing → Permits over into h d e → ⊥
 nothing_permitted b over into h (begin n) e is p = cc
 nothing_permitted b over into h (receive n s) e is p = cc
 nothing_permitted b over into h (run c) e is p = no_request (collects_now b.history c) (opens_now b.history c) (request b c) is
@@ -46,12 +46,12 @@ nothing_permitted b over into h end_job e is p = cc
 nothing_permitted b over into h close e is p = cc
 nothing_permitted b over into h nothing e is p = p
 
-nothing_moves : (old new : Book) → need old ≡ asks_nothing → Moves old new → ⊥
+nothing_moves : (old new : AgentView) → need old ≡ asks_nothing → GrowsByOne old new → ⊥
 nothing_moves old new is step = nothing_permitted old (with_row step.1 old).over (receivers old.plan.jobs) old.history (due old.plan old.history) step.0 is step.2.permitted
 
 -- The mover
 
-goes_same : (l k : Ledger) (b : Book) → ((t r : ℕ) → has_message k t r ≡ has_message l t r) → ((t : ℕ) → ended k t ≡ ended l t) → goes_on k b ≡ goes_on l b
+goes_same : (l k : Ledger) (b : AgentView) → ((t r : ℕ) → has_message k t r ≡ has_message l t r) → ((t : ℕ) → ended k t ≡ ended l t) → goes_on k b ≡ goes_on l b
 goes_same l k b messages ends = at (need b)
   where
     at : (n : Need) → goes_on_by k b.number n ≡ goes_on_by l b.number n
@@ -74,18 +74,18 @@ below_ended l (suc n) i all less = elim (cases_Bool (i == n)) [
     below : (i n : ℕ) → i < suc n → (i ≡ n → ⊥) → i < n
     below i n less other = omega (arith, less, other)
 
-module _ (bs : List Book) (l : Books) (placed : ArePlaced bs l) (tied : AreTied bs l) where
-  over_of : (i : ℕ) (y : Book) → slice_get bs i ≡ Some y → ended l.history y.number ≡ is_over y
+module _ (bs : List AgentView) (l : LedgerView) (placed : ArePlaced bs l) (tied : AreTied bs l) where
+  over_of : (i : ℕ) (y : AgentView) → slice_get bs i ≡ Some y → ended l.history y.number ≡ is_over y
   over_of i y is = (placed.each i y is).seated.over
 
-  awaits_of : (i : ℕ) (y : Book) → slice_get bs i ≡ Some y → (s : ℕ) → waits l.history y.number ≡ Some s → need y ≡ asks_message s
+  awaits_of : (i : ℕ) (y : AgentView) → slice_get bs i ≡ Some y → (s : ℕ) → waits l.history y.number ≡ Some s → need y ≡ asks_message s
   awaits_of i y is = (tied.each i y is).awaits
 
-  lower_stay : (n : ℕ) → all_stuck l.history n ≡ true → (i : ℕ) (y : Book) → i < n → slice_get bs i ≡ Some y → goes_on l.history y ≡ false
+  lower_stay : (n : ℕ) → all_stuck l.history n ≡ true → (i : ℕ) (y : AgentView) → i < n → slice_get bs i ≡ Some y → goes_on l.history y ≡ false
   lower_stay n all i y less is =
       settled_stays l.history y (over_of i y is) (awaits_of i y is) (ap (is_settled l.history) (placed.each i y is).number ∙ settled_at l.history n i all less)
 
-  module _ (n : ℕ) (b : Book) (here : slice_get bs n ≡ Some b) where
+  module _ (n : ℕ) (b : AgentView) (here : slice_get bs n ≡ Some b) where
     number_is : b.number ≡ n
     number_is = (placed.each n b here).number
 
@@ -105,7 +105,7 @@ module _ (bs : List Book) (l : Books) (placed : ArePlaced bs l) (tied : AreTied 
         rest : (all_ended k b.number ≡ true) × (not (ended k b.number) ≡ true)
         rest = and_parts (all_ended k b.number) (not (ended k b.number)) parts.1
 
-        none : (i : ℕ) (y : Book) → slice_get bs i ≡ Some y → goes_on l.history y ≡ false
+        none : (i : ℕ) (y : AgentView) → slice_get bs i ≡ Some y → goes_on l.history y ≡ false
         none i y at =
             sym (goes_same l.history k y (asked_message l.history b.number s) (asked_ends l.history b.number s))
             ∙ settled_stays k y (asked_ends l.history b.number s y.number ∙ over_of i y at) awaits (ap (is_settled k) (placed.each i y at).number ∙ settled_at k l.agents i parts.0 (let size = placed.size in let inside = within bs i y at in omega (arith, size, inside)))
@@ -114,7 +114,7 @@ module _ (bs : List Book) (l : Books) (placed : ArePlaced bs l) (tied : AreTied 
             awaits t waiting = elim (cases_Bool (i == n)) [
               | inl e ↦
                   let same : y ≡ b = let found = sym at ∙ (ap (slice_get bs) (eqb-true i n e) ∙ here) in cc in
-                  let heard : Some s ≡ Some t = sym (asked_awaits b l.history s (awaits_of n b here) is) ∙ (ap (λ (y : Book). waits k y.number) (sym same) ∙ waiting) in
+                  let heard : Some s ≡ Some t = sym (asked_awaits b l.history s (awaits_of n b here) is) ∙ (ap (λ (y : AgentView). waits k y.number) (sym same) ∙ waiting) in
                   let sender : s ≡ t = cc in
                   ap need same ∙ is ∙ ap asks_message sender
               | inr e ↦
@@ -122,14 +122,14 @@ module _ (bs : List Book) (l : Books) (placed : ArePlaced bs l) (tied : AreTied 
                   awaits_of i y at t (sym (asked_waits l.history b.number s y.number (λ same. other (sym (placed.each i y at).number ∙ same ∙ number_is))) ∙ waiting)
             ]
 
-        lower : (i : ℕ) (y : Book) → i < n → slice_get bs i ≡ Some y → not (is_over y) ≡ false
+        lower : (i : ℕ) (y : AgentView) → i < n → slice_get bs i ≡ Some y → not (is_over y) ≡ false
         lower i y less at =
             ap not (sym (over_of i y at) ∙ sym (asked_ends l.history b.number s y.number) ∙ (ap (ended k) (placed.each i y at).number ∙ below_ended k b.number i rest.0 (let same = number_is in omega (arith, same, less))))
 
         left : not (is_over b) ≡ true
         left = ap not (sym (over_of n b here) ∙ sym (asked_ends l.history b.number s b.number)) ∙ rest.1
 
-    mover_is : (new : Book) (m : Books) → Moves b new → Heard Moved b l m → all_stuck l.history n ≡ true → or_else (position_from (goes_on l.history) 0 bs) (position_from (λ b. not (is_over b)) 0 bs) ≡ Some n
+    mover_is : (new : AgentView) (m : LedgerView) → GrowsByOne b new → WaitsRightly Moved b l m → all_stuck l.history n ≡ true → or_else (position_from (goes_on l.history) 0 bs) (position_from (λ b. not (is_over b)) 0 bs) ≡ Some n
     mover_is new m step heard all = by_going (goes_on l.history b) refl
       where
         stays : (d : Need) → need b ≡ d → goes_on_by l.history b.number d ≡ false → or_else (position_from (goes_on l.history) 0 bs) (position_from (λ b. not (is_over b)) 0 bs) ≡ Some n
@@ -148,12 +148,12 @@ module _ (bs : List Book) (l : Books) (placed : ArePlaced bs l) (tied : AreTied 
 
 -- The same agents
 
-same_agents : (p : Progress) (n : ℕ) (old new : Cluster) → (t : Turned p n old new) → t.after ≡ t.before → new.agents ≡ old.agents
+same_agents : (p : Progress) (n : ℕ) (old new : ClusterView) → (t : Turned p n old new) → t.after ≡ t.before → new.agents ≡ old.agents
 same_agents p n old new t same = t.agents ∙ ap (slice_set old.agents n) same ∙ set_same old.agents n t.before t.agent
 
 -- What is heard
 
-pub hears : (p : Progress) (n : ℕ) (old new : Cluster) → ArePlaced old.agents old.ledger → AreTied old.agents old.ledger → Turned p n old new → Hears p n old new
+pub hears : (p : Progress) (n : ℕ) (old new : ClusterView) → ArePlaced old.agents old.ledger → AreTied old.agents old.ledger → Turned p n old new → Hears p n old new
 hears Moved n old new placed tied t = λ all. mover_is old.agents old.ledger placed tied n t.before t.agent t.after new.ledger t.turn t.told all
 hears Waiting n old new placed tied t =
     let number = (placed.each n t.before t.agent).number in
@@ -177,7 +177,7 @@ hears Waiting n old new placed tied t =
         let mine : is_settled k n ≡ true = ap (is_settled k) (sym number) ∙ here in
         ap (all_stuck k) (sym next) ∙ rw (mine, rest) refl
 
-    unchosen : (b : Book) (n : ℕ) (l k : Ledger) (agents s : ℕ) → b.number ≡ n → ended l b.number ≡ is_over b → need b ≡ asks_message s → StaysHere l k agents b s → all_stuck l agents ≡ true → all_ended l n ≡ true → ⊥
+    unchosen : (b : AgentView) (n : ℕ) (l k : Ledger) (agents s : ℕ) → b.number ≡ n → ended l b.number ≡ is_over b → need b ≡ asks_message s → StaysHere l k agents b s → all_stuck l agents ≡ true → all_ended l n ≡ true → ⊥
     unchosen b n l k agents s number over is here all lower =
         let settled_here = settled k b.number here.stuck (ended k b.number) refl in
         let stuck : all_stuck k agents ≡ true = subst (λ k. all_stuck k agents ≡ true) (sym here.history) (asked_stuck l b.number s agents (subst (λ k. is_settled k b.number ≡ true) here.history settled_here) all) in
@@ -187,7 +187,7 @@ hears Waiting n old new placed tied t =
         let clash : true ≡ false = sym chosen ∙ here.unchosen in
         cc
       where
-        not_over : (b : Book) (s : ℕ) → need b ≡ asks_message s → (o : Bool) → is_over b ≡ o → is_over b ≡ false
+        not_over : (b : AgentView) (s : ℕ) → need b ≡ asks_message s → (o : Bool) → is_over b ≡ o → is_over b ≡ false
         not_over b s is true o = let clash : asks_message s ≡ asks_nothing = sym is ∙ over_asks_nothing b o in cc
         not_over b s is false o = o
 hears Ended n old new placed tied t = (

@@ -4,19 +4,19 @@ use Rattle.std.specs.Prelude.{slice_get, slice_set, slice_index_or}
 use Rattle.std.proofs.lemmas.Bool.{cases_Bool, eqb-true, eqb-false}
 use Rattle.es_event.specs.Others.{names_others}
 use Rattle.es_event.specs.Ledger.{Ledger}
-use Rattle.es_ledger.specs.Books.{Books}
-use Rattle.es_match.specs.Cluster.{Account, IsClusterOf, IsSaid, Ties, account_of, nobody}
+use Rattle.es_ledger.specs.LedgerView.{LedgerView}
+use Rattle.es_match.specs.Cluster.{Account, IsClusterOf, IsSaid, DeedsMeet, account_of, nobody}
 use Rattle.es_deeds.specs.Deeds.{part}
 use Rattle.es_match.specs.Meets.{Came, nothing_came}
-use Rattle.es_record.specs.Book.{Book}
-use Rattle.es_member.specs.Seats.{Seat}
+use Rattle.es_record.specs.AgentView.{AgentView}
+use Rattle.es_member.specs.Members.{MemberView}
 use Rattle.es_member.specs.Tied.{GrowsBy, IsTied, came_to}
 use Rattle.es_member.specs.Turned.{IsSeated, IsTiedAfter, OthersStay, Proceeds}
 use Rattle.es_member.specs.declared.member.Progress.{Progress}
 use Rattle.es_member.specs.declared.member.Progress.TheVariants.{Moved, Waiting, Ended}
 use Rattle.es_cluster.specs.Turns.{Takes}
 use Rattle.es_member.proofs.Growing.{part_stays, waits_stay, ended_stays}
-use Rattle.es_cluster.specs.State.{account, accounts, books, IsPlaced, ArePlaced, AreTied}
+use Rattle.es_cluster.specs.State.{account, accounts, cores, IsPlaced, ArePlaced, AreTied}
 
 -- Lists in which one is changed
 
@@ -52,9 +52,9 @@ within [] i x is = cc
 within (y ∷ xs) zero x is = omega arith
 within (y ∷ xs) (suc i) x is = let rest = within xs i x is in omega (arith, rest)
 
-pub books_length : (ms : List Seat) → length (books ms) ≡ length ms
-books_length [] = refl
-books_length (m ∷ ms) = ap suc (books_length ms)
+pub cores_length : (ms : List MemberView) → length (cores ms) ≡ length ms
+cores_length [] = refl
+cores_length (m ∷ ms) = ap suc (cores_length ms)
 
 -- what is the same of both is the same of all
 pub mapped_still : {X Y : Type 0} (f : X → Y) (xs : List X) (i : ℕ) (x y : X) → slice_get xs i ≡ Some x → f y ≡ f x → map f (slice_set xs i y) ≡ map f xs
@@ -64,16 +64,16 @@ mapped_still f (z ∷ xs) (suc i) x y is same = ap (λ vs. f z ∷ vs) (mapped_s
 
 -- An agent after a turn of another
 
-pub seated_still : (b : Book) (l m : Books) (n : ℕ) → (b.number ≡ n → ⊥) → OthersStay n l m → IsSeated b l → IsSeated b m
+pub seated_still : (b : AgentView) (l m : LedgerView) (n : ℕ) → (b.number ≡ n → ⊥) → OthersStay n l m → IsSeated b l → IsSeated b m
 seated_still b l m n other stay seated = record {
   known = subst (λ k. b.number < k) (sym stay.0) seated.known;
   agents = seated.agents ∙ sym stay.0;
   over = ended_stays n b.number l.history m.history stay.1 other ∙ seated.over;
 }
 
-pub tied_still : (b : Book) (l m : Ledger) (n : ℕ) → (b.number ≡ n → ⊥) → GrowsBy n l m → IsTied b l → (new : Book) → IsTied new m → IsTied b m
+pub tied_still : (b : AgentView) (l m : Ledger) (n : ℕ) → (b.number ≡ n → ⊥) → GrowsBy n l m → IsTied b l → (new : AgentView) → IsTied new m → IsTied b m
 tied_still b l m n other grows tied new after = record {
-  ties = subst (λ p. Ties b.history p (came_to b)) (sym (part_stays n b.number l m grows other)) tied.ties;
+  ties = subst (λ p. DeedsMeet b.history p (came_to b)) (sym (part_stays n b.number l m grows other)) tied.ties;
   awaits = λ s is. tied.awaits s (sym (waits_stay n b.number l m grows other) ∙ is);
   waits_end = after.waits_end;
   drains_end = after.drains_end;
@@ -91,7 +91,7 @@ by_place P xs n x within here there i y is = elim (cases_Bool (i == n)) [
   | inr e ↦ let other = eqb-false i n e in there i y other (sym (set_there xs n i x other) ∙ is)
 ]
 
-pub placed_after : (bs : List Book) (l m : Books) (n : ℕ) (new : Book) → n < length bs → ArePlaced bs l → IsPlaced m n new → OthersStay n l m → ArePlaced (slice_set bs n new) m
+pub placed_after : (bs : List AgentView) (l m : LedgerView) (n : ℕ) (new : AgentView) → n < length bs → ArePlaced bs l → IsPlaced m n new → OthersStay n l m → ArePlaced (slice_set bs n new) m
 placed_after bs l m n new within before here stay = record {
   size = set_length bs n new ∙ before.size ∙ sym stay.0;
   each = by_place (IsPlaced m) bs n new within here (λ i b other is.
@@ -103,7 +103,7 @@ placed_after bs l m n new within before here stay = record {
       });
 }
 
-pub tied_after : (bs : List Book) (l m : Books) (n : ℕ) (new : Book) → n < length bs → ArePlaced bs l → AreTied bs l → IsTied new m.history → OthersStay n l m → AreTied (slice_set bs n new) m
+pub tied_after : (bs : List AgentView) (l m : LedgerView) (n : ℕ) (new : AgentView) → n < length bs → ArePlaced bs l → AreTied bs l → IsTied new m.history → OthersStay n l m → AreTied (slice_set bs n new) m
 tied_after bs l m n new within placed before here stay = record {
   each = by_place (λ i b. IsTied b m.history) bs n new within here (λ i b other is.
       tied_still b l.history m.history n (λ same. other (sym (placed.each i b is).number ∙ same)) stay.1 (before.each i b is) new here);
@@ -116,17 +116,17 @@ tied_after bs l m n new within placed before here stay = record {
 
 -- The histories are those of one cluster
 
-pub account_at : (bs : List Book) (a : ℕ) (b : Book) → slice_get bs a ≡ Some b → account_of (accounts bs) a ≡ account b
+pub account_at : (bs : List AgentView) (a : ℕ) (b : AgentView) → slice_get bs a ≡ Some b → account_of (accounts bs) a ≡ account b
 account_at [] a b is = cc
 account_at (c ∷ bs) zero b is = ap account (let same : c ≡ b = cc in same)
 account_at (c ∷ bs) (suc a) b is = account_at bs a b is
 
-pub nobody_at : (bs : List Book) (a : ℕ) → slice_get bs a ≡ None → (account_of (accounts bs) a ≡ nobody) × (length bs ≤ a)
+pub nobody_at : (bs : List AgentView) (a : ℕ) → slice_get bs a ≡ None → (account_of (accounts bs) a ≡ nobody) × (length bs ≤ a)
 nobody_at [] a is = (refl, omega arith)
 nobody_at (c ∷ bs) zero is = cc
 nobody_at (c ∷ bs) (suc a) is = let rest = nobody_at bs a is in (rest.0, (let r = rest.1 in omega (arith, r)))
 
-pub are_cluster : (bs : List Book) (l : Books) → ArePlaced bs l → AreTied bs l → IsClusterOf (accounts bs) l.history
+pub are_cluster : (bs : List AgentView) (l : LedgerView) → ArePlaced bs l → AreTied bs l → IsClusterOf (accounts bs) l.history
 are_cluster bs l placed tied = record {
   parts = λ a. at a (slice_get bs a) refl;
   waits = tied.waits_end;
@@ -134,12 +134,12 @@ are_cluster bs l placed tied = record {
 }
   where
     Said : ℕ → Account → Type 0
-    Said a x = (c : Came) × Ties x.history (part l.history a) c × IsSaid x c
+    Said a x = (c : Came) × DeedsMeet x.history (part l.history a) c × IsSaid x c
 
-    at : (a : ℕ) (o : Option Book) → slice_get bs a ≡ o → Said a (account_of (accounts bs) a)
+    at : (a : ℕ) (o : Option AgentView) → slice_get bs a ≡ o → Said a (account_of (accounts bs) a)
     at a (Some b) is =
         let number = (placed.each a b is).number in
-        let ties = subst (λ n. Ties b.history (part l.history n) (came_to b)) number (tied.each a b is).ties in
+        let ties = subst (λ n. DeedsMeet b.history (part l.history n) (came_to b)) number (tied.each a b is).ties in
         subst (Said a) (sym (account_at bs a b is)) (came_to b, ties, record { buffers = refl; senders = refl })
     at a None is =
         let none = nobody_at bs a is in
@@ -148,28 +148,28 @@ are_cluster bs l placed tied = record {
 
 -- A turn
 
-pub found_at : (ms : List Seat) (i : ℕ) (d : Seat) → i < length (books ms) → slice_get (books ms) i ≡ Some (slice_index_or ms i d).book
+pub found_at : (ms : List MemberView) (i : ℕ) (d : MemberView) → i < length (cores ms) → slice_get (cores ms) i ≡ Some (slice_index_or ms i d).core
 found_at [] i d within = absurd (omega (arith, within))
 found_at (m ∷ ms) zero d within = refl
 found_at (m ∷ ms) (suc i) d within = found_at ms i d (omega (arith, within))
 
-pub takes_of : (p : Progress) (old new : Seat) → Proceeds p old new → Takes p old.book new.book
+pub takes_of : (p : Progress) (old new : MemberView) → Proceeds p old new → Takes p old.core new.core
 takes_of Moved old new turn = turn
-takes_of Waiting old new turn = (turn.0, turn.1, ap (λ m. m.book) turn.2)
-takes_of Ended old new turn = (turn.0, ap (λ m. m.book) turn.1)
+takes_of Waiting old new turn = (turn.0, turn.1, ap (λ m. m.core) turn.2)
+takes_of Ended old new turn = (turn.0, ap (λ m. m.core) turn.1)
 
-pub tied_of : (p : Progress) (b : Book) (l : Ledger) → IsTiedAfter p b l → IsTied b l
+pub tied_of : (p : Progress) (b : AgentView) (l : Ledger) → IsTiedAfter p b l → IsTied b l
 tied_of Moved b l settled = settled.tied
 tied_of Waiting b l tied = tied
 tied_of Ended b l tied = tied
 
 -- the agent that took it has its place still
-pub placed_here : (old new : Book) (l m : Books) (n : ℕ) → IsPlaced l n old → new.number ≡ old.number → new.plan ≡ old.plan → IsSeated new m → m.agents ≡ l.agents → IsPlaced m n new
+pub placed_here : (old new : AgentView) (l m : LedgerView) (n : ℕ) → IsPlaced l n old → new.number ≡ old.number → new.plan ≡ old.plan → IsSeated new m → m.agents ≡ l.agents → IsPlaced m n new
 placed_here old new l m n placed number plan seated agents = record {
   number = number ∙ placed.number;
   seated = seated;
   others = ap (λ k. names_others k n new.plan) agents ∙ ap (names_others l.agents n) plan ∙ placed.others;
 }
 
-pub one_changed : (ms : List Seat) (n : ℕ) (m : Seat) → books (slice_set ms n m) ≡ slice_set (books ms) n m.book
-one_changed ms n m = set_mapped (λ m. m.book) ms n m
+pub one_changed : (ms : List MemberView) (n : ℕ) (m : MemberView) → cores (slice_set ms n m) ≡ slice_set (cores ms) n m.core
+one_changed ms n m = set_mapped (λ m. m.core) ms n m

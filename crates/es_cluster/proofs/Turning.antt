@@ -12,21 +12,21 @@ use Rattle.es_event.specs.Order.{is_cleaning_up}
 use Rattle.es_event.specs.Runs.{IsRunOver}
 use Rattle.es_member.specs.declared.member.Progress.{Progress}
 use Rattle.es_member.specs.declared.member.Progress.TheVariants.{Moved, Waiting, Ended}
-use Rattle.es_record.specs.Book.{Book}
+use Rattle.es_record.specs.AgentView.{AgentView}
 use Rattle.es_cluster.specs.Asked.{plan_left, cleans_at, IsLess, Works, Hears}
 use Rattle.es_cluster.specs.Moves.{cleans_quietly, rests}
-use Rattle.es_cluster.specs.State.{Cluster, ArePlaced, AreTied}
+use Rattle.es_cluster.specs.State.{ClusterView, ArePlaced, AreTied}
 use Rattle.es_cluster.specs.Turns.{Turned}
 use Rattle.es_cluster.proofs.Resting.{is_idle, idle_rests, less_cleaning, less_next}
 use Rattle.es_cluster.proofs.Rounds.{hears}
 use Rattle.es_cluster.proofs.Standing.{set_here, within}
 
-all_at : (test : AgentPlan → Bool) (bs : List Book) (n : ℕ) (b : Book) → list_all test (map (λ b. b.plan) bs) ≡ true → slice_get bs n ≡ Some b → test b.plan ≡ true
+all_at : (test : AgentPlan → Bool) (bs : List AgentView) (n : ℕ) (b : AgentView) → list_all test (map (λ b. b.plan) bs) ≡ true → slice_get bs n ≡ Some b → test b.plan ≡ true
 all_at test [] n b all is = cc
 all_at test (c ∷ bs) zero b all is = let same : c ≡ b = cc in ap (λ b. test b.plan) (sym same) ∙ (and_parts (test c.plan) (list_all test (map (λ b. b.plan) bs)) all).0
 all_at test (c ∷ bs) (suc n) b all is = all_at test bs n b (and_parts (test c.plan) (list_all test (map (λ b. b.plan) bs)) all).1 is
 
-works : (p : Progress) (n : ℕ) (old new : Cluster) → cleans_quietly old ≡ true → (t : Turned p n old new) → IsRunOver t.before.over t.before.plan t.before.history → Works p n old new
+works : (p : Progress) (n : ℕ) (old new : ClusterView) → cleans_quietly old ≡ true → (t : Turned p n old new) → IsRunOver t.before.over t.before.plan t.before.history → Works p n old new
 works Moved n old new quiet t run = by_cleaning (is_cleaning_up t.before.history) refl
   where
     before : plan_left n old ≡ plan_work t.before.plan t.before.history
@@ -55,7 +55,7 @@ works Moved n old new quiet t run = by_cleaning (is_cleaning_up t.before.history
 works Waiting n old new quiet t run = ap (λ o. option_map_or rests o true) t.agent ∙ idle_rests t.before run (ap is_idle t.turn.1)
 works Ended n old new quiet t run = ap (λ o. option_map_or rests o true) t.agent ∙ idle_rests t.before run (ap is_idle t.turn.0)
 
-pub stepped : (r : Result Progress NoMemory) (n : ℕ) (old new : Cluster) (b : Book) → ArePlaced old.agents old.ledger → AreTied old.agents old.ledger → slice_get old.agents n ≡ Some b → IsRunOver b.over b.plan b.history → cleans_quietly old ≡ true
+pub stepped : (r : Result Progress NoMemory) (n : ℕ) (old new : ClusterView) (b : AgentView) → ArePlaced old.agents old.ledger → AreTied old.agents old.ledger → slice_get old.agents n ≡ Some b → IsRunOver b.over b.plan b.history → cleans_quietly old ≡ true
     → IfOk r (λ p. Turned p n old new) → IfOk r (λ p. Works p n old new) × IfOk r (λ p. Hears p n old new)
 stepped (Ok p) n old new b placed tied here run quiet t =
     let same : b ≡ t.before = let found = sym here ∙ t.agent in cc in

@@ -8,11 +8,11 @@ use Rattle.es_event.specs.Ledger.{Ledger, count, ended as has_ended, port_of, ta
 use Rattle.es_event.specs.LegalLedger.{LegalLedger}
 use Rattle.es_event.specs.Rows.{held}
 use Rattle.es_event.specs.Runs.{IsWholeRunOver}
-use Rattle.es_ledger.specs.Draining.{drained}
+use Rattle.es_ledger.specs.Draining.{after_drain}
 use Rattle.es_match.specs.Cluster.{Account, IsClusterOf}
-use Rattle.es_record.specs.Book.{Book}
+use Rattle.es_record.specs.AgentView.{AgentView}
 use Rattle.es_cluster.specs.Moves.{is_over}
-use Rattle.es_cluster.specs.State.{Cluster, accounts, names_of}
+use Rattle.es_cluster.specs.State.{ClusterView, accounts, names_of}
 
 -- agent n ends where it has not ended; so does each of the first n agents, by rising number
 abbrev pub with_end : ℕ → Ledger → Ledger
@@ -22,29 +22,29 @@ abbrev pub with_ends : ℕ → Ledger → Ledger
 with_ends zero l = l
 with_ends (suc n) l = with_end n (with_ends n l)
 
-abbrev pub AreEnded : List Book → Type 0
-AreEnded bs = (n : ℕ) (b : Book) → slice_get bs n ≡ Some b → is_over b ≡ true
+abbrev pub AreEnded : List AgentView → Type 0
+AreEnded bs = (n : ℕ) (b : AgentView) → slice_get bs n ≡ Some b → is_over b ≡ true
 
 -- the agent's history is a whole run of its plan, over what the tickets of its buffer objects named
 abbrev pub IsWhole : Account → Type 0
 IsWhole a = IsWholeRunOver a.over a.plan a.history
 
 -- these are their histories, the oldest event first, and each is a whole run of the agent's plan
-pub record AreHistories (bs : List Book) (hs : List (List Event)) : Type 0 where
+pub record AreHistories (bs : List AgentView) (hs : List (List Event)) : Type 0 where
   pub are : map (λ h. reverse h) hs ≡ map (λ b. b.history) bs
   pub runs : AllByRecursion IsWhole (accounts bs)
 
 -- none of them holds a ticket
-abbrev pub HaveNoTicket : List Book → Ledger → Type 0
-HaveNoTicket bs l = (n : ℕ) (b : Book) → slice_get bs n ≡ Some b → held b.number (table l) ≡ []
+abbrev pub HaveNoTicket : List AgentView → Ledger → Type 0
+HaveNoTicket bs l = (n : ℕ) (b : AgentView) → slice_get bs n ≡ Some b → held b.number (table l) ≡ []
 
 -- the names of the plan, the histories of its agents, each a whole run, and the ledger's, in which the messages that nobody took were
 -- taken out: with these agents, what their buffers are over and their plans, they are the histories of one cluster, the ledger's is
 -- legal, and no ticket of any block and no message is left
-pub record EndsIn (c : Cluster) (o : Outcome) : Type 0 where
+pub record EndsIn (c : ClusterView) (o : Outcome) : Type 0 where
   pub names : o.names ≡ names_of c.agents
   pub agents : AreHistories c.agents o.histories
-  pub ledger : reverse o.ledger ≡ drained c.ledger.history c.ledger.agents
+  pub ledger : reverse o.ledger ≡ after_drain c.ledger.history c.ledger.agents
   pub legal : LegalLedger c.ledger.agents (reverse o.ledger)
   pub cluster : IsClusterOf (accounts c.agents) (reverse o.ledger)
   pub tickets : (b : ℕ) → count (reverse o.ledger) b ≡ 0

@@ -10,11 +10,11 @@ use Rattle.es_event.specs.Ledger.{Ledger, ended}
 use Rattle.es_event.specs.LegalLedger.{all_ended, has_message}
 use Rattle.es_event.specs.Order.{phase, is_cleaning_up}
 use Rattle.es_agent.specs.Tickets.{is_ended}
-use Rattle.es_ledger.specs.Draining.{drained}
+use Rattle.es_ledger.specs.Draining.{after_drain}
 use Rattle.es_member.specs.declared.member.Progress.TheVariants.{Moved, Waiting}
-use Rattle.es_record.specs.Book.{Book}
+use Rattle.es_record.specs.AgentView.{AgentView}
 use Rattle.es_rules.specs.Needs.{Need, asks_nobody, asks_marks, asks_copy, asks_late_marks, asks_ledger, asks_message, asks_closing, asks_nothing, need}
-use Rattle.es_cluster.specs.State.{Cluster, plans}
+use Rattle.es_cluster.specs.State.{ClusterView, plans}
 use Rattle.es_cluster.specs.Turns.{Turned}
 
 -- Who moves
@@ -31,10 +31,10 @@ goes_on_by l n (asks_message s) = has_message l s n || ended l s
 goes_on_by l n asks_closing = true
 goes_on_by l n asks_nothing = false
 
-abbrev pub goes_on : Ledger → Book → Bool
+abbrev pub goes_on : Ledger → AgentView → Bool
 goes_on l b = goes_on_by l b.number (need b)
 
-abbrev pub is_over : Book → Bool
+abbrev pub is_over : AgentView → Bool
 is_over b = is_ended (phase b.history)
 
 abbrev pub or_else : Option ℕ → Option ℕ → Option ℕ
@@ -43,7 +43,7 @@ or_else None o = o
 
 -- the lowest-numbered agent that can move: the lowest that goes on; and where none does, all that have not ended wait in vain, and the
 -- lowest of these can, as it skips its job
-abbrev pub mover : Cluster → Option ℕ
+abbrev pub mover : ClusterView → Option ℕ
 mover c = or_else (position_from (goes_on c.ledger.history) 0 c.agents) (position_from (λ b. not (is_over b)) 0 c.agents)
 
 -- Moves
@@ -63,40 +63,40 @@ is_between (Skipped j t ∷ earlier) = true
 is_between (Closed ∷ earlier) = true
 
 -- no job of it is under way, and no cleanup job is left to run
-abbrev pub rests : Book → Bool
+abbrev pub rests : AgentView → Bool
 rests b = is_between b.history && not (is_cleaning_up b.history)
 
-abbrev pub rests_at : ℕ → Cluster → Bool
+abbrev pub rests_at : ℕ → ClusterView → Bool
 rests_at n c = option_map_or rests (slice_get c.agents n) true
 
 -- agent n goes on until it rests
-pub data Rest (n : ℕ) : Cluster → Cluster → Type 0 where
-  rested : {c : Cluster} → rests_at n c ≡ true → Rest n c c
-  turned : {c mid end : Cluster} → rests_at n c ≡ false → Turned Moved n c mid → Rest n mid end → Rest n c end
+pub data Rest (n : ℕ) : ClusterView → ClusterView → Type 0 where
+  rested : {c : ClusterView} → rests_at n c ≡ true → Rest n c c
+  turned : {c mid end : ClusterView} → rests_at n c ≡ false → Turned Moved n c mid → Rest n mid end → Rest n c end
 
 -- a move of agent n: one whole job with its cleanup jobs, or what is left of them, or one skip, or the closing
-abbrev pub IsMove : ℕ → Cluster → Cluster → Type 0
-IsMove n old new = (mid : Cluster) × Turned Moved n old mid × Rest n mid new
+abbrev pub IsMove : ℕ → ClusterView → ClusterView → Type 0
+IsMove n old new = (mid : ClusterView) × Turned Moved n old mid × Rest n mid new
 
 -- every agent has ended
-abbrev pub all_over : Cluster → Bool
+abbrev pub all_over : ClusterView → Bool
 all_over c = all_ended c.ledger.history c.ledger.agents
 
 -- moves, each of the lowest-numbered agent that can move, until all have ended; an agent that waits may be asked in between, so that its
 -- wait is recorded
-pub data RunsOut : Cluster → Cluster → Type 0 where
-  over : {c : Cluster} → all_over c ≡ true → RunsOut c c
-  waits : (n : ℕ) {c mid end : Cluster} → Turned Waiting n c mid → RunsOut mid end → RunsOut c end
-  moves : (n : ℕ) {c mid end : Cluster} → mover c ≡ Some n → IsMove n c mid → RunsOut mid end → RunsOut c end
+pub data RunsOut : ClusterView → ClusterView → Type 0 where
+  over : {c : ClusterView} → all_over c ≡ true → RunsOut c c
+  waits : (n : ℕ) {c mid end : ClusterView} → Turned Waiting n c mid → RunsOut mid end → RunsOut c end
+  moves : (n : ℕ) {c mid end : ClusterView} → mover c ≡ Some n → IsMove n c mid → RunsOut mid end → RunsOut c end
 
 -- the messages that nobody took are taken out
-abbrev pub with_drained : Cluster → Cluster
-with_drained c = record { agents = c.agents; ledger = record { agents = c.ledger.agents; history = drained c.ledger.history c.ledger.agents }; failed = c.failed }
+abbrev pub with_drained : ClusterView → ClusterView
+with_drained c = record { agents = c.agents; ledger = record { agents = c.ledger.agents; history = after_drain c.ledger.history c.ledger.agents }; failed = c.failed }
 
 -- the moves that there are, and then the messages that nobody took are taken out
-abbrev pub RunsToEnd : Cluster → Cluster → Type 0
-RunsToEnd old new = (end : Cluster) × RunsOut old end × (new ≡ with_drained end)
+abbrev pub RunsToEnd : ClusterView → ClusterView → Type 0
+RunsToEnd old new = (end : ClusterView) × RunsOut old end × (new ≡ with_drained end)
 
 -- no callback of any agent collects, so that each agent's cleanup jobs come to their end
-abbrev pub cleans_quietly : Cluster → Bool
+abbrev pub cleans_quietly : ClusterView → Bool
 cleans_quietly c = list_all callbacks_collect_nothing (plans c.agents)

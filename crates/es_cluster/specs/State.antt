@@ -6,61 +6,61 @@ use Rattle.es_event.specs.Others.{names_others}
 use Rattle.es_deeds.specs.Patience.{patient, drained_last}
 use Rattle.es_match.specs.Cluster.{Account}
 use Rattle.es_deeds.specs.Deeds.{part}
-use Rattle.es_ledger.specs.Books.{Books}
-use Rattle.es_record.specs.Book.{Book}
-use Rattle.es_member.specs.Seats.{Seat}
+use Rattle.es_ledger.specs.LedgerView.{LedgerView}
+use Rattle.es_record.specs.AgentView.{AgentView}
+use Rattle.es_member.specs.Members.{MemberView}
 use Rattle.es_member.specs.Tied.{IsTied}
 use Rattle.es_member.specs.Turned.{IsSeated}
 
 -- the agents, by rising number, their ledger, and whether a step of one ended for want of memory
-pub record Cluster : Type 0 where
-  pub agents : List Book
-  pub ledger : Books
+pub record ClusterView : Type 0 where
+  pub agents : List AgentView
+  pub ledger : LedgerView
   pub failed : Bool
 
-abbrev pub books : List Seat → List Book
-books ms = map (λ m. m.book) ms
+abbrev pub cores : List MemberView → List AgentView
+cores ms = map (λ m. m.core) ms
 
-abbrev pub plans : List Book → List AgentPlan
+abbrev pub plans : List AgentView → List AgentPlan
 plans bs = map (λ b. b.plan) bs
 
-abbrev pub names_of : List Book → List (List ℕ)
+abbrev pub names_of : List AgentView → List (List ℕ)
 names_of bs = map (λ b. b.plan.name) bs
 
 -- what an agent says of itself
-abbrev pub account : Book → Account
+abbrev pub account : AgentView → Account
 account b = record { plan = b.plan; over = b.over; history = b.history }
 
-abbrev pub accounts : List Book → List Account
+abbrev pub accounts : List AgentView → List Account
 accounts bs = map account bs
 
 -- it is agent n, it has its place in the ledger, and its plan names other agents alone
-pub record IsPlaced (l : Books) (n : ℕ) (b : Book) : Type 0 where
+pub record IsPlaced (l : LedgerView) (n : ℕ) (b : AgentView) : Type 0 where
   pub number : b.number ≡ n
   pub seated : IsSeated b l
   pub others : names_others l.agents n b.plan ≡ true
 
 -- so is each, whatever came of their steps
-pub record ArePlaced (bs : List Book) (l : Books) : Type 0 where
+pub record ArePlaced (bs : List AgentView) (l : LedgerView) : Type 0 where
   pub size : length bs ≡ l.agents
-  pub each : (n : ℕ) (b : Book) → slice_get bs n ≡ Some b → IsPlaced l n b
+  pub each : (n : ℕ) (b : AgentView) → slice_get bs n ≡ Some b → IsPlaced l n b
 
 -- the history of each, its tickets and its part in the ledger's history go together, and nobody else has a part in it
-pub record AreTied (bs : List Book) (l : Books) : Type 0 where
-  pub each : (n : ℕ) (b : Book) → slice_get bs n ≡ Some b → IsTied b l.history
+pub record AreTied (bs : List AgentView) (l : LedgerView) : Type 0 where
+  pub each : (n : ℕ) (b : AgentView) → slice_get bs n ≡ Some b → IsTied b l.history
   pub strangers : (a : ℕ) → l.agents ≤ a → part l.history a ≡ []
   pub waits_end : patient l.history ≡ true
   pub drains_end : drained_last l.history ≡ true
 
 -- the agents of these plans, of which the first is agent n of so many, before their first events
-abbrev pub first_books : ℕ → ℕ → List AgentPlan → List Book
-first_books agents n [] = []
-first_books agents n (p ∷ ps) = record { plan = p; number = n; agents = agents; over = []; history = [] } ∷ first_books agents (n + 1) ps
+abbrev pub first_views : ℕ → ℕ → List AgentPlan → List AgentView
+first_views agents n [] = []
+first_views agents n (p ∷ ps) = record { plan = p; number = n; agents = agents; over = []; history = [] } ∷ first_views agents (n + 1) ps
 
 -- the cluster of a plan, before the first event
-abbrev pub first_state : Plan → Cluster
+abbrev pub first_state : Plan → ClusterView
 first_state p = record {
-  agents = first_books (length p.agents) 0 p.agents;
+  agents = first_views (length p.agents) 0 p.agents;
   ledger = record { agents = length p.agents; history = [] };
   failed = false;
 }

@@ -4,10 +4,10 @@ ghost use Rattle.std.specs.Prelude.{◌≡◌, ℕ, Some, length, slice_get, IfO
 ghost use Rattle.es_event.specs.Ledger.{table};
 ghost use Rattle.es_event.specs.Rows.{held};
 ghost use Rattle.es_ledger.specs.Audits.{held_below};
-ghost use Rattle.es_record.specs.Book.{Book};
+ghost use Rattle.es_record.specs.AgentView.{AgentView};
 ghost use Rattle.es_member.specs.Audits.{Audits};
-ghost use Rattle.es_member.specs.Seats.{rows_of, SameRows};
-ghost use Rattle.es_cluster.specs.State.{books, ArePlaced};
+ghost use Rattle.es_member.specs.Members.{rows_of, SameRows};
+ghost use Rattle.es_cluster.specs.State.{cores, ArePlaced};
 
 use crate::cluster::ClusterCore;
 use es_ledger::{Audit, LedgerCore};
@@ -17,9 +17,9 @@ use es_value::NoMemory;
 /// How many tickets all agents have. Those of each are the ones that the ledger has for it. Nothing
 /// changes.
 fn count_all<L: Planned>(members: &mut Vec<Member<L>>, ledger: &mut LedgerCore<L>) -> u64
-    requires placed { ArePlaced (books members.old.items) ledger.old }
+    requires placed { ArePlaced (cores members.old.items) ledger.old }
     ensures same { (members.new.items ≡ members.old.items) × (ledger.new ≡ ledger.old) }
-    ensures rows { (n : ℕ) (b : Book) → slice_get (books members.old.items) n ≡ Some b → SameRows (rows_of b) (held n (table ledger.old.history)) }
+    ensures rows { (n : ℕ) (b : AgentView) → slice_get (cores members.old.items) n ≡ Some b → SameRows (rows_of b) (held n (table ledger.old.history)) }
     ensures count { result ≡ held_below (length members.old.items) ledger.old.history }
 {
     let mut count = 0;

@@ -6,7 +6,7 @@ ghost use Rattle.es_event.specs.Others.{all_name_others};
 ghost use Rattle.es_match.specs.Cluster.{IsClusterOf};
 ghost use Rattle.es_cluster.specs.Ends.{EndsIn};
 ghost use Rattle.es_cluster.specs.Moves.{all_over};
-ghost use Rattle.es_cluster.specs.State.{accounts, books, first_state, names_of, plans};
+ghost use Rattle.es_cluster.specs.State.{accounts, cores, first_state, names_of, plans};
 ghost use Rattle.es_cluster.specs.Turns.{Turned, AllTurned, Stopped, StoppedIn};
 
 use crate::ending::{all_have_ended, give_up, into_histories};
@@ -51,13 +51,13 @@ pub struct Parts<L: Planned> {
 
 impl<L: Planned> Model for ClusterCore<L> {
     ghost use Rattle.std.specs.Prelude.{◌≡◌, ◌≤◌, [], false, length, vec_capacity};
-    ghost use Rattle.es_cluster.specs.State.{Cluster, books, names_of, ArePlaced, AreTied};
+    ghost use Rattle.es_cluster.specs.State.{ClusterView, cores, names_of, ArePlaced, AreTied};
 
-    ghost Value = { Cluster };
+    ghost Value = { ClusterView };
 
-    ghost view = { λ c. record { agents = books c.members.items; ledger = c.ledger; failed = c.failed } };
+    ghost view = { λ c. record { agents = cores c.members.items; ledger = c.ledger; failed = c.failed } };
 
-    ghost invariant = { λ c. ArePlaced (books c.members.items) c.ledger × (c.failed ≡ false → AreTied (books c.members.items) c.ledger) × (c.names ≡ names_of (books c.members.items)) × (c.histories.items ≡ []) × (length c.members.items ≤ vec_capacity c.histories) };
+    ghost invariant = { λ c. ArePlaced (cores c.members.items) c.ledger × (c.failed ≡ false → AreTied (cores c.members.items) c.ledger) × (c.names ≡ names_of (cores c.members.items)) × (c.histories.items ≡ []) × (length c.members.items ≤ vec_capacity c.histories) };
 }
 
 impl<L: Planned> ClusterCore<L> {
@@ -142,7 +142,7 @@ impl<L: Planned> ClusterCore<L> {
 
     /// The agents, by rising number, each with its side of the ledger.
     pub fn members(&self) -> &[Member<L>]
-        ensures { books result.now ≡ self.now.agents }
+        ensures { cores result.now ≡ self.now.agents }
     {
         self.members.as_slice()
     }
@@ -164,7 +164,7 @@ impl<L: Planned> ClusterCore<L> {
 
     /// Takes the cluster apart, for agents that run beside each other.
     pub fn into_parts(self) -> Parts<L>
-        ensures agents { books result.members.items ≡ self.agents }
+        ensures agents { cores result.members.items ≡ self.agents }
         ensures ledger { result.ledger ≡ self.ledger }
         ensures names { result.names ≡ names_of self.agents }
         ensures place { (result.histories.items ≡ []) × (length result.members.items ≤ vec_capacity result.histories) }

@@ -4,7 +4,7 @@ ghost use Rattle.std.specs.Prelude.{◌≡◌, ◌≤◌, ◌<◌, ℕ, [], true
 ghost use Rattle.es_event.specs.Ledger.{ended};
 ghost use Rattle.es_event.specs.LegalLedger.{all_ended};
 ghost use Rattle.es_cluster.specs.Ends.{AreEnded, AreHistories, HaveNoTicket, with_end, with_ends};
-ghost use Rattle.es_cluster.specs.State.{books};
+ghost use Rattle.es_cluster.specs.State.{cores};
 
 use es_event::{Event, Sequence};
 use es_ledger::LedgerCore;
@@ -70,12 +70,12 @@ pub fn into_histories<L: Planned>(
     ledger: &mut LedgerCore<L>,
     mut histories: Vec<Sequence<Event>>,
 ) -> Vec<Sequence<Event>>
-    requires ended { AreEnded (books members.items) }
+    requires ended { AreEnded (cores members.items) }
     requires empty { histories.items ≡ [] }
     requires place { length members.items ≤ vec_capacity histories }
     ensures same { ledger.new ≡ ledger.old }
-    ensures histories { AreHistories (books members.items) result.items }
-    ensures none { HaveNoTicket (books members.items) ledger.old.history }
+    ensures histories { AreHistories (cores members.items) result.items }
+    ensures none { HaveNoTicket (cores members.items) ledger.old.history }
 {
     members.reverse();
     for _ in 0..members.len() {

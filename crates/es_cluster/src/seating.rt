@@ -1,8 +1,8 @@
 //! Agents get their stakes.
 
 ghost use Rattle.std.specs.Prelude.{◌≡◌, ℕ, [], Some, length, map, slice_get, IfOk};
-ghost use Rattle.es_ticket.specs.Shares.{Share};
-ghost use Rattle.es_cluster.specs.State.{books, first_books};
+ghost use Rattle.es_ticket.specs.Stakes.{StakeView};
+ghost use Rattle.es_cluster.specs.State.{cores, first_views};
 
 use es_agent::AgentCore;
 use es_event::{AgentPlan, Sequence};
@@ -20,8 +20,8 @@ pub(crate) fn seat_all<L: Planned>(
 ) -> Result<Vec<Member<L>>, (Vec<Member<L>>, NoMemory)>
     requires planned { plans.items ≡ L.plan.agents }
     requires size { length stakes.items ≡ length plans.items }
-    requires stakes { (i : ℕ) (s : Share) → slice_get stakes.items i ≡ Some s → (s.agent ≡ i) × (s.rows ≡ []) }
-    ensures { IfOk result (λ ms. books ms.items ≡ first_books (length plans.items) 0 plans.items) }
+    requires stakes { (i : ℕ) (s : StakeView) → slice_get stakes.items i ≡ Some s → (s.agent ≡ i) × (s.rows ≡ []) }
+    ensures { IfOk result (λ ms. cores ms.items ≡ first_views (length plans.items) 0 plans.items) }
 {
     let count = plans.len();
     let mut members = match Vec::with_capacity(alloc, count) {

@@ -8,7 +8,7 @@ use Rattle.es_count.specs.Tallies.{end_tally}
 
 -- how many registrations of each agent have each fate, how many blocks were opened and released, and how many messages
 -- were posted, taken and drained
-pub record Sums : Type 0 where
+pub record CountsView : Type 0 where
   pub tallies : List Tally
   pub opened : ℕ
   pub released : ℕ
@@ -17,7 +17,7 @@ pub record Sums : Type 0 where
   pub drained : ℕ
 
 -- what the outcome's histories say, whose events are the oldest first
-abbrev pub sums_of : Outcome → Sums
+abbrev pub sums_of : Outcome → CountsView
 sums_of o =
     record {
       tallies = map (λ events. end_tally (reverse events)) o.histories;
@@ -29,5 +29,5 @@ sums_of o =
     }
 
 -- these are the totals of this outcome
-abbrev pub IsCountsOf : Outcome → Sums → Type 0
+abbrev pub IsCountsOf : Outcome → CountsView → Type 0
 IsCountsOf o counts = counts ≡ sums_of o

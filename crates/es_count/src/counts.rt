@@ -26,9 +26,9 @@ pub struct Counts {
 }
 
 impl Model for Counts {
-    ghost use Rattle.es_count.specs.Counts.{Sums};
+    ghost use Rattle.es_count.specs.Counts.{CountsView};
 
-    ghost Value = { Sums };
+    ghost Value = { CountsView };
 
     ghost view = { λ c. record {
       tallies = c.tallies.items;

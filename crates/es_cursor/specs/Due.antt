@@ -1,7 +1,7 @@
--- To believe: what an answer of the code says that is due: each variant of its own type is the word of es_event's Order of that meaning.
+-- To believe: what an answer of the code says that is due: each variant of its own type is the one of es_event's Order of that meaning.
 use Rattle.std.specs.Prelude.{List, [], ◌∷◌, Option}
 use Rattle.es_event.specs.declared.command.Command.{Command}
-use Rattle.es_event.specs.Order.{Due as DueSaid, begin, run, clean, take_cell, end_job, close, nothing, receive, due_end}
+use Rattle.es_event.specs.Order.{Due as DueSaid, begin, run, clean, take_cell, close, nothing, receive, due_end}
 use Rattle.es_event.specs.History.{History}
 use Rattle.es_cursor.specs.declared.due.Due.{Due}
 use Rattle.es_cursor.specs.declared.due.Due.TheVariants.{Begin, Receive, Run, Clean, Take, EndJob, Close, Nothing}

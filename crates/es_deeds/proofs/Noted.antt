@@ -1,4 +1,4 @@
--- The tables of a pass say what the history says, after one more event.
+-- The pass of a pass say what the history says, after one more event.
 use Rattle.std.proofs.Common.{append-nil}
 use Rattle.std.proofs.Common.{◌≡◌, ℕ, Bool, true, false, true≢false, ◌||◌, ◌==◌, List, [], ◌∷◌, ◌++◌, Option, Some, None, refl, sym, ◌∙◌, ap, if◌then◌else◌, eqb-true, eq-eqb}
 use Rattle.std.specs.Option.{option_and_then, option_map, option_map_or}
@@ -11,9 +11,9 @@ use Rattle.es_event.specs.declared.row.Holder.{Holder}
 use Rattle.es_event.specs.declared.row.Holder.TheVariants.{Agent, Nobody}
 use Rattle.es_event.specs.Rows.{held_by, moved, line_of}
 use Rattle.es_event.specs.Ledger.{Ledger, front, serial_in, table, moved_if, posted_line, awaited, newest_size, opens, queued}
-use Rattle.es_deeds.specs.declared.tables.Tables.{Tables}
+use Rattle.es_deeds.specs.declared.ledger_pass.LedgerPass.{LedgerPass}
 use Rattle.es_event.specs.Totals.{is_drained}
-use Rattle.es_deeds.specs.Tables.{Says, line_in, size_in, waits_in, port_in, put_line, move_line, post_line, taken_by, words_by, line_after}
+use Rattle.es_deeds.specs.LedgerPass.{Says, line_in, size_in, waits_in, port_in, put_line, move_line, post_line, taken_by, words_by, line_after}
 
 -- One serial's line
 
@@ -84,9 +84,9 @@ line_said l (Passed a s) q = refl
 line_said l (Ended a) q = refl
 line_said l (Drained s r) q = refl
 
--- All tables
+-- All pass
 
-pub noted : (l : Ledger) (e : LedgerEvent) (t u : Tables) (m : Option Body) (w : ℕ) → Says l t → m ≡ taken_by l e → w ≡ words_by l e
+pub noted : (l : Ledger) (e : LedgerEvent) (t u : LedgerPass) (m : Option Body) (w : ℕ) → Says l t → m ≡ taken_by l e → w ≡ words_by l e
     → ((q : ℕ) → line_in u.lines q ≡ line_after m w e q (line_in t.lines q))
     → ((b : ℕ) → size_in u.sizes b ≡ newest_size (opens e) b (size_in t.sizes b))
     → ((s r : ℕ) → port_in u.mail s r ≡ queued e s r (port_in t.mail s r))

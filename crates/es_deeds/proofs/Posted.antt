@@ -6,7 +6,7 @@ use Rattle.std.specs.declared.alloc.Global.{Global}
 use Rattle.std.specs.declared.collections.VecDeque.{VecDeque}
 use denote.Ref.{Bor}
 use Rattle.es_event.specs.declared.ledger_event.Body.{Body}
-use Rattle.es_deeds.specs.Tables.{bodies, pair_eq}
+use Rattle.es_deeds.specs.LedgerPass.{bodies, pair_eq}
 
 abbrev pub Queue : Type 0
 Queue = VecDeque (Bor Body) Global

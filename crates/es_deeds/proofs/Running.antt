@@ -9,11 +9,11 @@ use Rattle.es_event.specs.declared.ledger_event.LedgerEvent.{LedgerEvent}
 use Rattle.es_event.specs.declared.ledger_event.LedgerEvent.TheVariants.{Accessed}
 use Rattle.es_event.specs.declared.row.Row.{Row}
 use Rattle.es_event.specs.Ledger.{Ledger, holder_of, waits}
-use Rattle.es_deeds.specs.declared.tables.Tables.{Tables}
+use Rattle.es_deeds.specs.declared.ledger_pass.LedgerPass.{LedgerPass}
 use Rattle.es_deeds.specs.Deeds.{Deed, Accesses, deed, is_wait, part, part_of}
-use Rattle.es_deeds.specs.Patience.{drained, ends_wait, may_do}
+use Rattle.es_deeds.specs.Patience.{has_drained, ends_wait, may_do}
 use Rattle.es_deeds.specs.Orderly.{may_come, orderly}
-use Rattle.es_deeds.specs.Tables.{Says, HoldsStill}
+use Rattle.es_deeds.specs.LedgerPass.{Says, HoldsStill}
 use Rattle.es_deeds.specs.Words.{AreWordsBy, words_said}
 
 -- The agent holds the ticket still
@@ -45,7 +45,7 @@ runs n l s a t i m old h within same =
       still = record { holder = h.holder; waits = h.waits; drains = h.drains };
     }
 
-says_more : (l : Ledger) (t i : ℕ) (m : Change) (old : ℕ) (ts : Tables) → Says l ts → Says (Accessed t i m old ∷ l) ts
+says_more : (l : Ledger) (t i : ℕ) (m : Change) (old : ℕ) (ts : LedgerPass) → Says l ts → Says (Accessed t i m old ∷ l) ts
 says_more l t i m old ts says = record { lines = says.lines; sizes = says.sizes; mail = says.mail; waiting = says.waiting; drains = says.drains }
 
 -- with the words that follow
@@ -62,11 +62,11 @@ more_one a b d ds before e = rw e (by_test (a == b) d ds before)
     by_test true d ds before = append_assoc before (d ∷ []) ds
     by_test false d ds before = append_assoc before [] []
 
--- the tables, the order and the parts after the words
+-- the pass, the order and the parts after the words
 pub record AreAfter (n : ℕ) (l : Ledger) (a : ℕ) (es : List LedgerEvent) : Type 0 where
   pub order : orderly n (reverse es ++ l) ≡ orderly n l
   pub parts : (b : ℕ) → part (reverse es ++ l) b ≡ part l b ++ more a b (words_said es)
-  pub says : (ts : Tables) → Says l ts → Says (reverse es ++ l) ts
+  pub says : (ts : LedgerPass) → Says l ts → Says (reverse es ++ l) ts
 
 onto : (e : LedgerEvent) (es : List LedgerEvent) (l : Ledger) → reverse (e ∷ es) ++ l ≡ reverse es ++ e ∷ l
 onto e es l = ap (λ xs. xs ++ l) (reverse-append (e ∷ []) es) ∙ append_assoc (reverse es) (e ∷ []) l
@@ -76,7 +76,7 @@ none_more true ds = sym (append-nil ds)
 none_more false ds = sym (append-nil ds)
 
 one_after : (n : ℕ) (l : Ledger) (s a : ℕ) (e : LedgerEvent) (d : Deed) (es : List LedgerEvent) → IsRun n l s a e d
-    → words_said (e ∷ es) ≡ d ∷ words_said es → ((ts : Tables) → Says l ts → Says (e ∷ l) ts)
+    → words_said (e ∷ es) ≡ d ∷ words_said es → ((ts : LedgerPass) → Says l ts → Says (e ∷ l) ts)
     → AreAfter n (e ∷ l) a es → AreAfter n l a (e ∷ es)
 one_after n l s a e d es run said says later = record {
   order = ap (orderly n) (onto e es l) ∙ later.order ∙ ap (λ b. b && orderly n l) run.comes;
@@ -128,7 +128,7 @@ first_holds n l a d s i m old is comes =
       record {
         holder = holder_back a (Accesses s i m old) d (holder_of l s) (sym is);
         waits = no_wait (waits l a) (Accesses s i m old) d same (λ t. refl) first.0;
-        drains = not_true (drained l) later.0;
+        drains = not_true (has_drained l) later.0;
       },
       known (is_wait d) (nat_lt a n) does later.1,
       does,

@@ -4,14 +4,14 @@ use Rattle.std.specs.Prelude.{reverse, slice_set, OnOk, IfSome, ⊤}
 use Rattle.std.proofs.lemmas.List.{reverse-append, take_more, take-append-drop, get_or-set_same, get_or_default, length-drop}
 use Rattle.std.proofs.Math.Seq.{drop-cons, take-add}
 use Rattle.es_event.specs.declared.ledger_event.LedgerEvent.{LedgerEvent}
-use Rattle.es_event.specs.declared.ledger_event.LedgerEvent.TheVariants.{Opened, Posted, Taken, Spent, Accessed, Waiting, Passed, Ended, Drained}
+use Rattle.es_event.specs.declared.ledger_event.LedgerEvent.TheVariants.{Accessed}
 use Rattle.es_event.specs.Ledger.{Ledger}
 use Rattle.es_deeds.specs.declared.stretch.Stretch.{Stretch}
 use Rattle.es_deeds.specs.Deeds.{Deed, Owned, deed, is_wait, part, part_of}
 use Rattle.es_deeds.specs.Orderly.{may_come, orderly}
 use Rattle.es_deeds.specs.Split.{IsSplit, IsStep, added, part_at, stretch_said, stretches_said}
-use Rattle.es_deeds.specs.declared.tables.Tables.{Tables}
-use Rattle.es_deeds.specs.Tables.{Says}
+use Rattle.es_deeds.specs.declared.ledger_pass.LedgerPass.{LedgerPass}
+use Rattle.es_deeds.specs.LedgerPass.{Says}
 use Rattle.es_deeds.specs.Words.{AreWordsAfter, AreWordsBy, is_word_by, words_said}
 use Rattle.es_deeds.proofs.Running.{AreAfter, all_after, first_holds, more}
 
@@ -92,7 +92,7 @@ words_added a b d ws before e = rw e (by_test (a == b) d ws before)
     by_test false d ws before = sym (append_assoc before [] [])
 
 -- with the words that follow a word
-with_words : (n : ℕ) (l : Ledger) (e : LedgerEvent) (es : List LedgerEvent) (t : Tables) (ps qs : List (List Stretch)) (a : ℕ) (d : Deed)
+with_words : (n : ℕ) (l : Ledger) (e : LedgerEvent) (es : List LedgerEvent) (t : LedgerPass) (ps qs : List (List Stretch)) (a : ℕ) (d : Deed)
     → Some (a, d) ≡ deed l e → may_come n l (Some (a, d)) ≡ true → is_wait d ≡ false → AreAfter n (e ∷ l) a es → Says (e ∷ l) t
     → length qs ≡ length ps → ((b : ℕ) → part_at qs b ≡ part_at ps b ++ added b (Some (a, d)) (words_said es)) → IsSplit n l ps
     → Says (reverse es ++ e ∷ l) t × IsSplit n (reverse es ++ e ∷ l) qs
@@ -106,7 +106,7 @@ with_words n l e es t ps qs a d is comes no_wait after says same adds s = (
   },
 )
 
-without : (n : ℕ) (l : Ledger) (e : LedgerEvent) (es : List LedgerEvent) (t : Tables) (ps qs : List (List Stretch)) (o : Owned) → es ≡ []
+without : (n : ℕ) (l : Ledger) (e : LedgerEvent) (es : List LedgerEvent) (t : LedgerPass) (ps qs : List (List Stretch)) (o : Owned) → es ≡ []
     → o ≡ deed l e → may_come n l o ≡ true → Says (e ∷ l) t
     → length qs ≡ length ps → ((a : ℕ) → part_at qs a ≡ part_at ps a ++ added a o (words_said es)) → IsSplit n l ps
     → Says (reverse es ++ e ∷ l) t × IsSplit n (reverse es ++ e ∷ l) qs
@@ -115,11 +115,11 @@ without n l e es t ps qs o none is comes says same adds s =
     (says, split_more n l e ps qs o is comes same (λ a. adds a ∙ ap (λ ys. part_at ps a ++ added a o (words_said ys)) none) s)
 
 -- the parts have their number
-pub for_number : (n : ℕ) (l m : Ledger) (t : Tables) (ps qs : List (List Stretch)) → IsSplit n l ps
+pub for_number : (n : ℕ) (l m : Ledger) (t : LedgerPass) (ps qs : List (List Stretch)) → IsSplit n l ps
     → (IsSplit (length ps) l ps → Says m t × IsSplit (length ps) m qs) → Says m t × IsSplit n m qs
 for_number n l m t ps qs s step = subst (λ (k : ℕ). Says m t × IsSplit k m qs) s.size (step (subst (λ (k : ℕ). IsSplit k l ps) (sym s.size) s))
 
-pub split_on : (n : ℕ) (l : Ledger) (e : LedgerEvent) (es : List LedgerEvent) (t : Tables) (ps qs : List (List Stretch)) (o : Owned)
+pub split_on : (n : ℕ) (l : Ledger) (e : LedgerEvent) (es : List LedgerEvent) (t : LedgerPass) (ps qs : List (List Stretch)) (o : Owned)
     → (o ≡ None → es ≡ []) → AreWordsAfter e es → o ≡ deed l e → may_come n l o ≡ true → Says (e ∷ l) t
     → length qs ≡ length ps → ((a : ℕ) → part_at qs a ≡ part_at ps a ++ added a o (words_said es)) → IsSplit n l ps
     → Says (reverse es ++ e ∷ l) t × IsSplit n (reverse es ++ e ∷ l) qs
@@ -128,14 +128,7 @@ split_on n l (Accessed k i m old) es t ps qs (Some p) nobody are is comes says s
     let first = first_holds n l p.0 p.1 k i m old is comes in
     with_words n l (Accessed k i m old) es t ps qs p.0 p.1 is comes first.2
     (all_after n k p.0 es (Accessed k i m old ∷ l) first.0 first.1 are) says same adds s
-split_on n l (Opened b w k a) es t ps qs (Some p) nobody are is comes says same adds s = without n l _ es t ps qs (Some p) are is comes says same adds s
-split_on n l (Posted a r m) es t ps qs (Some p) nobody are is comes says same adds s = without n l _ es t ps qs (Some p) are is comes says same adds s
-split_on n l (Taken k r) es t ps qs (Some p) nobody are is comes says same adds s = without n l _ es t ps qs (Some p) are is comes says same adds s
-split_on n l (Spent k) es t ps qs (Some p) nobody are is comes says same adds s = without n l _ es t ps qs (Some p) are is comes says same adds s
-split_on n l (Waiting a k) es t ps qs (Some p) nobody are is comes says same adds s = without n l _ es t ps qs (Some p) are is comes says same adds s
-split_on n l (Passed a k) es t ps qs (Some p) nobody are is comes says same adds s = without n l _ es t ps qs (Some p) are is comes says same adds s
-split_on n l (Ended a) es t ps qs (Some p) nobody are is comes says same adds s = without n l _ es t ps qs (Some p) are is comes says same adds s
-split_on n l (Drained k r) es t ps qs (Some p) nobody are is comes says same adds s = without n l _ es t ps qs (Some p) are is comes says same adds s
+split_on n l _ es t ps qs (Some p) nobody are is comes says same adds s = without n l _ es t ps qs (Some p) are is comes says same adds s
 
 -- The parts, as the code has them
 
@@ -172,25 +165,18 @@ pushed (Ok u) ps a after before s h at more =
 
 -- what a step came to
 
-pub stepped : (o : Option ℕ) (k n : ℕ) (l : Ledger) (e : LedgerEvent) (later : List LedgerEvent) (t : Tables) (qs : List (List Stretch)) → o ≡ Some k
+pub stepped : (o : Option ℕ) (k n : ℕ) (l : Ledger) (e : LedgerEvent) (later : List LedgerEvent) (t : LedgerPass) (qs : List (List Stretch)) → o ≡ Some k
     → IsStep o n l e later t qs → Says (reverse (take k later) ++ e ∷ l) t × IsSplit n (reverse (take k later) ++ e ∷ l) qs
 stepped o k n l e later t qs is step = subst (λ (p : Option ℕ). IsStep p n l e later t qs) is step
 
-pub may_not_come : (o : Option ℕ) (n : ℕ) (l : Ledger) (e : LedgerEvent) (later : List LedgerEvent) (t : Tables) (qs : List (List Stretch)) → o ≡ None
+pub may_not_come : (o : Option ℕ) (n : ℕ) (l : Ledger) (e : LedgerEvent) (later : List LedgerEvent) (t : LedgerPass) (qs : List (List Stretch)) → o ≡ None
     → IsStep o n l e later t qs → may_come n l (deed l e) ≡ false
 may_not_come o n l e later t qs is step = subst (λ (p : Option ℕ). IsStep p n l e later t qs) is step
 
 -- no words follow
 pub none_after : (e : LedgerEvent) → AreWordsAfter e []
-none_after (Opened b w s a) = refl
-none_after (Posted a r m) = refl
-none_after (Taken s r) = refl
-none_after (Spent s) = refl
 none_after (Accessed s i m old) = tt
-none_after (Waiting a s) = refl
-none_after (Passed a s) = refl
-none_after (Ended a) = refl
-none_after (Drained s r) = refl
+none_after _ = refl
 
 -- a step stays within the history
 pub within_all : (xs later : List LedgerEvent) (i k : ℕ) (o : Option ℕ) → o ≡ Some k → IfSome o (λ j. j ≤ length later) → later ≡ drop (i + 1) xs → i < length xs

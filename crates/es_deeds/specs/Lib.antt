@@ -3,5 +3,5 @@ pub mod Orderly
 pub mod Patience
 pub mod Shown
 pub mod Split
-pub mod Tables
+pub mod LedgerPass
 pub mod Words

@@ -29,9 +29,9 @@ patient [] = true
 patient (e ∷ earlier) = is_patient earlier (deed earlier e) && patient earlier
 
 -- a message was drained
-abbrev pub drained : Ledger → Bool
-drained [] = false
-drained (e ∷ earlier) = is_drained e || drained earlier
+abbrev pub has_drained : Ledger → Bool
+has_drained [] = false
+has_drained (e ∷ earlier) = is_drained e || has_drained earlier
 
 abbrev pub is_nobodys : Owned → Bool
 is_nobodys None = true
@@ -40,4 +40,4 @@ is_nobodys (Some p) = false
 -- no agent does anything after a drain
 abbrev pub drained_last : Ledger → Bool
 drained_last [] = true
-drained_last (e ∷ earlier) = (is_nobodys (deed earlier e) || not (drained earlier)) && drained_last earlier
+drained_last (e ∷ earlier) = (is_nobodys (deed earlier e) || not (has_drained earlier)) && drained_last earlier

@@ -3,11 +3,11 @@ use Rattle.std.specs.Prelude.{ℕ, ◌≡◌, true, false, not, ◌&&◌, ◌==�
 use Rattle.es_event.specs.declared.ledger_event.LedgerEvent.{LedgerEvent}
 use Rattle.es_event.specs.Ledger.{Ledger}
 use Rattle.es_deeds.specs.declared.stretch.Stretch.{Stretch}
-use Rattle.es_deeds.specs.declared.tables.Tables.{Tables}
+use Rattle.es_deeds.specs.declared.ledger_pass.LedgerPass.{LedgerPass}
 use Rattle.es_deeds.specs.Deeds.{Deed, Owned, deed, is_wait, part}
 use Rattle.es_deeds.specs.Orderly.{may_come, orderly}
 use Rattle.es_deeds.specs.Shown.{shown}
-use Rattle.es_deeds.specs.Tables.{Says}
+use Rattle.es_deeds.specs.LedgerPass.{Says}
 use Rattle.es_deeds.specs.Words.{words_said}
 
 -- the deeds of a stretch
@@ -34,6 +34,6 @@ pub record IsSplit (n : ℕ) (l : Ledger) (ps : List (List Stretch)) : Type 0 wh
   pub parts : (a : ℕ) → part_at ps a ≡ part l a
 
 -- one more event was noted with so many of those that follow it, or may not come
-abbrev pub IsStep : Option ℕ → ℕ → Ledger → LedgerEvent → List LedgerEvent → Tables → List (List Stretch) → Type 0
+abbrev pub IsStep : Option ℕ → ℕ → Ledger → LedgerEvent → List LedgerEvent → LedgerPass → List (List Stretch) → Type 0
 IsStep (Some k) n l e later t ps = Says (reverse (take k later) ++ e ∷ l) t × IsSplit n (reverse (take k later) ++ e ∷ l) ps
 IsStep None n l e later t ps = may_come n l (deed l e) ≡ false

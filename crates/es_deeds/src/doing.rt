@@ -6,15 +6,15 @@ ghost use Rattle.es_deeds.specs.Patience.{ends_wait, may_do};
 ghost use Rattle.es_deeds.specs.Deeds.{by_holder, deed, is_wait, taking};
 ghost use Rattle.es_deeds.specs.Orderly.{is_known, may_come};
 ghost use Rattle.es_deeds.specs.Shown.{owned, shown};
-ghost use Rattle.es_deeds.specs.Tables.{Says};
+ghost use Rattle.es_deeds.specs.LedgerPass.{Says};
 
 use crate::deed::Deed;
+use crate::ledger_pass::LedgerPass;
 use crate::lines::holder;
 use crate::mail::front;
-use crate::tables::Tables;
 use es_event::LedgerEvent;
 
-impl<'a> Tables<'a> {
+impl<'a> LedgerPass<'a> {
     /// What the next event is to the agent that does it.
     pub fn deed(&self, event: &'a LedgerEvent) -> Option<(usize, Deed<'a>)>
         ensures { (l : Ledger) → Says l self.now → owned result ≡ deed l event.now }

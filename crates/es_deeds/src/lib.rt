@@ -3,12 +3,12 @@
 
 mod deed;
 mod doing;
+mod ledger_pass;
 mod lines;
 mod mail;
 mod parts;
 mod rest;
 mod stretch;
-mod tables;
 mod words;
 
 pub use deed::Deed;

@@ -4,7 +4,7 @@ ghost use Rattle.std.specs.Prelude.{◌≡◌, ℕ, OnOk, Some};
 ghost use Rattle.std.specs.Option.{option_and_then, option_map};
 ghost use Rattle.std.specs.HashMap.{Updates};
 ghost use Rattle.es_event.specs.Ledger.{by_agent};
-ghost use Rattle.es_deeds.specs.Tables.{body_of, line_after, line_in, move_line, post_line, put_line};
+ghost use Rattle.es_deeds.specs.LedgerPass.{body_of, line_after, line_in, move_line, post_line, put_line};
 
 use es_event::{Body, Entry, Holder, LedgerEvent, Row};
 use es_value::NoMemory;

@@ -2,7 +2,7 @@
 
 ghost use Rattle.std.specs.Prelude.{◌≡◌, ◌++◌, ◌∷◌, [], ℕ, OnOk, drop, slice_get, nat_eq, ◌&&◌, if◌then◌else◌};
 ghost use Rattle.es_event.specs.Ledger.{queued};
-ghost use Rattle.es_deeds.specs.Tables.{bodies, body_of, port_in};
+ghost use Rattle.es_deeds.specs.LedgerPass.{bodies, body_of, port_in};
 
 use crate::lines::put;
 use es_event::{Body, LedgerEvent};

@@ -5,13 +5,13 @@ ghost use Rattle.es_event.specs.Ledger.{Ledger};
 ghost use Rattle.es_deeds.specs.Orderly.{is_known, orderly};
 ghost use Rattle.es_deeds.specs.Shown.{owned, shown};
 ghost use Rattle.es_deeds.specs.Split.{IsSplit, IsStep, added, part_at};
-ghost use Rattle.es_deeds.specs.Tables.{Says};
+ghost use Rattle.es_deeds.specs.LedgerPass.{Says};
 ghost use Rattle.es_deeds.specs.Words.{AreWordsAfter, words_said};
 
 use crate::deed::Deed;
 use crate::doing::is_wait;
+use crate::ledger_pass::LedgerPass;
 use crate::stretch::Stretch;
-use crate::tables::Tables;
 use crate::words::words_after;
 use es_event::{LedgerEvent, Sequence};
 use es_value::NoMemory;
@@ -80,22 +80,22 @@ fn following(doing: &Option<(usize, Deed<'_>)>, event: &LedgerEvent, later: &[Le
 /// or write words as it does. How many of the later ones that were; none where the event may not come.
 fn step<'a>(
     alloc: Global,
-    tables: &mut Tables<'a>,
+    pass: &mut LedgerPass<'a>,
     parts: &mut Vec<Sequence<Stretch<'a>>>,
     event: &'a LedgerEvent,
     later: &'a [LedgerEvent],
 ) -> Result<Option<usize>, NoMemory>
     ensures within { IfOk result (λ o. IfSome o (λ k. k ≤ length later.now)) }
-    ensures step { IfOk result (λ o. (n : ℕ) (l : Ledger) → Says l tables.old → IsSplit n l parts.old.items → IsStep o n l event.now later.now tables.new parts.new.items) }
+    ensures step { IfOk result (λ o. (n : ℕ) (l : Ledger) → Says l pass.old → IsSplit n l parts.old.items → IsStep o n l event.now later.now pass.new parts.new.items) }
 {
-    let doing = tables.deed(event);
-    let comes = tables.may_come(parts.len(), &doing);
+    let doing = pass.deed(event);
+    let comes = pass.may_come(parts.len(), &doing);
     if !comes {
         return Ok(None);
     }
     let count = following(&doing, event, later);
     add(parts, doing, &later[..count])?;
-    tables.note(alloc, event)?;
+    pass.note(alloc, event)?;
     Ok(Some(count))
 }
 
@@ -116,12 +116,12 @@ pub fn parts_of<'a>(
 ) -> Result<Option<Vec<Sequence<Stretch<'a>>>>, NoMemory>
     ensures { IfOk result (λ o. MatchOption o (orderly agents (reverse ledger.now) ≡ false) (λ ps. IsSplit agents (reverse ledger.now) ps.items)) }
 {
-    let mut tables = Tables::new(alloc);
+    let mut pass = LedgerPass::new(alloc);
     let mut parts = no_parts(alloc, agents)?;
     let mut place = 0;
     while place < ledger.len() {
         let later = after(ledger, place);
-        let came = step(alloc, &mut tables, &mut parts, &ledger[place], later)?;
+        let came = step(alloc, &mut pass, &mut parts, &ledger[place], later)?;
         match came {
             Some(count) => place += 1 + count,
             None => return Ok(None),

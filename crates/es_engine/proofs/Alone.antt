@@ -7,7 +7,7 @@ use Rattle.es_event.specs.declared.plan.Plan.{Plan}
 use Rattle.es_event.specs.Jobs.{stays_alone}
 use Rattle.es_event.specs.Report.{agents_text, cluster_text, report}
 use Rattle.es_event.proofs.OneOutcome.{one_outcome}
-use Rattle.es_match.specs.Cluster.{Account, Ties, account_of}
+use Rattle.es_match.specs.Cluster.{Account, DeedsMeet, account_of}
 use Rattle.es_deeds.specs.Deeds.{Deed, part}
 use Rattle.es_match.specs.Meets.{Came}
 use Rattle.es_cluster.specs.Ends.{IsWhole}
@@ -18,7 +18,7 @@ use Rattle.es_engine.specs.Laws.{stay_alone}
 use Rattle.es_engine.proofs.Quiet.{alone_deeds, quiet_ledger}
 
 -- each does nothing in the ledger but end
-only_ends : (all : List Account) → list_all stays_alone (map (λ a. a.plan) all) ≡ true → AllByRecursion IsWhole all → (a : ℕ) (ds : List Deed) (c : Came) → Ties (account_of all a).history ds c → list_all is_end ds ≡ true
+only_ends : (all : List Account) → list_all stays_alone (map (λ a. a.plan) all) ≡ true → AllByRecursion IsWhole all → (a : ℕ) (ds : List Deed) (c : Came) → DeedsMeet (account_of all a).history ds c → list_all is_end ds ≡ true
 only_ends [] alone runs a ds c ties = ap (list_all is_end) ties.0
 only_ends (x ∷ all) alone runs zero ds c ties =
     (alone_deeds x.over x.plan x.history ds c (and_parts (stays_alone x.plan) (list_all stays_alone (map (λ a. a.plan) all)) alone).0 runs.0.0 runs.0.1.0 ties).0

@@ -35,7 +35,7 @@ use Rattle.es_deeds.specs.Deeds.{Deed, Opens, Posts, Passes, Ends, is_wait, deed
 use Rattle.es_match.specs.Asks.{Asking, nothing, to_empty, to_close, between_jobs, asks, asks_did}
 use Rattle.es_match.proofs.Bridge.{mapped}
 use Rattle.es_match.specs.Meets.{Came, Tickets, after}
-use Rattle.es_match.specs.Cluster.{Ties}
+use Rattle.es_match.specs.Cluster.{DeedsMeet}
 use Rattle.es_outcome.proofs.Closing.{is_end}
 use Rattle.es_outcome.proofs.Silent.{inside_job}
 
@@ -94,7 +94,7 @@ calm_asks over plan h at _ alone follows here (closes b none) = refl
 
 -- an agent that stays alone does nothing in the ledger but end, and has no ticket
 pub alone_deeds : (over : Buffers) (plan : AgentPlan) (h : History) (ds : List Deed) (c : Came)
-    → stays_alone plan ≡ true → LegalBy over (receivers plan.jobs) h → Follows over plan h → Ties h ds c
+    → stays_alone plan ≡ true → LegalBy over (receivers plan.jobs) h → Follows over plan h → DeedsMeet h ds c
     → (list_all is_end ds ≡ true) × (c.tickets ≡ [])
 alone_deeds over plan [] ds c alone legal follows ties = (ap (list_all is_end) ties.0, ap (λ c. c.tickets) ties.1)
 alone_deeds over plan (e ∷ h) ds c alone legal follows (before, now, d, split, ties, met) =

@@ -1,5 +1,5 @@
 -- To believe: what a run does, on bytes: the reader's bytes to its end, and what is written for them.
-use Rattle.std.specs.Prelude.{ℕ, ◌≡◌, ◌≤◌, ◌||◌, ⊤, Bool, true, false, not, List, Option, Some, Result, Ok, Err, length, if◌then◌else◌}
+use Rattle.std.specs.Prelude.{ℕ, ◌≡◌, ◌≤◌, ◌||◌, ⊤, Bool, true, not, List, Option, Some, Result, Ok, Err, length, if◌then◌else◌}
 use Rattle.std.specs.Io.KnownBytes.{Appends, Consumes, IsAtEnd}
 use Rattle.es_value.specs.Limits.{longest_plan}
 use Rattle.es_event.specs.declared.plan.Plan.{Plan}

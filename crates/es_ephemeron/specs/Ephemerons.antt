@@ -8,14 +8,14 @@ abbrev pub Records : Type 0 → Type 0
 Records V = List (ℕ × V)
 
 -- the records of each key, of which the first is identity 1, and for how many more records each key has room
-pub record Keyed (V : Type 0) : Type 0 where
+pub record KeyedView (V : Type 0) : Type 0 where
   pub all : List (Records V)
   pub rooms : List ℕ
 
 -- the values of WeakMaps, and the members of WeakSets
-pub record Contents : Type 0 where
-  pub entries : Keyed Value
-  pub members : Keyed ⊤
+pub record WeakTablesView : Type 0 where
+  pub entries : KeyedView Value
+  pub members : KeyedView ⊤
 
 -- what is recorded under key k
 abbrev pub records_at : {V : Type 0} → List (Records V) → ℕ → Records V

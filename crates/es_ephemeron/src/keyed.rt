@@ -20,7 +20,7 @@ pub(crate) struct Keyed<V> {
 
 impl<V> Model for Keyed<V> {
     ghost use Rattle.std.specs.Prelude.{map};
-    ghost use Rattle.es_ephemeron.specs.Ephemerons.{Keyed as KeyedRecords};
+    ghost use Rattle.es_ephemeron.specs.Ephemerons.{KeyedView as KeyedRecords};
 
     ghost Value = { KeyedRecords V };
 

@@ -31,9 +31,9 @@ pub(crate) enum Held<V> {
 }
 
 impl<V> Model for Slot<V> {
-    ghost use Rattle.es_ephemeron.specs.Slots.{Place, place_of};
+    ghost use Rattle.es_ephemeron.specs.Slots.{SlotView, place_of};
 
-    ghost Value = { Place V };
+    ghost Value = { SlotView V };
 
     ghost view = { λ s. place_of s.held };
 }

@@ -20,9 +20,9 @@ pub struct WeakTables {
 }
 
 impl Model for WeakTables {
-    ghost use Rattle.es_ephemeron.specs.Ephemerons.{Contents};
+    ghost use Rattle.es_ephemeron.specs.Ephemerons.{WeakTablesView};
 
-    ghost Value = { Contents };
+    ghost Value = { WeakTablesView };
 
     ghost view = { λ t. record { entries = t.entries; members = t.members } };
 }

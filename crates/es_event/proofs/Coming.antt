@@ -12,7 +12,7 @@ use Rattle.es_event.specs.declared.command.Command.{Command}
 use Rattle.es_event.specs.declared.plan.AgentPlan.{AgentPlan}
 use Rattle.es_event.specs.declared.plan.Job.{Job}
 use Rattle.es_event.specs.Later.{snapshot, collects_now}
-use Rattle.es_event.specs.Order.{Due, finish, end_job, due_end}
+use Rattle.es_event.specs.Order.{due_end}
 use Rattle.es_event.proofs.Finishing.{IsFinish}
 use Rattle.es_event.specs.History.{History}
 use Rattle.es_event.specs.Identities.{object_of}

@@ -1,8 +1,7 @@
 -- How identities come to be emptied: all that is dead by a command, or all that is late at the end of a job.
-use Rattle.std.proofs.Common.{◌≡◌, ℕ, ◌-◌, true, refl, List, [], ◌∷◌, Option, Some, None, ◌⊎◌, inl, inr}
+use Rattle.std.proofs.Common.{◌≡◌, ℕ, ◌-◌, refl, List, [], ◌∷◌, Option, Some, None, ◌⊎◌, inl, inr}
 use Rattle.std.specs.Prelude.{slice_get}
 use Rattle.std.specs.Option.{option_map, option_and_then}
-use Rattle.es_event.specs.declared.event.Event.{Event}
 use Rattle.es_event.specs.declared.event.Event.TheVariants.{Emptied}
 use Rattle.es_event.specs.declared.command.Command.{Command}
 use Rattle.es_event.specs.declared.plan.AgentPlan.{AgentPlan}

@@ -1,15 +1,14 @@
 -- What is late is not live at the end of the history that went on since.
 use Rattle.std.proofs.Common.{◌≡◌, ℕ, ◌<◌, ◌≤◌, ◌==◌, ◌||◌, ◌&&◌, not, Bool, true, false, sym, ◌∙◌, ap, refl, subst, arith, nat_lt, nat_le, List, [], ◌∷◌, ◌++◌, Option, Some, None, inl, inr, ◌↔◌}
 use Rattle.std.specs.List.{filter, range_with_len}
-use Rattle.std.specs.Option.{option_map_or, option_to_list, option_and_then}
-use Rattle.std.proofs.lemmas.Bool.{cases_Bool, false≢true, and_parts, and_from, or_cases, or_left, or_right, lt-ltb, le-leb, ltb-true, leb-true, eq-eqb, not-true}
+use Rattle.std.specs.Option.{option_map_or, option_to_list}
+use Rattle.std.proofs.lemmas.Bool.{cases_Bool, false≢true, and_parts, and_from, or_cases, or_left, or_right, le-leb, ltb-true, leb-true, eq-eqb, not-true}
 use Rattle.es_value.specs.declared.value.Value.{Value}
 use Rattle.es_value.specs.declared.value.Value.TheVariants.{Undefined}
 use Rattle.es_event.specs.declared.event.Answer.{Answer}
 use Rattle.es_event.specs.declared.event.Answer.TheVariants.{Gives}
 use Rattle.es_event.specs.declared.event.Event.{Event}
 use Rattle.es_event.specs.declared.event.Event.TheVariants.{Did, Emptied}
-use Rattle.es_event.specs.declared.command.Command.{Command}
 use Rattle.es_event.specs.declared.command.Command.TheVariants.{Deref}
 use Rattle.es_event.specs.Commands.{first}
 use Rattle.es_event.specs.History.{History}

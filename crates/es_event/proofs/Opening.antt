@@ -1,8 +1,7 @@
 -- The open later collection: the history since its copy was taken.
-use Rattle.std.proofs.Common.{◌≡◌, ℕ, ap, refl, ◌∙◌, List, [], ◌∷◌, ◌++◌, Option, Some, None}
+use Rattle.std.proofs.Common.{◌≡◌, ap, refl, ◌∙◌, [], ◌∷◌, ◌++◌, Some}
 use Rattle.es_event.specs.declared.event.Event.{Event}
 use Rattle.es_event.specs.declared.event.Event.TheVariants.{Did, Emptied}
-use Rattle.es_event.specs.declared.command.Command.{Command}
 use Rattle.es_event.specs.declared.command.Command.TheVariants.{CollectLater}
 use Rattle.es_event.specs.History.{History}
 use Rattle.es_event.specs.Identities.{gone}

@@ -18,7 +18,7 @@ use Rattle.es_event.specs.declared.plan.Callback.{Callback}
 use Rattle.es_event.specs.declared.plan.Job.{Job}
 use Rattle.es_event.specs.Commands.{collects, opens_or_collects}
 use Rattle.es_event.specs.declared.command.Command.TheVariants.{Collect, CollectLater}
-use Rattle.es_event.specs.Later.{snapshot, collects_now, is_later}
+use Rattle.es_event.specs.Later.{snapshot}
 use Rattle.es_event.specs.History.{History}
 use Rattle.es_event.specs.Jobs.{receivers, job, cleans, cleaning, callbacks_collect_nothing}
 use Rattle.es_event.specs.Registrations.{callback, awaiting, fate, tally, first_awaiting}

@@ -16,9 +16,9 @@ pub struct Log<E> {
 
 impl<E> Model for Log<E> {
     ghost use Rattle.std.specs.Prelude.{◌-◌, reverse, vec_len, vec_capacity};
-    ghost use Rattle.es_event.specs.Log.{Logged};
+    ghost use Rattle.es_event.specs.Log.{LogView};
 
-    ghost Value = { Logged E };
+    ghost Value = { LogView E };
 
     ghost view = { λ l. record { events = reverse l.all.items; room = vec_capacity l.all - vec_len l.all } };
 }

@@ -1,13 +1,11 @@
 -- A ledger without events.
 use Rattle.std.proofs.Common.{◌≡◌, ◌⊎◌, ⊎_elim, inl, inr, ℕ, zero, suc, ◌<◌, ◌≤◌, List, [], ◌∷◌, ◌++◌, ◌==◌, ◌*◌, ◌+◌, Bool, true, false, cond, Option, Some, None, refl, sym, ap, ◌∙◌, subst, arith, length}
 use Rattle.std.specs.Prelude.{slice_get, slice_index_or, map}
-use Rattle.es_event.specs.declared.row.Entry.{Entry}
 use Rattle.es_event.specs.Ledger.{Ledger}
-use Rattle.es_ledger.specs.declared.blocks.Counted.{Counted}
 use Rattle.es_ledger.specs.Blocks.{no_block, block_at, tickets_at}
 use Rattle.es_ledger.specs.Letters.{body_of}
-use Rattle.es_ledger.specs.Ports.{Queued, no_queue}
-use Rattle.es_ledger.specs.Ties.{left, waiting, AreNamed, Mail, Ties}
+use Rattle.es_ledger.specs.Ports.{QueueView, no_queue}
+use Rattle.es_ledger.specs.Ties.{left, waiting, AreNamed, Mail, Columns, LedgerTies}
 
 -- the last of a list, or one before it
 pub got_new : {A : Type 0} (xs : List A) (x s : A) (i : ℕ) → slice_get (xs ++ x ∷ []) i ≡ Some s → (slice_get xs i ≡ Some s) ⊎ ((i ≡ length xs) × (x ≡ s))
@@ -46,7 +44,7 @@ none_waits : (n : ℕ) → waiting [] n ≡ 0
 none_waits zero = refl
 none_waits (suc n) = let rest = none_waits n in omega (arith, rest)
 
-new_mail : {L : Type 0} (n : ℕ) (l : Ledger) (ws : List (Option ℕ)) (qs : List (Queued L))
+new_mail : {L : Type 0} (n : ℕ) (l : Ledger) (ws : List (Option ℕ)) (qs : List (QueueView L))
     → length qs ≡ n * 8 → ((i : ℕ) → (slice_index_or qs i no_queue).letters ≡ []) → length ws ≡ n → ((a : ℕ) → slice_index_or ws a None ≡ None) → Mail n [] ws qs
 new_mail n l ws qs size empty long quiet = record {
   columns = size;
@@ -57,12 +55,12 @@ new_mail n l ws qs size empty long quiet = record {
   senders = λ a s below is. cc;
 }
 
-pub new_ties : {L : Type 0} (n : ℕ) (l : Ledger) (lines : List Entry) (blocks : List Counted) (ends : List Bool) (ws : List (Option ℕ)) (qs : List (Queued L)) (messages places : ℕ)
-    → n < 9 → l ≡ [] → lines ≡ [] → blocks ≡ [] → length ends ≡ n → ((a : ℕ) → slice_index_or ends a false ≡ false)
-    → length ws ≡ n → ((a : ℕ) → slice_index_or ws a None ≡ None) → length qs ≡ n * 8 → ((i : ℕ) → (slice_index_or qs i no_queue).letters ≡ []) → messages ≡ 0
-    → n ≤ places → Ties n l lines blocks ends ws qs messages places
-new_ties n l lines blocks ends ws qs messages places few none no_lines no_blocks agents_are quiet waits_are nobody size empty no_messages room =
-    subst (λ l. Ties n l lines blocks ends ws qs messages places) (sym none) (record {
+pub new_ties : {L : Type 0} (n : ℕ) (l : Ledger) (k : Columns L)
+    → n < 9 → l ≡ [] → k.lines ≡ [] → k.blocks ≡ [] → length k.ends ≡ n → ((a : ℕ) → slice_index_or k.ends a false ≡ false)
+    → length k.waits ≡ n → ((a : ℕ) → slice_index_or k.waits a None ≡ None) → length k.queues ≡ n * 8 → ((i : ℕ) → (slice_index_or k.queues i no_queue).letters ≡ []) → k.messages ≡ 0
+    → n ≤ k.places → LedgerTies n l k
+new_ties n l k few none no_lines no_blocks agents_are quiet waits_are nobody size empty no_messages room =
+    subst (λ l. LedgerTies n l k) (sym none) (record {
       few = few;
       legal = (tt, refl);
       tabled = no_lines;
@@ -72,6 +70,6 @@ new_ties n l lines blocks ends ws qs messages places few none no_lines no_blocks
       words = λ b i some. absurd (omega (arith, some));
       agents = agents_are;
       over = λ a below. quiet a;
-      mail = new_mail n l ws qs size empty waits_are nobody;
+      mail = new_mail n l k.waits k.queues size empty waits_are nobody;
       room = let all = left_all n in let waits = none_waits n in omega (arith, all, waits, no_messages, room);
     })

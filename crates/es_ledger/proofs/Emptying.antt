@@ -10,72 +10,70 @@ use Rattle.es_event.specs.declared.ledger_event.Body.TheVariants.{Plain as Plain
 use Rattle.es_event.specs.declared.ledger_event.LedgerEvent.{LedgerEvent}
 use Rattle.es_event.specs.declared.ledger_event.LedgerEvent.TheVariants.{Posted, Taken, Spent, Drained}
 use Rattle.es_event.specs.declared.row.Row.{Row}
-use Rattle.es_event.specs.declared.row.Entry.{Entry}
 use Rattle.es_event.specs.declared.row.Holder.TheVariants.{Nobody}
 use Rattle.es_event.specs.Rows.{moved}
 use Rattle.es_event.specs.Ledger.{Ledger, opened, count, port_of, front, serial_in, is_at, ended}
 use Rattle.es_event.specs.LegalLedger.{ComesNext, LegalSoFar, has_message, all_ended, owed}
-use Rattle.es_ledger.specs.declared.blocks.Counted.{Counted}
 use Rattle.es_ledger.specs.declared.message.Letter.{Letter}
 use Rattle.es_ledger.specs.declared.message.Letter.TheVariants.{Plain, Block}
 use Rattle.es_ledger.specs.Blocks.{tickets_at, lost}
 use Rattle.es_ledger.specs.Letters.{body_of}
-use Rattle.es_ledger.specs.Ports.{Queued, no_queue, letters_at}
+use Rattle.es_ledger.specs.Ports.{QueueView, no_queue, letters_at}
 use Rattle.std.proofs.lemmas.List.{get_or_past}
 use Rattle.es_ledger.specs.Draining.{drained_one, drained_each, drained_to, drained_below}
-use Rattle.es_ledger.specs.Ties.{Ties}
+use Rattle.es_ledger.specs.Ties.{Columns, LedgerTies}
 use Rattle.es_ledger.proofs.Mail.{mail_same, mail_popped, waiting_same}
 use Rattle.es_ledger.proofs.Tying.{left_same, still_ties, less_ties}
 use Rattle.es_ledger.proofs.Lain.{front_is, ticket_line, drained_count, drained_length}
 
 -- One message
 
-pub drained_plain_ties : {L : Type 0} (n : ℕ) (l : Ledger) (lines : List Entry) (blocks : List Counted) (ends : List Bool) (ws : List (Option ℕ)) (qs queues : List (Queued L)) (messages number places more s r : ℕ) (v : Value)
-    → Ties n l lines blocks ends ws qs messages places → s < n → r < n → all_ended l n ≡ true
-    → length queues ≡ length qs → letters_at qs s r ≡ Plain v ∷ letters_at queues s r → ((t u : ℕ) → u < 8 → (t ≡ s → u ≡ r → ⊥) → letters_at queues t u ≡ letters_at qs t u)
-    → messages ≡ 1 + number → places ≤ more + 1
-    → Ties n (Drained s r ∷ l) lines blocks ends ws queues number more
-drained_plain_ties n l lines blocks ends ws qs queues messages number places more s r v ties sender receiver over columns here others one last =
+pub drained_plain_ties : {L : Type 0} (n : ℕ) (l : Ledger) (k : Columns L) (queues : List (QueueView L)) (number more s r : ℕ) (v : Value)
+    → LedgerTies n l k → s < n → r < n → all_ended l n ≡ true
+    → length queues ≡ length k.queues → letters_at k.queues s r ≡ Plain v ∷ letters_at queues s r → ((t u : ℕ) → u < 8 → (t ≡ s → u ≡ r → ⊥) → letters_at queues t u ≡ letters_at k.queues t u)
+    → k.messages ≡ 1 + number → k.places ≤ more + 1
+    → LedgerTies n (Drained s r ∷ l) (record k { queues = queues; messages = number; places = more })
+drained_plain_ties n l k queues number more s r v ties sender receiver over columns here others one last =
     let few = ties.few in
     let column : r < 8 = omega (arith, few, receiver) in
-    let at_front = front_is n l ws qs s r (Plain v) (letters_at queues s r) ties.mail sender column here in
+    let at_front = front_is n l k.waits k.queues s r (Plain v) (letters_at queues s r) ties.mail sender column here in
     let waits = waiting_same l (Drained s r) n (λ a. refl) in
     let room = ties.room in
-    still_ties n l lines lines blocks ends ws ws qs queues messages number places more (Drained s r) ties (over, ap is_some at_front) (ap (option_and_then serial_in) at_front)
+    still_ties n l k _ (Drained s r) ties (over, ap is_some at_front) (ap (option_and_then serial_in) at_front)
     ties.tabled (zero-add (opened l)) (λ b. refl) (λ b. refl) (λ b. refl) (λ b i. refl)
-    (mail_popped n l ws ws qs queues s r (Plain v) (Drained s r) ties.mail columns here others (λ t u. refl) refl ties.mail.awaited (λ c t within is. is))
+    refl refl (mail_popped n l k.waits k.waits k.queues queues s r (Plain v) (Drained s r) ties.mail columns here others (λ t u. refl) refl ties.mail.awaited (λ c t within is. is))
     (omega (arith, waits, room, one, last))
 
 -- its ticket is still there, and there is room for its spending
-pub drained_there : {L : Type 0} (n : ℕ) (l : Ledger) (lines : List Entry) (blocks : List Counted) (ends : List Bool) (ws : List (Option ℕ)) (qs : List (Queued L)) (messages places s r : ℕ) (x : Row) (rest : List (Letter L))
-    → Ties n l lines blocks ends ws qs messages places → s < n → r < n → letters_at qs s r ≡ Block x ∷ rest → 0 < tickets_at blocks x.block
-drained_there n l lines blocks ends ws qs messages places s r x rest ties sender receiver is =
+pub drained_there : {L : Type 0} (n : ℕ) (l : Ledger) (k : Columns L) (s r : ℕ) (x : Row) (rest : List (Letter L))
+    → LedgerTies n l k → s < n → r < n → letters_at k.queues s r ≡ Block x ∷ rest → 0 < tickets_at k.blocks x.block
+drained_there n l k s r x rest ties sender receiver is =
     let few = ties.few in
-    let line = ticket_line n l ws qs s r x rest ties.legal.0 ties.mail sender (omega (arith, few, receiver)) is in
+    let line = ticket_line n l k.waits k.queues s r x rest ties.legal.0 ties.mail sender (omega (arith, few, receiver)) is in
     let counts = drained_count n l s r x ties.legal.0 line x.block in
     let here : ◌≡◌ {A = ℕ} (cond (x.block == x.block) 1 0) 1 = ap (λ s. cond s 1 0) (eq-eqb x.block x.block refl) in
     let all = ties.tickets x.block in
     omega (arith, counts, here, all)
 
-pub drained_room : {L : Type 0} (n : ℕ) (l : Ledger) (lines : List Entry) (blocks : List Counted) (ends : List Bool) (ws : List (Option ℕ)) (qs : List (Queued L)) (messages number places middle s r : ℕ) (x : Row) (rest : List (Letter L))
-    → Ties n l lines blocks ends ws qs messages places → s < n → r < n → letters_at qs s r ≡ Block x ∷ rest → messages ≡ 1 + number → places ≤ middle + 1 → 0 < middle
-drained_room n l lines blocks ends ws qs messages number places middle s r x rest ties sender receiver is one last =
+pub drained_room : {L : Type 0} (n : ℕ) (l : Ledger) (k : Columns L) (number middle s r : ℕ) (x : Row) (rest : List (Letter L))
+    → LedgerTies n l k → s < n → r < n → letters_at k.queues s r ≡ Block x ∷ rest → k.messages ≡ 1 + number → k.places ≤ middle + 1 → 0 < middle
+drained_room n l k number middle s r x rest ties sender receiver is one last =
     let few = ties.few in
-    let line = ticket_line n l ws qs s r x rest ties.legal.0 ties.mail sender (omega (arith, few, receiver)) is in
+    let line = ticket_line n l k.waits k.queues s r x rest ties.legal.0 ties.mail sender (omega (arith, few, receiver)) is in
     let fewer = drained_length n l s r x ties.legal.0 line in
     let room = ties.room in
     omega (arith, fewer, one, last, room)
 
-pub drained_block_ties : {L : Type 0} (n : ℕ) (l : Ledger) (lines : List Entry) (blocks : List Counted) (ends : List Bool) (ws : List (Option ℕ)) (qs queues : List (Queued L)) (messages number places middle more s r : ℕ) (x : Row)
-    → Ties n l lines blocks ends ws qs messages places → s < n → r < n → all_ended l n ≡ true
-    → length queues ≡ length qs → letters_at qs s r ≡ Block x ∷ letters_at queues s r → ((t u : ℕ) → u < 8 → (t ≡ s → u ≡ r → ⊥) → letters_at queues t u ≡ letters_at qs t u)
-    → messages ≡ 1 + number → places ≤ middle + 1 → middle ≤ more + 1
-    → Ties n (Spent x.serial ∷ Drained s r ∷ l) (moved x.serial Nobody lines) (lost blocks x.block) ends ws queues number more
-drained_block_ties n l lines blocks ends ws qs queues messages number places middle more s r x ties sender receiver over columns here others one last later =
+pub drained_block_ties : {L : Type 0} (n : ℕ) (l : Ledger) (k : Columns L) (queues : List (QueueView L)) (number middle more s r : ℕ) (x : Row)
+    → LedgerTies n l k → s < n → r < n → all_ended l n ≡ true
+    → length queues ≡ length k.queues → letters_at k.queues s r ≡ Block x ∷ letters_at queues s r → ((t u : ℕ) → u < 8 → (t ≡ s → u ≡ r → ⊥) → letters_at queues t u ≡ letters_at k.queues t u)
+    → k.messages ≡ 1 + number → k.places ≤ middle + 1 → middle ≤ more + 1
+    → LedgerTies n (Spent x.serial ∷ Drained s r ∷ l) (record k { lines = moved x.serial Nobody k.lines; blocks = lost k.blocks x.block; queues = queues; messages = number; places = more })
+drained_block_ties n l k queues number middle more s r x ties sender receiver over columns here others one last later =
     let few = ties.few in
     let column : r < 8 = omega (arith, few, receiver) in
-    let at_front = front_is n l ws qs s r (Block x) (letters_at queues s r) ties.mail sender column here in
-    let line = ticket_line n l ws qs s r x (letters_at queues s r) ties.legal.0 ties.mail sender column here in
+    let at_front = front_is n l k.waits k.queues s r (Block x) (letters_at queues s r) ties.mail sender column here in
+    let line = ticket_line n l k.waits k.queues s r x (letters_at queues s r) ties.legal.0 ties.mail sender column here in
     let counts = drained_count n l s r x ties.legal.0 line in
     let some : 0 < count l x.block = some_here _ (counts x.block) in
     let owes : owed (Drained s r ∷ l) ≡ Some x.serial = ap (option_and_then serial_in) at_front in
@@ -85,11 +83,11 @@ drained_block_ties n l lines blocks ends ws qs queues messages number places mid
     let waits_one = waiting_same l (Drained s r) n (λ c. refl) in
     let waits_two = waiting_same (Drained s r ∷ l) (Spent x.serial) n (λ c. refl) in
     let room = ties.room in
-    less_ties n l (Spent x.serial ∷ Drained s r ∷ l) lines (moved x.serial Nobody lines) blocks ends ws qs queues messages number places more x.block ties some counts
+    less_ties n l (Spent x.serial ∷ Drained s r ∷ l) k _ x.block ties some counts
     ((subst (ComesNext n (Drained s r ∷ l) (Spent x.serial)) (sym owes) refl, (subst (ComesNext n l (Drained s r)) (sym ties.legal.1) (over, ap is_some at_front), ties.legal.0)), refl)
     (ap (moved x.serial Nobody) ties.tabled) (zero-add (0 + opened l) ∙ zero-add (opened l)) (λ c. refl) (λ c i. refl) (λ c. refl)
-    (mail_same n (Drained s r ∷ l) ws queues (Spent x.serial)
-    (mail_popped n l ws ws qs queues s r (Block x) (Drained s r) ties.mail columns here others (λ t u. refl) refl ties.mail.awaited (λ c t within is. is)) (λ t u. refl) (λ c. refl))
+    refl refl (mail_same n (Drained s r ∷ l) k.waits queues (Spent x.serial)
+    (mail_popped n l k.waits k.waits k.queues queues s r (Block x) (Drained s r) ties.mail columns here others (λ t u. refl) refl ties.mail.awaited (λ c t within is. is)) (λ t u. refl) (λ c. refl))
     (omega (arith, fewer, left_one, left_two, waits_one, waits_two, room, one, last, later))
   where
     some_here : (m : ℕ) → count l x.block ≡ cond (x.block == x.block) 1 0 + m → 0 < count l x.block
@@ -102,18 +100,18 @@ the_front [] e = cc
 the_front (m ∷ p) e = (m, refl)
 
 -- a message is there, so the queue has a letter
-pub not_empty : {L : Type 0} (n : ℕ) (l : Ledger) (lines : List Entry) (blocks : List Counted) (ends : List Bool) (ws : List (Option ℕ)) (qs : List (Queued L)) (messages places s r : ℕ)
-    → Ties n l lines blocks ends ws qs messages places → s < n → r < n → has_message l s r ≡ true → letters_at qs s r ≡ [] → ⊥
-not_empty n l lines blocks ends ws qs messages places s r ties sender receiver there none =
+pub not_empty : {L : Type 0} (n : ℕ) (l : Ledger) (k : Columns L) (s r : ℕ)
+    → LedgerTies n l k → s < n → r < n → has_message l s r ≡ true → letters_at k.queues s r ≡ [] → ⊥
+not_empty n l k s r ties sender receiver there none =
     let few = ties.few in
     let empty = sym (ties.mail.ports s r sender (omega (arith, few, receiver))) ∙ ap (map body_of) none in
     false≢true (sym (ap (λ p. is_some (slice_get p 0)) empty) ∙ there)
 
-pub front_of : {L : Type 0} (n : ℕ) (l : Ledger) (lines : List Entry) (blocks : List Counted) (ends : List Bool) (ws : List (Option ℕ)) (qs : List (Queued L)) (messages places s r : ℕ) (x : Letter L) (rest : List (Letter L)) (m : Body)
-    → Ties n l lines blocks ends ws qs messages places → s < n → r < n → letters_at qs s r ≡ x ∷ rest → front l s r ≡ Some m → m ≡ body_of x
-front_of n l lines blocks ends ws qs messages places s r x rest m ties sender receiver is at =
+pub front_of : {L : Type 0} (n : ℕ) (l : Ledger) (k : Columns L) (s r : ℕ) (x : Letter L) (rest : List (Letter L)) (m : Body)
+    → LedgerTies n l k → s < n → r < n → letters_at k.queues s r ≡ x ∷ rest → front l s r ≡ Some m → m ≡ body_of x
+front_of n l k s r x rest m ties sender receiver is at =
     let few = ties.few in
-    let is_x = front_is n l ws qs s r x rest ties.mail sender (omega (arith, few, receiver)) is in
+    let is_x = front_is n l k.waits k.queues s r x rest ties.mail sender (omega (arith, few, receiver)) is in
     cc
 
 -- Histories
@@ -233,19 +231,19 @@ no_letters : {L : Type 0} (q : List (Letter L)) → map body_of q ≡ [] → q �
 no_letters [] e = refl
 no_letters (x ∷ q) e = cc
 
-pub none_anywhere : {L : Type 0} (n : ℕ) (l : Ledger) (lines : List Entry) (blocks : List Counted) (ends : List Bool) (ws : List (Option ℕ)) (qs : List (Queued L)) (messages places : ℕ)
-    → Ties n l lines blocks ends ws qs messages places → ((s r : ℕ) → port_of l s r ≡ []) → (i : ℕ) → (slice_index_or qs i no_queue).letters ≡ []
-none_anywhere n l lines blocks ends ws qs messages places ties none i = by_test (nat_lt i (n * 8)) refl
+pub none_anywhere : {L : Type 0} (n : ℕ) (l : Ledger) (k : Columns L)
+    → LedgerTies n l k → ((s r : ℕ) → port_of l s r ≡ []) → (i : ℕ) → (slice_index_or k.queues i no_queue).letters ≡ []
+none_anywhere n l k ties none i = by_test (nat_lt i (n * 8)) refl
   where
-    by_test : (b : Bool) → nat_lt i (n * 8) ≡ b → (slice_index_or qs i no_queue).letters ≡ []
+    by_test : (b : Bool) → nat_lt i (n * 8) ≡ b → (slice_index_or k.queues i no_queue).letters ≡ []
     by_test true is =
         let below : i < n * 8 = grind (arith, nat_tests, is) in
         let parts : i / 8 * 8 + i % 8 ≡ i = omega arith in
         let column : i % 8 < 8 = omega arith in
         let sender : i / 8 < n = omega (arith, below, parts, column) in
-        let empty = no_letters (letters_at qs (i / 8) (i % 8)) (ties.mail.ports (i / 8) (i % 8) sender column ∙ none (i / 8) (i % 8)) in
-        subst (λ j. (slice_index_or qs j no_queue).letters ≡ []) parts empty
+        let empty = no_letters (letters_at k.queues (i / 8) (i % 8)) (ties.mail.ports (i / 8) (i % 8) sender column ∙ none (i / 8) (i % 8)) in
+        subst (λ j. (slice_index_or k.queues j no_queue).letters ≡ []) parts empty
     by_test false is =
         let past : n * 8 ≤ i = grind (arith, nat_tests, is) in
         let columns = ties.mail.columns in
-        ap (λ q. q.letters) (get_or_past qs i no_queue (omega (arith, past, columns)))
+        ap (λ q. q.letters) (get_or_past k.queues i no_queue (omega (arith, past, columns)))

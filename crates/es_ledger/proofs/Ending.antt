@@ -1,14 +1,11 @@
 -- An agent ends: one fewer is left.
-use Rattle.std.proofs.Common.{◌≡◌, ◌≢◌, ℕ, zero, suc, ◌+◌, ◌<◌, ◌≤◌, ◌==◌, ◌||◌, List, ◌∷◌, Option, Bool, true, false, cond, refl, sym, ap, ◌∙◌, subst, arith, length-set, zero-add, eq-eqb, ne_eqb}
+use Rattle.std.proofs.Common.{◌≡◌, ◌≢◌, ℕ, zero, suc, ◌+◌, ◌<◌, ◌≤◌, ◌==◌, ◌||◌, ◌∷◌, Bool, true, false, cond, refl, sym, ap, ◌∙◌, subst, arith, length-set, zero-add, eq-eqb, ne_eqb}
 use Rattle.std.proofs.lemmas.Bool.{eqb-true, false≢true}
 use Rattle.std.proofs.lemmas.List.{get_or-set_same, get_or-set_other}
 use Rattle.std.specs.Prelude.{slice_set, slice_index_or}
 use Rattle.es_event.specs.declared.ledger_event.LedgerEvent.TheVariants.{Ended}
-use Rattle.es_event.specs.declared.row.Entry.{Entry}
 use Rattle.es_event.specs.Ledger.{Ledger, opened, ended}
-use Rattle.es_ledger.specs.declared.blocks.Counted.{Counted}
-use Rattle.es_ledger.specs.Ports.{Queued}
-use Rattle.es_ledger.specs.Ties.{left, Ties}
+use Rattle.es_ledger.specs.Ties.{left, Columns, LedgerTies}
 use Rattle.es_ledger.proofs.Tying.{next_legal}
 use Rattle.es_ledger.proofs.Mail.{mail_same, waiting_same}
 
@@ -35,9 +32,9 @@ left_ended l a (suc n) below before = by_test (a == n) refl (λ smaller. left_en
         let rest = earlier (omega (arith, apart, below)) in
         omega (arith, rest)
 
-pub ended_ties : {L : Type 0} (n : ℕ) (l : Ledger) (lines : List Entry) (blocks : List Counted) (ends : List Bool) (ws : List (Option ℕ)) (qs : List (Queued L)) (messages places more a : ℕ)
-    → Ties n l lines blocks ends ws qs messages places → a < n → ended l a ≡ false → places ≤ more + 1 → Ties n (Ended a ∷ l) lines blocks (slice_set ends a true) ws qs messages more
-ended_ties n l lines blocks ends ws qs messages places more a ties below before room = record {
+pub ended_ties : {L : Type 0} (n : ℕ) (l : Ledger) (k : Columns L) (more a : ℕ)
+    → LedgerTies n l k → a < n → ended l a ≡ false → k.places ≤ more + 1 → LedgerTies n (Ended a ∷ l) (record k { ends = slice_set k.ends a true; places = more })
+ended_ties n l k more a ties below before room = record {
   few = ties.few;
   legal = next_legal n l (Ended a) ties.legal (below, before) refl;
   tabled = ties.tabled;
@@ -45,19 +42,19 @@ ended_ties n l lines blocks ends ws qs messages places more a ties below before 
   tickets = ties.tickets;
   sizes = ties.sizes;
   words = ties.words;
-  agents = length-set ends a true ∙ ties.agents;
+  agents = length-set k.ends a true ∙ ties.agents;
   over = λ c within. by_test c within (a == c) refl;
-  mail = mail_same n l ws qs (Ended a) ties.mail (λ s r. refl) (λ c. refl);
+  mail = mail_same n l k.waits k.queues (Ended a) ties.mail (λ s r. refl) (λ c. refl);
   room = let fewer = left_ended l a n below before in let waits = waiting_same l (Ended a) n (λ c. refl) in let all = ties.room in omega (arith, room, fewer, waits, all);
 }
   where
-    by_test : (c : ℕ) → c < n → (s : Bool) → (a == c) ≡ s → slice_index_or (slice_set ends a true) c false ≡ (s || ended l c)
+    by_test : (c : ℕ) → c < n → (s : Bool) → (a == c) ≡ s → slice_index_or (slice_set k.ends a true) c false ≡ (s || ended l c)
     by_test c within true is =
-        subst (λ d. slice_index_or (slice_set ends a true) d false ≡ true) (eqb-true a c is)
-        (get_or-set_same ends a true false (let long = ties.agents in omega (arith, long, below)))
-    by_test c within false is = get_or-set_other ends a c true false (λ e. absurd (false≢true (sym is ∙ eq-eqb a c (sym e)))) ∙ ties.over c within
+        subst (λ d. slice_index_or (slice_set k.ends a true) d false ≡ true) (eqb-true a c is)
+        (get_or-set_same k.ends a true false (let long = ties.agents in omega (arith, long, below)))
+    by_test c within false is = get_or-set_other k.ends a c true false (λ e. absurd (false≢true (sym is ∙ eq-eqb a c (sym e)))) ∙ ties.over c within
 
 -- there is room for the end of an agent that has not ended
-pub ended_room : {L : Type 0} (n : ℕ) (l : Ledger) (lines : List Entry) (blocks : List Counted) (ends : List Bool) (ws : List (Option ℕ)) (qs : List (Queued L)) (messages places a : ℕ)
-    → Ties n l lines blocks ends ws qs messages places → a < n → ended l a ≡ false → 0 < places
-ended_room n l lines blocks ends ws qs messages places a ties below before = let fewer = left_ended l a n below before in let room = ties.room in omega (arith, fewer, room)
+pub ended_room : {L : Type 0} (n : ℕ) (l : Ledger) (k : Columns L) (a : ℕ)
+    → LedgerTies n l k → a < n → ended l a ≡ false → 0 < k.places
+ended_room n l k a ties below before = let fewer = left_ended l a n below before in let room = ties.room in omega (arith, fewer, room)

@@ -15,7 +15,7 @@ use Rattle.es_event.specs.LegalLedger.{LegalSoFar}
 use Rattle.es_ledger.specs.declared.message.Letter.{Letter}
 use Rattle.es_ledger.specs.declared.message.Letter.TheVariants.{Block}
 use Rattle.es_ledger.specs.Letters.{body_of}
-use Rattle.es_ledger.specs.Ports.{Queued, letters_at}
+use Rattle.es_ledger.specs.Ports.{QueueView, letters_at}
 use Rattle.es_ledger.specs.Ties.{row_at, AreNamed, Mail}
 use Rattle.es_ledger.proofs.Lines.{OnlyBy, rows_moved}
 use Rattle.es_ledger.proofs.Numbered.{serials_of, numbered, none_by, only_by}
@@ -25,7 +25,7 @@ use Rattle.es_ledger.proofs.Made.{Each, IsMade, all_made}
 
 -- The oldest letter is what the history says is in front
 
-pub front_is : {L : Type 0} (n : ℕ) (l : Ledger) (ws : List (Option ℕ)) (qs : List (Queued L)) (s r : ℕ) (x : Letter L) (rest : List (Letter L))
+pub front_is : {L : Type 0} (n : ℕ) (l : Ledger) (ws : List (Option ℕ)) (qs : List (QueueView L)) (s r : ℕ) (x : Letter L) (rest : List (Letter L))
     → Mail n l ws qs → s < n → r < 8 → letters_at qs s r ≡ x ∷ rest → front l s r ≡ Some (body_of x)
 front_is n l ws qs s r x rest mail sender receiver is = ap (λ p. slice_get p 0) (sym (mail.ports s r sender receiver) ∙ ap (map body_of) is)
 
@@ -38,7 +38,7 @@ of_both (Some e) x h rowed held =
     let two : e.holder ≡ h = cc in
     ap (λ y. Some (held_by e.holder y)) one ∙ ap (λ k. Some (held_by k x)) two
 
-pub ticket_line : {L : Type 0} (n : ℕ) (l : Ledger) (ws : List (Option ℕ)) (qs : List (Queued L)) (s r : ℕ) (x : Row) (rest : List (Letter L))
+pub ticket_line : {L : Type 0} (n : ℕ) (l : Ledger) (ws : List (Option ℕ)) (qs : List (QueueView L)) (s r : ℕ) (x : Row) (rest : List (Letter L))
     → LegalSoFar n l → Mail n l ws qs → s < n → r < 8 → letters_at qs s r ≡ Block x ∷ rest → line_of x.serial (table l) ≡ Some (held_by (Port s r) x)
 ticket_line {L = L} n l ws qs s r x rest legal mail sender receiver is =
     let at_front = front_is n l ws qs s r (Block x) rest mail sender receiver is in

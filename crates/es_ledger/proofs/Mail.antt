@@ -15,7 +15,7 @@ use Rattle.es_event.specs.Ledger.{Ledger, table, waits as awaits, port_of, is_at
 use Rattle.es_ledger.specs.declared.message.Letter.{Letter}
 use Rattle.es_ledger.specs.declared.message.Letter.TheVariants.{Plain, Block}
 use Rattle.es_ledger.specs.Letters.{body_of}
-use Rattle.es_ledger.specs.Ports.{Queued, letters_at}
+use Rattle.es_ledger.specs.Ports.{QueueView, letters_at}
 use Rattle.es_ledger.specs.Laws.{sum_below}
 use Rattle.es_ledger.specs.Ties.{row_at, IsNamed, AreNamed, Mail, waiting}
 
@@ -94,7 +94,7 @@ is_away : (s r t u : ℕ) → is_at s r t u ≡ false → s ≡ t → r ≡ u �
 is_away s r t u e same also = false≢true (sym e ∙ and_from (s == t) (r == u) (eq-eqb s t same) (eq-eqb r u also))
 
 -- an event that changes no port and no wait
-pub mail_same : {L : Type 0} (n : ℕ) (l : Ledger) (ws : List (Option ℕ)) (qs : List (Queued L)) (e : LedgerEvent)
+pub mail_same : {L : Type 0} (n : ℕ) (l : Ledger) (ws : List (Option ℕ)) (qs : List (QueueView L)) (e : LedgerEvent)
     → Mail n l ws qs → ((s r : ℕ) → port_of (e ∷ l) s r ≡ port_of l s r) → ((a : ℕ) → awaits (e ∷ l) a ≡ awaits l a) → Mail n (e ∷ l) ws qs
 mail_same n l ws qs e mail ported waited = record {
   columns = mail.columns;
@@ -106,7 +106,7 @@ mail_same n l ws qs e mail ported waited = record {
 }
 
 -- a letter is put into a port
-pub mail_posted : {L : Type 0} (n : ℕ) (l : Ledger) (ws : List (Option ℕ)) (qs more : List (Queued L)) (t u : ℕ) (x : Letter L)
+pub mail_posted : {L : Type 0} (n : ℕ) (l : Ledger) (ws : List (Option ℕ)) (qs more : List (QueueView L)) (t u : ℕ) (x : Letter L)
     → Mail n l ws qs → n < 9 → length more ≡ length qs → letters_at more t u ≡ letters_at qs t u ++ x ∷ []
     → ((s r : ℕ) → r < 8 → (s ≡ t → r ≡ u → ⊥) → letters_at more s r ≡ letters_at qs s r)
     → IsNamed (table (Posted t u (body_of x) ∷ l)) x → Mail n (Posted t u (body_of x) ∷ l) ws more
@@ -135,7 +135,7 @@ mail_posted n l ws qs more t u x mail few size here others is = record {
     by_port s r false off receiver are = subst (AreNamed (table (Posted t u (body_of x) ∷ l))) (sym (others s r receiver (is_away s r t u off))) are
 
 -- a letter is taken out of a port
-pub mail_popped : {L : Type 0} (n : ℕ) (l : Ledger) (ws left : List (Option ℕ)) (qs fewer : List (Queued L)) (t u : ℕ) (x : Letter L) (e : LedgerEvent)
+pub mail_popped : {L : Type 0} (n : ℕ) (l : Ledger) (ws left : List (Option ℕ)) (qs fewer : List (QueueView L)) (t u : ℕ) (x : Letter L) (e : LedgerEvent)
     → Mail n l ws qs → length fewer ≡ length qs → letters_at qs t u ≡ x ∷ letters_at fewer t u
     → ((s r : ℕ) → r < 8 → (s ≡ t → r ≡ u → ⊥) → letters_at fewer s r ≡ letters_at qs s r)
     → ((s r : ℕ) → port_of (e ∷ l) s r ≡ cond (is_at s r t u) (drop 1 (port_of l s r)) (port_of l s r))
@@ -172,7 +172,7 @@ set_wait l ws a o c n long below was true is = subst (λ d. slice_index_or (slic
 set_wait l ws a o c n long below was false is = get_or-set_other ws a c o None (λ e. absurd (false≢true (sym is ∙ eq-eqb a c (sym e)))) ∙ was
 
 -- an agent's wait is recorded, or ends
-pub mail_waited : {L : Type 0} (n : ℕ) (l : Ledger) (ws : List (Option ℕ)) (qs : List (Queued L)) (a : ℕ) (o : Option ℕ) (e : LedgerEvent)
+pub mail_waited : {L : Type 0} (n : ℕ) (l : Ledger) (ws : List (Option ℕ)) (qs : List (QueueView L)) (a : ℕ) (o : Option ℕ) (e : LedgerEvent)
     → Mail n l ws qs → a < n → ((s r : ℕ) → port_of (e ∷ l) s r ≡ port_of l s r) → ((c : ℕ) → awaits (e ∷ l) c ≡ cond (a == c) o (awaits l c)) → ((s : ℕ) → o ≡ Some s → s < n)
     → Mail n (e ∷ l) (slice_set ws a o) qs
 mail_waited n l ws qs a o e mail below ported waited inside = record {

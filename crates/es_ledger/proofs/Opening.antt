@@ -4,7 +4,6 @@ use Rattle.std.proofs.lemmas.Bool.{eqb-true, false≢true}
 use Rattle.std.specs.Prelude.{slice_index_or}
 use Rattle.es_event.specs.declared.ledger_event.LedgerEvent.{LedgerEvent}
 use Rattle.es_event.specs.declared.ledger_event.LedgerEvent.TheVariants.{Opened, Accessed}
-use Rattle.es_event.specs.declared.row.Entry.{Entry}
 use Rattle.es_event.specs.declared.row.Holder.TheVariants.{Agent}
 use Rattle.es_event.specs.declared.row.Row.{Row}
 use Rattle.es_event.specs.Access.{written}
@@ -13,8 +12,7 @@ use Rattle.es_event.specs.Ledger.{Ledger, opened, serials, size, table, rows, co
 use Rattle.es_event.specs.LegalLedger.{LegalSoFar}
 use Rattle.es_ledger.specs.declared.blocks.Counted.{Counted}
 use Rattle.es_ledger.specs.Blocks.{block_at}
-use Rattle.es_ledger.specs.Ports.{Queued}
-use Rattle.es_ledger.specs.Ties.{left, waiting, Ties}
+use Rattle.es_ledger.specs.Ties.{left, waiting, Columns, LedgerTies}
 use Rattle.es_ledger.proofs.Kept.{pushed_here, pushed_there}
 use Rattle.es_ledger.proofs.After.{spent_count, opened_count, opened_length}
 use Rattle.es_ledger.proofs.Made.{block_made}
@@ -99,20 +97,20 @@ each_zero w j = by_test (nat_lt j w) refl
         let past : w ≤ j = grind (arith, nat_tests, is) in
         beyond (zeros w) j (omega (arith, long, past))
 
-pub opened_ties : {L : Type 0} (n : ℕ) (l : Ledger) (lines : List Entry) (blocks : List Counted) (ends : List Bool) (ws : List (Option ℕ)) (qs : List (Queued L)) (messages places more a w : ℕ)
-    → Ties n l lines blocks ends ws qs messages places → a < n → length (rows l) + left l n + waiting l n + messages + 1 ≤ more
-    → Ties n (Opened (opened l + 1) w (serials l + 1) a ∷ l) (lines ++ held_by (Agent a) (row (serials l + 1) (opened l + 1) w) ∷ []) (blocks ++ fresh w ∷ []) ends ws qs messages more
-opened_ties n l lines blocks ends ws qs messages places more a w ties below room = record {
+pub opened_ties : {L : Type 0} (n : ℕ) (l : Ledger) (k : Columns L) (more a w : ℕ)
+    → LedgerTies n l k → a < n → length (rows l) + left l n + waiting l n + k.messages + 1 ≤ more
+    → LedgerTies n (Opened (opened l + 1) w (serials l + 1) a ∷ l) (record k { lines = k.lines ++ held_by (Agent a) (row (serials l + 1) (opened l + 1) w) ∷ []; blocks = k.blocks ++ fresh w ∷ []; places = more })
+opened_ties n l k more a w ties below room = record {
   few = ties.few;
   legal = next_legal n l (Opened (opened l + 1) w (serials l + 1) a) ties.legal (refl, refl, below) refl;
   tabled = ap (λ t. t ++ held_by (Agent a) (row (serials l + 1) (opened l + 1) w) ∷ []) ties.tabled;
-  made = let long = length-append blocks (fresh w ∷ []) in let made = ties.made in omega (arith, long, made);
+  made = let long = length-append k.blocks (fresh w ∷ []) in let made = ties.made in omega (arith, long, made);
   tickets = λ c. seen (λ k. k.tickets) c (opened l + 1 == c) refl ∙ counted c (opened l + 1 == c) refl ∙ sym (opened_count l (opened l + 1) w (serials l + 1) a c);
   sizes = λ c some. seen (λ k. length (words_in k)) c (opened l + 1 == c) refl ∙ sized c (opened l + 1 == c) refl (subst (λ m. 0 < m) (opened_count l (opened l + 1) w (serials l + 1) a c) some);
   words = λ c j some. seen (λ k. slice_index_or (words_in k) j 0) c (opened l + 1 == c) refl ∙ worded c j (opened l + 1 == c) refl (subst (λ m. 0 < m) (opened_count l (opened l + 1) w (serials l + 1) a c) some);
   agents = ties.agents;
   over = ties.over;
-  mail = mail_same n l ws qs (Opened (opened l + 1) w (serials l + 1) a) ties.mail (λ s r. refl) (λ c. refl);
+  mail = mail_same n l k.waits k.queues (Opened (opened l + 1) w (serials l + 1) a) ties.mail (λ s r. refl) (λ c. refl);
   room =
       let one_more = opened_length l (opened l + 1) w (serials l + 1) a in
       let agents_left = left_same (Opened (opened l + 1) w (serials l + 1) a) l n (λ c. refl) in
@@ -120,22 +118,22 @@ opened_ties n l lines blocks ends ws qs messages places more a w ties below room
       omega (arith, room, one_more, agents_left, waits);
 }
   where
-    seen : {A : Type 0} (f : Counted → A) (c : ℕ) (s : Bool) → (opened l + 1 == c) ≡ s → f (block_at (blocks ++ fresh w ∷ []) c) ≡ f (cond s (fresh w) (block_at blocks c))
-    seen f c true is = let same = eqb-true (opened l + 1) c is in let made = ties.made in ap f (pushed_here blocks (fresh w) c (omega (arith, same, made)))
-    seen f c false is = ap f (pushed_there blocks (fresh w) c (λ e. absurd (false≢true (sym is ∙ eq-eqb (opened l + 1) c (let made = ties.made in omega (arith, e, made))))))
+    seen : {A : Type 0} (f : Counted → A) (c : ℕ) (s : Bool) → (opened l + 1 == c) ≡ s → f (block_at (k.blocks ++ fresh w ∷ []) c) ≡ f (cond s (fresh w) (block_at k.blocks c))
+    seen f c true is = let same = eqb-true (opened l + 1) c is in let made = ties.made in ap f (pushed_here k.blocks (fresh w) c (omega (arith, same, made)))
+    seen f c false is = ap f (pushed_there k.blocks (fresh w) c (λ e. absurd (false≢true (sym is ∙ eq-eqb (opened l + 1) c (let made = ties.made in omega (arith, e, made))))))
 
     none_yet : (c : ℕ) → opened l + 1 ≡ c → count l c ≡ 0
     none_yet c same = zero_or (count l c) (λ some. let within = (block_made n l c ties.legal.0 some).1 in absurd (omega (arith, within, same)))
 
-    counted : (c : ℕ) (s : Bool) → (opened l + 1 == c) ≡ s → (cond s (fresh w) (block_at blocks c)).tickets ≡ cond s 1 0 + count l c
+    counted : (c : ℕ) (s : Bool) → (opened l + 1 == c) ≡ s → (cond s (fresh w) (block_at k.blocks c)).tickets ≡ cond s 1 0 + count l c
     counted c true is = let none = none_yet c (eqb-true (opened l + 1) c is) in omega (arith, none)
     counted c false is = ties.tickets c ∙ sym (zero-add (count l c))
 
-    sized : (c : ℕ) (s : Bool) → (opened l + 1 == c) ≡ s → 0 < cond s 1 0 + count l c → length (words_in (cond s (fresh w) (block_at blocks c))) ≡ cond s w (size l c)
+    sized : (c : ℕ) (s : Bool) → (opened l + 1 == c) ≡ s → 0 < cond s 1 0 + count l c → length (words_in (cond s (fresh w) (block_at k.blocks c))) ≡ cond s w (size l c)
     sized c true is some = length-replicate w 0
     sized c false is some = ties.sizes c (omega (arith, some))
 
-    worded : (c j : ℕ) (s : Bool) → (opened l + 1 == c) ≡ s → 0 < cond s 1 0 + count l c → slice_index_or (words_in (cond s (fresh w) (block_at blocks c))) j 0 ≡ word l c j
+    worded : (c j : ℕ) (s : Bool) → (opened l + 1 == c) ≡ s → 0 < cond s 1 0 + count l c → slice_index_or (words_in (cond s (fresh w) (block_at k.blocks c))) j 0 ≡ word l c j
     worded c j true is some = each_zero w j ∙ sym (unwritten n l ties.legal.0 c j (let same = eqb-true (opened l + 1) c is in omega (arith, same)))
     worded c j false is some = ties.words c j (omega (arith, some))
 
@@ -145,8 +143,8 @@ pub table_length : (n : ℕ) (l : Ledger) → LegalSoFar n l → length (table l
 table_length n l legal = sym (length-map (table l) (λ e. e.row.serial)) ∙ ap (λ ks. length ks) (numbered n l legal) ∙ length-range_with_len 1 (serials l)
 
 -- the next line is that of the next serial, and the next block the next one
-pub next_row : {L : Type 0} (n : ℕ) (l : Ledger) (lines : List Entry) (blocks : List Counted) (ends : List Bool) (ws : List (Option ℕ)) (qs : List (Queued L)) (messages places b w : ℕ)
-    → Ties n l lines blocks ends ws qs messages places → b ≡ length blocks → row (length lines + 1) (b + 1) w ≡ row (serials l + 1) (opened l + 1) w
-next_row n l lines blocks ends ws qs messages places b w ties is =
-    let lined : length lines ≡ serials l = ap (λ t. length t) ties.tabled ∙ table_length n l ties.legal.0 in
+pub next_row : {L : Type 0} (n : ℕ) (l : Ledger) (k : Columns L) (b w : ℕ)
+    → LedgerTies n l k → b ≡ length k.blocks → row (length k.lines + 1) (b + 1) w ≡ row (serials l + 1) (opened l + 1) w
+next_row n l k b w ties is =
+    let lined : length k.lines ≡ serials l = ap (λ t. length t) ties.tabled ∙ table_length n l ties.legal.0 in
     ap (λ m. row (m + 1) (b + 1) w) lined ∙ ap (λ m. row (serials l + 1) (m + 1) w) (is ∙ ties.made)

@@ -1,19 +1,17 @@
 -- An agent's wait is recorded, and ends when the agent is told to skip its job.
-use Rattle.std.proofs.Common.{◌≡◌, ◌≢◌, ℕ, suc, ◌+◌, ◌*◌, ◌<◌, ◌≤◌, ◌==◌, List, [], ◌∷◌, Option, Some, None, Bool, true, false, refl, ap, subst, arith, length, zero-add, ne_eqb}
+use Rattle.std.proofs.Common.{◌≡◌, ◌≢◌, ℕ, suc, ◌+◌, ◌*◌, ◌<◌, ◌≤◌, ◌==◌, List, [], ◌∷◌, Option, Some, None, true, false, refl, ap, subst, arith, length, zero-add, ne_eqb}
 use Rattle.std.proofs.lemmas.Bool.{eqb-true}
 use Rattle.std.specs.Prelude.{slice_set, slice_get, is_some, map, not}
 use Rattle.std.specs.Option.{option_map_or}
 use Rattle.es_event.specs.declared.ledger_event.Body.{Body}
 use Rattle.es_event.specs.declared.ledger_event.LedgerEvent.TheVariants.{Waiting, Passed}
-use Rattle.es_event.specs.declared.row.Entry.{Entry}
 use Rattle.es_event.specs.Ledger.{Ledger, opened, rows, port_of, waits as awaits, ended}
 use Rattle.es_event.specs.LegalLedger.{has_message, skips}
-use Rattle.es_ledger.specs.declared.blocks.Counted.{Counted}
 use Rattle.es_ledger.specs.declared.message.Letter.{Letter}
 use Rattle.es_ledger.specs.Letters.{body_of}
-use Rattle.es_ledger.specs.Ports.{Queued, letters_at}
+use Rattle.es_ledger.specs.Ports.{letters_at}
 use Rattle.es_ledger.specs.Turns.{waits_for}
-use Rattle.es_ledger.specs.Ties.{left, waiting, Ties}
+use Rattle.es_ledger.specs.Ties.{left, waiting, Columns, LedgerTies}
 use Rattle.es_ledger.proofs.Mail.{mail_waited, waiting_one, one_if}
 use Rattle.es_ledger.proofs.Tying.{still_ties}
 
@@ -24,29 +22,29 @@ some_front [] (m ∷ p) e = cc
 some_front (x ∷ q) [] e = cc
 some_front (x ∷ q) (m ∷ p) e = ap not (ne_eqb (suc (length q)) 0 (λ none. absurd (omega (arith, none))))
 
-pub port_filled : {L : Type 0} (n : ℕ) (l : Ledger) (lines : List Entry) (blocks : List Counted) (ends : List Bool) (ws : List (Option ℕ)) (qs : List (Queued L)) (messages places s r : ℕ)
-    → Ties n l lines blocks ends ws qs messages places → s < n → r < n → not (length (letters_at qs s r) == 0) ≡ has_message l s r
-port_filled n l lines blocks ends ws qs messages places s r ties sender receiver =
-    let few = ties.few in some_front (letters_at qs s r) (port_of l s r) (ties.mail.ports s r sender (omega (arith, few, receiver)))
+pub port_filled : {L : Type 0} (n : ℕ) (l : Ledger) (k : Columns L) (s r : ℕ)
+    → LedgerTies n l k → s < n → r < n → not (length (letters_at k.queues s r) == 0) ≡ has_message l s r
+port_filled n l k s r ties sender receiver =
+    let few = ties.few in some_front (letters_at k.queues s r) (port_of l s r) (ties.mail.ports s r sender (omega (arith, few, receiver)))
 
 -- and it is one of the columns that are there
-pub port_inside : {L : Type 0} (n : ℕ) (l : Ledger) (lines : List Entry) (blocks : List Counted) (ends : List Bool) (ws : List (Option ℕ)) (qs : List (Queued L)) (messages places s r : ℕ)
-    → Ties n l lines blocks ends ws qs messages places → s < n → r < n → (s * 8 + r < length qs) × (s < 8) × (r < 8)
-port_inside n l lines blocks ends ws qs messages places s r ties sender receiver =
+pub port_inside : {L : Type 0} (n : ℕ) (l : Ledger) (k : Columns L) (s r : ℕ)
+    → LedgerTies n l k → s < n → r < n → (s * 8 + r < length k.queues) × (s < 8) × (r < 8)
+port_inside n l k s r ties sender receiver =
     let few = ties.few in
     let columns = ties.mail.columns in
     (omega (arith, few, columns, sender, receiver), omega (arith, few, sender), omega (arith, few, receiver))
 
-pub waiting_ties : {L : Type 0} (n : ℕ) (l : Ledger) (lines : List Entry) (blocks : List Counted) (ends : List Bool) (ws : List (Option ℕ)) (qs : List (Queued L)) (messages places more a s : ℕ)
-    → Ties n l lines blocks ends ws qs messages places → a < n → s < n → a ≢ s → has_message l s a ≡ false → awaits l a ≡ None → ended l a ≡ false
-    → length (rows l) + left l n + waiting l n + messages + 2 ≤ more + 1
-    → Ties n (Waiting a s ∷ l) lines blocks ends (slice_set ws a (Some s)) qs messages more
-waiting_ties n l lines blocks ends ws qs messages places more a s ties below sender apart empty nobody going room =
+pub waiting_ties : {L : Type 0} (n : ℕ) (l : Ledger) (k : Columns L) (more a s : ℕ)
+    → LedgerTies n l k → a < n → s < n → a ≢ s → has_message l s a ≡ false → awaits l a ≡ None → ended l a ≡ false
+    → length (rows l) + left l n + waiting l n + k.messages + 2 ≤ more + 1
+    → LedgerTies n (Waiting a s ∷ l) (record k { waits = slice_set k.waits a (Some s); places = more })
+waiting_ties n l k more a s ties below sender apart empty nobody going room =
     let waits = waiting_one l (Waiting a s) n a (Some s) below (λ c. refl) in
     let none : one_if (awaits l a) ≡ 0 = ap one_if nobody in
-    still_ties n l lines lines blocks ends ws (slice_set ws a (Some s)) qs qs messages messages places more (Waiting a s) ties (below, sender, apart, empty, nobody, going) refl
+    still_ties n l k _ (Waiting a s) ties (below, sender, apart, empty, nobody, going) refl
     ties.tabled (zero-add (opened l)) (λ b. refl) (λ b. refl) (λ b. refl) (λ b i. refl)
-    (mail_waited n l ws qs a (Some s) (Waiting a s) ties.mail below (λ t u. refl) (λ c. refl) (λ t is. let same : s ≡ t = cc in subst (λ u. u < n) same sender))
+    refl refl (mail_waited n l k.waits k.queues a (Some s) (Waiting a s) ties.mail below (λ t u. refl) (λ c. refl) (λ t is. let same : s ≡ t = cc in subst (λ u. u < n) same sender))
     (omega (arith, waits, none, room))
 
 -- it waits for this sender
@@ -54,24 +52,24 @@ awaits_this : (o : Option ℕ) (s : ℕ) → option_map_or (λ t. t == s) o fals
 awaits_this None s e = cc
 awaits_this (Some t) s e = ap Some (eqb-true t s e)
 
-pub passed_room : {L : Type 0} (n : ℕ) (l : Ledger) (lines : List Entry) (blocks : List Counted) (ends : List Bool) (ws : List (Option ℕ)) (qs : List (Queued L)) (messages places a s : ℕ)
-    → Ties n l lines blocks ends ws qs messages places → a < n → waits_for l a s ≡ true → 0 < places
-passed_room n l lines blocks ends ws qs messages places a s ties below for_it =
+pub passed_room : {L : Type 0} (n : ℕ) (l : Ledger) (k : Columns L) (a s : ℕ)
+    → LedgerTies n l k → a < n → waits_for l a s ≡ true → 0 < k.places
+passed_room n l k a s ties below for_it =
     let waits = waiting_one l (Passed a s) n a None below (λ c. refl) in
     let one : one_if (awaits l a) ≡ 1 = ap one_if (awaits_this (awaits l a) s for_it) in
     let room = ties.room in
     omega (arith, waits, one, room)
 
-pub passed_ties : {L : Type 0} (n : ℕ) (l : Ledger) (lines : List Entry) (blocks : List Counted) (ends : List Bool) (ws : List (Option ℕ)) (qs : List (Queued L)) (messages places more a s : ℕ)
-    → Ties n l lines blocks ends ws qs messages places → a < n → waits_for l a s ≡ true → skips l n a s ≡ true → places ≤ more + 1
-    → Ties n (Passed a s ∷ l) lines blocks ends (slice_set ws a None) qs messages more
-passed_ties n l lines blocks ends ws qs messages places more a s ties below for_it skip last =
+pub passed_ties : {L : Type 0} (n : ℕ) (l : Ledger) (k : Columns L) (more a s : ℕ)
+    → LedgerTies n l k → a < n → waits_for l a s ≡ true → skips l n a s ≡ true → k.places ≤ more + 1
+    → LedgerTies n (Passed a s ∷ l) (record k { waits = slice_set k.waits a None; places = more })
+passed_ties n l k more a s ties below for_it skip last =
     let waits = waiting_one l (Passed a s) n a None below (λ c. refl) in
     let one : one_if (awaits l a) ≡ 1 = ap one_if (awaits_this (awaits l a) s for_it) in
     let room = ties.room in
-    still_ties n l lines lines blocks ends ws (slice_set ws a None) qs qs messages messages places more (Passed a s) ties (awaits_this (awaits l a) s for_it, skip) refl
+    still_ties n l k _ (Passed a s) ties (awaits_this (awaits l a) s for_it, skip) refl
     ties.tabled (zero-add (opened l)) (λ b. refl) (λ b. refl) (λ b. refl) (λ b i. refl)
-    (mail_waited n l ws qs a None (Passed a s) ties.mail below (λ t u. refl) (λ c. refl) (λ t is. cc))
+    refl refl (mail_waited n l k.waits k.queues a None (Passed a s) ties.mail below (λ t u. refl) (λ c. refl) (λ t is. cc))
     (omega (arith, waits, one, room, last))
 
 pub none_if : {A : Type 0} (o : Option A) → is_some o ≡ false → o ≡ None

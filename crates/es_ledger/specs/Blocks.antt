@@ -4,7 +4,7 @@ use Rattle.es_block.specs.Words.{with_word}
 use Rattle.es_ledger.specs.declared.blocks.Counted.{Counted}
 
 -- by number, from 1, and for how many more there is room
-pub record Contents : Type 0 where
+pub record BlocksView : Type 0 where
   pub all : List Counted
   pub room : ℕ
 

@@ -26,5 +26,5 @@ drained_below l n zero = l
 drained_below l n (suc m) = drained_to (drained_below l n m) m n
 
 -- all messages among n agents
-abbrev pub drained : Ledger → ℕ → Ledger
-drained l n = drained_below l n n
+abbrev pub after_drain : Ledger → ℕ → Ledger
+after_drain l n = drained_below l n n

@@ -7,7 +7,7 @@ use Rattle.es_event.specs.declared.ledger_event.Body.TheVariants.{Plain as Plain
 use Rattle.es_event.specs.declared.row.Row.{Row}
 use Rattle.es_event.specs.Rows.{row}
 use Rattle.es_event.specs.Ledger.{Ledger, size}
-use Rattle.es_ticket.specs.Shares.{Share, has_serial}
+use Rattle.es_ticket.specs.Stakes.{StakeView, has_serial}
 use Rattle.es_ledger.specs.declared.message.Letter.{Letter}
 use Rattle.es_ledger.specs.declared.message.Letter.TheVariants.{Plain, Block}
 
@@ -17,7 +17,7 @@ body_of (Plain v) = PlainBody v
 body_of (Block ticket) = BlockBody ticket.block ticket.serial
 
 -- the second stake has one ticket more than the first, and no other of its serial was there
-pub record Gained (ticket : Row) (before after : Share) : Type 0 where
+pub record Gained (ticket : Row) (before after : StakeView) : Type 0 where
   pub agent : after.agent ≡ before.agent
   pub here : Contains after.rows ticket
   pub fresh : has_serial ticket.serial before.rows ≡ false
@@ -25,6 +25,6 @@ pub record Gained (ticket : Row) (before after : Share) : Type 0 where
 
 -- a value has no identity, and changes the receiver's stake in nothing; a ticket comes to it, and its words are those of its
 -- block in the history l
-abbrev pub Received : {L : Type 0} → Ledger → Letter L → Share → Share → Type 0
+abbrev pub Received : {L : Type 0} → Ledger → Letter L → StakeView → StakeView → Type 0
 Received l (Plain v) before after = (identity v ≡ None) × (after ≡ before)
 Received l (Block ticket) before after = (ticket ≡ row ticket.serial ticket.block (size l ticket.block)) × Gained ticket before after

@@ -1,5 +1,5 @@
 pub mod Blocks
-pub mod Books
+pub mod LedgerView
 pub mod Letters
 pub mod Handing
 pub mod Ports

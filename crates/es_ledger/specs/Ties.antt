@@ -11,7 +11,7 @@ use Rattle.es_ledger.specs.declared.message.Letter.{Letter}
 use Rattle.es_ledger.specs.declared.message.Letter.TheVariants.{Plain, Block}
 use Rattle.es_ledger.specs.Blocks.{tickets_at, words_at}
 use Rattle.es_ledger.specs.Letters.{body_of}
-use Rattle.es_ledger.specs.Ports.{Queued, letters_at}
+use Rattle.es_ledger.specs.Ports.{QueueView, letters_at}
 use Rattle.es_ledger.specs.Laws.{sum_below}
 
 -- how many agents below n have not ended
@@ -37,7 +37,7 @@ AreNamed t [] = Unit {0}
 AreNamed t (x ∷ q) = IsNamed t x × AreNamed t q
 
 -- of n agents: for whom each waits, and the messages of the ports
-pub record Mail {L : Type 0} (n : ℕ) (l : Ledger) (waits : List (Option ℕ)) (queues : List (Queued L)) : Type 0 where
+pub record Mail {L : Type 0} (n : ℕ) (l : Ledger) (waits : List (Option ℕ)) (queues : List (QueueView L)) : Type 0 where
   pub columns : length queues ≡ n * 8
   pub ports : (s r : ℕ) → s < n → r < 8 → map body_of (letters_at queues s r) ≡ port_of l s r
   -- each ticket in a message is the one that the table has for its serial, and so it lies in the port of the message
@@ -46,19 +46,29 @@ pub record Mail {L : Type 0} (n : ℕ) (l : Ledger) (waits : List (Option ℕ)) 
   pub awaited : (a : ℕ) → a < n → slice_index_or waits a None ≡ awaits l a
   pub senders : (a s : ℕ) → a < n → awaits l a ≡ Some s → s < n
 
--- of n agents: the lines of the table, the blocks, which agents ended, whom each awaits, the messages and how many there are, and for how
--- many more events there is room
-pub record Ties {L : Type 0} (n : ℕ) (l : Ledger) (lines : List Entry) (blocks : List Counted) (ends : List Bool) (waits : List (Option ℕ)) (queues : List (Queued L)) (messages places : ℕ) : Type 0 where
+-- what a ledger keeps beside its history: the lines of the table, the blocks, which agents ended, whom each awaits, the messages and how
+-- many there are, and for how many more events there is room
+pub record Columns (L : Type 0) : Type 0 where
+  pub lines : List Entry
+  pub blocks : List Counted
+  pub ends : List Bool
+  pub waits : List (Option ℕ)
+  pub queues : List (QueueView L)
+  pub messages : ℕ
+  pub places : ℕ
+
+-- of a ledger of n agents
+pub record LedgerTies {L : Type 0} (n : ℕ) (l : Ledger) (k : Columns L) : Type 0 where
   pub few : n < 9
   pub legal : LegalLedger n l
-  pub tabled : lines ≡ table l
-  pub made : length blocks ≡ opened l
-  pub tickets : (b : ℕ) → tickets_at blocks b ≡ count l b
+  pub tabled : k.lines ≡ table l
+  pub made : length k.blocks ≡ opened l
+  pub tickets : (b : ℕ) → tickets_at k.blocks b ≡ count l b
   -- of what is not released
-  pub sizes : (b : ℕ) → 0 < count l b → length (words_at blocks b) ≡ size l b
-  pub words : (b i : ℕ) → 0 < count l b → slice_index_or (words_at blocks b) i 0 ≡ word l b i
-  pub agents : length ends ≡ n
-  pub over : (a : ℕ) → a < n → slice_index_or ends a false ≡ ended l a
-  pub mail : Mail n l waits queues
+  pub sizes : (b : ℕ) → 0 < count l b → length (words_at k.blocks b) ≡ size l b
+  pub words : (b i : ℕ) → 0 < count l b → slice_index_or (words_at k.blocks b) i 0 ≡ word l b i
+  pub agents : length k.ends ≡ n
+  pub over : (a : ℕ) → a < n → slice_index_or k.ends a false ≡ ended l a
+  pub mail : Mail n l k.waits k.queues
   -- for the spending of each ticket, the end of each agent, the end of each wait, and the leaving of each message
-  pub room : length (rows l) + left l n + waiting l n + messages ≤ places
+  pub room : length (rows l) + left l n + waiting l n + k.messages ≤ k.places

@@ -5,7 +5,7 @@ ghost use Rattle.es_ledger.specs.Audits.{IsAudit, held_below};
 
 use crate::ledger::LedgerCore;
 use es_event::Sequence;
-use es_ticket::Run;
+use es_ticket::LedgerName;
 use es_value::NoMemory;
 
 /// All tickets of a cluster, counted at one moment.
@@ -23,7 +23,7 @@ pub struct Audit {
     pub in_ports: u64,
 }
 
-impl<L: Run> LedgerCore<L> {
+impl<L: LedgerName> LedgerCore<L> {
     /// The audit, where all agents together hold so many tickets. It changes nothing.
     pub fn audit(&self, in_agents: u64) -> Result<Audit, NoMemory>
         requires { in_agents ≡ held_below self.now.agents self.now.history }

@@ -26,9 +26,9 @@ pub(crate) struct Blocks {
 
 impl Model for Blocks {
     ghost use Rattle.std.specs.Prelude.{◌-◌, vec_len, vec_capacity};
-    ghost use Rattle.es_ledger.specs.Blocks.{Contents};
+    ghost use Rattle.es_ledger.specs.Blocks.{BlocksView};
 
-    ghost Value = { Contents };
+    ghost Value = { BlocksView };
 
     ghost view = { λ b. record { all = b.all.items; room = vec_capacity b.all - vec_len b.all } };
 }

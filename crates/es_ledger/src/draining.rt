@@ -4,19 +4,19 @@ ghost use Rattle.std.specs.Prelude.{◌≡◌, ◌<◌, ◌∷◌, [], ℕ, true
 ghost use Rattle.es_event.specs.declared.ledger_event.Body.{Body as BodySort};
 ghost use Rattle.es_event.specs.Ledger.{front, port_of};
 ghost use Rattle.es_event.specs.LegalLedger.{LegalLedger, has_message, all_ended};
-ghost use Rattle.es_ledger.specs.Draining.{drained_one, drained_each, drained_to, drained};
+ghost use Rattle.es_ledger.specs.Draining.{drained_one, drained_each, drained_to, after_drain};
 
 use crate::ledger::LedgerCore;
 use crate::message::Letter;
 use es_event::{LedgerEvent, Sequence};
-use es_ticket::Run;
+use es_ticket::LedgerName;
 
-impl<L: Run> LedgerCore<L> {
+impl<L: LedgerName> LedgerCore<L> {
     /// Takes out the messages that are left in all ports, by rising receiver, then by rising sender,
     /// then in order of posting, and spends their tickets. It takes no memory.
     pub fn drain(&mut self)
         requires { all_ended self.old.history self.old.agents ≡ true }
-        ensures history { (self.new.agents ≡ self.old.agents) × (self.new.history ≡ drained self.old.history self.old.agents) }
+        ensures history { (self.new.agents ≡ self.old.agents) × (self.new.history ≡ after_drain self.old.history self.old.agents) }
         ensures empty { (s r : ℕ) → port_of self.new.history s r ≡ [] }
     {
         for receiver in 0..self.ended.len() {

@@ -2,7 +2,7 @@
 
 ghost use Rattle.std.specs.Prelude.{◌≡◌, ◌<◌, ◌≤◌, ◌+◌, ◌^◌, ◌∷◌, [], ◌++◌, ◌↔◌, ℕ, Bool, List, IsTrue, IfOk, OnOk, OnErr, false, length, Some, slice_get, reverse, count_by, if◌then◌else◌};
 ghost use Rattle.std.specs.List.{Contains};
-ghost use Rattle.es_ticket.specs.Shares.{Share, erase};
+ghost use Rattle.es_ticket.specs.Stakes.{StakeView, erase};
 ghost use Rattle.es_event.specs.declared.row.Row.{Row};
 ghost use Rattle.es_event.specs.Rows.{row, held};
 ghost use Rattle.es_event.specs.Ledger.{opened, serials, table, count, word as word_at, ended, holder_of};
@@ -14,7 +14,7 @@ use crate::blocks::Blocks;
 use crate::ports::Ports;
 use es_block::Block;
 use es_event::{Change, LedgerEvent, Log};
-use es_ticket::{Opened, Rows, Run, Stake, Ticket};
+use es_ticket::{LedgerName, Opened, Rows, Stake, Ticket};
 use es_value::NoMemory;
 use std::alloc::Global;
 use std::marker::Model;
@@ -29,7 +29,7 @@ pub struct Spent {
 /// The ledger of the run L: which blocks there are, who holds a ticket of which, which messages lie in
 /// the ports, and its history. Its messages may hold tickets, so it can't be forgotten: it ends by
 /// `drain` and `into_history`.
-pub struct LedgerCore<L: Run> {
+pub struct LedgerCore<L: LedgerName> {
     pub(crate) rows: Rows<L>,
     pub(crate) blocks: Blocks,
     // whether each agent ended
@@ -41,18 +41,18 @@ pub struct LedgerCore<L: Run> {
     pub(crate) alloc: Global,
 }
 
-impl<L: Run> Model for LedgerCore<L> {
-    ghost use Rattle.es_ledger.specs.Books.{Books};
-    ghost use Rattle.es_ledger.specs.Ties.{Ties};
+impl<L: LedgerName> Model for LedgerCore<L> {
+    ghost use Rattle.es_ledger.specs.LedgerView.{LedgerView};
+    ghost use Rattle.es_ledger.specs.Ties.{LedgerTies};
 
-    ghost Value = { Books };
+    ghost Value = { LedgerView };
 
     ghost view = { λ c. record { agents = c.rows.agents; history = c.history.events } };
 
-    ghost invariant = { λ c. Ties c.rows.agents c.history.events c.rows.rows c.blocks.all c.ended.items c.waits.items c.ports.queues c.ports.messages c.history.room };
+    ghost invariant = { λ c. LedgerTies c.rows.agents c.history.events (record { lines = c.rows.rows; blocks = c.blocks.all; ends = c.ended.items; waits = c.waits.items; queues = c.ports.queues; messages = c.ports.messages; places = c.history.room }) };
 }
 
-impl<L: Run> LedgerCore<L> {
+impl<L: LedgerName> LedgerCore<L> {
     /// The ledger of so many agents, and a stake for each, by rising number.
     pub fn new(
         alloc: Global,
@@ -63,7 +63,7 @@ impl<L: Run> LedgerCore<L> {
         requires few { agents < 9 }
         ensures ledger { IfOk result (λ r. (r.0.agents ≡ agents) × (r.0.history ≡ [])) }
         ensures stakes { IfOk result (λ r. length r.1.items ≡ agents) }
-        ensures empty { IfOk result (λ r. (i : ℕ) (s : Share) → slice_get r.1.items i ≡ Some s → (s.agent ≡ i) × (s.rows ≡ [])) }
+        ensures empty { IfOk result (λ r. (i : ℕ) (s : StakeView) → slice_get r.1.items i ≡ Some s → (s.agent ≡ i) × (s.rows ≡ [])) }
     {
         let mut stakes = Vec::with_capacity(alloc, agents)?;
         let mut ended = Vec::with_capacity(alloc, agents)?;
@@ -279,7 +279,7 @@ impl<L: Run> LedgerCore<L> {
 
 // Makes room for so many more events, beside those that are to come at all events: the spending of
 // each ticket, the end of each agent, the end of each wait and the leaving of each message.
-pub(crate) fn make_room<L: Run>(
+pub(crate) fn make_room<L: LedgerName>(
     history: &mut Log<LedgerEvent>,
     rows: &Rows<L>,
     ports: &Ports<L>,

@@ -1,10 +1,10 @@
 //! Messages, as their receiver gets them.
 
-use es_ticket::{Run, Ticket};
+use es_ticket::{LedgerName, Ticket};
 use es_value::Value;
 
 /// What a message carries, as its receiver gets it.
-pub enum Letter<L: Run> {
+pub enum Letter<L: LedgerName> {
     /// A value without an identity.
     Plain(Value),
     /// A ticket of a Shared Data Block.
@@ -12,7 +12,7 @@ pub enum Letter<L: Run> {
 }
 
 /// A message that was taken from its port.
-pub struct Message<L: Run> {
+pub struct Message<L: LedgerName> {
     /// The agent that posted it.
     pub sender: usize,
     /// What it carries.

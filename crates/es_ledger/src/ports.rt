@@ -1,31 +1,31 @@
 //! The ports of a ledger: the messages that were posted and neither taken nor drained.
 
 ghost use Rattle.std.specs.Prelude.{◌≡◌, ◌<◌, ◌≤◌, ◌+◌, ◌*◌, ◌^◌, ◌++◌, ◌∷◌, [], ℕ, length, slice_set, slice_index_or, option_to_list, drop, OnOk, OnErr, IfOk, IfNone, ◌==◌};
-ghost use Rattle.es_ledger.specs.Ports.{queue_at, letters_at, no_queue, Queued};
+ghost use Rattle.es_ledger.specs.Ports.{queue_at, letters_at, no_queue, QueueView};
 
 use crate::message::Letter;
-use es_ticket::Run;
+use es_ticket::LedgerName;
 use es_value::NoMemory;
 use std::alloc::Global;
 use std::collections::VecDeque;
 use std::marker::Model;
 
 /// The letters of one port, the oldest first. It is no `Drop` type, since a letter may hold a ticket.
-pub(crate) struct Queue<L: Run> {
+pub(crate) struct Queue<L: LedgerName> {
     letters: VecDeque<Letter<L>>,
 }
 
-impl<L: Run> Model for Queue<L> {
+impl<L: LedgerName> Model for Queue<L> {
     ghost use Rattle.std.specs.Prelude.{◌-◌};
     ghost use Rattle.std.specs.VecDeque.{deque_len, deque_capacity};
-    ghost use Rattle.es_ledger.specs.Ports.{Queued};
+    ghost use Rattle.es_ledger.specs.Ports.{QueueView};
 
-    ghost Value = { Queued L };
+    ghost Value = { QueueView L };
 
     ghost view = { λ q. record { letters = q.letters.items; room = deque_capacity q.letters - deque_len q.letters } };
 }
 
-impl<L: Run> Queue<L> {
+impl<L: LedgerName> Queue<L> {
     fn new(alloc: Global) -> Queue<L>
         ensures { result.letters ≡ [] }
     {
@@ -71,24 +71,24 @@ impl<L: Run> Queue<L> {
 }
 
 /// The letters of all ports.
-pub(crate) struct Ports<L: Run> {
+pub(crate) struct Ports<L: LedgerName> {
     // eight to a sender
     queues: Vec<Queue<L>>,
     messages: usize,
 }
 
-impl<L: Run> Model for Ports<L> {
+impl<L: LedgerName> Model for Ports<L> {
     ghost use Rattle.std.specs.Prelude.{◌≡◌, ◌≤◌, ◌^◌};
-    ghost use Rattle.es_ledger.specs.Ports.{Ported, total};
+    ghost use Rattle.es_ledger.specs.Ports.{PortsView, total};
 
-    ghost Value = { Ported L };
+    ghost Value = { PortsView L };
 
     ghost view = { λ p. record { queues = p.queues.items; messages = p.messages } };
 
     ghost invariant = { λ p. (total p.queues.items ≡ p.messages) × (p.messages ≤ 2 ^ 62) };
 }
 
-impl<L: Run> Ports<L> {
+impl<L: LedgerName> Ports<L> {
     /// Ports without letters.
     pub fn new(alloc: Global, agents: usize) -> Result<Ports<L>, NoMemory>
         requires { agents < 9 }

@@ -16,10 +16,10 @@ ghost use Rattle.es_ledger.specs.Handing.{LiesIn, Handed};
 use crate::ledger::{LedgerCore, make_room};
 use crate::message::{Letter, Message};
 use es_event::{Body, LedgerEvent};
-use es_ticket::{Rows, Run, Stake, Ticket};
+use es_ticket::{LedgerName, Rows, Stake, Ticket};
 use es_value::{NoMemory, Value};
 
-impl<L: Run> LedgerCore<L> {
+impl<L: LedgerName> LedgerCore<L> {
     /// Posts a value without an identity to another agent. Where there is no memory nothing has
     /// changed.
     pub fn post(&mut self, sender: usize, receiver: usize, value: Value) -> Result<(), NoMemory>
@@ -97,7 +97,7 @@ impl<L: Run> LedgerCore<L> {
 }
 
 // The ticket in a letter that was taken out of a port, if there is one, goes to the receiver.
-fn hand<L: Run>(
+fn hand<L: LedgerName>(
     rows: &mut Rows<L>,
     stake: &mut Stake<L>,
     sender: usize,

@@ -9,10 +9,10 @@ ghost use Rattle.es_ledger.specs.declared.turn.Turn.TheVariants.{Ready, Stay};
 use crate::ledger::{LedgerCore, make_room};
 use crate::turn::Turn;
 use es_event::LedgerEvent;
-use es_ticket::Run;
+use es_ticket::LedgerName;
 use es_value::NoMemory;
 
-impl<L: Run> LedgerCore<L> {
+impl<L: LedgerName> LedgerCore<L> {
     /// Asks for a message of a sender: whether it is there, or the agent waits on, or skips its job.
     /// Where there is no memory nothing has changed. An agent has one wait at a time: one that waits for
     /// another sender is told that the message is there, where it is, and else to wait on, even where this

@@ -1,12 +1,11 @@
 -- To believe: what a call leaves that begins a cluster, moves it, asks it or ends it.
-use Rattle.std.specs.Prelude.{ℕ, ◌≡◌, ◌<◌, ◌≤◌, Bool, true, List, Some, length, slice_get}
+use Rattle.std.specs.Prelude.{ℕ, ◌≡◌, ◌<◌, ◌≤◌, true, List, Some, length, slice_get}
 use Rattle.es_value.specs.Limits.{longest_plan}
-use Rattle.es_event.specs.declared.plan.Plan.{Plan}
 use Rattle.es_ledger.specs.declared.audit.Audit.{Audit}
-use Rattle.es_record.specs.Book.{Book}
+use Rattle.es_record.specs.AgentView.{AgentView}
 use Rattle.es_member.specs.Audits.{Audits}
 use Rattle.es_member.specs.declared.member.Progress.TheVariants.{Moved, Waiting, Ended}
-use Rattle.es_cluster.specs.State.{Cluster, first_state, plans}
+use Rattle.es_cluster.specs.State.{ClusterView, first_state, plans}
 use Rattle.es_cluster.specs.Turns.{Stopped, Turned}
 use Rattle.es_reading.specs.declared.fault.ScriptFault.{ScriptFault}
 use Rattle.es_script.specs.Fault.{IsPlanOf, fault_of}
@@ -45,7 +44,7 @@ pub record Begins (bytes : List ℕ) (before after : Held) (agents : ℕ) (old n
 
 -- 0: agent n has one event more; 1: it waits on for a message; 2: it has ended; 3: there was no memory, now or in a turn before;
 -- 4: there is no such agent
-pub record Steps (n : ℕ) (old new : Cluster) (status : ℕ) : Type 0 where
+pub record Steps (n : ℕ) (old new : ClusterView) (status : ℕ) : Type 0 where
   pub moved : status ≡ 0 → Turned Moved n old new
   pub waits : status ≡ 1 → Turned Waiting n old new
   pub over : status ≡ 2 → Turned Ended n old new
@@ -57,8 +56,8 @@ pub record Steps (n : ℕ) (old new : Cluster) (status : ℕ) : Type 0 where
 
 -- 0: the lines of agent n from the event with this number on, and how many events it has; 3: there was no memory; 4: there is no such
 -- agent
-pub record Says (n from : ℕ) (c : Cluster) (old new : List ℕ) (count events status : ℕ) : Type 0 where
-  pub lines : status ≡ 0 → (b : Book) × (slice_get c.agents n ≡ Some b) × Holds (lines_from from b.history) old new count × (events ≡ length b.history)
+pub record Says (n from : ℕ) (c : ClusterView) (old new : List ℕ) (count events status : ℕ) : Type 0 where
+  pub lines : status ≡ 0 → (b : AgentView) × (slice_get c.agents n ≡ Some b) × Holds (lines_from from b.history) old new count × (events ≡ length b.history)
   pub nothing : 0 < status → HoldsNothing old new count × (events ≡ 0)
   pub one : status ≡ 1 → ⊥
   pub two : status ≡ 2 → ⊥
@@ -66,7 +65,7 @@ pub record Says (n from : ℕ) (c : Cluster) (old new : List ℕ) (count events 
   pub last : status < 5
 
 -- 0: all tickets, counted now; 3: there was no memory
-pub record CountsAll (c : Cluster) (old new : Counts) (status : ℕ) : Type 0 where
+pub record CountsAll (c : ClusterView) (old new : Counts) (status : ℕ) : Type 0 where
   pub counted : status ≡ 0 → (a : Audit) × Audits c.agents c.ledger a × (new.blocks ≡ a.blocks) × (new.released ≡ a.released) × (new.in_agents ≡ a.in_agents) × (new.in_ports ≡ a.in_ports)
   pub nothing : status ≡ 3 → new ≡ old
   pub one : status ≡ 1 → ⊥

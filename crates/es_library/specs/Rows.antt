@@ -5,7 +5,7 @@ use Rattle.core.specs.declared.mem.manually_drop.ManuallyDrop.{ManuallyDrop}
 use Rattle.std.specs.contracts.marker.Brand.{the_row as brand_row}
 use Rattle.atomic_table.specs.Seated.{TableId}
 use Rattle.es_event.specs.declared.plan.Plan.{Plan}
-use Rattle.es_cluster.specs.State.{Cluster}
+use Rattle.es_cluster.specs.State.{ClusterView}
 use Rattle.es_cluster.specs.contracts.cluster.ClusterCore.{the_row as cluster_row}
 
 -- the type that stands for the name of a run in what C keeps
@@ -16,5 +16,5 @@ run_row = brand_row
 abbrev pub kept_row : (name : RattleType) → TableId → Plan → RattleType
 kept_row name table plan = manual_row (cluster_row name (record { plan = plan }) (record { table = table }))
 
-abbrev pub undropped : Cluster → ManuallyDrop Cluster
+abbrev pub undropped : ClusterView → ManuallyDrop ClusterView
 undropped c = record { value = c }

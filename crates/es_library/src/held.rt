@@ -3,7 +3,7 @@
 ghost use Rattle.std.specs.Prelude.{◌≡◌, cond, true};
 ghost use base.Fml.{ftrue};
 ghost use Rattle.atomic_table.specs.Seated.{TableId, table_id_coded};
-ghost use Rattle.es_cluster.specs.State.{Cluster};
+ghost use Rattle.es_cluster.specs.State.{ClusterView};
 ghost use Rattle.es_event.specs.declared.plan.Plan.{Plan};
 ghost use Rattle.es_library.specs.Rows.{kept_row, run_row, undropped};
 ghost use Rattle.std_alloc.specs.Box.Ownership.{box_owns};
@@ -26,7 +26,7 @@ pub struct Held {
     alloc: Global,
     pub(crate) ghost table: { TableId } by { table_id_coded },
     pub(crate) ghost plan: { Plan },
-    pub(crate) ghost value: { Cluster },
+    pub(crate) ghost value: { ClusterView },
 }
 
 impl Model for Held {

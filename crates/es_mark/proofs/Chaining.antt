@@ -1,4 +1,4 @@
--- What the tests' chain finds was made, and is what its words ask for.
+-- What the tests' chain finds was made, and is what its definitions ask for.
 use Rattle.std.proofs.Common.{ℕ, ◌+◌, ◌<◌, ◌≤◌, arith, ◌≡◌, ◌&&◌, List, [], ◌∷◌, ◌++◌, nat_lt, nat_le, refl, inl, inr, sym, Some}
 use Rattle.std.specs.List.{AllByRecursion}
 use Rattle.std.proofs.lemmas.Bool.{cases_Bool, and_parts, ltb-true, le-leb, lt-ltb, lt-leb, le-ltb}

@@ -1,4 +1,4 @@
--- What the tests' graph finds was made, and is what its words ask for.
+-- What the tests' graph finds was made, and is what its definitions ask for.
 use Rattle.std.proofs.Common.{ℕ, ◌≡◌, ◌==◌, ◌&&◌, Bool, true, List, [], ◌∷◌, ◌++◌, map, inl, inr, sym, Some}
 use Rattle.std.specs.List.{AllByRecursion, filter}
 use Rattle.std.proofs.lemmas.Bool.{cases_Bool, and_parts}

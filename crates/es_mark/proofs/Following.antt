@@ -8,7 +8,7 @@ use Rattle.es_mark.specs.Marks.{is_marked}
 use Rattle.es_mark.specs.Listed.{IsListed, IsAdded}
 use Rattle.es_mark.specs.Made.{is_made}
 use Rattle.es_mark.specs.Steps.{HasBoth, IsStep, Obeys, IsFollowed}
-use Rattle.es_mark.specs.Waiting.{waiting_for, Queues}
+use Rattle.es_mark.specs.Waiting.{waiting_for, WaitingView}
 use Rattle.es_mark.proofs.Lists.{all_mono, all_join, all_front}
 use Rattle.es_mark.proofs.Stepping.{step_added, step_as, step_both}
 
@@ -37,7 +37,7 @@ module _ {made : ℕ} {asked : (ℕ → Bool) → Type 0} {ids : List ℕ} (f : 
   pub found_all : (t : ℕ → Bool) → HasAll ids t → asked t
   found_all t has = f.all t (rw f.added at has)
 
-  pub step_found : (old new : List ℕ) (waiting : Queues) → IsAdded ids old new → IsStep asked old waiting new waiting
+  pub step_found : (old new : List ℕ) (waiting : WaitingView) → IsAdded ids old new → IsStep asked old waiting new waiting
   step_found old new waiting a = step_added asked ids old new waiting a (λ t both has. found_only t has) found_all
 
 module _ {made : ℕ} {asked : (ℕ → Bool) → Type 0} {entries : List (ℕ × Value)} (f : FindsEntries made asked [] entries) where
@@ -50,14 +50,14 @@ module _ {made : ℕ} {asked : (ℕ → Bool) → Type 0} {entries : List (ℕ �
       (all_mono _ (λ e. HasValue (λ i. nat_lt i size) e.1) f.entries
       (λ e numbered i value. let n = (numbered i value).1 in lt-ltb _ _ (omega arith)) f.numbered)
 
-  step_entries : (old : List ℕ) (u : Queues) (new : List ℕ) (w : Queues) → IsStep (HasValues entries) old u new w → IsStep asked old u new w
+  step_entries : (old : List ℕ) (u : WaitingView) (new : List ℕ) (w : WaitingView) → IsStep (HasValues entries) old u new w → IsStep asked old u new w
   step_entries old u new w p = step_as (HasValues entries) asked old u new w p (λ t has. rw f.added (f.only t has)) (λ t has. f.all t (rw f.added at has))
 
 -- the list after it has grown
 added_has : (ids old new : List ℕ) (t : ℕ → Bool) → IsAdded ids old new → HasAll old t → HasAll ids t → HasAll new t
 added_has ids old new t a before more = rw a.added (all_join _ old a.rest before (a.only t more))
 
-module _ (made : ℕ) (edges entries : ℕ → (ℕ → Bool) → Type 0) (i : ℕ) (marks : List Bool) (old : List ℕ) (u : Queues) (next last : List ℕ) (w : Queues) (ids : List ℕ)
+module _ (made : ℕ) (edges entries : ℕ → (ℕ → Bool) → Type 0) (i : ℕ) (marks : List Bool) (old : List ℕ) (u : WaitingView) (next last : List ℕ) (w : WaitingView) (ids : List ℕ)
     (found : List (ℕ × Value)) (listed : IsListed marks old) (here : is_marked marks i ≡ true) (numbered : HasBoth old u (is_made made)) (f : Finds made (edges i) [] ids)
     (added : IsAdded ids old next) (g : FindsEntries made (entries i) [] found) (entered : IsStep (HasValues found) next u last w) where
   last_made : HasBoth last w (is_made made)

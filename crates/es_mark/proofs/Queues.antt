@@ -1,14 +1,14 @@
--- What the word `waiting_for` finds in the map of lists.
+-- What the definition `waiting_for` finds in the map of lists.
 use Rattle.std.proofs.Common.{◌≡◌, ℕ, List, [], ◌∷◌, ◌++◌, map, nat_eq, cond, Option, Some, None, refl, sym, ◌∙◌, ap, inl, inr, arith, Vec}
 use Rattle.std.specs.declared.alloc.Global.{Global}
 use Rattle.std.proofs.lemmas.Bool.{cases_Bool}
 use Rattle.std.proofs.lemmas.Bool.Decides.{nat_tests}
 use Rattle.std.specs.Map.{lookup}
 use Rattle.std.specs.Option.{option_map, unwrap_or}
-use Rattle.es_mark.specs.Waiting.{Queues, waiting_for, Waits}
+use Rattle.es_mark.specs.Waiting.{WaitingView, waiting_for, Waits}
 
 -- the lists, each under its map
-abbrev pub shown : List (ℕ × Vec ℕ Global) → Queues
+abbrev pub shown : List (ℕ × Vec ℕ Global) → WaitingView
 shown es = map (λ e. (e.0, e.1.items)) es
 
 pub waiting_of : (es : List (ℕ × Vec ℕ Global)) (m : ℕ) → waiting_for (shown es) m ≡ unwrap_or (option_map (λ v. v.items) (lookup (nat_eq m) es)) []

@@ -9,7 +9,7 @@ use Rattle.es_mark.specs.Graph.{HasAll, HasValues}
 use Rattle.es_mark.specs.Marks.{is_marked}
 use Rattle.es_mark.specs.Listed.{IsListed, IsAdded}
 use Rattle.es_mark.specs.Steps.{HasBoth, IsStep}
-use Rattle.es_mark.specs.Waiting.{waiting_for, HasWaiting, Queues, Waits}
+use Rattle.es_mark.specs.Waiting.{waiting_for, HasWaiting, WaitingView, Waits}
 use Rattle.es_mark.proofs.Lists.{all_mono, all_both, all_join, all_front, all_back}
 
 same_all : {X : Type 0} (P : X → Type 0) (xs : List X) → ((x : X) → P x) → AllByRecursion P xs
@@ -17,7 +17,7 @@ same_all P [] f = tt
 same_all P (x ∷ xs) f = (f x, same_all P xs f)
 
 -- nothing happens where nothing is asked for
-pub step_none : (rule : (ℕ → Bool) → Type 0) (order : List ℕ) (waiting : Queues) → ((t : ℕ → Bool) → rule t) → IsStep rule order waiting order waiting
+pub step_none : (rule : (ℕ → Bool) → Type 0) (order : List ℕ) (waiting : WaitingView) → ((t : ℕ → Bool) → rule t) → IsStep rule order waiting order waiting
 step_none rule order waiting always = record {
   rest = [];
   added = sym (append-nil order);
@@ -27,7 +27,7 @@ step_none rule order waiting always = record {
 }
 
 -- what is added to the list
-pub step_added : (rule : (ℕ → Bool) → Type 0) (ids old new : List ℕ) (waiting : Queues) → IsAdded ids old new
+pub step_added : (rule : (ℕ → Bool) → Type 0) (ids old new : List ℕ) (waiting : WaitingView) → IsAdded ids old new
     → ((t : ℕ → Bool) → HasBoth old waiting t → rule t → HasAll ids t) → ((t : ℕ → Bool) → HasAll ids t → rule t) → IsStep rule old waiting new waiting
 step_added rule ids old new waiting a to from = record {
   rest = a.rest;
@@ -38,7 +38,7 @@ step_added rule ids old new waiting a to from = record {
 }
 
 -- a rule in place of another that asks for the same
-pub step_as : (P Q : (ℕ → Bool) → Type 0) (a : List ℕ) (v : Queues) (b : List ℕ) (w : Queues) → IsStep P a v b w
+pub step_as : (P Q : (ℕ → Bool) → Type 0) (a : List ℕ) (v : WaitingView) (b : List ℕ) (w : WaitingView) → IsStep P a v b w
     → ((t : ℕ → Bool) → Q t → P t) → ((t : ℕ → Bool) → P t → Q t) → IsStep Q a v b w
 step_as P Q a v b w p to from = record {
   rest = p.rest;
@@ -49,7 +49,7 @@ step_as P Q a v b w p to from = record {
 }
 
 -- one step after another
-pub step_both : (P Q : (ℕ → Bool) → Type 0) (a : List ℕ) (u : Queues) (b : List ℕ) (v : Queues) (c : List ℕ) (w : Queues) → IsStep P a u b v → IsStep Q b v c w
+pub step_both : (P Q : (ℕ → Bool) → Type 0) (a : List ℕ) (u : WaitingView) (b : List ℕ) (v : WaitingView) (c : List ℕ) (w : WaitingView) → IsStep P a u b v → IsStep Q b v c w
     → IsStep (λ t. P t × Q t) a u c w
 step_both P Q a u b v c w p q = record {
   rest = p.rest ++ q.rest;
@@ -65,7 +65,7 @@ step_both P Q a u b v c w p q = record {
 }
 
 -- a list after another
-pub step_more : {X : Type 0} (P : (ℕ → Bool) → X → Type 0) (xs ys : List X) (a : List ℕ) (u : Queues) (b : List ℕ) (v : Queues) (c : List ℕ) (w : Queues)
+pub step_more : {X : Type 0} (P : (ℕ → Bool) → X → Type 0) (xs ys : List X) (a : List ℕ) (u : WaitingView) (b : List ℕ) (v : WaitingView) (c : List ℕ) (w : WaitingView)
     → IsStep (λ t. AllByRecursion (P t) xs) a u b v → IsStep (λ t. AllByRecursion (P t) ys) b v c w → IsStep (λ t. AllByRecursion (P t) (xs ++ ys)) a u c w
 step_more P xs ys a u b v c w p q =
     step_as (λ t. AllByRecursion (P t) xs × AllByRecursion (P t) ys) (λ t. AllByRecursion (P t) (xs ++ ys)) a u c w
@@ -79,11 +79,11 @@ same_identity : (v : Value) (i j : ℕ) → identity v ≡ Some i → identity v
 same_identity v i j e f = let g : Some i ≡ Some j = sym e ∙ f in cc
 
 -- it has none
-pub step_plain : (e : ℕ × Value) (order : List ℕ) (waiting : Queues) → identity e.1 ≡ None → IsStep (HasValues (e ∷ [])) order waiting order waiting
+pub step_plain : (e : ℕ × Value) (order : List ℕ) (waiting : WaitingView) → identity e.1 ≡ None → IsStep (HasValues (e ∷ [])) order waiting order waiting
 step_plain e order waiting none = step_none (HasValues (e ∷ [])) order waiting (λ t. (λ _ i some. cc, tt))
 
 -- the map is marked
-pub step_entered : (e : ℕ × Value) (i : ℕ) (marks : List Bool) (old new : List ℕ) (waiting : Queues) → identity e.1 ≡ Some i → IsListed marks old → is_marked marks e.0 ≡ true
+pub step_entered : (e : ℕ × Value) (i : ℕ) (marks : List Bool) (old new : List ℕ) (waiting : WaitingView) → identity e.1 ≡ Some i → IsListed marks old → is_marked marks e.0 ≡ true
     → IsAdded (i ∷ []) old new → IsStep (HasValues (e ∷ [])) old waiting new waiting
 step_entered e i marks old new waiting value listed map added =
     step_added (HasValues (e ∷ [])) (i ∷ []) old new waiting added
@@ -91,7 +91,7 @@ step_entered e i marks old new waiting value listed map added =
     (λ t all. (λ _ j f. ap t (same_identity e.1 i j value f) ∙ all.0, tt))
 
 -- the value is marked already
-pub step_known : (e : ℕ × Value) (i : ℕ) (marks : List Bool) (order : List ℕ) (waiting : Queues) → identity e.1 ≡ Some i → IsListed marks order → is_marked marks i ≡ true
+pub step_known : (e : ℕ × Value) (i : ℕ) (marks : List Bool) (order : List ℕ) (waiting : WaitingView) → identity e.1 ≡ Some i → IsListed marks order → is_marked marks i ≡ true
     → IsStep (HasValues (e ∷ [])) order waiting order waiting
 step_known e i marks order waiting value listed here = record {
   rest = [];
@@ -103,7 +103,7 @@ step_known e i marks order waiting value listed here = record {
 
 -- neither is marked
 
-module _ (waited waiting : Queues) (m v : ℕ) (w : Waits waited m v waiting) where
+module _ (waited waiting : WaitingView) (m v : ℕ) (w : Waits waited m v waiting) where
   wait_at : waiting_for waiting m ≡ waiting_for waited m ++ v ∷ []
   wait_at = rw (w m, eq-eqb m m refl) refl
 
@@ -131,7 +131,7 @@ module _ (waited waiting : Queues) (m v : ℕ) (w : Waits waited m v waiting) wh
   waited_rule : (t : ℕ → Bool) → HasWaiting waiting t → t m ≡ true → t v ≡ true
   waited_rule t has here = (all_back _ (waiting_for waited m) (v ∷ []) (rw wait_at at (has m here))).0
 
-pub step_waits : (e : ℕ × Value) (v : ℕ) (marks : List Bool) (order : List ℕ) (waited waiting : Queues) → identity e.1 ≡ Some v → IsListed marks order → is_marked marks e.0 ≡ false
+pub step_waits : (e : ℕ × Value) (v : ℕ) (marks : List Bool) (order : List ℕ) (waited waiting : WaitingView) → identity e.1 ≡ Some v → IsListed marks order → is_marked marks e.0 ≡ false
     → Waits waited e.0 v waiting → IsStep (HasValues (e ∷ [])) order waited order waiting
 step_waits e v marks order waited waiting value listed map w = record {
   rest = [];

@@ -9,11 +9,11 @@ use Rattle.es_mark.specs.Marks.{is_marked, IsLeast}
 use Rattle.es_mark.specs.Listed.{IsListed, IsAdded}
 use Rattle.es_mark.specs.Made.{is_made}
 use Rattle.es_mark.specs.Steps.{HasBoth, IsReady, Obeys, IsFollowed}
-use Rattle.es_mark.specs.Waiting.{waiting_for, HasWaiting, Queues}
+use Rattle.es_mark.specs.Waiting.{waiting_for, HasWaiting, WaitingView}
 use Rattle.es_mark.proofs.Lists.{all_both, all_join, all_front, all_at, is_in, has_own}
 use Rattle.es_mark.proofs.Following.{made_numbered, found_made, found_only, found_all}
 
-pub record Marking (roots : (ℕ → Bool) → Type 0) (edges entries : ℕ → (ℕ → Bool) → Type 0) (made done : ℕ) (marks : List Bool) (order : List ℕ) (waiting : Queues) : Type 0 where
+pub record Marking (roots : (ℕ → Bool) → Type 0) (edges entries : ℕ → (ℕ → Bool) → Type 0) (made done : ℕ) (marks : List Bool) (order : List ℕ) (waiting : WaitingView) : Type 0 where
   pub ready : IsReady made marks order waiting
   pub bound : done ≤ length order
   pub least : (t : ℕ → Bool) → IsClosed roots edges entries t → HasBoth order waiting t
@@ -29,11 +29,11 @@ all_index P [] i d l all = absurd (omega arith)
 all_index P (x ∷ xs) zero d l all = all.0
 all_index P (x ∷ xs) (suc i) d l all = all_index P xs i d (omega arith) all.1
 
-none_waits : (waiting : Queues) (t : ℕ → Bool) → ((m : ℕ) → waiting_for waiting m ≡ []) → HasWaiting waiting t
+none_waits : (waiting : WaitingView) (t : ℕ → Bool) → ((m : ℕ) → waiting_for waiting m ≡ []) → HasWaiting waiting t
 none_waits waiting t none m e = rw (none m) tt
 
 -- after the roots
-pub begins : (roots : (ℕ → Bool) → Type 0) (edges entries : ℕ → (ℕ → Bool) → Type 0) (made : ℕ) (ids order : List ℕ) (marks : List Bool) (waiting : Queues) → made < length marks
+pub begins : (roots : (ℕ → Bool) → Type 0) (edges entries : ℕ → (ℕ → Bool) → Type 0) (made : ℕ) (ids order : List ℕ) (marks : List Bool) (waiting : WaitingView) → made < length marks
     → ((m : ℕ) → waiting_for waiting m ≡ []) → Finds made roots [] ids → IsAdded ids [] order → Marking roots edges entries made 0 marks order waiting
 begins roots edges entries made ids order marks waiting room none f a = record {
   ready = record {
@@ -48,8 +48,8 @@ begins roots edges entries made ids order marks waiting room none f a = record {
 }
 
 -- one identity more is followed
-pub goes_on : (roots : (ℕ → Bool) → Type 0) (edges entries : ℕ → (ℕ → Bool) → Type 0) (made done : ℕ) (marks : List Bool) (order : List ℕ) (waited : Queues) (i : ℕ) (more : List Bool)
-    (new : List ℕ) (waiting : Queues) → Marking roots edges entries made done marks order waited → done < length order → i ≡ get_or order done i
+pub goes_on : (roots : (ℕ → Bool) → Type 0) (edges entries : ℕ → (ℕ → Bool) → Type 0) (made done : ℕ) (marks : List Bool) (order : List ℕ) (waited : WaitingView) (i : ℕ) (more : List Bool)
+    (new : List ℕ) (waiting : WaitingView) → Marking roots edges entries made done marks order waited → done < length order → i ≡ get_or order done i
     → IsFollowed made edges entries i order waited new waiting → length more ≡ length marks → Marking roots edges entries made (done + 1) more new waiting
 goes_on roots edges entries made done marks order waited i more new waiting m l is f room =
     let s = f.step in
@@ -82,7 +82,7 @@ goes_on roots edges entries made done marks order waited i more new waiting m l 
 
 -- all is followed
 
-module _ (roots : (ℕ → Bool) → Type 0) (edges entries : ℕ → (ℕ → Bool) → Type 0) (made done : ℕ) (marks : List Bool) (order : List ℕ) (waiting : Queues)
+module _ (roots : (ℕ → Bool) → Type 0) (edges entries : ℕ → (ℕ → Bool) → Type 0) (made done : ℕ) (marks : List Bool) (order : List ℕ) (waiting : WaitingView)
     (m : Marking roots edges entries made done marks order waiting) (listed : IsListed marks order) (all : length order ≤ done) where
   whole : take done order ≡ order
   whole = let e : done ≡ length order = omega (arith, m.bound) in rw e (take-length order)

@@ -17,9 +17,9 @@ pub struct Waiting {
 
 impl Model for Waiting {
     ghost use Rattle.std.specs.Prelude.{map};
-    ghost use Rattle.es_mark.specs.Waiting.{Queues};
+    ghost use Rattle.es_mark.specs.Waiting.{WaitingView};
 
-    ghost Value = { Queues };
+    ghost Value = { WaitingView };
 
     ghost view = { λ w. map (λ e. (e.0, e.1.items)) w.lists.entries };
 }

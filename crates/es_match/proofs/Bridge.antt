@@ -10,7 +10,7 @@ use Rattle.es_event.specs.History.{History}
 use Rattle.es_deeds.specs.Deeds.{Deed, Spends, Ends}
 use Rattle.es_match.specs.Asks.{Asking, nothing, to_open, to_measure, to_compare, to_access, to_post, to_receive, to_refuse, to_pass, to_empty, to_close, between_jobs, ends_job, asks}
 use Rattle.es_match.specs.Meets.{Tickets, Came, after, came_after, nothing_came, spends, ends, strike, serials_of, within, some_if, no_more, sole, pair, is_one}
-use Rattle.es_match.specs.Cluster.{Ties}
+use Rattle.es_match.specs.Cluster.{DeedsMeet}
 use Rattle.es_match.specs.Goes.{asked, goes}
 
 -- How many deeds are asked
@@ -131,7 +131,7 @@ one_step h c d e es ds rest a =
     let r : drop (asked c.tickets (asks (between_jobs h) e)) (ds ++ rest) ≡ rest = drop-front ds rest _ n in
     rw k (rw r (rw a refl))
 
-pub ties-go : (h : History) (p : List Deed) (c : Came) → Ties h p c → (es : List Event) (rest : List Deed)
+pub ties-go : (h : History) (p : List Deed) (c : Came) → DeedsMeet h p c → (es : List Event) (rest : List Deed)
     → goes true nothing_came (reverse h ++ es) (p ++ rest) ≡ goes (between_jobs h) c es rest
 ties-go [] p c ties es rest = rw (ties.0) (rw (ties.1) refl)
 ties-go (e ∷ h) p c (q, ds, b, split, ties, a) es rest =
@@ -150,27 +150,27 @@ at_end : (b : Bool) (c d : Came) → some_if b c ≡ Some d → (b ≡ true) × 
 at_end true c d e = (refl, cc)
 at_end false c d e = cc
 
-goes-tie : (h : History) (p : List Deed) (c : Came) → Ties h p c → (es : List Event) (rest : List Deed) (d : Came)
-    → goes (between_jobs h) c es rest ≡ Some d → Ties (reverse es ++ h) (p ++ rest) d
+goes-tie : (h : History) (p : List Deed) (c : Came) → DeedsMeet h p c → (es : List Event) (rest : List Deed) (d : Came)
+    → goes (between_jobs h) c es rest ≡ Some d → DeedsMeet (reverse es ++ h) (p ++ rest) d
 goes-tie h p c ties [] rest d go =
     let end = at_end (no_more rest) c d go in
-    subst (λ (l : List Deed). Ties h l d) (sym (ap (λ l. p ++ l) (none_more rest end.0) ∙ append-nil p)) (subst (Ties h p) end.1 ties)
+    subst (λ (l : List Deed). DeedsMeet h l d) (sym (ap (λ l. p ++ l) (none_more rest end.0) ∙ append-nil p)) (subst (DeedsMeet h p) end.1 ties)
 goes-tie h p c ties (e ∷ es) rest d go =
     let k : ℕ = asked c.tickets (asks (between_jobs h) e) in
     let s = chained _ (came_after c (asks (between_jobs h) e) (take k rest)) d go in
     let further = goes-tie (e ∷ h) (p ++ take k rest) s.0 (p, take k rest, c, refl, ties, s.1) es (drop k rest) d s.2 in
-    subst (λ (l : List Event). Ties l (p ++ rest) d) (sym (reverse_cons e es h))
-    (subst (λ (l : List Deed). Ties (reverse es ++ e ∷ h) l d) (append_assoc p (take k rest) (drop k rest)
+    subst (λ (l : List Event). DeedsMeet l (p ++ rest) d) (sym (reverse_cons e es h))
+    (subst (λ (l : List Deed). DeedsMeet (reverse es ++ e ∷ h) l d) (append_assoc p (take k rest) (drop k rest)
     ∙ ap (λ l. p ++ l) (take-append-drop k rest)) further)
 
 -- Both
 
-pub goes_means_ties : (h : History) (p : List Deed) (c : Came) → goes true nothing_came (reverse h) p ≡ Some c → Ties h p c
+pub goes_means_ties : (h : History) (p : List Deed) (c : Came) → goes true nothing_came (reverse h) p ≡ Some c → DeedsMeet h p c
 goes_means_ties h p c go =
     let found = goes-tie [] [] nothing_came (refl, refl) (reverse h) p c go in
-    subst (λ (l : List Event). Ties l p c) (append-nil (reverse (reverse h)) ∙ reverse-reverse h) found
+    subst (λ (l : List Event). DeedsMeet l p c) (append-nil (reverse (reverse h)) ∙ reverse-reverse h) found
 
-pub ties_mean_goes : (h : History) (p : List Deed) (c : Came) → Ties h p c → goes true nothing_came (reverse h) p ≡ Some c
+pub ties_mean_goes : (h : History) (p : List Deed) (c : Came) → DeedsMeet h p c → goes true nothing_came (reverse h) p ≡ Some c
 ties_mean_goes h p c ties =
     ap (λ l. goes true nothing_came l p) (sym (append-nil (reverse h))) ∙ ap (goes true nothing_came (reverse h ++ [])) (sym (append-nil p))
     ∙ ties-go h p c ties [] []

@@ -6,7 +6,7 @@ use Rattle.es_match.specs.Meets.{strike}
 use Rattle.std.specs.HashMap.{get}
 use Rattle.es_deeds.specs.Deeds.{Deed, Spends}
 use Rattle.es_match.specs.Meets.{spends}
-use Rattle.es_deeds.specs.Tables.{Map}
+use Rattle.es_deeds.specs.LedgerPass.{Map}
 use Rattle.es_deeds.specs.declared.deed.Deed.{Deed as DeedHeld}
 use Rattle.es_deeds.specs.declared.deed.Deed.TheVariants.{Spend}
 use Rattle.es_deeds.specs.Shown.{shown, all_shown}

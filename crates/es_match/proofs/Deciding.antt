@@ -11,8 +11,8 @@ use Rattle.es_event.specs.Ledger.{Ledger}
 use Rattle.es_deeds.specs.declared.stretch.Stretch.{Stretch}
 use Rattle.es_deeds.specs.Deeds.{Deed as DeedSaid, Owned, deed, part, part_of, is_wait}
 use Rattle.es_match.specs.Meets.{Came, nothing_came}
-use Rattle.es_deeds.specs.Patience.{patient, drained_last, drained, is_patient, is_nobodys}
-use Rattle.es_match.specs.Cluster.{Ties, HaveCome, IsCluster, history_of}
+use Rattle.es_deeds.specs.Patience.{patient, drained_last, has_drained, is_patient, is_nobodys}
+use Rattle.es_match.specs.Cluster.{DeedsMeet, HaveCome, IsCluster, history_of}
 use Rattle.es_match.specs.Goes.{goes}
 use Rattle.es_deeds.specs.Orderly.{is_known, may_come, orderly}
 use Rattle.es_deeds.specs.Split.{IsSplit, part_at}
@@ -33,7 +33,7 @@ pub order_drains : (n : ℕ) (l : Ledger) → orderly n l ≡ true → drained_l
 order_drains n [] e = refl
 order_drains n (x ∷ l) e =
     let b = and_parts (may_come n l (deed l x)) (orderly n l) e in
-    let here : (is_nobodys (deed l x) || not (drained l)) ≡ true = (and_parts _ _ (and_parts _ _ b.0).1).0 in
+    let here : (is_nobodys (deed l x) || not (has_drained l)) ≡ true = (and_parts _ _ (and_parts _ _ b.0).1).0 in
     rw here (order_drains n l b.1)
 
 unknown : (n a : ℕ) (o : Owned) → n ≤ a → is_known n o ≡ true → part_of a o ≡ []
@@ -81,7 +81,7 @@ pub orders : (n : ℕ) (l : Ledger) → patient l ≡ true → drained_last l �
 orders n [] p d none = refl
 orders n (x ∷ l) p d none =
     let p2 = and_parts (is_patient l (deed l x)) (patient l) p in
-    let d2 = and_parts (is_nobodys (deed l x) || not (drained l)) (drained_last l) d in
+    let d2 = and_parts (is_nobodys (deed l x) || not (has_drained l)) (drained_last l) d in
     let k = known n (deed l x) (λ a far. (none_left (part l a) (part_of a (deed l x)) (none a far)).1) in
     rw (p2.0) (rw (d2.0) (rw k (orders n l p2.1 d2.1 (λ a far. (none_left (part l a) (part_of a (deed l x)) (none a far)).0))))
 
@@ -107,13 +107,13 @@ all hs l ps cs s size go a = case-of (nat_lt a (length hs)) refl
         rw (past hs a [] far) (rw (past ps a [] off) (rw (none_came hs cs a size far) refl))
 
 ties_at : (hs : List (List Event)) (l : Ledger) (ps : List (List Stretch)) (cs : List Came) → IsSplit (length hs) l ps → length cs ≡ length hs → AllGo hs ps cs
-    → (a : ℕ) → Ties (history_of (map reverse hs) a) (part l a) (slice_index_or cs a nothing_came)
+    → (a : ℕ) → DeedsMeet (history_of (map reverse hs) a) (part l a) (slice_index_or cs a nothing_came)
 ties_at hs l ps cs s size go a =
     let here = subst (λ (h : List Event). goes true nothing_came h (part_at ps a) ≡ Some (slice_index_or cs a nothing_came))
     (sym (reverse-reverse (slice_index_or hs a []))) (all hs l ps cs s size go a) in
     let tied = goes_means_ties (reverse (slice_index_or hs a [])) (part_at ps a) (slice_index_or cs a nothing_came) here in
-    subst (λ (h : History). Ties h (part l a) (slice_index_or cs a nothing_came)) (sym (history_said hs a))
-    (subst (λ (p : List DeedSaid). Ties (reverse (slice_index_or hs a [])) p (slice_index_or cs a nothing_came)) (s.parts a) tied)
+    subst (λ (h : History). DeedsMeet h (part l a) (slice_index_or cs a nothing_came)) (sym (history_said hs a))
+    (subst (λ (p : List DeedSaid). DeedsMeet (reverse (slice_index_or hs a [])) p (slice_index_or cs a nothing_came)) (s.parts a) tied)
 
 pub makes_cluster : (hs : List (List Event)) (l : Ledger) (ps : List (List Stretch)) (cs : List Came) → IsSplit (length hs) l ps → length cs ≡ length hs → AllGo hs ps cs
     → HaveCome (map reverse hs) l cs
@@ -141,7 +141,7 @@ stops hs l ps s some c =
     let clash : Some (c.parts some.0).0 ≡ None = sym on ∙ off in
     cc
 
-no_deeds : (h : History) (ds : List DeedSaid) (c : Came) → h ≡ [] → Ties h ds c → ds ≡ []
+no_deeds : (h : History) (ds : List DeedSaid) (c : Came) → h ≡ [] → DeedsMeet h ds c → ds ≡ []
 no_deeds [] ds c e ties = ties.0
 no_deeds (x ∷ h) ds c e ties = absurd (cc)
 

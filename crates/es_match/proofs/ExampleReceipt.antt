@@ -9,7 +9,7 @@ use Rattle.es_event.specs.History.{History}
 use Rattle.es_event.specs.Jobs.{job}
 use Rattle.es_event.specs.Sharing.{Buffers}
 use Rattle.es_match.specs.Asks.{to_refuse, asks, between_jobs}
-use Rattle.es_match.specs.Cluster.{IsSaid, Ties, awaited, is_refusal_asked, refused_senders}
+use Rattle.es_match.specs.Cluster.{IsSaid, DeedsMeet, awaited, is_refusal_asked, refused_senders}
 use Rattle.es_deeds.specs.Deeds.{Deed, Takes, Spends}
 use Rattle.es_match.specs.Meets.{Came, Tickets, after, came_after, is_refusal, refused_in, some_if}
 use Rattle.es_match.proofs.Bridge.{mapped}
@@ -40,7 +40,7 @@ taken t u (d ∷ c ∷ b ∷ ds) met = cc
 
 -- it is of the sender that the job names
 named : (plan : AgentPlan) (over : Buffers) (h : History) (s : ℕ) (ds : List Deed) (c : Came) → awaited plan (job h) ≡ s ∷ [] → between_jobs h ≡ true
-    → Ties (Refused TooManyValues ∷ h) ds c → IsSaid (record { plan = plan; over = over; history = Refused TooManyValues ∷ h }) c
+    → DeedsMeet (Refused TooManyValues ∷ h) ds c → IsSaid (record { plan = plan; over = over; history = Refused TooManyValues ∷ h }) c
     → (before : List Deed) × (m : Option Body) × (w : ℕ) × (d : Deed) × (ds ≡ before ++ Takes s m w ∷ d ∷ [])
 named plan over h s ds c waits free ties said =
     let asked : asks (between_jobs h) (Refused TooManyValues) ≡ to_refuse = ap (λ b. asks b (Refused TooManyValues)) free in
@@ -64,7 +64,7 @@ last_two (c ∷ xs) (d ∷ ys) x y a b e = last_two xs ys x y a b (let rest : xs
 
 -- a worker whose job waits for agent 0, and that refuses what agent 1 posted
 another_sender : (plan : AgentPlan) (over : Buffers) (h : History) (earlier : List Deed) (c : Came) → awaited plan (job h) ≡ 0 ∷ [] → between_jobs h ≡ true
-    → Ties (Refused TooManyValues ∷ h) (earlier ++ Takes 1 (Some (Block 1 2)) 1 ∷ Spends 2 ∷ []) c → IsSaid (record { plan = plan; over = over; history = Refused TooManyValues ∷ h }) c → ⊥
+    → DeedsMeet (Refused TooManyValues ∷ h) (earlier ++ Takes 1 (Some (Block 1 2)) 1 ∷ Spends 2 ∷ []) c → IsSaid (record { plan = plan; over = over; history = Refused TooManyValues ∷ h }) c → ⊥
 another_sender plan over h earlier c waits free ties said =
     let n = named plan over h 0 _ c waits free ties said in
     let clash : Takes 1 (Some (Block 1 2)) 1 ≡ Takes 0 n.1 n.2 = last_two earlier n.0 _ _ (Spends 2) n.3 n.4 in

@@ -6,7 +6,7 @@ use Rattle.es_event.specs.Ledger.{Ledger}
 use Rattle.es_deeds.specs.Deeds.{part}
 use Rattle.es_match.specs.Meets.{Came, nothing_came}
 use Rattle.es_deeds.specs.Patience.{patient, drained_last}
-use Rattle.es_match.specs.Cluster.{Ties, IsCluster, history_of}
+use Rattle.es_match.specs.Cluster.{DeedsMeet, IsCluster, history_of}
 use Rattle.es_match.specs.Goes.{goes}
 use Rattle.es_deeds.specs.Orderly.{orderly}
 use Rattle.es_match.proofs.Bridge.{goes_means_ties, ties_mean_goes}
@@ -19,7 +19,7 @@ came_to h l a = goes true nothing_came (reverse h) (part l a)
 abbrev pub is_told : History → Ledger → ℕ → Bool
 is_told h l a = is_some (came_to h l a)
 
-told_ties : (h : History) (l : Ledger) (a : ℕ) (o : Option Came) → came_to h l a ≡ o → is_some o ≡ true → (c : Came) × Ties h (part l a) c
+told_ties : (h : History) (l : Ledger) (a : ℕ) (o : Option Came) → came_to h l a ≡ o → is_some o ≡ true → (c : Came) × DeedsMeet h (part l a) c
 told_ties h l a None is e = cc
 told_ties h l a (Some c) is e = (c, goes_means_ties h (part l a) c is)
 
@@ -31,7 +31,7 @@ two_agents h g l first second order = record {
   drains = order_drains 2 l order;
 }
   where
-    each : (a : ℕ) → (c : Came) × Ties (history_of (h ∷ g ∷ []) a) (part l a) c
+    each : (a : ℕ) → (c : Came) × DeedsMeet (history_of (h ∷ g ∷ []) a) (part l a) c
     each zero = told_ties h l 0 (came_to h l 0) refl first
     each (suc zero) = told_ties g l 1 (came_to g l 1) refl second
     each (suc (suc a)) = (nothing_came, (strangers 2 l order (suc (suc a)) (omega arith), refl))

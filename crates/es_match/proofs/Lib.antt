@@ -10,4 +10,4 @@ mod ExampleReceipt
 pub mod Examples
 mod Lists
 pub mod Passing
-pub mod Racked
+pub mod Ticketed

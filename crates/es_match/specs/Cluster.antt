@@ -1,5 +1,5 @@
 -- To believe: when histories of agents and a history of the ledger are those of one cluster.
-use Rattle.std.specs.Prelude.{ℕ, ◌≡◌, ◌<◌, length, Bool, true, false, not, List, [], ◌∷◌, ◌++◌, Some, reverse, slice_index_or, if◌then◌else◌}
+use Rattle.std.specs.Prelude.{ℕ, ◌≡◌, ◌<◌, length, Bool, true, false, List, [], ◌∷◌, ◌++◌, Some, reverse, slice_index_or, if◌then◌else◌}
 use Rattle.std.specs.Option.{option_map_or}
 use Rattle.es_event.specs.declared.plan.AgentPlan.{AgentPlan}
 use Rattle.es_event.specs.History.{History}
@@ -13,10 +13,10 @@ use Rattle.es_match.specs.Meets.{Came, came_after, nothing_came}
 
 -- the deeds are, in order and with nothing besides, what the history asks: those before are what the earlier events ask, and
 -- those now are what the newest asks; c is what has come to the agent by them
-abbrev pub Ties : History → List Deed → Came → Type 0
-Ties [] ds c = (ds ≡ []) × (c ≡ nothing_came)
-Ties (e ∷ earlier) ds c =
-    (before : List Deed) × (now : List Deed) × (d : Came) × (ds ≡ before ++ now) × Ties earlier before d
+abbrev pub DeedsMeet : History → List Deed → Came → Type 0
+DeedsMeet [] ds c = (ds ≡ []) × (c ≡ nothing_came)
+DeedsMeet (e ∷ earlier) ds c =
+    (before : List Deed) × (now : List Deed) × (d : Came) × (ds ≡ before ++ now) × DeedsMeet earlier before d
     × (came_after d (asks (between_jobs earlier) e) now ≡ Some c)
 
 -- agent a's history; an agent that is not there has the empty one
@@ -25,7 +25,7 @@ history_of hs a = slice_index_or hs a []
 
 -- these are the histories of the agents of one cluster, by rising number, and of its ledger
 pub record IsCluster (hs : List History) (l : Ledger) : Type 0 where
-  pub parts : (a : ℕ) → (c : Came) × Ties (history_of hs a) (part l a) c
+  pub parts : (a : ℕ) → (c : Came) × DeedsMeet (history_of hs a) (part l a) c
   pub waits : patient l ≡ true
   pub drains : drained_last l ≡ true
 
@@ -33,7 +33,7 @@ pub record IsCluster (hs : List History) (l : Ledger) : Type 0 where
 pub record HaveCome (hs : List History) (l : Ledger) (cs : List Came) : Type 0 where
   pub cluster : IsCluster hs l
   pub size : length cs ≡ length hs
-  pub each : (a : ℕ) → a < length hs → Ties (history_of hs a) (part l a) (slice_index_or cs a nothing_came)
+  pub each : (a : ℕ) → a < length hs → DeedsMeet (history_of hs a) (part l a) (slice_index_or cs a nothing_came)
 
 -- What the agents say of themselves
 
@@ -73,6 +73,6 @@ pub record IsSaid (a : Account) (c : Came) : Type 0 where
 
 -- besides, what came to each agent is what it says
 pub record IsClusterOf (all : List Account) (l : Ledger) : Type 0 where
-  pub parts : (a : ℕ) → (c : Came) × Ties (account_of all a).history (part l a) c × IsSaid (account_of all a) c
+  pub parts : (a : ℕ) → (c : Came) × DeedsMeet (account_of all a).history (part l a) c × IsSaid (account_of all a) c
   pub waits : patient l ≡ true
   pub drains : drained_last l ≡ true

@@ -4,7 +4,7 @@ use Rattle.std.specs.HashMap.{get}
 use Rattle.es_match.specs.declared.spending.Left.{Left}
 use Rattle.es_deeds.specs.Deeds.{Deed}
 use Rattle.es_match.specs.Meets.{spends, strike}
-use Rattle.es_deeds.specs.Tables.{Map}
+use Rattle.es_deeds.specs.LedgerPass.{Map}
 
 -- how often the serial is in the list
 abbrev pub count : ℕ → List ℕ → ℕ

@@ -6,7 +6,7 @@ ghost use Rattle.es_deeds.specs.Shown.{all_shown};
 ghost use Rattle.es_match.specs.Shown.{asking, listed, said};
 
 use crate::going::{after, one, two};
-use crate::tickets::{Rack, object_in};
+use crate::tickets::{BufferTickets, object_in};
 use crate::want::Want;
 use es_deeds::Deed;
 use es_event::{Body, Row};
@@ -18,7 +18,7 @@ use std::marker::Model;
 /// in the ledger's history say it.
 #[derive(Drop)]
 pub struct Came {
-    pub(crate) tickets: Rack,
+    pub(crate) tickets: BufferTickets,
     ever: Vec<(Id, Row)>,
     refused: Vec<usize>,
 }
@@ -37,7 +37,7 @@ impl Came {
         ensures { result ≡ nothing_came }
     {
         Came {
-            tickets: Rack::new(alloc),
+            tickets: BufferTickets::new(alloc),
             ever: Vec::new(alloc),
             refused: Vec::new(alloc),
         }

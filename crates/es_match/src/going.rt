@@ -12,7 +12,7 @@ ghost use Rattle.es_match.specs.Shown.{asking, said};
 use crate::came::Came;
 use crate::meets::{compares, is_access, is_length, is_pass, is_plain, is_post, is_refusal};
 use crate::spending::are_spent;
-use crate::tickets::{Rack, object_in, serials_of, serials_within};
+use crate::tickets::{BufferTickets, object_in, serials_of, serials_within};
 use crate::want::{Want, asks_nothing, ends_job, want_at};
 use es_deeds::{Deed, Rest, Stretch};
 use es_event::{Body, Event, Row};
@@ -20,7 +20,7 @@ use es_value::{Id, IdSet, NoMemory, Value};
 use std::alloc::Global;
 
 fn open(
-    tickets: &mut Rack,
+    tickets: &mut BufferTickets,
     words: u32,
     made: Option<&Value>,
     deeds: &[Deed<'_>],
@@ -52,7 +52,7 @@ fn open(
     }
 }
 
-fn add(tickets: &mut Rack, made: Option<&Value>, row: Row) -> Result<bool, NoMemory>
+fn add(tickets: &mut BufferTickets, made: Option<&Value>, row: Row) -> Result<bool, NoMemory>
     ensures { IfOk result (λ b. some_if b tickets.new ≡ add_ticket tickets.old (said made.entry) row) }
 {
     match object_in(made) {
@@ -64,7 +64,12 @@ fn add(tickets: &mut Rack, made: Option<&Value>, row: Row) -> Result<bool, NoMem
     }
 }
 
-fn take_in(tickets: &mut Rack, value: &Value, body: &Body, words: u32) -> Result<bool, NoMemory>
+fn take_in(
+    tickets: &mut BufferTickets,
+    value: &Value,
+    body: &Body,
+    words: u32,
+) -> Result<bool, NoMemory>
     ensures { IfOk result (λ b. some_if b tickets.new ≡ gives tickets.old value.now body.now words) }
 {
     match body {
@@ -82,7 +87,7 @@ fn take_in(tickets: &mut Rack, value: &Value, body: &Body, words: u32) -> Result
 }
 
 fn receive(
-    tickets: &mut Rack,
+    tickets: &mut BufferTickets,
     sender: usize,
     value: &Value,
     deeds: &[Deed<'_>],
@@ -108,7 +113,7 @@ fn receive(
 
 fn empty(
     alloc: Global,
-    tickets: &mut Rack,
+    tickets: &mut BufferTickets,
     ids: &[Id],
     deeds: &[Deed<'_>],
 ) -> Result<bool, NoMemory>
@@ -120,18 +125,18 @@ fn empty(
     are_spent(alloc, false, &serials, deeds)
 }
 
-fn close(alloc: Global, tickets: &mut Rack, deeds: &[Deed<'_>]) -> Result<bool, NoMemory>
+fn close(alloc: Global, tickets: &mut BufferTickets, deeds: &[Deed<'_>]) -> Result<bool, NoMemory>
     ensures { IfOk result (λ b. some_if b tickets.new ≡ after tickets.old to_close (all_shown deeds.now)) }
 {
     let serials = serials_of(alloc, tickets.as_slice())?;
-    *tickets = Rack::new(alloc);
+    *tickets = BufferTickets::new(alloc);
     are_spent(alloc, true, &serials, deeds)
 }
 
 /// Makes of the tickets those after the deeds. Whether the deeds are what is wanted.
 pub(crate) fn after(
     alloc: Global,
-    tickets: &mut Rack,
+    tickets: &mut BufferTickets,
     want: &Want<'_>,
     deeds: &[Deed<'_>],
 ) -> Result<bool, NoMemory>
@@ -205,7 +210,7 @@ fn count_within(ids: &[Id], tickets: &[(Id, Row)]) -> usize
 }
 
 /// How many deeds are wanted.
-fn asked(tickets: &Rack, want: &Want<'_>) -> usize
+fn asked(tickets: &BufferTickets, want: &Want<'_>) -> usize
     ensures { result ≡ asked tickets.now (asking want.now) }
 {
     match want {

@@ -7,7 +7,7 @@ ghost use Rattle.es_match.specs.Shown.{said};
 ghost use Rattle.es_value.specs.Values.{is_same};
 ghost use Rattle.es_value.specs.declared.value.Value.TheVariants.{Boolean};
 
-use crate::tickets::Rack;
+use crate::tickets::BufferTickets;
 use es_deeds::Deed;
 use es_event::{Access, Body};
 use es_value::{Value, same_value};
@@ -36,7 +36,7 @@ fn is_boolean(value: Option<&Value>, truth: bool) -> bool
     }
 }
 
-fn is_ticket(tickets: &Rack, buffer: Option<&Value>, serial: u64) -> bool
+fn is_ticket(tickets: &BufferTickets, buffer: Option<&Value>, serial: u64) -> bool
     ensures { result ≡ is_ticket tickets.now (said buffer.entry) serial }
 {
     match tickets.find(buffer) {
@@ -46,7 +46,11 @@ fn is_ticket(tickets: &Rack, buffer: Option<&Value>, serial: u64) -> bool
 }
 
 /// Whether the buffer's block has so many words as the answer says.
-pub(crate) fn is_length(tickets: &Rack, buffer: Option<&Value>, answer: Option<&Value>) -> bool
+pub(crate) fn is_length(
+    tickets: &BufferTickets,
+    buffer: Option<&Value>,
+    answer: Option<&Value>,
+) -> bool
     ensures { result ≡ has_ticket tickets.now (said buffer.entry) (λ r. is_number (said answer.entry) r.words) }
 {
     match tickets.find(buffer) {
@@ -57,7 +61,7 @@ pub(crate) fn is_length(tickets: &Rack, buffer: Option<&Value>, answer: Option<&
 
 /// Whether the answer says if the two buffers are over one block.
 pub(crate) fn compares(
-    tickets: &Rack,
+    tickets: &BufferTickets,
     left: Option<&Value>,
     right: Option<&Value>,
     answer: Option<&Value>,
@@ -72,7 +76,7 @@ pub(crate) fn compares(
 
 /// Whether the deed does this to a word, over the one that is the answer.
 pub(crate) fn is_access(
-    tickets: &Rack,
+    tickets: &BufferTickets,
     buffer: Option<&Value>,
     at: i64,
     access: Access,
@@ -115,7 +119,7 @@ pub(crate) fn is_plain(value: Option<&Value>, other: &Value) -> bool
     }
 }
 
-fn carries(tickets: &Rack, value: Option<&Value>, body: &Body) -> bool
+fn carries(tickets: &BufferTickets, value: Option<&Value>, body: &Body) -> bool
     ensures { result ≡ carries tickets.now (said value.entry) body.now }
 {
     match body {
@@ -128,7 +132,12 @@ fn carries(tickets: &Rack, value: Option<&Value>, body: &Body) -> bool
 }
 
 /// Whether the deed posts the value to the agent.
-pub(crate) fn is_post(tickets: &Rack, agent: usize, value: Option<&Value>, deed: &Deed<'_>) -> bool
+pub(crate) fn is_post(
+    tickets: &BufferTickets,
+    agent: usize,
+    value: Option<&Value>,
+    deed: &Deed<'_>,
+) -> bool
     ensures { result ≡ is_post tickets.now agent (said value.entry) (shown deed.now) }
 {
     match deed {

@@ -19,13 +19,13 @@ const MOST_FEW: usize = 4;
 
 /// The tickets of an agent's buffers, by object, the oldest first.
 #[derive(Drop)]
-pub(crate) struct Rack {
+pub(crate) struct BufferTickets {
     all: Vec<(Id, Row)>,
     // for each object its oldest ticket
     rows: HashMap<Id, Row>,
 }
 
-impl Model for Rack {
+impl Model for BufferTickets {
     ghost use Rattle.std.specs.Prelude.{◌≡◌, ℕ, nat_eq, List};
     ghost use Rattle.std.specs.HashMap.{get};
     ghost use Rattle.es_event.specs.declared.row.Row.{Row as Ticket};
@@ -38,27 +38,27 @@ impl Model for Rack {
     ghost invariant = { λ r. (o : ℕ) → get nat_eq r.rows o ≡ row_at r.all.items o };
 }
 
-impl Rack {
+impl BufferTickets {
     /// No ticket; it takes no memory.
-    pub fn new(alloc: Global) -> Rack
+    pub fn new(alloc: Global) -> BufferTickets
         ensures { result ≡ [] }
     {
-        Rack {
+        BufferTickets {
             all: Vec::new(alloc),
             rows: HashMap::new(alloc),
         }
     }
 
     /// These tickets.
-    #[tactic(auto, using(crate::proofs::Racked::row_more))]
-    fn of(alloc: Global, all: Vec<(Id, Row)>) -> Result<Rack, NoMemory>
+    #[tactic(auto, using(crate::proofs::Ticketed::row_more))]
+    fn of(alloc: Global, all: Vec<(Id, Row)>) -> Result<BufferTickets, NoMemory>
         ensures { IfOk result (λ r. r ≡ all.items) }
     {
         let mut rows = HashMap::new(alloc);
         for (object, row) in &all {
             put_new(&mut rows, *object, *row)?;
         }
-        Ok(Rack { all, rows })
+        Ok(BufferTickets { all, rows })
     }
 
     /// The tickets.
@@ -69,7 +69,7 @@ impl Rack {
     }
 
     /// Adds the ticket of an object; where there is no memory, nothing changes.
-    #[tactic(auto, using(crate::proofs::Racked::row_added))]
+    #[tactic(auto, using(crate::proofs::Ticketed::row_added))]
     pub fn add(&mut self, object: Id, row: Row) -> Result<(), NoMemory>
         ensures { OnOk result (self.new ≡ self.old ++ (object, row) ∷ []) }
     {
@@ -104,7 +104,7 @@ impl Rack {
     }
 
     /// Takes out the tickets of these objects.
-    #[tactic(auto, using(crate::proofs::Racked::all_beyond))]
+    #[tactic(auto, using(crate::proofs::Ticketed::all_beyond))]
     pub fn empty(&mut self, alloc: Global, ids: &IdSet<'_>) -> Result<(), NoMemory>
         ensures { OnOk result (self.new ≡ beyond ids.now self.old) }
     {
@@ -112,7 +112,7 @@ impl Rack {
         if left.len() == self.all.len() {
             return Ok(());
         }
-        *self = Rack::of(alloc, left)?;
+        *self = BufferTickets::of(alloc, left)?;
         Ok(())
     }
 }

@@ -30,8 +30,8 @@ use Rattle.es_event.proofs.Accepted.{first_holds}
 use Rattle.es_event.proofs.Alive.{reached_not_gone}
 use Rattle.es_event.proofs.Births.{birth, received, born_next}
 use Rattle.es_event.proofs.LookBacks.{at_either}
-use Rattle.es_ticket.specs.Shares.{at}
-use Rattle.es_record.specs.Book.{Book}
+use Rattle.es_ticket.specs.Stakes.{at}
+use Rattle.es_record.specs.AgentView.{AgentView}
 use Rattle.es_rules.specs.Needs.{Request, for_block, for_post, for_buffer_post, for_access, access_at, posts_to, asked, Need, asks_ledger, asks_nothing, need_of, need}
 use Rattle.es_rules.proofs.Needs.{ledger_due, not_refused}
 use Rattle.es_agent.specs.Tickets.{is_ended, tickets}
@@ -108,21 +108,21 @@ found_still h o (t ∷ ts) g = one (is_gone h t.0) (t.0 == o) refl refl (found_s
     one false true is same ih = rw same refl
     one false false is same ih = rw same ih
 
-pub ticket_there : (b : Book) (o : ℕ) → is_ended (phase b.history) ≡ false → is_gone b.history o ≡ false → is_some (row_at b.over o) ≡ true → is_some (at o (tickets b)) ≡ true
+pub ticket_there : (b : AgentView) (o : ℕ) → is_ended (phase b.history) ≡ false → is_gone b.history o ≡ false → is_some (row_at b.over o) ≡ true → is_some (at o (tickets b)) ≡ true
 ticket_there b o open' there row =
     ap (λ c. is_some (at o (cond c [] (filter (λ t. not (is_gone b.history t.0)) (reverse b.over))))) open'
     ∙ ap is_some (found_still b.history o (reverse b.over) there)
     ∙ some_reversed b.over o row
 
 -- an agent that asks for something has not closed
-open_at : (b : Book) (plan : AgentPlan) (h : History) (p : Phase) (n : Need) → (asks_nothing ≡ n → ⊥) → need_of b (due_at plan h p) ≡ n → is_ended p ≡ false
+open_at : (b : AgentView) (plan : AgentPlan) (h : History) (p : Phase) (n : Need) → (asks_nothing ≡ n → ⊥) → need_of b (due_at plan h p) ≡ n → is_ended p ≡ false
 open_at b plan h between n some e = refl
 open_at b plan h handed n some e = refl
 open_at b plan h inside n some e = refl
 open_at b plan h stopped n some e = refl
 open_at b plan h ended n some e = absurd (some e)
 
-pub open_for : (b : Book) (n : Need) → (asks_nothing ≡ n → ⊥) → need b ≡ n → is_ended (phase b.history) ≡ false
+pub open_for : (b : AgentView) (n : Need) → (asks_nothing ≡ n → ⊥) → need b ≡ n → is_ended (phase b.history) ≡ false
 open_for b n some is = open_at b b.plan b.history (phase b.history) n some is
 
 -- What a request names
@@ -186,7 +186,7 @@ command_aims over into h (SharedArrayBuffer to n) r o is none e =
 command_aims over into h _ r o is none e = cc
 
 -- the buffer object has a ticket
-pub aims_at_ticket : (b : Book) (r : Request) (o : ℕ) → IsRunOver b.over b.plan b.history → need b ≡ asks_ledger r → aim r ≡ Some o → is_some (at o (tickets b)) ≡ true
+pub aims_at_ticket : (b : AgentView) (r : Request) (o : ℕ) → IsRunOver b.over b.plan b.history → need b ≡ asks_ledger r → aim r ≡ Some o → is_some (at o (tickets b)) ≡ true
 aims_at_ticket b r o run is e =
     let into = receivers b.plan.jobs in
     let command = ledger_due b (due b.plan b.history) r is in
@@ -229,7 +229,7 @@ command_places over into h (SharedArrayBuffer to n) r o i is none aims places =
 command_places over into h _ r o i is none aims places = cc
 
 -- and its block has a word at the index
-pub aims_inside : (b : Book) (r : Request) (o i : ℕ) → need b ≡ asks_ledger r → aim r ≡ Some o → place r ≡ Some i → (w : Row) → Some w ≡ row_at b.over o → i < w.words
+pub aims_inside : (b : AgentView) (r : Request) (o i : ℕ) → need b ≡ asks_ledger r → aim r ≡ Some o → place r ≡ Some i → (w : Row) → Some w ≡ row_at b.over o → i < w.words
 aims_inside b r o i is aims places =
     let into = receivers b.plan.jobs in
     let command = ledger_due b (due b.plan b.history) r is in
@@ -250,7 +250,7 @@ command_posts over into h (Atomic c) a w is none = let m = mapped (λ o. for_acc
 command_posts over into h _ a w is none = cc
 
 -- a value that is posted has no identity
-pub posts_plain : (b : Book) (a : ℕ) (v : Value) → need b ≡ asks_ledger (for_post a v) → identity v ≡ None
+pub posts_plain : (b : AgentView) (a : ℕ) (v : Value) → need b ≡ asks_ledger (for_post a v) → identity v ≡ None
 posts_plain b a v is =
     let into = receivers b.plan.jobs in
     let command = ledger_due b (due b.plan b.history) (for_post a v) is in

@@ -39,8 +39,8 @@ use Rattle.es_match.specs.Asks.{to_open, to_access, to_post, to_receive, to_pass
 use Rattle.es_match.specs.Cluster.{awaited}
 use Rattle.es_deeds.specs.Deeds.{Opens, Posts, Takes, Accesses, Passes}
 use Rattle.es_match.specs.Meets.{Tickets, after, answers, has_ticket, is_number, is_ticket, some_if}
-use Rattle.es_ticket.specs.Shares.{at}
-use Rattle.es_record.specs.Book.{Book}
+use Rattle.es_ticket.specs.Stakes.{at}
+use Rattle.es_record.specs.AgentView.{AgentView}
 use Rattle.es_rules.specs.Needs.{Request, for_block, for_post, for_buffer_post, for_access, access_at, posts_to, asked, asks_ledger, need, need_of}
 use Rattle.es_member.specs.Midway.{answer_to}
 use Rattle.es_rules.proofs.Needs.{ledger_command, not_refused}
@@ -71,11 +71,11 @@ this_ticket ts o r here = has_this ts o r (λ q. q.serial == r.serial) here (eq-
 
 -- The due command
 
-pub record DueCommand (b : Book) (c : Command) (r : Request) : Type 0 where
+pub record DueCommand (b : AgentView) (c : Command) (r : Request) : Type 0 where
   pub accepted : refusal b.over b.history c (values_of (receivers b.plan.jobs) b.history (reads c)) ≡ None
   pub asks : asked c (values_of (receivers b.plan.jobs) b.history (reads c)) ≡ Some r
 
-pub due_command : (b : Book) (c : Command) (r : Request) → due b.plan b.history ≡ run c → need b ≡ asks_ledger r → DueCommand b c r
+pub due_command : (b : AgentView) (c : Command) (r : Request) → due b.plan b.history ≡ run c → need b ≡ asks_ledger r → DueCommand b c r
 due_command b c r is asked' =
     let command = ledger_command b c r (ap (need_of b) (sym is) ∙ asked') in
     let parts = not_refused _ _ r command.1 in
@@ -121,7 +121,7 @@ post_no_access t u o i a e = cc
 access_so : (v : Value) (j : ℤ) (c : Access) (o i : ℕ) (a : Access) (u : Value) → Accessed v j c o i a → to_access v j c u ≡ to_access (Object o) (pos i) a u
 access_so v j c o i a u is = ap (λ v. to_access v j c u) is.object ∙ ap (λ j. to_access (Object o) j c u) is.index ∙ ap (λ c. to_access (Object o) (pos i) c u) is.access
 
-pub access_asks : (b : Book) (c : Command) (o i : ℕ) (a : Access) (r : Answer) → DueCommand b c (for_access o i a)
+pub access_asks : (b : AgentView) (c : Command) (o i : ℕ) (a : Access) (r : Answer) → DueCommand b c (for_access o i a)
     → asks_did c (values_of (receivers b.plan.jobs) b.history (reads c)) r ≡ to_access (Object o) (pos i) a (given r)
 access_asks b (Atomic c) o i a r d = access_so _ c.index (access_of c.operation) o i a (given r) (accessed b.over b.history _ c.index (access_of c.operation) o i a d.accepted d.asks)
 access_asks b (Post t y) o i a r d = absurd (post_no_access t _ o i a d.asks)
@@ -143,7 +143,7 @@ access_met ts o i w a r here =
 
 -- A new block
 
-pub open_asks : (b : Book) (c : Command) (n : ℕ) (v : Value) → DueCommand b c (for_block n) → (vs : List Value) → asks_did c vs (Gives v) ≡ to_open n v
+pub open_asks : (b : AgentView) (c : Command) (n : ℕ) (v : Value) → DueCommand b c (for_block n) → (vs : List Value) → asks_did c vs (Gives v) ≡ to_open n v
 open_asks b (SharedArrayBuffer to m) n v d vs = let same : m ≡ n = (let e = d.asks in cc) in ap (λ m. to_open m v) same
 open_asks b (Atomic c) n v d vs = let m = mapped (λ o. for_access o (unsigned_abs c.index) (access_of c.operation)) _ _ d.asks in cc
 open_asks b (Post a y) n v d vs = absurd (no_post a _ d.asks)
@@ -176,12 +176,12 @@ posted_buffer a r o (Text t) e = cc
 posted_buffer a r o (Registered t) e = cc
 posted_buffer a r o (Symbol i) e = cc
 
-pub post_asks : (b : Book) (c : Command) (r : ℕ) (v : Value) (a : Answer) → DueCommand b c (for_post r v) → asks_did c (values_of (receivers b.plan.jobs) b.history (reads c)) a ≡ to_post r v
+pub post_asks : (b : AgentView) (c : Command) (r : ℕ) (v : Value) (a : Answer) → DueCommand b c (for_post r v) → asks_did c (values_of (receivers b.plan.jobs) b.history (reads c)) a ≡ to_post r v
 post_asks b (Post t y) r v a d = let u = var (receivers b.plan.jobs) b.history y in let p = posted t r u v d.asks in ap (λ t. to_post t u) p.0 ∙ ap (to_post r) p.1
 post_asks b (Atomic c) r v a d = let m = mapped (λ o. for_access o (unsigned_abs c.index) (access_of c.operation)) _ _ d.asks in cc
 post_asks b c r v a d = let e = d.asks in cc
 
-pub buffer_asks : (b : Book) (c : Command) (r o : ℕ) (a : Answer) → DueCommand b c (for_buffer_post r o) → asks_did c (values_of (receivers b.plan.jobs) b.history (reads c)) a ≡ to_post r (Object o)
+pub buffer_asks : (b : AgentView) (c : Command) (r o : ℕ) (a : Answer) → DueCommand b c (for_buffer_post r o) → asks_did c (values_of (receivers b.plan.jobs) b.history (reads c)) a ≡ to_post r (Object o)
 buffer_asks b (Post t y) r o a d = let u = var (receivers b.plan.jobs) b.history y in let p = posted_buffer t r o u d.asks in ap (λ t. to_post t u) p.0 ∙ ap (to_post r) p.1
 buffer_asks b (Atomic c) r o a d = let m = mapped (λ o. for_access o (unsigned_abs c.index) (access_of c.operation)) _ _ d.asks in cc
 buffer_asks b c r o a d = let e = d.asks in cc

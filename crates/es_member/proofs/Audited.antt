@@ -8,15 +8,15 @@ use Rattle.es_event.specs.LegalLedger.{LegalLedger}
 use Rattle.es_event.specs.declared.row.Row.{Row}
 use Rattle.es_event.specs.Rows.{count_of, held}
 use Rattle.es_ledger.specs.Audits.{IsAudit, held_below}
-use Rattle.es_ledger.specs.Books.{Books}
+use Rattle.es_ledger.specs.LedgerView.{LedgerView}
 use Rattle.es_ledger.specs.Laws.{sum_below}
 use Rattle.es_ledger.specs.declared.audit.Audit.{Audit}
 use Rattle.es_ledger.proofs.Auditing.{all_counted}
 use Rattle.es_ledger.proofs.Sums.{counts_add_up, sum_first, sum_part}
-use Rattle.es_record.specs.Book.{Book}
+use Rattle.es_record.specs.AgentView.{AgentView}
 use Rattle.es_agent.specs.Tickets.{tickets}
 use Rattle.es_member.specs.Audits.{Audits, racked, ported}
-use Rattle.es_member.specs.Seats.{rows_of, SameRows}
+use Rattle.es_member.specs.Members.{rows_of, SameRows}
 
 -- a sum over a list, by places
 sum_list : {A : Type 0} (xs : List A) (g : A → ℕ) (f : ℕ → ℕ) → ((i : ℕ) (x : A) → slice_get xs i ≡ Some x → g x ≡ f i) → sum_by g xs ≡ sum_below (length xs) f
@@ -29,11 +29,11 @@ counted_map f [] = refl
 counted_map f (x ∷ xs) = ap suc (counted_map f xs)
 
 -- where two lists have the same rows, they are as long
-pub same_length : (b : Book) (l : Ledger) (n : ℕ) → SameRows (rows_of b) (held n (table l)) → length (tickets b) ≡ length (held n (table l))
+pub same_length : (b : AgentView) (l : Ledger) (n : ℕ) → SameRows (rows_of b) (held n (table l)) → length (tickets b) ≡ length (held n (table l))
 same_length b l n same = omega (arith, counted_map (λ t. t.1) (tickets b), all_counted (rows_of b), all_counted (held n (table l)), same (λ r. true))
 
 -- one agent more was counted; there are few tickets
-pub counted : (b : Book) (mine : List Row) (l : Ledger) (agents before count : ℕ) → b.number < agents → SameRows (rows_of b) mine → mine ≡ held b.number (table l)
+pub counted : (b : AgentView) (mine : List Row) (l : Ledger) (agents before count : ℕ) → b.number < agents → SameRows (rows_of b) mine → mine ≡ held b.number (table l)
     → before ≡ held_below b.number l → count ≡ length (tickets b) → held_below agents l < 2 ^ 63
     → (before + count ≡ held_below (b.number + 1) l) × (before + count < 2 ^ 63)
 counted b mine l agents before count known same is so_far here few =
@@ -43,8 +43,8 @@ counted b mine l agents before count known same is so_far here few =
     (omega (arith, more, so_far, here, long), omega (arith, more, so_far, here, long, part, few))
 
 -- an audit of the ledger is one of agents that hold what it says
-pub audits : (bs : List Book) (l : Books) (a : Audit) → length bs ≡ l.agents → LegalLedger l.agents l.history
-    → ((n : ℕ) (b : Book) → slice_get bs n ≡ Some b → SameRows (rows_of b) (held n (table l.history)))
+pub audits : (bs : List AgentView) (l : LedgerView) (a : Audit) → length bs ≡ l.agents → LegalLedger l.agents l.history
+    → ((n : ℕ) (b : AgentView) → slice_get bs n ≡ Some b → SameRows (rows_of b) (held n (table l.history)))
     → IsAudit l.agents l.history a → Audits bs l a
 audits bs l a size legal same is = record {
   ledger = is;

@@ -9,10 +9,10 @@ use Rattle.es_event.specs.declared.ledger_event.LedgerEvent.TheVariants.{Spent}
 use Rattle.es_event.specs.Order.{phase}
 use Rattle.es_ticket.specs.Owned.{Owns}
 use Rattle.es_ticket.proofs.Counted.{counted_last, owned_last}
-use Rattle.es_ticket.specs.Shares.{Share, at}
-use Rattle.es_record.specs.Book.{Book}
+use Rattle.es_ticket.specs.Stakes.{StakeView, at}
+use Rattle.es_record.specs.AgentView.{AgentView}
 use Rattle.es_agent.specs.Tickets.{is_ended, tickets}
-use Rattle.es_member.specs.Seats.{rows_of, SameRows, Holds, HoldsBeside}
+use Rattle.es_member.specs.Members.{rows_of, SameRows, Holds, HoldsBeside}
 use Rattle.es_member.specs.Turned.{spent}
 
 pub counted_rows : (p : Row → Bool) (ts : List (ℕ × Row)) → count_by p (map (λ t. t.1) ts) ≡ count_by (λ t. p t.1) ts
@@ -52,11 +52,11 @@ pub counted_there : (rows : List Row) (r : Row) → ((p : Row → Bool) → cond
 counted_there rows r h = owned_last rows 0 r [] (λ p. let a = h p in let b = counted_last p 0 r [] in omega (arith, a, b))
 
 -- the ticket of a buffer object is among the stake's rows
-pub ticket_held : (b : Book) (s : Share) (o : ℕ) (r : Row) → Holds b s → Some r ≡ at o (tickets b) → Contains s.rows r
+pub ticket_held : (b : AgentView) (s : StakeView) (o : ℕ) (r : Row) → Holds b s → Some r ≡ at o (tickets b) → Contains s.rows r
 ticket_held b s o r holds e = counted_there s.rows r (λ p. let a = at_counted p o r (tickets b) e in let c = holds.1 p in let d = counted_rows p (tickets b) in omega (arith, a, c, d))
 
 -- and so is one that the stake has beside the agent's
-pub beside_held : (b : Book) (s : Share) (r : Row) → HoldsBeside r b s → Contains s.rows r
+pub beside_held : (b : AgentView) (s : StakeView) (r : Row) → HoldsBeside r b s → Contains s.rows r
 beside_held b s r holds = counted_there s.rows r (λ p. let a = holds.1 p in omega (arith, a))
 
 -- rows that are those of no ticket are none
@@ -68,7 +68,7 @@ none_left (r ∷ rows) same =
     absurd (omega (arith, one, none))
 
 -- an agent that has ended has none
-pub none_over : (b : Book) (rows : List Row) → is_ended (phase b.history) ≡ true → SameRows (rows_of b) rows → rows ≡ []
+pub none_over : (b : AgentView) (rows : List Row) → is_ended (phase b.history) ≡ true → SameRows (rows_of b) rows → rows ≡ []
 none_over b rows over same = none_left rows (subst (λ rs. SameRows rs rows) empty same)
   where
     empty : rows_of b ≡ []

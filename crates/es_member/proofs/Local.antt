@@ -28,8 +28,8 @@ use Rattle.es_event.proofs.Accepted.{first_holds, is_accepted, is_result}
 use Rattle.es_event.proofs.Alive.{reached_not_gone}
 use Rattle.es_match.specs.Asks.{nothing as asks_nothing, to_refuse, to_measure, to_compare, asks_did, between_jobs, asks, wants_room}
 use Rattle.es_match.specs.Meets.{after, has_ticket, is_number, some_if}
-use Rattle.es_ticket.specs.Shares.{at}
-use Rattle.es_record.specs.Book.{Book, IsNext}
+use Rattle.es_ticket.specs.Stakes.{at}
+use Rattle.es_record.specs.AgentView.{AgentView, IsNext}
 use Rattle.es_rules.specs.Needs.{Request, asked, unless_refused, asks_nobody, need, need_of}
 use Rattle.es_rules.proofs.Needs.{local_command}
 use Rattle.es_agent.specs.Tickets.{is_ended, tickets}
@@ -38,12 +38,12 @@ use Rattle.es_member.proofs.Aims.{aimed_at, buffer_there, ticket_there}
 use Rattle.es_member.proofs.Asking.{object_at, has_this, at_command}
 
 -- each of the agent's tickets names what its buffer object is over
-abbrev pub AreNamed : Book → Type 0
+abbrev pub AreNamed : AgentView → Type 0
 AreNamed b = (o : ℕ) (r : Row) → Some r ≡ at o (tickets b) → Some r ≡ row_at b.over o
 
 -- A variable that holds a buffer object
 
-record Buffer (b : Book) (v : Value) : Type 0 where
+record Buffer (b : AgentView) (v : Value) : Type 0 where
   object : ℕ
   row : Row
   is : v ≡ Object object
@@ -58,7 +58,7 @@ object_there : (h : History) (q : Option ℕ) → is_buffer (option_and_then (ki
 object_there h None e = cc
 object_there h (Some o) e = (o, refl)
 
-buffer_in : (b : Book) (x : List ℕ) → IsRunOver b.over b.plan b.history → AreNamed b → is_ended (phase b.history) ≡ false → is_buffer (kind_of b.history (var (receivers b.plan.jobs) b.history x)) ≡ true
+buffer_in : (b : AgentView) (x : List ℕ) → IsRunOver b.over b.plan b.history → AreNamed b → is_ended (phase b.history) ≡ false → is_buffer (kind_of b.history (var (receivers b.plan.jobs) b.history x)) ≡ true
     → Buffer b (var (receivers b.plan.jobs) b.history x)
 buffer_in b x history named going is =
     let into = receivers b.plan.jobs in
@@ -69,16 +69,16 @@ buffer_in b x history named going is =
     let row = some_row (at object.0 (tickets b)) there in
     record { object = object.0; row = row.0; is = object_at (var into b.history x) object.0 object.1; here = row.1; over = named object.0 row.0 row.1 }
 
-words_are : (b : Book) (v : Value) (r : Buffer b v) → words_of b.over v ≡ r.row.words
+words_are : (b : AgentView) (v : Value) (r : Buffer b v) → words_of b.over v ≡ r.row.words
 words_are b v r = ap (words_of b.over) r.is ∙ ap (λ q. option_map_or (λ r. r.words) q 0) (sym r.over)
 
-block_is : (b : Book) (v : Value) (r : Buffer b v) → block_of b.over v ≡ r.row.block
+block_is : (b : AgentView) (v : Value) (r : Buffer b v) → block_of b.over v ≡ r.row.block
 block_is b v r = ap (block_of b.over) r.is ∙ ap (λ q. option_map_or (λ r. r.block) q 0) (sym r.over)
 
-has_row : (b : Book) (v : Value) (r : Buffer b v) (test : Row → Bool) → test r.row ≡ true → has_ticket (tickets b) v test ≡ true
+has_row : (b : AgentView) (v : Value) (r : Buffer b v) (test : Row → Bool) → test r.row ≡ true → has_ticket (tickets b) v test ≡ true
 has_row b v r test is = ap (λ v. has_ticket (tickets b) v test) r.is ∙ has_this (tickets b) r.object r.row test r.here is
 
-measured : (b : Book) (v : Value) → Buffer b v → after (tickets b) (to_measure v (Number (pos (words_of b.over v)))) [] ≡ Some (tickets b)
+measured : (b : AgentView) (v : Value) → Buffer b v → after (tickets b) (to_measure v (Number (pos (words_of b.over v)))) [] ≡ Some (tickets b)
 measured b v r = ap (λ t. some_if t (tickets b)) (has_row b v r (λ q. is_number (Number (pos (words_of b.over v))) q.words) ((Decides-int_eq (pos (words_of b.over v)) (pos r.row.words)).1 (ap pos (words_are b v r))))
 
 same_bool : (a b : Bool) → a ≡ b → is_same (Boolean a) (Boolean b) ≡ true
@@ -87,7 +87,7 @@ same_bool false false e = refl
 same_bool true false e = cc
 same_bool false true e = cc
 
-compared : (b : Book) (u v : Value) → Buffer b u → Buffer b v → after (tickets b) (to_compare u v (Boolean (block_of b.over u == block_of b.over v))) [] ≡ Some (tickets b)
+compared : (b : AgentView) (u v : Value) → Buffer b u → Buffer b v → after (tickets b) (to_compare u v (Boolean (block_of b.over u == block_of b.over v))) [] ≡ Some (tickets b)
 compared b u v r q =
     let answer = block_of b.over u == block_of b.over v in
     let same : answer ≡ (r.row.block == q.row.block) = ap (λ m. m == block_of b.over v) (block_is b u r) ∙ ap (λ m. r.row.block == m) (block_is b v q) in
@@ -105,7 +105,7 @@ no_object : (h : History) (v : Value) (f : ℕ → Request) → is_buffer (kind_
 no_object h (Object o) f is none = cc
 no_object h v f is none = cc
 
-did_met : (b : Book) (c : Command) → IsRunOver b.over b.plan b.history → AreNamed b → is_ended (phase b.history) ≡ false
+did_met : (b : AgentView) (c : Command) → IsRunOver b.over b.plan b.history → AreNamed b → is_ended (phase b.history) ≡ false
     → first_refusal (tests b.over b.history c (values_of (receivers b.plan.jobs) b.history (reads c))) ≡ None → asked c (values_of (receivers b.plan.jobs) b.history (reads c)) ≡ None → (w : ℕ)
     → after (tickets b) (asks_did c (values_of (receivers b.plan.jobs) b.history (reads c)) (result b.over b.history c (values_of (receivers b.plan.jobs) b.history (reads c)) w)) [] ≡ Some (tickets b)
 did_met b (Length to x) history named going none silent w = measured b _ (buffer_in b x history named going (first_holds _ NotASharedArrayBuffer [] none).0)
@@ -119,7 +119,7 @@ did_met b (Atomic a) history named going none silent w =
 did_met b (Post a y) history named going none silent w = cc
 did_met b c history named going none silent w = refl
 
-command_met : (b : Book) (c : Command) (e : Event) → need_of b (run c) ≡ asks_nobody → due b.plan b.history ≡ run c → IsRunOver b.over b.plan b.history → AreNamed b → is_ended (phase b.history) ≡ false
+command_met : (b : AgentView) (c : Command) (e : Event) → need_of b (run c) ≡ asks_nobody → due b.plan b.history ≡ run c → IsRunOver b.over b.plan b.history → AreNamed b → is_ended (phase b.history) ≡ false
     → Lawful b.over (receivers b.plan.jobs) b.history e → Permits b.over (receivers b.plan.jobs) b.history (run c) e → after (tickets b) (asks (between_jobs b.history) e) [] ≡ Some (tickets b)
 command_met b c (Did (d, vs, r)) is here history named going lawful p =
     let into = receivers b.plan.jobs in
@@ -135,7 +135,7 @@ command_met b c (Refused code) is here history named going lawful p = ap (λ t. 
 command_met b c (Emptied ids) is here history named going lawful p = let clash : true ≡ false = sym p.0 ∙ (local_command b c is).0 in cc
 command_met b c _ is here history named going lawful p = absurd p
 
-local_at : (b : Book) (d : Due) (e : Event) → need_of b d ≡ asks_nobody → due b.plan b.history ≡ d → IsRunOver b.over b.plan b.history → AreNamed b → is_ended (phase b.history) ≡ false
+local_at : (b : AgentView) (d : Due) (e : Event) → need_of b d ≡ asks_nobody → due b.plan b.history ≡ d → IsRunOver b.over b.plan b.history → AreNamed b → is_ended (phase b.history) ≡ false
     → Lawful b.over (receivers b.plan.jobs) b.history e → Permits b.over (receivers b.plan.jobs) b.history d e → after (tickets b) (asks (between_jobs b.history) e) [] ≡ Some (tickets b)
 local_at b (run c) e is here history named going lawful p = command_met b c e is here history named going lawful p
 local_at b (begin n) (JobBegun j) is here history named going lawful p = refl
@@ -148,5 +148,5 @@ local_at b close e is here history named going lawful p = cc
 local_at b nothing e is here history named going lawful p = cc
 local_at b _ _ is here history named going lawful p = absurd p
 
-pub local_met : (b : Book) (e : Event) → need b ≡ asks_nobody → IsNext b e → IsRunOver b.over b.plan b.history → AreNamed b → after (tickets b) (asks (between_jobs b.history) e) [] ≡ Some (tickets b)
+pub local_met : (b : AgentView) (e : Event) → need b ≡ asks_nobody → IsNext b e → IsRunOver b.over b.plan b.history → AreNamed b → after (tickets b) (asks (between_jobs b.history) e) [] ≡ Some (tickets b)
 local_met b e is next history named = local_at b (due b.plan b.history) e is refl history named (open_before b e next) next.lawful next.permitted

@@ -19,26 +19,26 @@ use Rattle.es_event.specs.Totals.{is_drained}
 use Rattle.es_event.specs.Ledger.{Ledger, waits, ended as has_ended, is_end_of}
 use Rattle.es_event.specs.LegalLedger.{ComesNext, LegalSoFar, LegalLedger, all_ended, owed}
 use Rattle.es_event.specs.Order.{phase}
-use Rattle.es_ledger.specs.Books.{Books}
+use Rattle.es_ledger.specs.LedgerView.{LedgerView}
 use Rattle.es_match.specs.Asks.{Asking, to_open, to_receive, to_refuse, between_jobs, asks, asks_did}
-use Rattle.es_deeds.specs.Patience.{patient, may_do, is_patient, drained, drained_last, is_nobodys}
-use Rattle.es_match.specs.Cluster.{Ties, awaited, is_refusal_asked, refused_senders}
+use Rattle.es_deeds.specs.Patience.{patient, may_do, is_patient, has_drained, drained_last, is_nobodys}
+use Rattle.es_match.specs.Cluster.{DeedsMeet, awaited, is_refusal_asked, refused_senders}
 use Rattle.es_deeds.specs.Deeds.{Deed, Opens, Takes, Waits, deed, is_wait, part}
 use Rattle.es_match.specs.Meets.{Tickets, after, came_after, opened_ticket, refused_in, taken_ticket, ticket_in}
-use Rattle.es_record.specs.Book.{Book, Records, with_row}
+use Rattle.es_record.specs.AgentView.{AgentView, Records, with_row}
 use Rattle.es_rules.specs.Needs.{asks_message, need}
 use Rattle.es_agent.specs.Tickets.{is_ended, tickets}
-use Rattle.es_ticket.specs.Shares.{Share}
+use Rattle.es_ticket.specs.Stakes.{StakeView}
 use Rattle.es_member.specs.Midway.{IsHeld, IsReady, Midway}
 use Rattle.es_member.specs.Tied.{IsSettled, IsTied, came_to}
 use Rattle.es_member.specs.Turned.{IsSeated}
 use Rattle.es_member.proofs.Growing.{part_own, part_waits}
 
 -- an agent that has its stake, with what makes it ready
-pub whole : {b : Book} {s : Share} {l : Books} → IsHeld b s l → IsSeated b l → IsTied b l.history → IsReady b s l
+pub whole : {b : AgentView} {s : StakeView} {l : LedgerView} → IsHeld b s l → IsSeated b l → IsTied b l.history → IsReady b s l
 whole held seated tied = record { held = held.held; seated = seated; tied = tied; legal = held.legal; holder = held.holder }
 
-pub begun : (b : Book) (l : Ledger) → IsTied b l → Midway b l []
+pub begun : (b : AgentView) (l : Ledger) → IsTied b l → Midway b l []
 begun b l tied = record {
   told = part l b.number;
   mine = tied.ties;
@@ -50,11 +50,11 @@ begun b l tied = record {
 still_patient : (l : Ledger) (e : LedgerEvent) (n : ℕ) (d : Deed) → patient l ≡ true → deed l e ≡ Some (n, d) → may_do (waits l n) d ≡ true → patient (e ∷ l) ≡ true
 still_patient l e n d before is may = ap (λ o. is_patient l o && patient l) is ∙ ap (λ b. b && patient l) may ∙ before
 
-still_last : (l : Ledger) (e : LedgerEvent) (n : ℕ) (d : Deed) → drained_last l ≡ true → deed l e ≡ Some (n, d) → drained l ≡ false → drained_last (e ∷ l) ≡ true
-still_last l e n d before is none = ap (λ o. (is_nobodys o || not (drained l)) && drained_last l) is ∙ ap (λ b. not b && drained_last l) none ∙ before
+still_last : (l : Ledger) (e : LedgerEvent) (n : ℕ) (d : Deed) → drained_last l ≡ true → deed l e ≡ Some (n, d) → has_drained l ≡ false → drained_last (e ∷ l) ≡ true
+still_last l e n d before is none = ap (λ o. (is_nobodys o || not (has_drained l)) && drained_last l) is ∙ ap (λ b. not b && drained_last l) none ∙ before
 
 -- one more deed
-pub does : (b : Book) (l m : Ledger) (ds : List Deed) (e : LedgerEvent) (d : Deed) → Midway b l ds → m ≡ e ∷ l → deed l e ≡ Some (b.number, d) → is_wait d ≡ false → may_do (waits l b.number) d ≡ true → drained l ≡ false
+pub does : (b : AgentView) (l m : Ledger) (ds : List Deed) (e : LedgerEvent) (d : Deed) → Midway b l ds → m ≡ e ∷ l → deed l e ≡ Some (b.number, d) → is_wait d ≡ false → may_do (waits l b.number) d ≡ true → has_drained l ≡ false
     → Midway b m (ds ++ d ∷ [])
 does b l m ds e d mid more is w may none = subst (λ m. Midway b m (ds ++ d ∷ [])) (sym more) (record {
   told = mid.told;
@@ -118,11 +118,11 @@ did_not_refuse (Post a y) vs r = refl
 did_not_refuse _ vs r = refl
 
 -- nothing is refused, so nobody has to be named
-pub unnamed : (b : Book) (q : Asking) (ds : List Deed) → is_refusal_asked q ≡ false → is_refusal_asked q ≡ true → awaited b.plan (job b.history) ≡ refused_in q ds
+pub unnamed : (b : AgentView) (q : Asking) (ds : List Deed) → is_refusal_asked q ≡ false → is_refusal_asked q ≡ true → awaited b.plan (job b.history) ≡ refused_in q ds
 unnamed b q ds is other = let clash : false ≡ true = sym is ∙ other in cc
 
 -- the history tells what was done
-pub tells : (old new : Book) (row : Option Row) (l : Ledger) (ds : List Deed) (e : Event) → Midway old l ds → Records (with_row row old) e new
+pub tells : (old new : AgentView) (row : Option Row) (l : Ledger) (ds : List Deed) (e : Event) → Midway old l ds → Records (with_row row old) e new
     → after (tickets old) (asks (between_jobs old.history) e) ds ≡ Some (tickets new)
     → reverse (with_row row old).over ≡ reverse old.over ++ ticket_in (asks (between_jobs old.history) e) ds
     → (is_refusal_asked (asks (between_jobs old.history) e) ≡ true → awaited old.plan (job old.history) ≡ refused_in (asks (between_jobs old.history) e) ds)
@@ -140,7 +140,7 @@ tells old new row l ds e mid records met came named free =
     in
     record {
       tied = record {
-        ties = subst (λ h. Ties h (part l new.number) (came_to new)) (sym grown) (mid.told, ds, came_to old, ap (part l) same ∙ mid.split, mid.mine, brought);
+        ties = subst (λ h. DeedsMeet h (part l new.number) (came_to new)) (sym grown) (mid.told, ds, came_to old, ap (part l) same ∙ mid.split, mid.mine, brought);
         awaits = λ s is. (let none : ◌≡◌ {A = Option ℕ} None (Some s) = sym free ∙ ap (waits l) (sym same) ∙ is in cc);
         waits_end = mid.waits_end;
         drains_end = mid.drains_end;
@@ -149,9 +149,9 @@ tells old new row l ds e mid records met came named free =
     }
 
 -- the agent begins to wait
-pub awaits : (b : Book) (l m : Ledger) (s : ℕ) → IsTied b l → m ≡ Waiting b.number s ∷ l → waits l b.number ≡ None → drained l ≡ false → need b ≡ asks_message s → IsTied b m
+pub awaits : (b : AgentView) (l m : Ledger) (s : ℕ) → IsTied b l → m ≡ Waiting b.number s ∷ l → waits l b.number ≡ None → has_drained l ≡ false → need b ≡ asks_message s → IsTied b m
 awaits b l m s tied more free none is = subst (IsTied b) (sym more) (record {
-  ties = subst (λ p. Ties b.history p (came_to b)) (sym (part_waits l (Waiting b.number s) b.number b.number (Waits s) refl refl)) tied.ties;
+  ties = subst (λ p. DeedsMeet b.history p (came_to b)) (sym (part_waits l (Waiting b.number s) b.number b.number (Waits s) refl refl)) tied.ties;
   awaits = λ t w. is ∙ ap asks_message (awaited t w);
   waits_end = still_patient l (Waiting b.number s) b.number (Waits s) tied.waits_end refl (ap (λ w. may_do w (Waits s)) free);
   drains_end = still_last l (Waiting b.number s) b.number (Waits s) tied.drains_end refl none;
@@ -162,7 +162,7 @@ awaits b l m s tied more free none is = subst (IsTied b) (sym more) (record {
 
 -- Who waits for nobody
 
-pub free : (b : Book) (l : Ledger) → IsTied b l → ((s : ℕ) → need b ≡ asks_message s → ⊥) → waits l b.number ≡ None
+pub free : (b : AgentView) (l : Ledger) → IsTied b l → ((s : ℕ) → need b ≡ asks_message s → ⊥) → waits l b.number ≡ None
 free b l tied other = by_wait (waits l b.number) refl
   where
     by_wait : (w : Option ℕ) → waits l b.number ≡ w → waits l b.number ≡ None
@@ -186,11 +186,11 @@ drained_next n (Drained s r) l None c is = c.0
 drained_next n e l (Some k) c is = let spends : is_drained (Spent k) ≡ true = ap is_drained (sym c) ∙ is in cc
 drained_next n _ l None c is = cc
 
-pub over_where_drained : (n : ℕ) (l : Ledger) → LegalSoFar n l → drained l ≡ true → all_ended l n ≡ true
+pub over_where_drained : (n : ℕ) (l : Ledger) → LegalSoFar n l → has_drained l ≡ true → all_ended l n ≡ true
 over_where_drained n [] legal is = cc
 over_where_drained n (e ∷ l) legal is = still_over e l n (by_event (is_drained e) refl is (over_where_drained n l legal.1))
   where
-    by_event : (b : Bool) → is_drained e ≡ b → (b || drained l) ≡ true → (drained l ≡ true → all_ended l n ≡ true) → all_ended l n ≡ true
+    by_event : (b : Bool) → is_drained e ≡ b → (b || has_drained l) ≡ true → (has_drained l ≡ true → all_ended l n ≡ true) → all_ended l n ≡ true
     by_event true d o before = drained_next n e l (owed l) legal.0 d
     by_event false d o before = before o
 
@@ -203,10 +203,10 @@ ended_where_all l (suc n) a below over =
       | inr e ↦ let other = eqb-false a n e in ended_where_all l n a (omega (arith, below, other)) each.1
     ]
 
-pub undrained : (b : Book) (l : Books) → LegalLedger l.agents l.history → IsSeated b l → is_ended (phase b.history) ≡ false → drained l.history ≡ false
-undrained b l legal seated going = by_drain (drained l.history) refl
+pub undrained : (b : AgentView) (l : LedgerView) → LegalLedger l.agents l.history → IsSeated b l → is_ended (phase b.history) ≡ false → has_drained l.history ≡ false
+undrained b l legal seated going = by_drain (has_drained l.history) refl
   where
-    by_drain : (d : Bool) → drained l.history ≡ d → drained l.history ≡ false
+    by_drain : (d : Bool) → has_drained l.history ≡ d → has_drained l.history ≡ false
     by_drain false is = is
     by_drain true is =
         let over = ended_where_all l.history l.agents b.number seated.known (over_where_drained l.agents l.history legal.0 is) in

@@ -22,20 +22,20 @@ use Rattle.es_event.specs.Runs.{IsRunOver}
 use Rattle.es_event.proofs.Alive.{next_alive}
 use Rattle.es_tables.proofs.CallerLemmas.{IsQuiet}
 use Rattle.es_ticket.specs.Owned.{Owns}
-use Rattle.es_ticket.specs.Shares.{Share, among, besides}
+use Rattle.es_ticket.specs.Stakes.{StakeView, among, besides}
 use Rattle.es_ticket.proofs.Counted.{counted_last}
-use Rattle.es_ledger.specs.Books.{Books}
-use Rattle.es_record.specs.Book.{Book, IsNext, Records, with_buffer, with_row}
+use Rattle.es_ledger.specs.LedgerView.{LedgerView}
+use Rattle.es_record.specs.AgentView.{AgentView, IsNext, Records, with_buffer, with_row}
 use Rattle.es_rules.specs.Needs.{need, asks_nobody, asks_copy, asks_closing}
 use Rattle.es_rules.proofs.Answering.{opening_next}
 use Rattle.es_agent.specs.Later.{opening}
 use Rattle.es_rules.proofs.Needs.{local_is_quiet, closes}
 use Rattle.es_agent.specs.Tickets.{is_ended, tickets, RecordsNext, Empties, Admits, RefusesMessage, Receives, DoesWith, Skips}
 use Rattle.es_agent.proofs.Racks.{open_before, open_after, local_stays, kept_tickets, emptied_tickets, done_leaves, brings_leaves}
-use Rattle.es_member.specs.Seats.{Seat, rows_of, Holds, HoldsBeside}
+use Rattle.es_member.specs.Members.{MemberView, rows_of, Holds, HoldsBeside}
 use Rattle.es_deeds.specs.Deeds.{Ends}
 use Rattle.es_member.specs.Tied.{AreDeedsOf, GrowsBy}
-use Rattle.es_member.specs.Turned.{Moves, Proceeds, Keeps, spent}
+use Rattle.es_member.specs.Turned.{GrowsByOne, Proceeds, Keeps, spent}
 use Rattle.es_member.specs.declared.member.Progress.{Progress}
 use Rattle.es_member.specs.declared.member.Progress.TheVariants.{Moved, Waiting, Ended}
 use Rattle.es_member.specs.Midway.{IsHeld}
@@ -44,15 +44,15 @@ use Rattle.es_member.proofs.Growing.{grows_none, grows_on}
 
 -- One event more that is no closing
 
-pub record Step (old new : Book) : Type 0 where
+pub record Step (old new : AgentView) : Type 0 where
   pub number : new.number ≡ old.number
   pub agents : new.agents ≡ old.agents
   pub going : is_ended (phase new.history) ≡ is_ended (phase old.history)
 
-pub no_step : (b : Book) → Step b b
+pub no_step : (b : AgentView) → Step b b
 no_step b = record { number = refl; agents = refl; going = refl }
 
-pub step_of : (old new : Book) (r : Option Row) (e : Event) → IsNext (with_row r old) e → (e ≡ Closed → ⊥) → Records (with_row r old) e new → Step old new
+pub step_of : (old new : AgentView) (r : Option Row) (e : Event) → IsNext (with_row r old) e → (e ≡ Closed → ⊥) → Records (with_row r old) e new → Step old new
 step_of old new r e next other records =
     let before = open_before (with_row r old) e next in
     record {
@@ -62,53 +62,53 @@ step_of old new r e next other records =
     }
 
 -- and leaves its tickets
-pub record Stays (old new : Book) : Type 0 where
-  pub moves : Moves old new
+pub record Stays (old new : AgentView) : Type 0 where
+  pub moves : GrowsByOne old new
   pub step : Step old new
   pub same : tickets new ≡ tickets old
 
-stays_of : (old new : Book) (e : Event) → IsNext old e → IsQuiet e → (e ≡ Closed → ⊥) → Records old e new → Stays old new
+stays_of : (old new : AgentView) (e : Event) → IsNext old e → IsQuiet e → (e ≡ Closed → ⊥) → Records old e new → Stays old new
 stays_of old new e next quiet other records = record {
   moves = (e, None, next, records);
   step = step_of old new None e next other records;
   same = ap tickets records ∙ kept_tickets old e next quiet other;
 }
 
-pub local_leaves : (old new : Book) → need old ≡ asks_nobody → RecordsNext old new → Stays old new
+pub local_leaves : (old new : AgentView) → need old ≡ asks_nobody → RecordsNext old new → Stays old new
 local_leaves old new is r = stays_of old new r.0 r.1 (local_is_quiet old r.0 is r.1) (local_stays old r.0 is r.1) r.2
 
 -- the opening of a later collection
-pub opened_leaves : (old new : Book) → need old ≡ asks_copy → Records old opening new → Stays old new
+pub opened_leaves : (old new : AgentView) → need old ≡ asks_copy → Records old opening new → Stays old new
 opened_leaves old new is r = stays_of old new opening (opening_next old is) tt (λ f. cc) r
 
-pub done_stays : (old new : Book) (a : Answer) → DoesWith old a new → Stays old new
+pub done_stays : (old new : AgentView) (a : Answer) → DoesWith old a new → Stays old new
 done_stays old new a r = let leaves = done_leaves old a r.0 r.1 in stays_of old new r.0 r.2 leaves.0 leaves.1 r.3
 
-pub received_stays : (old new : Book) (v : Value) → Receives old v new → Stays old new
+pub received_stays : (old new : AgentView) (v : Value) → Receives old v new → Stays old new
 received_stays old new v r = stays_of old new (Received r.0 v) r.2 tt (λ f. cc) r.3
 
-pub skipped_stays : (old new : Book) → Skips old new → Stays old new
+pub skipped_stays : (old new : AgentView) → Skips old new → Stays old new
 skipped_stays old new r = stays_of old new (Skipped r.0 r.1) r.3 tt (λ f. cc) r.4
 
-pub refused_stays : (old new : Book) → RefusesMessage old new → Stays old new
+pub refused_stays : (old new : AgentView) → RefusesMessage old new → Stays old new
 refused_stays old new r = stays_of old new (Refused TooManyValues) r.2 tt (λ f. cc) r.3
 
-pub holds_still : (old new : Book) (s : Share) → Stays old new → Holds old s → Holds new s
+pub holds_still : (old new : AgentView) (s : StakeView) → Stays old new → Holds old s → Holds new s
 holds_still old new s stays holds = (holds.0 ∙ sym stays.step.number, λ p. ap (λ ts. count_by p (map (λ t. t.1) ts)) stays.same ∙ holds.1 p)
 
 -- A collection
 
-pub collected_step : {chosen : List ℕ → Type 0} (old new : Book) (out : List (ℕ × Row)) → Empties chosen old out new → Step old new
+pub collected_step : {chosen : List ℕ → Type 0} (old new : AgentView) (out : List (ℕ × Row)) → Empties chosen old out new → Step old new
 collected_step old new out c = step_of old new None (Emptied c.0) c.2 (λ f. cc) c.3
 
-pub collected_moves : {chosen : List ℕ → Type 0} (old new : Book) (out : List (ℕ × Row)) → Empties chosen old out new → Moves old new
+pub collected_moves : {chosen : List ℕ → Type 0} (old new : AgentView) (out : List (ℕ × Row)) → Empties chosen old out new → GrowsByOne old new
 collected_moves old new out c = (Emptied c.0, None, c.2, c.3)
 
 counted_apart : (p : Row → Bool) (ids : List ℕ) (ts : List (ℕ × Row)) → count_by (λ t. p t.1) (among ids ts) + count_by (λ t. p t.1) (besides ids ts) ≡ count_by (λ t. p t.1) ts
 counted_apart p ids ts =
     let a = sum_by-filter_both (λ t. is_in ids t.0) (λ t. not (is_in ids t.0)) (λ t. refl) (λ t. cond {A = ℕ} (p t.1) 1 0) ts in omega (arith, a)
 
-collected_counts : {chosen : List ℕ → Type 0} (old new : Book) (out : List (ℕ × Row)) → Empties chosen old out new → (p : Row → Bool) → count_by p (rows_of old) ≡ count_by p (rows_of new) + count_by (λ t. p t.1) out
+collected_counts : {chosen : List ℕ → Type 0} (old new : AgentView) (out : List (ℕ × Row)) → Empties chosen old out new → (p : Row → Bool) → count_by p (rows_of old) ≡ count_by p (rows_of new) + count_by (λ t. p t.1) out
 collected_counts old new out c p =
     let left = ap tickets c.3 ∙ emptied_tickets old c.0 c.2 in
     let a = counted_apart p c.0 (tickets old) in
@@ -118,10 +118,10 @@ collected_counts old new out c p =
     let f = counted_rows p (tickets new) in
     omega (arith, a, b, d, e, f)
 
-pub collected_owns : {chosen : List ℕ → Type 0} (old new : Book) (s : Share) (out : List (ℕ × Row)) → Empties chosen old out new → Holds old s → Owns s.rows out
+pub collected_owns : {chosen : List ℕ → Type 0} (old new : AgentView) (s : StakeView) (out : List (ℕ × Row)) → Empties chosen old out new → Holds old s → Owns s.rows out
 collected_owns old new s out c holds p = let a = collected_counts old new out c p in let b = holds.1 p in omega (arith, a, b)
 
-pub collected_holds : {chosen : List ℕ → Type 0} (old new : Book) (s t : Share) (out : List (ℕ × Row)) → Empties chosen old out new → Holds old s → t.agent ≡ s.agent
+pub collected_holds : {chosen : List ℕ → Type 0} (old new : AgentView) (s t : StakeView) (out : List (ℕ × Row)) → Empties chosen old out new → Holds old s → t.agent ≡ s.agent
     → ((p : Row → Bool) → count_by p s.rows ≡ count_by p t.rows + count_by (λ t. p t.1) out) → Holds new t
 collected_holds old new s t out c holds agent counts = (
   agent ∙ holds.0 ∙ sym (collected_step old new out c).number,
@@ -129,7 +129,7 @@ collected_holds old new s t out c holds agent counts = (
 )
 
 -- a ticket beside its own was spent
-spent_holds : (old new : Book) (s t : Share) (r q : Row) → new.number ≡ old.number → tickets new ≡ tickets old → HoldsBeside r old s → q ≡ r → t.agent ≡ s.agent
+spent_holds : (old new : AgentView) (s t : StakeView) (r q : Row) → new.number ≡ old.number → tickets new ≡ tickets old → HoldsBeside r old s → q ≡ r → t.agent ≡ s.agent
     → ((p : Row → Bool) → count_by p s.rows ≡ count_by p t.rows + cond {A = ℕ} (p q) 1 0) → Holds new t
 spent_holds old new s t r q number same holds ticket agent counts = (
   agent ∙ holds.0 ∙ sym number,
@@ -146,7 +146,7 @@ opened : (h : History) (over : List (ℕ × Row)) → is_ended (phase h) ≡ fal
 opened h over is = ap (λ b. cond b [] (filter (λ t. not (is_gone h t.0)) (reverse over))) is
 
 -- it comes last
-pub admitted_tickets : (old new : Book) (r : Row) → IsRunOver old.over old.plan old.history → Admits old r new → tickets new ≡ tickets old ++ (made old.history + 1, r) ∷ []
+pub admitted_tickets : (old new : AgentView) (r : Row) → IsRunOver old.over old.plan old.history → Admits old r new → tickets new ≡ tickets old ++ (made old.history + 1, r) ∷ []
 admitted_tickets old new r run a =
     let i = made old.history + 1 in
     let leaves = brings_leaves (due old.plan old.history) i a.0 a.1 in
@@ -161,13 +161,13 @@ admitted_tickets old new r run a =
     ∙ ap (λ g. kept ++ cond (not g) ((i, r) ∷ []) []) fresh
     ∙ ap (λ ts. ts ++ (i, r) ∷ []) (sym (opened old.history old.over before))
 
-pub admitted_step : (old new : Book) (r : Row) → Admits old r new → Step old new
+pub admitted_step : (old new : AgentView) (r : Row) → Admits old r new → Step old new
 admitted_step old new r a = step_of old new (Some r) a.0 a.2 (brings_leaves (due old.plan old.history) (made old.history + 1) a.0 a.1).1 a.3
 
-pub admitted_moves : (old new : Book) (r : Row) → Admits old r new → Moves old new
+pub admitted_moves : (old new : AgentView) (r : Row) → Admits old r new → GrowsByOne old new
 admitted_moves old new r a = (a.0, Some r, a.2, a.3)
 
-pub admitted_holds : (old new : Book) (s : Share) (r : Row) → IsRunOver old.over old.plan old.history → Admits old r new → HoldsBeside r old s → Holds new s
+pub admitted_holds : (old new : AgentView) (s : StakeView) (r : Row) → IsRunOver old.over old.plan old.history → Admits old r new → HoldsBeside r old s → Holds new s
 admitted_holds old new s r run a holds = (
   holds.0 ∙ sym (admitted_step old new r a).number,
   λ p. (let b = holds.1 p in
@@ -180,7 +180,7 @@ admitted_holds old new s r run a holds = (
 
 -- Its place
 
-pub keeps : (old new : Book) (before after : Books) (s : Share) → Step old new → Holds new s → after.agents ≡ before.agents
+pub keeps : (old new : AgentView) (before after : LedgerView) (s : StakeView) → Step old new → Holds new s → after.agents ≡ before.agents
     → has_ended after.history old.number ≡ has_ended before.history old.number → GrowsBy old.number before.history after.history → Keeps old before new s after
 keeps old new before after s step holds agents over deeds = record {
   number = step.number;
@@ -194,19 +194,19 @@ keeps old new before after s step holds agents over deeds = record {
 }
 
 -- where a ticket that came was spent
-pub refused_keeps : (old new : Book) (before after : Books) (s t : Share) (r q : Row) → Stays old new → HoldsBeside r old s → q ≡ r → t.agent ≡ s.agent → ((p : Row → Bool) → count_by p s.rows ≡ count_by p t.rows + cond {A = ℕ} (p q) 1 0)
+pub refused_keeps : (old new : AgentView) (before after : LedgerView) (s t : StakeView) (r q : Row) → Stays old new → HoldsBeside r old s → q ≡ r → t.agent ≡ s.agent → ((p : Row → Bool) → count_by p s.rows ≡ count_by p t.rows + cond {A = ℕ} (p q) 1 0)
     → after.agents ≡ before.agents → has_ended after.history old.number ≡ has_ended before.history old.number → GrowsBy old.number before.history after.history → Keeps old before new t after
 refused_keeps old new before after s t r q stays holds ticket agent counts agents over deeds =
     keeps old new before after t stays.step (spent_holds old new s t r q stays.step.number stays.same holds ticket agent counts) agents over deeds
 
 -- and where the agent did not change
-pub returned_keeps : (old new : Book) (before after : Books) (s t : Share) (r q : Row) → new ≡ old → HoldsBeside r old s → q ≡ r → t.agent ≡ s.agent → ((p : Row → Bool) → count_by p s.rows ≡ count_by p t.rows + cond {A = ℕ} (p q) 1 0)
+pub returned_keeps : (old new : AgentView) (before after : LedgerView) (s t : StakeView) (r q : Row) → new ≡ old → HoldsBeside r old s → q ≡ r → t.agent ≡ s.agent → ((p : Row → Bool) → count_by p s.rows ≡ count_by p t.rows + cond {A = ℕ} (p q) 1 0)
     → after.agents ≡ before.agents → has_ended after.history old.number ≡ has_ended before.history old.number → GrowsBy old.number before.history after.history → Keeps old before new t after
 returned_keeps old new before after s t r q same holds ticket agent counts agents over deeds =
     subst (λ b. Keeps old before b t after) (sym same) (keeps old old before after t (no_step old) (spent_holds old old s t r q refl refl holds ticket agent counts) agents over deeds)
 
 -- where nothing changed
-pub kept : (old new : Book) (s t : Share) (l m : Books) → IsHeld old s l → new ≡ old → t ≡ s → m ≡ l → Keeps old l new t m
+pub kept : (old new : AgentView) (s t : StakeView) (l m : LedgerView) → IsHeld old s l → new ≡ old → t ≡ s → m ≡ l → Keeps old l new t m
 kept old new s t l m ready same stake ledger = subst (λ b. Keeps old l b t m) (sym same) (subst (λ t. Keeps old l old t m) (sym stake) (subst (Keeps old l old s) (sym ledger) (record {
   number = refl;
   held = ready.held;
@@ -215,12 +215,12 @@ kept old new s t l m ready same stake ledger = subst (λ b. Keeps old l b t m) (
 })))
 
 -- where the agent has done something in the ledger alone
-pub kept_after : (old new : Book) (s t : Share) (l m : Books) → IsHeld old s l → new ≡ old → t ≡ s → m.agents ≡ l.agents → has_ended m.history old.number ≡ has_ended l.history old.number → GrowsBy old.number l.history m.history → Keeps old l new t m
+pub kept_after : (old new : AgentView) (s t : StakeView) (l m : LedgerView) → IsHeld old s l → new ≡ old → t ≡ s → m.agents ≡ l.agents → has_ended m.history old.number ≡ has_ended l.history old.number → GrowsBy old.number l.history m.history → Keeps old l new t m
 kept_after old new s t l m ready same stake agents over deeds =
     subst (λ b. Keeps old l b t m) (sym same) (keeps old old l m t (no_step old) (subst (Holds old) (sym stake) ready.held) agents over deeds)
 
 -- where it had done something before
-pub keeps_on : (old : Book) (l m k : Books) (b : Book) (s : Share) → Keeps old m b s k → m.agents ≡ l.agents → has_ended m.history old.number ≡ has_ended l.history old.number → GrowsBy old.number l.history m.history → Keeps old l b s k
+pub keeps_on : (old : AgentView) (l m k : LedgerView) (b : AgentView) (s : StakeView) → Keeps old m b s k → m.agents ≡ l.agents → has_ended m.history old.number ≡ has_ended l.history old.number → GrowsBy old.number l.history m.history → Keeps old l b s k
 keeps_on old l m k b s after agents over deeds = record {
   number = after.number;
   held = after.held;
@@ -229,7 +229,7 @@ keeps_on old l m k b s after agents over deeds = record {
 }
 
 -- a command was done in the ledger, and the stake stays
-pub done_keeps : (old new : Book) (a : Answer) (before after : Books) (s t : Share) → DoesWith old a new → t ≡ s → Holds old s → after.agents ≡ before.agents
+pub done_keeps : (old new : AgentView) (a : Answer) (before after : LedgerView) (s t : StakeView) → DoesWith old a new → t ≡ s → Holds old s → after.agents ≡ before.agents
     → has_ended after.history old.number ≡ has_ended before.history old.number → GrowsBy old.number before.history after.history → Keeps old before new t after
 done_keeps old new a before after s t done same holds agents over deeds =
     let stays = done_stays old new a done in
@@ -237,26 +237,26 @@ done_keeps old new a before after s t done same holds agents over deeds =
 
 -- The closing
 
-closing_next : (b : Book) → need b ≡ asks_closing → IsNext b Closed
+closing_next : (b : AgentView) → need b ≡ asks_closing → IsNext b Closed
 closing_next b is = record {
   lawful = tt;
   permitted = subst (λ d. Permits b.over (receivers b.plan.jobs) b.history d Closed) (sym (closes b (due b.plan b.history) is)) tt;
 }
 
-pub closed_moves : (old new : Book) → need old ≡ asks_closing → Records old Closed new → Moves old new
+pub closed_moves : (old new : AgentView) → need old ≡ asks_closing → Records old Closed new → GrowsByOne old new
 closed_moves old new is records = (Closed, None, closing_next old is, records)
 
-closed_owns : (old : Book) (s : Share) (out : List (ℕ × Row)) → out ≡ tickets old → Holds old s → (p : Row → Bool) → count_by (λ t. p t.1) out ≡ count_by p s.rows
+closed_owns : (old : AgentView) (s : StakeView) (out : List (ℕ × Row)) → out ≡ tickets old → Holds old s → (p : Row → Bool) → count_by (λ t. p t.1) out ≡ count_by p s.rows
 closed_owns old s out is holds p =
     let a = ap (λ ts. count_by (λ t. p t.1) ts) is in let b = holds.1 p in let c = counted_rows p (tickets old) in omega (arith, a, b, c)
 
-pub closing_owns : (old : Book) (s : Share) (out : List (ℕ × Row)) → out ≡ tickets old → Holds old s → Owns s.rows out
+pub closing_owns : (old : AgentView) (s : StakeView) (out : List (ℕ × Row)) → out ≡ tickets old → Holds old s → Owns s.rows out
 closing_owns old s out is holds p = let a = closed_owns old s out is holds p in omega (arith, a)
 
 ended_itself : (l : Ledger) (n a : ℕ) → a ≡ n → has_ended (EndedEvent n ∷ l) a ≡ true
 ended_itself l n a e = ap (λ b. b || has_ended l a) (eq-eqb n a (sym e))
 
-pub closed_keeps : (old new : Book) (before after : Books) (s t : Share) (out : List (ℕ × Row)) → Records old Closed new → out ≡ tickets old → Holds old s → t.agent ≡ s.agent
+pub closed_keeps : (old new : AgentView) (before after : LedgerView) (s t : StakeView) (out : List (ℕ × Row)) → Records old Closed new → out ≡ tickets old → Holds old s → t.agent ≡ s.agent
     → ((p : Row → Bool) → count_by p s.rows ≡ count_by p t.rows + count_by (λ t. p t.1) out) → after.agents ≡ before.agents
     → after.history ≡ EndedEvent old.number ∷ spent out before.history → AreDeedsOf old.number (map (λ t. Spent t.1.serial) out) before.history → Keeps old before new t after
 closed_keeps old new before after s t out records is holds agent counts agents history deeds =
@@ -277,14 +277,14 @@ closed_keeps old new before after s t out records is holds agent counts agents h
 
 -- A turn, whatever came of it
 
-pub moved_same : (old new : Book) → Moves old new → (new.plan ≡ old.plan) × (new.agents ≡ old.agents)
+pub moved_same : (old new : AgentView) → GrowsByOne old new → (new.plan ≡ old.plan) × (new.agents ≡ old.agents)
 moved_same old new m = (ap (λ b. b.plan) m.3, ap (λ b. b.agents) m.3)
 
-proceeded_same : (p : Progress) (old new : Seat) → Proceeds p old new → (new.book.plan ≡ old.book.plan) × (new.book.agents ≡ old.book.agents)
-proceeded_same Moved old new m = moved_same old.book new.book m
-proceeded_same Waiting old new e = (ap (λ s. s.book.plan) e.2, ap (λ s. s.book.agents) e.2)
-proceeded_same Ended old new e = (ap (λ s. s.book.plan) e.1, ap (λ s. s.book.agents) e.1)
+proceeded_same : (p : Progress) (old new : MemberView) → Proceeds p old new → (new.core.plan ≡ old.core.plan) × (new.core.agents ≡ old.core.agents)
+proceeded_same Moved old new m = moved_same old.core new.core m
+proceeded_same Waiting old new e = (ap (λ s. s.core.plan) e.2, ap (λ s. s.core.agents) e.2)
+proceeded_same Ended old new e = (ap (λ s. s.core.plan) e.1, ap (λ s. s.core.agents) e.1)
 
-pub turned_same : {E : Type 0} (r : Result Progress E) (old new : Seat) → IfOk r (λ p. Proceeds p old new) → OnErr r (new.book ≡ old.book) → (new.book.plan ≡ old.book.plan) × (new.book.agents ≡ old.book.agents)
+pub turned_same : {E : Type 0} (r : Result Progress E) (old new : MemberView) → IfOk r (λ p. Proceeds p old new) → OnErr r (new.core ≡ old.core) → (new.core.plan ≡ old.core.plan) × (new.core.agents ≡ old.core.agents)
 turned_same (Ok p) old new ok err = proceeded_same p old new ok
 turned_same (Err e) old new ok err = (ap (λ b. b.plan) err, ap (λ b. b.agents) err)

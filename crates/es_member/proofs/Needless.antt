@@ -5,7 +5,7 @@ use Rattle.es_event.specs.declared.command.Command.{Command}
 use Rattle.es_event.specs.Commands.{collects}
 use Rattle.es_event.specs.Later.{is_later, snapshot, collects_now}
 use Rattle.es_event.specs.Order.{run, due}
-use Rattle.es_record.specs.Book.{Book}
+use Rattle.es_record.specs.AgentView.{AgentView}
 use Rattle.es_rules.specs.Needs.{Request, request, Need, asks_marks, asks_copy, ledger_or_nobody, opens_now, need_of, need}
 use Rattle.es_member.specs.declared.beside.Beforehand.TheVariants.{Nothing}
 use Rattle.es_member.specs.Turned.{beforehand}
@@ -24,10 +24,10 @@ neither true b c e = cc
 neither false true c e = cc
 neither false false c e = (refl, refl)
 
-of_command : (b : Book) (c : Command) → (collects c || is_later c) ≡ false → beforehand (need_of b (run c)) ≡ Nothing
+of_command : (b : AgentView) (c : Command) → (collects c || is_later c) ≡ false → beforehand (need_of b (run c)) ≡ Nothing
 of_command b c none =
     let both = neither (collects c) (is_later c) (is_none (snapshot b.history)) none in
     of_neither (collects_now b.history c) (opens_now b.history c) (ledger_or_nobody (request b c)) both.0 both.1 (of_ledger (request b c))
 
-pub command_beforehand : (b : Book) (c : Command) → due b.plan b.history ≡ run c → (collects c || is_later c) ≡ false → Nothing ≡ beforehand (need b)
+pub command_beforehand : (b : AgentView) (c : Command) → due b.plan b.history ≡ run c → (collects c || is_later c) ≡ false → Nothing ≡ beforehand (need b)
 command_beforehand b c is none = sym (ap (λ d. beforehand (need_of b d)) is ∙ of_command b c none)

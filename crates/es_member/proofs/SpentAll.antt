@@ -6,12 +6,12 @@ use Rattle.es_event.specs.declared.ledger_event.LedgerEvent.TheVariants.{Spent}
 use Rattle.es_event.specs.declared.row.Row.{Row}
 use Rattle.es_event.specs.Ledger.{Ledger, waits, holder_of}
 use Rattle.es_match.specs.Asks.{to_empty, to_close}
-use Rattle.es_deeds.specs.Patience.{may_do, drained}
+use Rattle.es_deeds.specs.Patience.{may_do, has_drained}
 use Rattle.es_match.specs.Counts.{count}
 use Rattle.es_deeds.specs.Deeds.{Deed, Spends, Ends, deed}
 use Rattle.es_match.specs.Meets.{Tickets, after, spends, ends, serials_of, within, beyond, some_if}
 use Rattle.es_match.proofs.Counting.{Off, some_struck}
-use Rattle.es_record.specs.Book.{Book}
+use Rattle.es_record.specs.AgentView.{AgentView}
 use Rattle.es_member.specs.Tied.{AreDeedsOf}
 use Rattle.es_member.specs.Turned.{spent}
 use Rattle.es_member.specs.Midway.{Midway}
@@ -27,8 +27,8 @@ owner_spends None s n d is = cc
 owner_spends (Some p) s n d is = sym (ap (λ o. option_map_or (λ q. q.1) o d) is)
 
 -- midway through a collection or a closing
-pub spends_all : (b : Book) (l : Ledger) (ds : List Deed) (ts : List (ℕ × Row)) → Midway b l ds → AreDeedsOf b.number (map (λ t. Spent t.1.serial) ts) l → waits l b.number ≡ None → drained l ≡ false
-    → Midway b (spent ts l) (ds ++ all_spent ts) × (waits (spent ts l) b.number ≡ None) × (drained (spent ts l) ≡ false)
+pub spends_all : (b : AgentView) (l : Ledger) (ds : List Deed) (ts : List (ℕ × Row)) → Midway b l ds → AreDeedsOf b.number (map (λ t. Spent t.1.serial) ts) l → waits l b.number ≡ None → has_drained l ≡ false
+    → Midway b (spent ts l) (ds ++ all_spent ts) × (waits (spent ts l) b.number ≡ None) × (has_drained (spent ts l) ≡ false)
 spends_all b l ds [] mid are free none = (subst (Midway b l) (sym (append-nil ds)) mid, free, none)
 spends_all b l ds (t ∷ ts) mid are free none =
     let before = spends_all b l ds ts mid are.1 free none in

@@ -1,4 +1,4 @@
-pub mod Seats
+pub mod Members
 pub mod Tied
 pub mod Turned
 pub mod Midway

@@ -9,20 +9,20 @@ use Rattle.es_event.specs.declared.ledger_event.Body.TheVariants.{Block}
 use Rattle.es_event.specs.declared.row.Row.{Row}
 use Rattle.es_event.specs.Ledger.{Ledger, ended as has_ended, holder_of, waits}
 use Rattle.es_event.specs.LegalLedger.{LegalLedger}
-use Rattle.es_ledger.specs.Books.{Books}
-use Rattle.es_deeds.specs.Patience.{patient, drained, drained_last}
-use Rattle.es_match.specs.Cluster.{Ties}
+use Rattle.es_ledger.specs.LedgerView.{LedgerView}
+use Rattle.es_deeds.specs.Patience.{patient, has_drained, drained_last}
+use Rattle.es_match.specs.Cluster.{DeedsMeet}
 use Rattle.es_deeds.specs.Deeds.{Deed, Opens, Takes, part}
-use Rattle.es_ticket.specs.Shares.{Share}
-use Rattle.es_record.specs.Book.{Book}
+use Rattle.es_ticket.specs.Stakes.{StakeView}
+use Rattle.es_record.specs.AgentView.{AgentView}
 use Rattle.es_rules.specs.Needs.{for_block, Need, asks_ledger, asks_message, asks_nothing, need}
-use Rattle.es_member.specs.Seats.{Holds}
+use Rattle.es_member.specs.Members.{Holds}
 use Rattle.es_member.specs.Tied.{IsTied, came_to}
 use Rattle.es_member.specs.Turned.{IsSeated}
 
 -- the agent has its stake, it has not ended in the ledger while it asks for something, and the ledger's history is legal and says
 -- that the agent holds the tickets of its stake
-pub record IsHeld (b : Book) (s : Share) (l : Books) : Type 0 where
+pub record IsHeld (b : AgentView) (s : StakeView) (l : LedgerView) : Type 0 where
   pub held : Holds b s
   pub known : b.number < l.agents
   pub going : need b ≢ asks_nothing → has_ended l.history b.number ≡ false
@@ -30,7 +30,7 @@ pub record IsHeld (b : Book) (s : Share) (l : Books) : Type 0 where
   pub holder : (r : Row) → Contains s.rows r → holder_of l.history r.serial ≡ Some (s.agent, r)
 
 -- besides, it has its place, and its history, tickets and part go together
-pub record IsReady (b : Book) (s : Share) (l : Books) : Type 0 where
+pub record IsReady (b : AgentView) (s : StakeView) (l : LedgerView) : Type 0 where
   pub held : Holds b s
   pub seated : IsSeated b l
   pub tied : IsTied b l.history
@@ -38,9 +38,9 @@ pub record IsReady (b : Book) (s : Share) (l : Books) : Type 0 where
   pub holder : (r : Row) → Contains s.rows r → holder_of l.history r.serial ≡ Some (s.agent, r)
 
 -- the agent has done what its history does not tell yet: the deeds ds
-pub record Midway (b : Book) (l : Ledger) (ds : List Deed) : Type 0 where
+pub record Midway (b : AgentView) (l : Ledger) (ds : List Deed) : Type 0 where
   pub told : List Deed
-  pub mine : Ties b.history told (came_to b)
+  pub mine : DeedsMeet b.history told (came_to b)
   pub split : part l b.number ≡ told ++ ds
   pub waits_end : patient l ≡ true
   pub drains_end : drained_last l ≡ true
@@ -52,12 +52,12 @@ Fetches (asks_message s) r d = d ≡ Takes s (Some (Block r.block r.serial)) r.w
 Fetches n r d = ⊥
 
 -- a ticket with this row came to the agent, which waits no more
-pub record HasFetched (b : Book) (r : Row) (l : Ledger) : Type 0 where
+pub record HasFetched (b : AgentView) (r : Row) (l : Ledger) : Type 0 where
   pub deed : Deed
   pub midway : Midway b l (deed ∷ [])
   pub fetches : Fetches (need b) r deed
   pub free : waits l b.number ≡ None
-  pub undrained : drained l ≡ false
+  pub undrained : has_drained l ≡ false
 
 -- the answer of the command that did this to a word, which was this before
 abbrev pub answer_to : Access → ℕ → Answer

@@ -4,9 +4,9 @@ use Rattle.es_event.specs.declared.ledger_event.LedgerEvent.{LedgerEvent}
 use Rattle.es_event.specs.Ledger.{Ledger, waits}
 use Rattle.es_deeds.specs.Deeds.{Deed, deed, part}
 use Rattle.es_deeds.specs.Patience.{patient, drained_last}
-use Rattle.es_match.specs.Cluster.{Ties, refused_senders}
+use Rattle.es_match.specs.Cluster.{DeedsMeet, refused_senders}
 use Rattle.es_match.specs.Meets.{Came}
-use Rattle.es_record.specs.Book.{Book}
+use Rattle.es_record.specs.AgentView.{AgentView}
 use Rattle.es_rules.specs.Needs.{asks_message, need}
 use Rattle.es_agent.specs.Tickets.{tickets}
 
@@ -21,12 +21,12 @@ GrowsBy n l m = (es : List LedgerEvent) × (m ≡ es ++ l) × AreDeedsOf n es l
 
 -- what has come to the agent from the ledger, as the agent has it: its tickets; what each of its buffer objects is over; and the
 -- senders of the jobs whose messages found no room
-abbrev pub came_to : Book → Came
+abbrev pub came_to : AgentView → Came
 came_to b = record { tickets = tickets b; ever = reverse b.over; refused = refused_senders b.plan b.history }
 
-pub record IsTied (b : Book) (l : Ledger) : Type 0 where
+pub record IsTied (b : AgentView) (l : Ledger) : Type 0 where
   -- its part is, in order and with nothing besides, what its history asks, and brought what the agent has
-  pub ties : Ties b.history (part l b.number) (came_to b)
+  pub ties : DeedsMeet b.history (part l b.number) (came_to b)
   -- where it waits, it asks for a message of that sender
   pub awaits : (s : ℕ) → waits l b.number ≡ Some s → need b ≡ asks_message s
   -- what an agent does after a wait ends the wait, and no agent does anything after a drain
@@ -34,6 +34,6 @@ pub record IsTied (b : Book) (l : Ledger) : Type 0 where
   pub drains_end : drained_last l ≡ true
 
 -- besides, it waits for nobody
-pub record IsSettled (b : Book) (l : Ledger) : Type 0 where
+pub record IsSettled (b : AgentView) (l : Ledger) : Type 0 where
   pub tied : IsTied b l
   pub free : waits l b.number ≡ None

@@ -5,16 +5,16 @@ use Rattle.es_event.specs.declared.ledger_event.LedgerEvent.TheVariants.{Spent}
 use Rattle.es_event.specs.declared.row.Row.{Row}
 use Rattle.es_event.specs.Ledger.{Ledger, ended as has_ended}
 use Rattle.es_event.specs.Order.{phase}
-use Rattle.es_ledger.specs.Books.{Books}
+use Rattle.es_ledger.specs.LedgerView.{LedgerView}
 use Rattle.es_ledger.specs.Turns.{told}
 use Rattle.es_ledger.specs.declared.turn.Turn.{Turn}
 use Rattle.es_ledger.specs.declared.turn.Turn.TheVariants.{Stay}
-use Rattle.es_ticket.specs.Shares.{Share}
-use Rattle.es_record.specs.Book.{Book, IsNext, Records, with_row}
+use Rattle.es_ticket.specs.Stakes.{StakeView}
+use Rattle.es_record.specs.AgentView.{AgentView, IsNext, Records, with_row}
 use Rattle.es_record.specs.Graph.{AreMarksOf, AreLateMarks}
 use Rattle.es_rules.specs.Needs.{for_block, for_post, for_buffer_post, for_access, Need, asks_nobody, asks_marks, asks_copy, asks_late_marks, asks_ledger, asks_message, asks_closing, asks_nothing, need}
 use Rattle.es_agent.specs.Tickets.{is_ended}
-use Rattle.es_member.specs.Seats.{Seat, Holds}
+use Rattle.es_member.specs.Members.{MemberView, Holds}
 use Rattle.es_member.specs.Tied.{GrowsBy, IsSettled, IsTied}
 use Rattle.es_member.specs.declared.beside.Beforehand.{Beforehand}
 use Rattle.es_member.specs.declared.beside.Beforehand.TheVariants.{Copy, Marks, Nothing}
@@ -37,7 +37,7 @@ NamesOthers asks_nothing n agents = ⊤
 
 -- the marks are those that the agent asks for: of what it reaches, or, to finish a later collection, of its copy and what derefs
 -- gave since
-abbrev pub AreAskedFor : Need → Book → List Bool → Type 0
+abbrev pub AreAskedFor : Need → AgentView → List Bool → Type 0
 AreAskedFor asks_nobody b m = ⊥
 AreAskedFor asks_marks b m = AreMarksOf b m
 AreAskedFor asks_copy b m = ⊥
@@ -63,50 +63,50 @@ beforehand asks_closing = Nothing
 beforehand asks_nothing = Nothing
 
 -- the agent is one of the ledger's, and has ended there where it has closed
-pub record IsSeated (b : Book) (l : Books) : Type 0 where
+pub record IsSeated (b : AgentView) (l : LedgerView) : Type 0 where
   pub known : b.number < l.agents
   pub agents : b.agents ≡ l.agents
   pub over : has_ended l.history b.number ≡ is_ended (phase b.history)
 
 -- the agent grew by one event, the next by the rules and the plan; a buffer object may have come with it
-abbrev pub Moves : Book → Book → Type 0
-Moves old new = (e : Event) × (r : Option Row) × IsNext (with_row r old) e × Records (with_row r old) e new
+abbrev pub GrowsByOne : AgentView → AgentView → Type 0
+GrowsByOne old new = (e : Event) × (r : Option Row) × IsNext (with_row r old) e × Records (with_row r old) e new
 
 -- an agent that waits asks for a message, and one that has ended asks for nothing; neither has changed
-abbrev pub Proceeds : Progress → Seat → Seat → Type 0
-Proceeds Moved old new = Moves old.book new.book
-Proceeds Waiting old new = (s : ℕ) × (need old.book ≡ asks_message s) × (new ≡ old)
-Proceeds Ended old new = (need old.book ≡ asks_nothing) × (new ≡ old)
+abbrev pub Proceeds : Progress → MemberView → MemberView → Type 0
+Proceeds Moved old new = GrowsByOne old.core new.core
+Proceeds Waiting old new = (s : ℕ) × (need old.core ≡ asks_message s) × (new ≡ old)
+Proceeds Ended old new = (need old.core ≡ asks_nothing) × (new ≡ old)
 
 -- beside others it has ended too where the ledger says so; then it has not changed
-abbrev pub ProceedsBeside : Progress → Seat → Seat → Type 0
+abbrev pub ProceedsBeside : Progress → MemberView → MemberView → Type 0
 ProceedsBeside Moved old new = Proceeds Moved old new
 ProceedsBeside Waiting old new = Proceeds Waiting old new
 ProceedsBeside Ended old new = new ≡ old
 
 -- an agent that waits on was told to by the rules, one that asks for a message and goes on was not, and one that has ended does
 -- nothing
-abbrev pub Heard : Progress → Book → Books → Books → Type 0
-Heard Moved b old new = (s : ℕ) → need b ≡ asks_message s → (told old.history old.agents b.number s).0 ≢ Stay
-Heard Waiting b old new = (s : ℕ) × (need b ≡ asks_message s) × (◌≡◌ {A = Turn × Ledger} (Stay, new.history) (told old.history old.agents b.number s))
-Heard Ended b old new = new ≡ old
+abbrev pub WaitsRightly : Progress → AgentView → LedgerView → LedgerView → Type 0
+WaitsRightly Moved b old new = (s : ℕ) → need b ≡ asks_message s → (told old.history old.agents b.number s).0 ≢ Stay
+WaitsRightly Waiting b old new = (s : ℕ) × (need b ≡ asks_message s) × (◌≡◌ {A = Turn × Ledger} (Stay, new.history) (told old.history old.agents b.number s))
+WaitsRightly Ended b old new = new ≡ old
 
 -- the same agents, and what happened besides are deeds of agent n alone
-abbrev pub OthersStay : ℕ → Books → Books → Type 0
+abbrev pub OthersStay : ℕ → LedgerView → LedgerView → Type 0
 OthersStay n old new = (new.agents ≡ old.agents) × GrowsBy n old.history new.history
 
 -- agent and ledger go together; one that has one event more waits for nobody, whatever its next job waits for
-abbrev pub IsTiedAfter : Progress → Book → Ledger → Type 0
+abbrev pub IsTiedAfter : Progress → AgentView → Ledger → Type 0
 IsTiedAfter Moved b l = IsSettled b l
 IsTiedAfter Waiting b l = IsTied b l
 IsTiedAfter Ended b l = IsTied b l
 
 -- where the agent and the ledger went together before, they do
-abbrev pub StaysTied : Progress → Book → Books → Book → Books → Type 0
+abbrev pub StaysTied : Progress → AgentView → LedgerView → AgentView → LedgerView → Type 0
 StaysTied p old before b after = IsSeated old before → IsTied old before.history → IsTiedAfter p b after.history
 
 -- whatever came of a turn of the agent old, it has its stake, and its place where it had it
-pub record Keeps (old : Book) (before : Books) (b : Book) (s : Share) (after : Books) : Type 0 where
+pub record Keeps (old : AgentView) (before : LedgerView) (b : AgentView) (s : StakeView) (after : LedgerView) : Type 0 where
   pub number : b.number ≡ old.number
   pub held : Holds b s
   pub seated : IsSeated old before → IsSeated b after

@@ -9,7 +9,7 @@ ghost use Rattle.es_agent.specs.Later.{IsLaterCopy};
 ghost use Rattle.es_agent.specs.Tickets.{Empties};
 ghost use Rattle.es_rules.specs.Needs.{need, asks_nobody, asks_copy, asks_nothing};
 ghost use Rattle.es_rules.specs.Shown.{shown};
-ghost use Rattle.es_member.specs.Turned.{AreAskedFor, AsksMarks, beforehand, Heard, IsSeated, Moves, Proceeds, NamesOthers, OthersStay, ProceedsBeside};
+ghost use Rattle.es_member.specs.Turned.{AreAskedFor, AsksMarks, beforehand, WaitsRightly, IsSeated, GrowsByOne, Proceeds, NamesOthers, OthersStay, ProceedsBeside};
 
 use crate::member::{Member, Progress};
 use crate::planned::Planned;
@@ -21,7 +21,7 @@ use es_event::Command;
 use es_ledger::LedgerCore;
 use es_mark::Marks;
 use es_parmark::Snapshot;
-use es_ticket::{Rack, Run};
+use es_ticket::{LedgerName, Rack};
 use es_value::NoMemory;
 use std::sync::{Arc, Mutex, Wait};
 
@@ -39,7 +39,7 @@ pub enum Beforehand {
 impl<L: Planned> Member<L> {
     /// Whether it has closed, and asks for nothing any more.
     pub fn has_closed(&self) -> bool
-        ensures { IsTrue result ↔ (need self.now.book ≡ asks_nothing) }
+        ensures { IsTrue result ↔ (need self.now.core ≡ asks_nothing) }
     {
         matches!(self.core.next(), Need::Ended)
     }
@@ -47,11 +47,11 @@ impl<L: Planned> Member<L> {
     /// Its next event, where that asks nobody else: whether it happened. Where it asks somebody, or there is
     /// no memory, nothing has changed.
     pub fn perform(&mut self) -> Result<bool, NoMemory>
-        ensures asks { IfOk result (λ done. IsTrue done ↔ (need self.old.book ≡ asks_nobody)) }
-        ensures moves { IfOk result (λ done. IsTrue done → Moves self.old.book self.new.book) }
+        ensures asks { IfOk result (λ done. IsTrue done ↔ (need self.old.core ≡ asks_nobody)) }
+        ensures moves { IfOk result (λ done. IsTrue done → GrowsByOne self.old.core self.new.core) }
         ensures left { IfOk result (λ done. done ≡ false → self.new ≡ self.old) }
         ensures err { OnErr result (self.new ≡ self.old) }
-        ensures share { self.new.share ≡ self.old.share }
+        ensures stake { self.new.stake ≡ self.old.stake }
     {
         self.core.perform_alone()
     }
@@ -59,8 +59,8 @@ impl<L: Planned> Member<L> {
     /// The marks for its next event, where that empties: those of what it reaches, or, to finish a later
     /// collection, those of its copy and of what derefs gave since.
     pub fn marks(&self) -> Result<Option<Marks>, NoMemory>
-        ensures own { IfOk result (λ o. IfSome o (AreAskedFor (need self.now.book) self.now.book)) }
-        ensures none { IfOk result (λ o. IfNone o (AsksMarks (need self.now.book) → ⊥)) }
+        ensures own { IfOk result (λ o. IfSome o (AreAskedFor (need self.now.core) self.now.core)) }
+        ensures none { IfOk result (λ o. IfNone o (AsksMarks (need self.now.core) → ⊥)) }
     {
         match self.core.next() {
             Need::Collect => Ok(Some(self.core.marks()?)),
@@ -71,9 +71,9 @@ impl<L: Planned> Member<L> {
 
     /// What its next event needs before it has the ledger.
     pub fn beforehand(&self) -> Beforehand
-        ensures said { result ≡ beforehand (need self.now.book) }
-        ensures copy { result ≡ Beforehand.Copy → need self.now.book ≡ asks_copy }
-        ensures marks { result ≡ Beforehand.Marks → AsksMarks (need self.now.book) }
+        ensures said { result ≡ beforehand (need self.now.core) }
+        ensures copy { result ≡ Beforehand.Copy → need self.now.core ≡ asks_copy }
+        ensures marks { result ≡ Beforehand.Marks → AsksMarks (need self.now.core) }
     {
         match self.core.record().due() {
             Due::EndJob => asked_beforehand(&self.core.next()),
@@ -91,11 +91,11 @@ impl<L: Planned> Member<L> {
     /// Opens a later collection; the copy may be marked beside the agent. Where there is no memory nothing has
     /// changed.
     pub fn begin_later(&mut self) -> Result<Arc<Snapshot>, NoMemory>
-        requires { need self.old.book ≡ asks_copy }
-        ensures ok { OnOk result (Moves self.old.book self.new.book) }
-        ensures copy { IfOk result (λ copy. IsLaterCopy self.new.book (arc_value copy)) }
+        requires { need self.old.core ≡ asks_copy }
+        ensures ok { OnOk result (GrowsByOne self.old.core self.new.core) }
+        ensures copy { IfOk result (λ copy. IsLaterCopy self.new.core (arc_value copy)) }
         ensures err { OnErr result (self.new ≡ self.old) }
-        ensures share { self.new.share ≡ self.old.share }
+        ensures stake { self.new.stake ≡ self.old.stake }
     {
         self.core.begin_later()
     }
@@ -109,8 +109,8 @@ impl<L: Planned> Member<L> {
         marks: &Marks,
         ledger: &Mutex<LedgerCore<L>>,
     ) -> Result<(), NoMemory>
-        requires { AreAskedFor (need self.old.book) self.old.book marks.now }
-        ensures ok { OnOk result (Moves self.old.book self.new.book) }
+        requires { AreAskedFor (need self.old.core) self.old.core marks.now }
+        ensures ok { OnOk result (GrowsByOne self.old.core self.new.core) }
         ensures err { OnErr result (self.new ≡ self.old) }
     {
         let rack = take_out(&mut self.core, marks)?;
@@ -123,10 +123,10 @@ impl<L: Planned> Member<L> {
     /// changed.
     pub fn turn_beside(&mut self, ledger: &mut LedgerCore<L>) -> Result<Progress, NoMemory>
         ensures ok { IfOk result (λ p. ProceedsBeside p self.old self.new) }
-        ensures placed { IsSeated self.old.book ledger.old → NamesOthers (need self.old.book) self.old.book.number ledger.old.agents → IfOk result (λ p. Proceeds p self.old self.new) }
-        ensures heard { IsSeated self.old.book ledger.old → NamesOthers (need self.old.book) self.old.book.number ledger.old.agents → IfOk result (λ p. Heard p self.old.book ledger.old ledger.new) }
-        ensures err { OnErr result (self.new.book ≡ self.old.book) }
-        ensures others { OthersStay self.old.book.number ledger.old ledger.new }
+        ensures placed { IsSeated self.old.core ledger.old → NamesOthers (need self.old.core) self.old.core.number ledger.old.agents → IfOk result (λ p. Proceeds p self.old self.new) }
+        ensures heard { IsSeated self.old.core ledger.old → NamesOthers (need self.old.core) self.old.core.number ledger.old.agents → IfOk result (λ p. WaitsRightly p self.old.core ledger.old ledger.new) }
+        ensures err { OnErr result (self.new.core ≡ self.old.core) }
+        ensures others { OthersStay self.old.core.number ledger.old ledger.new }
     {
         let number = self.core.number();
         let agents = ledger.agents();
@@ -142,7 +142,7 @@ impl<L: Planned> Member<L> {
 }
 
 // Empties what the marks that the agent asks for lack, and hands out the tickets of buffer objects among it.
-fn take_out<L: Run>(core: &mut AgentCore<L>, marks: &Marks) -> Result<Rack<L>, NoMemory>
+fn take_out<L: LedgerName>(core: &mut AgentCore<L>, marks: &Marks) -> Result<Rack<L>, NoMemory>
     requires { AreAskedFor (need core.old) core.old marks.now }
     ensures ok { IfOk result (λ r. Empties (λ _. ⊤) core.old r.tickets core.new) }
     ensures err { OnErr result (core.new ≡ core.old) }
@@ -174,7 +174,7 @@ fn is_collection(command: &Command) -> bool
 
 // Whether whom an agent asks to post to, or waits for, is one of so many agents, and not itself. What it asks for is
 // found only where it may name another.
-fn names_others<L: Run>(core: &AgentCore<L>, agents: usize) -> bool
+fn names_others<L: LedgerName>(core: &AgentCore<L>, agents: usize) -> bool
     ensures only { IsTrue result → NamesOthers (need core.now) core.now.number agents }
     ensures all { NamesOthers (need core.now) core.now.number agents → IsTrue result }
 {

@@ -10,8 +10,8 @@ ghost use Rattle.es_event.specs.Runs.{IsRunOver};
 ghost use Rattle.es_rules.specs.Needs.{need};
 ghost use Rattle.es_agent.specs.Tickets.{is_ended, tickets};
 ghost use Rattle.es_member.specs.Tied.{IsTied};
-ghost use Rattle.es_member.specs.Seats.{IsPlanned};
-ghost use Rattle.es_member.specs.Turned.{Heard, IsSeated, IsTiedAfter, NamesOthers, OthersStay, Proceeds, spent};
+ghost use Rattle.es_member.specs.Members.{IsPlanned};
+ghost use Rattle.es_member.specs.Turned.{WaitsRightly, IsSeated, IsTiedAfter, NamesOthers, OthersStay, Proceeds, spent};
 
 use crate::planned::Planned;
 use crate::spending::spend_all;
@@ -42,11 +42,11 @@ pub struct Member<L: Planned> {
 }
 
 impl<L: Planned> Model for Member<L> {
-    ghost use Rattle.es_member.specs.Seats.{Seat, Holds, IsPlanned};
+    ghost use Rattle.es_member.specs.Members.{MemberView, Holds, IsPlanned};
 
-    ghost Value = { Seat };
+    ghost Value = { MemberView };
 
-    ghost view = { λ m. record { book = m.core; share = m.stake } };
+    ghost view = { λ m. record { core = m.core; stake = m.stake } };
 
     ghost invariant = { λ m. Holds m.core m.stake × IsPlanned L.plan m.core };
 }
@@ -57,22 +57,22 @@ impl<L: Planned> Member<L> {
         requires planned { IsPlanned L.plan core }
         requires number { stake.agent ≡ core.number }
         requires empty { (tickets core ≡ []) × (stake.rows ≡ []) }
-        ensures { (result.book ≡ core) × (result.share ≡ stake) }
+        ensures { (result.core ≡ core) × (result.stake ≡ stake) }
     {
         Member { core, stake }
     }
 
     /// The agent.
     pub fn core(&self) -> &AgentCore<L>
-        ensures { result.now ≡ self.now.book }
+        ensures { result.now ≡ self.now.core }
     {
         &self.core
     }
 
     /// Its number among the agents, counted from 0.
     pub fn number(&self) -> usize
-        ensures number { result ≡ self.now.book.number }
-        ensures planned { IsPlanned L.plan self.now.book }
+        ensures number { result ≡ self.now.core.number }
+        ensures planned { IsPlanned L.plan self.now.core }
     {
         self.core.number()
     }
@@ -81,17 +81,17 @@ impl<L: Planned> Member<L> {
     /// it waits on for a message or has ended. After want of memory the agent has not changed, but a
     /// part of the ledger's doing may stand; a message that was taken is lost.
     pub fn step(&mut self, ledger: &mut LedgerCore<L>) -> Result<Progress, NoMemory>
-        requires seated { IsSeated self.old.book ledger.old }
-        requires others { NamesOthers (need self.old.book) self.old.book.number ledger.old.agents }
-        requires tied { IsTied self.old.book ledger.old.history }
+        requires seated { IsSeated self.old.core ledger.old }
+        requires others { NamesOthers (need self.old.core) self.old.core.number ledger.old.agents }
+        requires tied { IsTied self.old.core ledger.old.history }
         ensures ok { IfOk result (λ p. Proceeds p self.old self.new) }
-        ensures told { IfOk result (λ p. Heard p self.old.book ledger.old ledger.new) }
-        ensures tied { IfOk result (λ p. IsTiedAfter p self.new.book ledger.new.history) }
-        ensures err { OnErr result (self.new.book ≡ self.old.book) }
-        ensures same { (self.new.book.plan ≡ self.old.book.plan) × (self.new.book.agents ≡ self.old.book.agents) }
-        ensures number { self.new.book.number ≡ self.old.book.number }
-        ensures seated { IsSeated self.new.book ledger.new }
-        ensures others { OthersStay self.old.book.number ledger.old ledger.new }
+        ensures told { IfOk result (λ p. WaitsRightly p self.old.core ledger.old ledger.new) }
+        ensures tied { IfOk result (λ p. IsTiedAfter p self.new.core ledger.new.history) }
+        ensures err { OnErr result (self.new.core ≡ self.old.core) }
+        ensures same { (self.new.core.plan ≡ self.old.core.plan) × (self.new.core.agents ≡ self.old.core.agents) }
+        ensures number { self.new.core.number ≡ self.old.core.number }
+        ensures seated { IsSeated self.new.core ledger.new }
+        ensures others { OthersStay self.old.core.number ledger.old ledger.new }
     {
         ledger.look(&mut self.stake);
         turn(&mut self.core, &mut self.stake, ledger)
@@ -100,7 +100,7 @@ impl<L: Planned> Member<L> {
     /// Gives the agent up, at a fault: its tickets are spent. It takes no memory.
     pub fn abandon(self, ledger: &mut LedgerCore<L>)
         ensures agents { ledger.new.agents ≡ ledger.old.agents }
-        ensures history { ledger.new.history ≡ spent (tickets self.book) ledger.old.history }
+        ensures history { ledger.new.history ≡ spent (tickets self.core) ledger.old.history }
     {
         let Member { core, mut stake } = self;
         let rack = core.abandon();
@@ -110,13 +110,13 @@ impl<L: Planned> Member<L> {
     /// Gives up an agent that has closed for its events, the oldest first: the ledger has no ticket of
     /// it. It takes no memory.
     pub fn into_history(self, ledger: &mut LedgerCore<L>) -> Sequence<Event>
-        requires { is_ended (phase self.book.history) ≡ true }
+        requires { is_ended (phase self.core.history) ≡ true }
         ensures same { ledger.new ≡ ledger.old }
-        ensures none { held self.book.number (table ledger.old.history) ≡ [] }
-        ensures events { reverse result ≡ self.book.history }
-        ensures planned { IsPlanned L.plan self.book }
-        ensures run { IsRunOver self.book.over self.book.plan self.book.history }
-        ensures honest { Honest (receivers self.book.plan.jobs) self.book.history }
+        ensures none { held self.core.number (table ledger.old.history) ≡ [] }
+        ensures events { reverse result ≡ self.core.history }
+        ensures planned { IsPlanned L.plan self.core }
+        ensures run { IsRunOver self.core.over self.core.plan self.core.history }
+        ensures honest { Honest (receivers self.core.plan.jobs) self.core.history }
     {
         let Member { core, mut stake } = self;
         ledger.look(&mut stake);

@@ -8,11 +8,15 @@ ghost use Rattle.es_member.specs.Tied.{AreDeedsOf};
 ghost use Rattle.es_member.specs.Turned.{spent};
 
 use es_ledger::LedgerCore;
-use es_ticket::{Rack, Run, Stake};
+use es_ticket::{LedgerName, Rack, Stake};
 use std::sync::{Mutex, Wait};
 
 /// Spends all tickets of a rack, the newest buffer object's first. It takes no memory.
-pub(crate) fn spend_all<L: Run>(ledger: &mut LedgerCore<L>, stake: &mut Stake<L>, mut rack: Rack<L>)
+pub(crate) fn spend_all<L: LedgerName>(
+    ledger: &mut LedgerCore<L>,
+    stake: &mut Stake<L>,
+    mut rack: Rack<L>,
+)
     requires { Owns stake.old.rows rack.tickets }
     ensures ledger { (ledger.new.agents ≡ ledger.old.agents) × (ledger.new.history ≡ spent rack.tickets ledger.old.history) }
     ensures agent { stake.new.agent ≡ stake.old.agent }
@@ -30,7 +34,7 @@ pub(crate) fn spend_all<L: Run>(ledger: &mut LedgerCore<L>, stake: &mut Stake<L>
 
 /// Spends all tickets of a rack, as above, in a ledger that several agents share. Its lock is taken where there is a
 /// ticket.
-pub(crate) fn spend_shared<L: Run, R: Wait>(
+pub(crate) fn spend_shared<L: LedgerName, R: Wait>(
     rt: &R,
     ledger: &Mutex<LedgerCore<L>>,
     stake: &mut Stake<L>,

@@ -3,8 +3,8 @@
 ghost use Rattle.std.specs.Prelude.{◌≡◌, ◌<◌, ◌↔◌, false, IsTrue, OnErr, IfOk};
 ghost use Rattle.es_record.specs.Graph.{AreMarksOf, AreLateMarks};
 ghost use Rattle.es_rules.specs.Needs.{need, asks_nobody, asks_marks, asks_copy, asks_late_marks, asks_closing};
-ghost use Rattle.es_member.specs.Seats.{seat};
-ghost use Rattle.es_member.specs.Turned.{Heard, Keeps, NamesOthers, Proceeds, StaysTied};
+ghost use Rattle.es_member.specs.Members.{member_of};
+ghost use Rattle.es_member.specs.Turned.{WaitsRightly, Keeps, NamesOthers, Proceeds, StaysTied};
 ghost use Rattle.es_member.specs.Midway.{IsHeld};
 
 mod asking;
@@ -16,21 +16,21 @@ use asking::{access_word, open, post, post_buffer};
 use es_agent::{AgentCore, Need, Request};
 use es_ledger::LedgerCore;
 use es_mark::Marks;
-use es_ticket::{Run, Stake};
+use es_ticket::{LedgerName, Stake};
 use es_value::NoMemory;
 use hearing::hear;
 
 /// One event of the agent, or none where it waits or has ended. Most events ask nobody, so one that does not is tried
 /// first.
-pub(crate) fn turn<L: Run>(
+pub(crate) fn turn<L: LedgerName>(
     core: &mut AgentCore<L>,
     stake: &mut Stake<L>,
     ledger: &mut LedgerCore<L>,
 ) -> Result<Progress, NoMemory>
     requires ready { IsHeld core.old stake.old ledger.old }
     requires others { NamesOthers (need core.old) core.old.number ledger.old.agents }
-    ensures ok { IfOk result (λ p. Proceeds p (seat core.old stake.old) (seat core.new stake.new)) }
-    ensures told { IfOk result (λ p. Heard p core.old ledger.old ledger.new) }
+    ensures ok { IfOk result (λ p. Proceeds p (member_of core.old stake.old) (member_of core.new stake.new)) }
+    ensures told { IfOk result (λ p. WaitsRightly p core.old ledger.old ledger.new) }
     ensures err { OnErr result (core.new ≡ core.old) }
     ensures tied { IfOk result (λ p. StaysTied p core.old ledger.old core.new ledger.new) }
     ensures keeps { Keeps core.old ledger.old core.new stake.new ledger.new }
@@ -42,15 +42,15 @@ pub(crate) fn turn<L: Run>(
 }
 
 /// The same, where it is likely that somebody is asked: what the agent asks for is found first.
-pub(crate) fn ask<L: Run>(
+pub(crate) fn ask<L: LedgerName>(
     core: &mut AgentCore<L>,
     stake: &mut Stake<L>,
     ledger: &mut LedgerCore<L>,
 ) -> Result<Progress, NoMemory>
     requires ready { IsHeld core.old stake.old ledger.old }
     requires others { NamesOthers (need core.old) core.old.number ledger.old.agents }
-    ensures ok { IfOk result (λ p. Proceeds p (seat core.old stake.old) (seat core.new stake.new)) }
-    ensures told { IfOk result (λ p. Heard p core.old ledger.old ledger.new) }
+    ensures ok { IfOk result (λ p. Proceeds p (member_of core.old stake.old) (member_of core.new stake.new)) }
+    ensures told { IfOk result (λ p. WaitsRightly p core.old ledger.old ledger.new) }
     ensures err { OnErr result (core.new ≡ core.old) }
     ensures tied { IfOk result (λ p. StaysTied p core.old ledger.old core.new ledger.new) }
     ensures keeps { Keeps core.old ledger.old core.new stake.new ledger.new }
@@ -85,15 +85,15 @@ pub(crate) fn ask<L: Run>(
 }
 
 // A step that asks nobody else, where one is due: whether it was taken.
-fn perform<L: Run>(
+fn perform<L: LedgerName>(
     core: &mut AgentCore<L>,
     stake: &Stake<L>,
     ledger: &LedgerCore<L>,
 ) -> Result<bool, NoMemory>
     requires ready { IsHeld core.old stake.now ledger.now }
     ensures asks { IfOk result (λ done. IsTrue done ↔ (need core.old ≡ asks_nobody)) }
-    ensures ok { IfOk result (λ done. IsTrue done → Proceeds Progress.Moved (seat core.old stake.now) (seat core.new stake.now)) }
-    ensures told { IfOk result (λ done. IsTrue done → Heard Progress.Moved core.old ledger.now ledger.now) }
+    ensures ok { IfOk result (λ done. IsTrue done → Proceeds Progress.Moved (member_of core.old stake.now) (member_of core.new stake.now)) }
+    ensures told { IfOk result (λ done. IsTrue done → WaitsRightly Progress.Moved core.old ledger.now ledger.now) }
     ensures left { IfOk result (λ done. done ≡ false → core.new ≡ core.old) }
     ensures err { OnErr result (core.new ≡ core.old) }
     ensures tied { IfOk result (λ done. IsTrue done → StaysTied Progress.Moved core.old ledger.now core.new ledger.now) }
@@ -104,15 +104,15 @@ fn perform<L: Run>(
 }
 
 // A collection by the agent's own marks.
-fn collect<L: Run>(
+fn collect<L: LedgerName>(
     core: &mut AgentCore<L>,
     stake: &mut Stake<L>,
     ledger: &mut LedgerCore<L>,
 ) -> Result<Progress, NoMemory>
     requires due { need core.old ≡ asks_marks }
     requires ready { IsHeld core.old stake.old ledger.old }
-    ensures ok { IfOk result (λ p. Proceeds p (seat core.old stake.old) (seat core.new stake.new)) }
-    ensures told { IfOk result (λ p. Heard p core.old ledger.old ledger.new) }
+    ensures ok { IfOk result (λ p. Proceeds p (member_of core.old stake.old) (member_of core.new stake.new)) }
+    ensures told { IfOk result (λ p. WaitsRightly p core.old ledger.old ledger.new) }
     ensures err { OnErr result (core.new ≡ core.old) }
     ensures tied { IfOk result (λ p. StaysTied p core.old ledger.old core.new ledger.new) }
     ensures keeps { Keeps core.old ledger.old core.new stake.new ledger.new }
@@ -122,7 +122,7 @@ fn collect<L: Run>(
 }
 
 /// A collection by these marks: the tickets of emptied buffer objects are spent.
-fn empty<L: Run>(
+fn empty<L: LedgerName>(
     core: &mut AgentCore<L>,
     stake: &mut Stake<L>,
     ledger: &mut LedgerCore<L>,
@@ -131,8 +131,8 @@ fn empty<L: Run>(
     requires due { need core.old ≡ asks_marks }
     requires marks { AreMarksOf core.old marks.now }
     requires ready { IsHeld core.old stake.old ledger.old }
-    ensures ok { IfOk result (λ p. Proceeds p (seat core.old stake.old) (seat core.new stake.new)) }
-    ensures told { IfOk result (λ p. Heard p core.old ledger.old ledger.new) }
+    ensures ok { IfOk result (λ p. Proceeds p (member_of core.old stake.old) (member_of core.new stake.new)) }
+    ensures told { IfOk result (λ p. WaitsRightly p core.old ledger.old ledger.new) }
     ensures err { OnErr result (core.new ≡ core.old) }
     ensures tied { IfOk result (λ p. StaysTied p core.old ledger.old core.new ledger.new) }
     ensures keeps { Keeps core.old ledger.old core.new stake.new ledger.new }
@@ -143,15 +143,15 @@ fn empty<L: Run>(
 }
 
 // A later collection is opened: the agent keeps the copy of its graph.
-fn begin_later<L: Run>(
+fn begin_later<L: LedgerName>(
     core: &mut AgentCore<L>,
     stake: &Stake<L>,
     ledger: &LedgerCore<L>,
 ) -> Result<Progress, NoMemory>
     requires due { need core.old ≡ asks_copy }
     requires ready { IsHeld core.old stake.now ledger.now }
-    ensures ok { IfOk result (λ p. Proceeds p (seat core.old stake.now) (seat core.new stake.now)) }
-    ensures told { IfOk result (λ p. Heard p core.old ledger.now ledger.now) }
+    ensures ok { IfOk result (λ p. Proceeds p (member_of core.old stake.now) (member_of core.new stake.now)) }
+    ensures told { IfOk result (λ p. WaitsRightly p core.old ledger.now ledger.now) }
     ensures err { OnErr result (core.new ≡ core.old) }
     ensures tied { IfOk result (λ p. StaysTied p core.old ledger.now core.new ledger.now) }
     ensures keeps { Keeps core.old ledger.now core.new stake.now ledger.now }
@@ -161,15 +161,15 @@ fn begin_later<L: Run>(
 }
 
 // An open later collection is finished, by the agent's own marks.
-fn finish<L: Run>(
+fn finish<L: LedgerName>(
     core: &mut AgentCore<L>,
     stake: &mut Stake<L>,
     ledger: &mut LedgerCore<L>,
 ) -> Result<Progress, NoMemory>
     requires due { need core.old ≡ asks_late_marks }
     requires ready { IsHeld core.old stake.old ledger.old }
-    ensures ok { IfOk result (λ p. Proceeds p (seat core.old stake.old) (seat core.new stake.new)) }
-    ensures told { IfOk result (λ p. Heard p core.old ledger.old ledger.new) }
+    ensures ok { IfOk result (λ p. Proceeds p (member_of core.old stake.old) (member_of core.new stake.new)) }
+    ensures told { IfOk result (λ p. WaitsRightly p core.old ledger.old ledger.new) }
     ensures err { OnErr result (core.new ≡ core.old) }
     ensures tied { IfOk result (λ p. StaysTied p core.old ledger.old core.new ledger.new) }
     ensures keeps { Keeps core.old ledger.old core.new stake.new ledger.new }
@@ -179,7 +179,7 @@ fn finish<L: Run>(
 }
 
 /// An open later collection is finished by these marks: the tickets of emptied buffer objects are spent.
-fn empty_late<L: Run>(
+fn empty_late<L: LedgerName>(
     core: &mut AgentCore<L>,
     stake: &mut Stake<L>,
     ledger: &mut LedgerCore<L>,
@@ -188,8 +188,8 @@ fn empty_late<L: Run>(
     requires due { need core.old ≡ asks_late_marks }
     requires marks { AreLateMarks core.old marks.now }
     requires ready { IsHeld core.old stake.old ledger.old }
-    ensures ok { IfOk result (λ p. Proceeds p (seat core.old stake.old) (seat core.new stake.new)) }
-    ensures told { IfOk result (λ p. Heard p core.old ledger.old ledger.new) }
+    ensures ok { IfOk result (λ p. Proceeds p (member_of core.old stake.old) (member_of core.new stake.new)) }
+    ensures told { IfOk result (λ p. WaitsRightly p core.old ledger.old ledger.new) }
     ensures err { OnErr result (core.new ≡ core.old) }
     ensures tied { IfOk result (λ p. StaysTied p core.old ledger.old core.new ledger.new) }
     ensures keeps { Keeps core.old ledger.old core.new stake.new ledger.new }
@@ -200,15 +200,15 @@ fn empty_late<L: Run>(
 }
 
 // The agent closes: all its tickets are spent, and it ends in the ledger.
-fn close<L: Run>(
+fn close<L: LedgerName>(
     core: &mut AgentCore<L>,
     stake: &mut Stake<L>,
     ledger: &mut LedgerCore<L>,
 ) -> Result<Progress, NoMemory>
     requires due { need core.old ≡ asks_closing }
     requires ready { IsHeld core.old stake.old ledger.old }
-    ensures ok { IfOk result (λ p. Proceeds p (seat core.old stake.old) (seat core.new stake.new)) }
-    ensures told { IfOk result (λ p. Heard p core.old ledger.old ledger.new) }
+    ensures ok { IfOk result (λ p. Proceeds p (member_of core.old stake.old) (member_of core.new stake.new)) }
+    ensures told { IfOk result (λ p. WaitsRightly p core.old ledger.old ledger.new) }
     ensures err { OnErr result (core.new ≡ core.old) }
     ensures tied { IfOk result (λ p. StaysTied p core.old ledger.old core.new ledger.new) }
     ensures keeps { Keeps core.old ledger.old core.new stake.new ledger.new }

@@ -22,15 +22,15 @@ use Rattle.es_event.specs.Ledger.{Ledger, ended as has_ended, is_end_of, port_of
 use Rattle.es_event.specs.LegalLedger.{all_ended}
 use Rattle.es_event.specs.Order.{ended, nothing as due_nothing, due_at, phase}
 use Rattle.es_event.specs.Runs.{IsRunOver}
-use Rattle.es_ledger.specs.Draining.{drained_one, drained_each, drained_to, drained_below, drained}
+use Rattle.es_ledger.specs.Draining.{drained_one, drained_each, drained_to, drained_below, after_drain}
 use Rattle.es_match.specs.Asks.{Asking, nothing, to_open, to_measure, to_compare, to_access, to_post, to_receive, to_refuse, to_pass, to_empty, to_close, asks, asks_did, between_jobs, wants_room}
-use Rattle.es_match.specs.Cluster.{IsCluster, Ties, history_of}
+use Rattle.es_match.specs.Cluster.{IsCluster, DeedsMeet, history_of}
 use Rattle.es_deeds.specs.Deeds.{Deed, Takes, Spends, Ends, deed, part, part_of}
 use Rattle.es_match.proofs.Bridge.{mapped}
 use Rattle.es_match.specs.Meets.{Came, Tickets, after, is_access, is_one, is_pass, is_post, is_refusal, opening, pair, receiving, sole, some_if, spends, spends_ticket_in, strike}
 use Rattle.es_agent.specs.Tickets.{is_ended}
 use Rattle.es_member.proofs.Midway.{ended_where_all, still_over}
-use Rattle.es_record.specs.Book.{Book}
+use Rattle.es_record.specs.AgentView.{AgentView}
 use Rattle.es_cluster.proofs.Standing.{within}
 use Rattle.es_cluster.specs.Ends.{with_end, with_ends}
 use Rattle.es_cluster.specs.Moves.{is_over}
@@ -159,7 +159,7 @@ closing_event between (Refused code) is = let clash : false ≡ true = sym (clos
 closing_event between Closed is = refl
 closing_event between _ is = cc
 
-ties_closed : (h : History) (ds : List Deed) (t : Came) → Ties h ds t → list_any is_end ds ≡ true → list_any is_closing h ≡ true
+ties_closed : (h : History) (ds : List Deed) (t : Came) → DeedsMeet h ds t → list_any is_end ds ≡ true → list_any is_closing h ≡ true
 ties_closed [] ds t ties any = let clash : false ≡ true = ap (list_any is_end) (sym ties.0) ∙ any in cc
 ties_closed (e ∷ h) ds t ties any =
     by (list_any is_end ties.0) refl (sym (list_any-append is_end ties.0 ties.1) ∙ ap (list_any is_end) (sym ties.3) ∙ any) (ties_closed h ties.0 ties.2 ties.4)
@@ -178,7 +178,7 @@ ties_closed (e ∷ h) ds t ties any =
 nothing_after : (over : Buffers) (into : Receivers) (h : History) (e : Event) → Permits over into h due_nothing e → ⊥
 nothing_after over into h _ p = p
 
-closed_ended : (b : Book) (h : History) → Follows b.over b.plan h → list_any is_closing h ≡ true → phase h ≡ ended
+closed_ended : (b : AgentView) (h : History) → Follows b.over b.plan h → list_any is_closing h ≡ true → phase h ≡ ended
 closed_ended b [] follows any = cc
 closed_ended b (Closed ∷ h) follows any = refl
 closed_ended b (e ∷ h) follows any = by (is_closing e) refl any (closed_ended b h follows.1)
@@ -228,17 +228,17 @@ over_below : (n m : ℕ) (l : Ledger) → all_ended l n ≡ true → all_ended (
 over_below n zero l over = over
 over_below n (suc m) l over = over_to n m n (drained_below l n m) (over_below n m l over)
 
-pub over_last : (n : ℕ) (l : Ledger) → all_ended (drained (with_ends n l) n) n ≡ true
+pub over_last : (n : ℕ) (l : Ledger) → all_ended (after_drain (with_ends n l) n) n ≡ true
 over_last n l = over_below n n (with_ends n l) (ends_all n l)
 
 -- An agent of the cluster has closed
 
-pub history_at : (bs : List Book) (n : ℕ) (b : Book) → slice_get bs n ≡ Some b → history_of (map (λ b. b.history) bs) n ≡ b.history
+pub history_at : (bs : List AgentView) (n : ℕ) (b : AgentView) → slice_get bs n ≡ Some b → history_of (map (λ b. b.history) bs) n ≡ b.history
 history_at [] n b is = cc
 history_at (c ∷ bs) zero b is = let same : c ≡ b = cc in ap (λ b. b.history) same
 history_at (c ∷ bs) (suc n) b is = history_at bs n b is
 
-pub over_in_cluster : (bs : List Book) (l : Ledger) (n : ℕ) (b : Book) → IsCluster (map (λ b. b.history) bs) l → all_ended l (length bs) ≡ true → slice_get bs n ≡ Some b → IsRunOver b.over b.plan b.history → is_over b ≡ true
+pub over_in_cluster : (bs : List AgentView) (l : Ledger) (n : ℕ) (b : AgentView) → IsCluster (map (λ b. b.history) bs) l → all_ended l (length bs) ≡ true → slice_get bs n ≡ Some b → IsRunOver b.over b.plan b.history → is_over b ≡ true
 over_in_cluster bs l n b cluster over is run =
     let mine = (cluster.parts n).1 in
     let any = part_ends l n (ended_where_all l (length bs) n (within bs n b is) over) in

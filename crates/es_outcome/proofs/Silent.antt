@@ -29,10 +29,10 @@ use Rattle.es_match.specs.Asks.{asks, asks_did, between_jobs}
 use Rattle.es_match.specs.Calm.{AreCalm, IsCalm, IsCalmBefore, is_calm}
 use Rattle.es_match.proofs.Calming.{is_calm_before}
 use Rattle.es_member.proofs.Aims.{buffer_there}
-use Rattle.es_record.specs.Book.{Book}
+use Rattle.es_record.specs.AgentView.{AgentView}
 use Rattle.es_cluster.specs.Ends.{IsWhole}
 use Rattle.es_cluster.specs.State.{accounts}
-use Rattle.es_outcome.specs.Said.{is_calm as is_calm_book}
+use Rattle.es_outcome.specs.Said.{is_calm as is_calm_agent}
 use Rattle.es_outcome.proofs.Waiting.{none_on}
 
 -- Where a refusal comes
@@ -151,20 +151,20 @@ buffers_none : (over : Buffers) → (length over == 0) ≡ true → over ≡ []
 buffers_none [] e = refl
 buffers_none (x ∷ over) e = let none = eqb-true (length (x ∷ over)) 0 e in absurd (omega arith)
 
-calm_book : (b : Book) → is_calm_book b ≡ true → IsWholeRunOver b.over b.plan b.history → IsCalmBefore true (reverse b.history)
-calm_book b is whole =
+calm_agent : (b : AgentView) → is_calm_agent b ≡ true → IsWholeRunOver b.over b.plan b.history → IsCalmBefore true (reverse b.history)
+calm_agent b is whole =
     let parts = and_parts _ _ is in
     let more = and_parts _ _ parts.1 in
     let none : b.over ≡ [] = buffers_none b.over parts.0 in
     calm_before_its_end b.plan b.history more.1 (subst (λ over. IsRunOver over b.plan b.history) none (whole.0, whole.1.0)) (eqb-true (messages_posted b.history) 0 more.0)
     (ap is_ended whole.1.1)
 
-pub calm_histories : (bs : List Book) (hs : List (List Event)) → map (λ h. reverse h) hs ≡ map (λ b. b.history) bs → AllByRecursion IsWhole (accounts bs) → AreCalm (map is_calm_book bs) hs
+pub calm_histories : (bs : List AgentView) (hs : List (List Event)) → map (λ h. reverse h) hs ≡ map (λ b. b.history) bs → AllByRecursion IsWhole (accounts bs) → AreCalm (map is_calm_agent bs) hs
 calm_histories [] hs same whole a is = absurd (cc)
 calm_histories (b ∷ bs) [] same whole a is = absurd (cc)
 calm_histories (b ∷ bs) (h ∷ hs) same whole zero is =
     let first : reverse h ≡ b.history = cc in
-    subst (IsCalmBefore true) (ap reverse (sym first) ∙ reverse-reverse h) (calm_book b is whole.0)
+    subst (IsCalmBefore true) (ap reverse (sym first) ∙ reverse-reverse h) (calm_agent b is whole.0)
 calm_histories (b ∷ bs) (h ∷ hs) same whole (suc a) is =
     let rest : map (λ h. reverse h) hs ≡ map (λ b. b.history) bs = cc in
     calm_histories bs hs rest whole.1 a is

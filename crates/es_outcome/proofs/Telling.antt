@@ -6,22 +6,22 @@ use Rattle.es_event.specs.History.{History}
 use Rattle.es_event.specs.Ledger.{Ledger}
 use Rattle.es_match.proofs.Accounts.{as_cluster}
 use Rattle.es_match.proofs.Bridge.{ties_mean_goes}
-use Rattle.es_match.specs.Cluster.{Account, HaveCome, IsCluster, IsClusterOf, IsSaid, Ties, account_of, history_of}
+use Rattle.es_match.specs.Cluster.{Account, HaveCome, IsCluster, IsClusterOf, IsSaid, DeedsMeet, account_of, history_of}
 use Rattle.es_deeds.specs.Deeds.{Deed, part}
 use Rattle.es_match.specs.Meets.{Came, nothing_came}
-use Rattle.es_record.specs.Book.{Book}
+use Rattle.es_record.specs.AgentView.{AgentView}
 use Rattle.es_cluster.proofs.Standing.{account_at, nobody_at, within}
 use Rattle.es_cluster.specs.State.{accounts}
 use Rattle.es_outcome.proofs.Closing.{history_at}
-use Rattle.es_outcome.specs.Said.{IsTold, Told, said_by, told_of}
+use Rattle.es_outcome.specs.Said.{IsTold, SaidView, said_by, told_of}
 
-pub told_histories : (bs : List Book) → map (λ a. a.history) (accounts bs) ≡ map (λ b. b.history) bs
+pub told_histories : (bs : List AgentView) → map (λ a. a.history) (accounts bs) ≡ map (λ b. b.history) bs
 told_histories [] = refl
 told_histories (b ∷ bs) = ap (λ hs. b.history ∷ hs) (told_histories bs)
 
 -- From what came to what is said
 
-told_at : (cs : List Came) (bs : List Book) (a : ℕ) (b : Book) → map told_of cs ≡ map said_by bs → slice_get bs a ≡ Some b → told_of (slice_index_or cs a nothing_came) ≡ said_by b
+told_at : (cs : List Came) (bs : List AgentView) (a : ℕ) (b : AgentView) → map told_of cs ≡ map said_by bs → slice_get bs a ≡ Some b → told_of (slice_index_or cs a nothing_came) ≡ said_by b
 told_at cs [] a b same is = cc
 told_at [] (d ∷ bs) a b same is = cc
 told_at (c ∷ cs) (d ∷ bs) zero b same is =
@@ -30,16 +30,16 @@ told_at (c ∷ cs) (d ∷ bs) zero b same is =
     first ∙ ap said_by here
 told_at (c ∷ cs) (d ∷ bs) (suc a) b same is = told_at cs bs a b (let rest : map told_of cs ≡ map said_by bs = cc in rest) is
 
-nothing_before : (h : History) (ds : List Deed) (c : Came) → h ≡ [] → Ties h ds c → (ds ≡ []) × (c ≡ nothing_came)
+nothing_before : (h : History) (ds : List Deed) (c : Came) → h ≡ [] → DeedsMeet h ds c → (ds ≡ []) × (c ≡ nothing_came)
 nothing_before [] ds c e ties = ties
 nothing_before (x ∷ h) ds c e ties = cc
 
-no_history : (bs : List Book) (a : ℕ) → slice_get bs a ≡ None → history_of (map (λ b. b.history) bs) a ≡ []
+no_history : (bs : List AgentView) (a : ℕ) → slice_get bs a ≡ None → history_of (map (λ b. b.history) bs) a ≡ []
 no_history [] a is = refl
 no_history (b ∷ bs) zero is = cc
 no_history (b ∷ bs) (suc a) is = no_history bs a is
 
-pub of_told : (bs : List Book) (l : Ledger) (cs : List Came) → HaveCome (map (λ b. b.history) bs) l cs → map told_of cs ≡ map said_by bs → IsClusterOf (accounts bs) l
+pub of_told : (bs : List AgentView) (l : Ledger) (cs : List Came) → HaveCome (map (λ b. b.history) bs) l cs → map told_of cs ≡ map said_by bs → IsClusterOf (accounts bs) l
 of_told bs l cs have same = record {
   parts = λ a. at a (slice_get bs a) refl;
   waits = have.cluster.waits;
@@ -47,14 +47,14 @@ of_told bs l cs have same = record {
 }
   where
     Parts : ℕ → Account → Type 0
-    Parts a x = (c : Came) × Ties x.history (part l a) c × IsSaid x c
+    Parts a x = (c : Came) × DeedsMeet x.history (part l a) c × IsSaid x c
 
-    at : (a : ℕ) (o : Option Book) → slice_get bs a ≡ o → Parts a (account_of (accounts bs) a)
+    at : (a : ℕ) (o : Option AgentView) → slice_get bs a ≡ o → Parts a (account_of (accounts bs) a)
     at a (Some b) is =
         let few = within bs a b is in
         let size = length-map bs (λ b. b.history) in
         let told = told_at cs bs a b same is in
-        let ties = subst (λ h. Ties h (part l a) (slice_index_or cs a nothing_came)) (history_at bs a b is) (have.each a (omega (arith, few, size))) in
+        let ties = subst (λ h. DeedsMeet h (part l a) (slice_index_or cs a nothing_came)) (history_at bs a b is) (have.each a (omega (arith, few, size))) in
         subst (Parts a) (sym (account_at bs a b is)) (slice_index_or cs a nothing_came, ties, record { buffers = ap (λ t. t.ever) told; senders = ap (λ t. t.refused) told })
     at a None is =
         let mine = have.cluster.parts a in
@@ -63,24 +63,24 @@ of_told bs l cs have same = record {
 
 -- And back
 
-abbrev gathered : List Book → (ℕ → Came) → List Came
+abbrev gathered : List AgentView → (ℕ → Came) → List Came
 gathered [] f = []
 gathered (b ∷ bs) f = f 0 ∷ gathered bs (λ a. f (suc a))
 
-gathered_length : (bs : List Book) (f : ℕ → Came) → length (gathered bs f) ≡ length bs
+gathered_length : (bs : List AgentView) (f : ℕ → Came) → length (gathered bs f) ≡ length bs
 gathered_length [] f = refl
 gathered_length (b ∷ bs) f = ap suc (gathered_length bs (λ a. f (suc a)))
 
-gathered_at : (bs : List Book) (f : ℕ → Came) (a : ℕ) → a < length bs → slice_index_or (gathered bs f) a nothing_came ≡ f a
+gathered_at : (bs : List AgentView) (f : ℕ → Came) (a : ℕ) → a < length bs → slice_index_or (gathered bs f) a nothing_came ≡ f a
 gathered_at [] f a few = absurd (omega (arith, few))
 gathered_at (b ∷ bs) f zero few = refl
 gathered_at (b ∷ bs) f (suc a) few = gathered_at bs (λ a. f (suc a)) a (omega (arith, few))
 
-gathered_said : (bs : List Book) (f : ℕ → Came) → ((a : ℕ) (b : Book) → slice_get bs a ≡ Some b → told_of (f a) ≡ said_by b) → map told_of (gathered bs f) ≡ map said_by bs
+gathered_said : (bs : List AgentView) (f : ℕ → Came) → ((a : ℕ) (b : AgentView) → slice_get bs a ≡ Some b → told_of (f a) ≡ said_by b) → map told_of (gathered bs f) ≡ map said_by bs
 gathered_said [] f each = refl
 gathered_said (b ∷ bs) f each = λ i. each 0 b refl i ∷ gathered_said bs (λ a. f (suc a)) (λ a c is. each (suc a) c is) i
 
-pub as_told : (bs : List Book) (l : Ledger) → IsClusterOf (accounts bs) l → IsTold (map (λ b. b.history) bs) l (map said_by bs)
+pub as_told : (bs : List AgentView) (l : Ledger) → IsClusterOf (accounts bs) l → IsTold (map (λ b. b.history) bs) l (map said_by bs)
 as_told bs l cluster = record {
   came = gathered bs f;
   have = record {
@@ -94,20 +94,20 @@ as_told bs l cluster = record {
     f : ℕ → Came
     f a = (cluster.parts a).0
 
-    said : (a : ℕ) (b : Book) → slice_get bs a ≡ Some b → told_of (f a) ≡ said_by b
+    said : (a : ℕ) (b : AgentView) → slice_get bs a ≡ Some b → told_of (f a) ≡ said_by b
     said a b is =
         let is_said = subst (λ x. IsSaid x (f a)) (account_at bs a b is) (cluster.parts a).2 in
         λ i. record { ever = is_said.buffers i; refused = is_said.senders i }
 
-    at : (a : ℕ) → a < length bs → (o : Option Book) → slice_get bs a ≡ o → Ties (history_of (map (λ b. b.history) bs) a) (part l a) (slice_index_or (gathered bs f) a nothing_came)
+    at : (a : ℕ) → a < length bs → (o : Option AgentView) → slice_get bs a ≡ o → DeedsMeet (history_of (map (λ b. b.history) bs) a) (part l a) (slice_index_or (gathered bs f) a nothing_came)
     at a few (Some b) is =
-        subst (Ties (history_of (map (λ b. b.history) bs) a) (part l a)) (sym (gathered_at bs f a few))
-        (subst (λ h. Ties h (part l a) (f a)) (sym (history_at bs a b is)) (subst (λ x. Ties x.history (part l a) (f a)) (account_at bs a b is) (cluster.parts a).1))
+        subst (DeedsMeet (history_of (map (λ b. b.history) bs) a) (part l a)) (sym (gathered_at bs f a few))
+        (subst (λ h. DeedsMeet h (part l a) (f a)) (sym (history_at bs a b is)) (subst (λ x. DeedsMeet x.history (part l a) (f a)) (account_at bs a b is) (cluster.parts a).1))
     at a few None is = absurd (let past = (nobody_at bs a is).1 in omega (arith, few, past))
 
 -- What came is one
 
-ties_one : (h : History) (ds : List Deed) (c d : Came) → Ties h ds c → Ties h ds d → c ≡ d
+ties_one : (h : History) (ds : List Deed) (c d : Came) → DeedsMeet h ds c → DeedsMeet h ds d → c ≡ d
 ties_one h ds c d first second = let both : Some c ≡ Some d = sym (ties_mean_goes h ds c first) ∙ ties_mean_goes h ds d second in cc
 
 pub came_alike : (hs : List History) (l : Ledger) (cs ds : List Came) → HaveCome hs l cs → HaveCome hs l ds → cs ≡ ds
@@ -116,11 +116,11 @@ came_alike hs l cs ds first second =
     let near : a < length hs = omega (arith, few, size) in
     ties_one (history_of hs a) (part l a) _ _ (first.each a near) (second.each a near)))
 
-pub told_one : (hs : List History) (l : Ledger) (cs : List Came) (all : List Told) → HaveCome hs l cs → IsTold hs l all → map told_of cs ≡ all
+pub told_one : (hs : List History) (l : Ledger) (cs : List Came) (all : List SaidView) → HaveCome hs l cs → IsTold hs l all → map told_of cs ≡ all
 told_one hs l cs all have told = ap (map told_of) (came_alike hs l cs told.came have told.have) ∙ told.said
 
 -- one more is the same
-pub same_more : (cs : List Came) (ts : List Told) (i : ℕ) (d : Came) (e : Told) → i < length cs → i < length ts → take i (map told_of cs) ≡ take i ts → told_of (slice_index_or cs i d) ≡ slice_index_or ts i e
+pub same_more : (cs : List Came) (ts : List SaidView) (i : ℕ) (d : Came) (e : SaidView) → i < length cs → i < length ts → take i (map told_of cs) ≡ take i ts → told_of (slice_index_or cs i d) ≡ slice_index_or ts i e
     → take (i + 1) (map told_of cs) ≡ take (i + 1) ts
 same_more [] ts i d e few some before here = absurd (omega (arith, few))
 same_more (c ∷ cs) [] i d e few some before here = absurd (omega (arith, some))

@@ -1,14 +1,13 @@
 -- An agent that waits for nobody has no message that found no room.
-use Rattle.std.proofs.Common.{◌≡◌, ℕ, zero, suc, ◌-◌, ◌++◌, Bool, true, false, is_none, List, [], ◌∷◌, Option, Some, None, refl, sym, ◌∙◌, ap, cond}
+use Rattle.std.proofs.Common.{◌≡◌, ℕ, zero, suc, ◌-◌, ◌++◌, Bool, true, false, is_none, List, [], ◌∷◌, Option, Some, None, refl, ◌∙◌, ap, cond}
 use Rattle.std.specs.Prelude.{slice_get}
 use Rattle.std.specs.List.{list_all}
 use Rattle.std.specs.Option.{option_and_then, option_map_or}
 use Rattle.std.proofs.lemmas.Bool.{and_parts}
-use Rattle.es_event.specs.declared.event.Event.{Event}
 use Rattle.es_event.specs.declared.plan.AgentPlan.{AgentPlan}
 use Rattle.es_event.specs.declared.plan.Job.{Job}
 use Rattle.es_event.specs.History.{History}
-use Rattle.es_event.specs.Jobs.{job, on_of, waits_for_nobody}
+use Rattle.es_event.specs.Jobs.{job, waits_for_nobody}
 use Rattle.es_match.specs.Asks.{asks, between_jobs}
 use Rattle.es_match.specs.Cluster.{awaited, is_refusal_asked, refused_senders}
 

@@ -7,10 +7,10 @@ use Rattle.es_event.specs.declared.plan.AgentPlan.{AgentPlan}
 use Rattle.es_event.specs.declared.plan.Plan.{Plan}
 use Rattle.es_event.specs.Ledger.{Ledger, count, port_of}
 use Rattle.es_event.specs.LegalLedger.{LegalLedger}
-use Rattle.es_ledger.specs.Books.{Books}
-use Rattle.es_ledger.specs.Draining.{drained}
+use Rattle.es_ledger.specs.LedgerView.{LedgerView}
+use Rattle.es_ledger.specs.Draining.{after_drain}
 use Rattle.es_match.specs.Cluster.{Account, IsClusterOf}
-use Rattle.es_record.specs.Book.{Book}
+use Rattle.es_record.specs.AgentView.{AgentView}
 use Rattle.es_cluster.specs.Ends.{IsWhole, with_ends}
 use Rattle.es_cluster.specs.State.{accounts}
 use Rattle.es_outcome.specs.Places.{AreAtPlaces}
@@ -35,10 +35,10 @@ pub record IsClusterOutcome (p : Plan) (o : Outcome) : Type 0 where
   pub messages : (s r : ℕ) → port_of (reverse o.ledger) s r ≡ []
 
 -- the ledger's history, once each of its agents counts as ended and the messages that nobody took are taken out
-abbrev pub at_last : Books → Ledger
-at_last l = drained (with_ends l.agents l.history) l.agents
+abbrev pub at_last : LedgerView → Ledger
+at_last l = after_drain (with_ends l.agents l.history) l.agents
 
 -- some agent is not in its place, or is none of the ledger's, or the ledger's is not there; or what they say is not that of one cluster
 -- with the ledger's history at last
-abbrev pub DoNotMatch : List Book → Books → Type 0
+abbrev pub DoNotMatch : List AgentView → LedgerView → Type 0
 DoNotMatch bs l = AreAtPlaces bs → length bs ≡ l.agents → IsClusterOf (accounts bs) (at_last l) → ⊥

@@ -2,22 +2,22 @@
 use Rattle.std.specs.Prelude.{ℕ, ◌≡◌, false, List, Some, slice_get}
 use Rattle.es_event.specs.declared.plan.Plan.{Plan}
 use Rattle.es_event.specs.Runs.{IsRunOver}
-use Rattle.es_record.specs.Book.{Book}
+use Rattle.es_record.specs.AgentView.{AgentView}
 use Rattle.es_cluster.specs.Moves.{is_over}
-use Rattle.es_member.specs.Seats.{IsPlanned}
+use Rattle.es_member.specs.Members.{IsPlanned}
 
 -- each is at the place of its number, counted from 0
-abbrev pub AreAtPlaces : List Book → Type 0
-AreAtPlaces bs = (n : ℕ) (b : Book) → slice_get bs n ≡ Some b → b.number ≡ n
+abbrev pub AreAtPlaces : List AgentView → Type 0
+AreAtPlaces bs = (n : ℕ) (b : AgentView) → slice_get bs n ≡ Some b → b.number ≡ n
 
 -- each has its plan of the whole one
-abbrev pub ArePlanned : Plan → List Book → Type 0
-ArePlanned p bs = (n : ℕ) (b : Book) → slice_get bs n ≡ Some b → IsPlanned p b
+abbrev pub ArePlanned : Plan → List AgentView → Type 0
+ArePlanned p bs = (n : ℕ) (b : AgentView) → slice_get bs n ≡ Some b → IsPlanned p b
 
 -- one of them is a run so far that has not come to its end
-pub record SomeGoesOn (bs : List Book) : Type 0 where
+pub record SomeGoesOn (bs : List AgentView) : Type 0 where
   pub number : ℕ
-  pub book : Book
-  pub here : slice_get bs number ≡ Some book
-  pub run : IsRunOver book.over book.plan book.history
-  pub going : is_over book ≡ false
+  pub core : AgentView
+  pub here : slice_get bs number ≡ Some core
+  pub run : IsRunOver core.over core.plan core.history
+  pub going : is_over core ≡ false

@@ -11,18 +11,18 @@ use Rattle.es_match.specs.Asks.{asks, between_jobs}
 use Rattle.es_event.specs.Ledger.{Ledger}
 use Rattle.es_match.specs.Cluster.{HaveCome, awaited, is_refusal_asked, refused_senders}
 use Rattle.es_match.specs.Meets.{Came, Tickets}
-use Rattle.es_record.specs.Book.{Book}
+use Rattle.es_record.specs.AgentView.{AgentView}
 use Rattle.es_outcome.specs.declared.said.Place.{Place}
 
 -- what came, but for what is left of it
-pub record Told : Type 0 where
+pub record SaidView : Type 0 where
   pub ever : Tickets
   pub refused : List ℕ
 
-abbrev pub told_of : Came → Told
+abbrev pub told_of : Came → SaidView
 told_of c = record { ever = c.ever; refused = c.refused }
 
-abbrev pub said_by : Book → Told
+abbrev pub said_by : AgentView → SaidView
 said_by b = record { ever = reverse b.over; refused = refused_senders b.plan b.history }
 
 -- the sender whose message the event refused for want of room
@@ -40,11 +40,11 @@ pub record IsAt (jobs : List Job) (h : History) (p : Place) : Type 0 where
   pub between : p.is_between ≡ between_jobs h
 
 -- histories and ledger are those of one cluster, and this is what came to its agents
-pub record IsTold (hs : List History) (l : Ledger) (all : List Told) : Type 0 where
+pub record IsTold (hs : List History) (l : Ledger) (all : List SaidView) : Type 0 where
   pub came : List Came
   pub have : HaveCome hs l came
   pub said : map told_of came ≡ all
 
 -- the agent never had a buffer, posted nothing and waits for nobody: so it asks the ledger for nothing before its end
-abbrev pub is_calm : Book → Bool
+abbrev pub is_calm : AgentView → Bool
 is_calm b = (length b.over == 0) && ((messages_posted b.history == 0) && waits_for_nobody b.plan)

@@ -4,10 +4,10 @@ ghost use Rattle.std.specs.Prelude.{◌≡◌, ℕ, Some, map, length, slice_get
 ghost use Rattle.es_event.specs.Ledger.{table};
 ghost use Rattle.es_event.specs.Rows.{held};
 ghost use Rattle.es_ledger.specs.Audits.{held_below};
-ghost use Rattle.es_record.specs.Book.{Book};
-ghost use Rattle.es_cluster.specs.State.{books};
+ghost use Rattle.es_record.specs.AgentView.{AgentView};
+ghost use Rattle.es_cluster.specs.State.{cores};
 ghost use Rattle.es_member.specs.Audits.{Audits};
-ghost use Rattle.es_member.specs.Seats.{rows_of, SameRows};
+ghost use Rattle.es_member.specs.Members.{rows_of, SameRows};
 ghost use Rattle.es_outcome.specs.Places.{AreAtPlaces};
 
 use es_cluster::{Audit, Member, Planned};
@@ -21,8 +21,8 @@ pub fn audit_of<L: Planned>(
     ledger: &mut LedgerCore<L>,
 ) -> Result<Audit, NoMemory>
     requires all { length members.old ≡ ledger.old.agents }
-    requires placed { AreAtPlaces (books (map (λ m. m.now) members.old)) }
-    ensures audit { IfOk result (λ a. Audits (books (map (λ m. m.now) members.old)) ledger.old a) }
+    requires placed { AreAtPlaces (cores (map (λ m. m.now) members.old)) }
+    ensures audit { IfOk result (λ a. Audits (cores (map (λ m. m.now) members.old)) ledger.old a) }
     ensures members { map (λ m. m.now) members.new ≡ map (λ m. m.now) members.old }
     ensures ledger { ledger.new ≡ ledger.old }
 {
@@ -36,10 +36,10 @@ pub fn audit_of<L: Planned>(
 /// changes.
 fn count_all<L: Planned>(members: &mut [&mut Member<L>], ledger: &mut LedgerCore<L>) -> u64
     requires all { length members.old ≡ ledger.old.agents }
-    requires placed { AreAtPlaces (books (map (λ m. m.now) members.old)) }
+    requires placed { AreAtPlaces (cores (map (λ m. m.now) members.old)) }
     ensures members { map (λ m. m.now) members.new ≡ map (λ m. m.now) members.old }
     ensures ledger { ledger.new ≡ ledger.old }
-    ensures rows { (n : ℕ) (b : Book) → slice_get (books (map (λ m. m.now) members.old)) n ≡ Some b → SameRows (rows_of b) (held n (table ledger.old.history)) }
+    ensures rows { (n : ℕ) (b : AgentView) → slice_get (cores (map (λ m. m.now) members.old)) n ≡ Some b → SameRows (rows_of b) (held n (table ledger.old.history)) }
     ensures count { result ≡ held_below (length members.old) ledger.old.history }
 {
     let mut count = 0;

@@ -1,7 +1,7 @@
 //! Agents that ask the ledger for nothing before their ends.
 
 ghost use Rattle.std.specs.Prelude.{◌≡◌, map, IfOk};
-ghost use Rattle.es_cluster.specs.State.{books};
+ghost use Rattle.es_cluster.specs.State.{cores};
 ghost use Rattle.es_outcome.specs.Said.{is_calm};
 
 use crate::said::waits_for_nobody;
@@ -14,7 +14,7 @@ pub(crate) fn all_calm<L: Planned>(
     alloc: Global,
     members: &[Member<L>],
 ) -> Result<Vec<bool>, NoMemory>
-    ensures { IfOk result (λ v. v.items ≡ map is_calm (books members.now)) }
+    ensures { IfOk result (λ v. v.items ≡ map is_calm (cores members.now)) }
 {
     let mut all = Vec::new(alloc);
     for place in 0..members.len() {
@@ -24,7 +24,7 @@ pub(crate) fn all_calm<L: Planned>(
 }
 
 fn is_calm<L: Planned>(member: &Member<L>) -> bool
-    ensures { result ≡ is_calm member.now.book }
+    ensures { result ≡ is_calm member.now.core }
 {
     let core = member.core();
     core.buffers().len() == 0

@@ -1,7 +1,7 @@
 //! The totals of registrations that a report has.
 
 ghost use Rattle.std.specs.Prelude.{◌≡◌, map, IfOk};
-ghost use Rattle.es_cluster.specs.State.{books};
+ghost use Rattle.es_cluster.specs.State.{cores};
 ghost use Rattle.es_count.specs.Tallies.{end_tally};
 
 use es_cluster::{Member, Planned};
@@ -11,7 +11,7 @@ use std::alloc::Global;
 
 /// How many registrations of each agent have each fate.
 pub fn tallies_of<L: Planned>(alloc: Global, members: &[Member<L>]) -> Result<Vec<Tally>, NoMemory>
-    ensures { IfOk result (λ ts. ts.items ≡ map (λ b. end_tally b.history) (books members.now)) }
+    ensures { IfOk result (λ ts. ts.items ≡ map (λ b. end_tally b.history) (cores members.now)) }
 {
     let mut tallies = Vec::new(alloc);
     for place in 0..members.len() {

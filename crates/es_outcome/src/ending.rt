@@ -4,7 +4,7 @@ ghost use Rattle.std.specs.Prelude.{◌≡◌, ◌≤◌, ◌↔◌, ℕ, [], tr
 ghost use Rattle.es_event.specs.Ledger.{port_of};
 ghost use Rattle.es_event.specs.LegalLedger.{LegalLedger};
 ghost use Rattle.es_cluster.specs.Ends.{AreEnded, AreHistories, HaveNoTicket};
-ghost use Rattle.es_cluster.specs.State.{books};
+ghost use Rattle.es_cluster.specs.State.{cores};
 ghost use Rattle.es_count.specs.Counts.{IsCountsOf};
 ghost use Rattle.es_match.specs.Calm.{AreCalm};
 ghost use Rattle.es_outcome.specs.Outcomes.{DoNotMatch, IsClusterOutcome, at_last};
@@ -42,8 +42,8 @@ pub fn outcome_of<R: Threads + Sync, L: Planned>(
     requires place { (parts.histories.items ≡ []) × (length parts.members.items ≤ vec_capacity parts.histories) }
     ensures outcome { IfOk result (λ r. IsClusterOutcome L.plan r.outcome) }
     ensures counts { IfOk result (λ r. IsCountsOf r.outcome r.counts) }
-    ensures mismatch { IfErr result (λ e. e ≡ RunStop.Mismatch → DoNotMatch (books parts.members.items) parts.ledger) }
-    ensures open { SomeGoesOn (books parts.members.items) → IfErr result (λ e. e ≡ RunStop.Mismatch) }
+    ensures mismatch { IfErr result (λ e. e ≡ RunStop.Mismatch → DoNotMatch (cores parts.members.items) parts.ledger) }
+    ensures open { SomeGoesOn (cores parts.members.items) → IfErr result (λ e. e ≡ RunStop.Mismatch) }
 {
     let agents = parts.ledger.agents();
     if parts.members.len() != agents
@@ -115,13 +115,13 @@ pub fn abandon<L: Planned>(parts: Parts<L>) {
 
 /// The outcome of agents that have closed, each of which counts as ended. It takes no memory.
 fn finish<L: Planned>(parts: Parts<L>) -> Outcome
-    requires closed { AreEnded (books parts.members.items) }
+    requires closed { AreEnded (cores parts.members.items) }
     requires place { (parts.histories.items ≡ []) × (length parts.members.items ≤ vec_capacity parts.histories) }
     ensures names { result.names ≡ parts.names }
-    ensures histories { AreHistories (books parts.members.items) result.histories }
+    ensures histories { AreHistories (cores parts.members.items) result.histories }
     ensures ledger { reverse result.ledger ≡ at_last parts.ledger }
     ensures legal { LegalLedger parts.ledger.agents (reverse result.ledger) }
-    ensures tickets { HaveNoTicket (books parts.members.items) (reverse result.ledger) }
+    ensures tickets { HaveNoTicket (cores parts.members.items) (reverse result.ledger) }
     ensures messages { (s r : ℕ) → port_of (reverse result.ledger) s r ≡ [] }
 {
     let Parts {
@@ -143,8 +143,8 @@ fn finish<L: Planned>(parts: Parts<L>) -> Outcome
 
 /// Whether each agent is at the place of its number.
 fn are_at_places<L: Planned>(members: &[Member<L>]) -> bool
-    ensures placed { (result ≡ true) ↔ AreAtPlaces (books members.now) }
-    ensures planned { result ≡ true → ArePlanned L.plan (books members.now) }
+    ensures placed { (result ≡ true) ↔ AreAtPlaces (cores members.now) }
+    ensures planned { result ≡ true → ArePlanned L.plan (cores members.now) }
 {
     for place in 0..members.len() {
         if members[place].number() != place {
@@ -156,8 +156,8 @@ fn are_at_places<L: Planned>(members: &[Member<L>]) -> bool
 
 /// Whether each agent has closed.
 fn have_closed<L: Planned>(members: &[Member<L>]) -> bool
-    ensures closed { result ≡ true → AreEnded (books members.now) }
-    ensures open { result ≡ false → SomeGoesOn (books members.now) }
+    ensures closed { result ≡ true → AreEnded (cores members.now) }
+    ensures open { result ≡ false → SomeGoesOn (cores members.now) }
 {
     for place in 0..members.len() {
         // It tells that the agent's history is a run of its plan.

@@ -8,7 +8,7 @@ ghost use Rattle.es_event.specs.Jobs.{cleaning, passes_job, waits_for_nobody};
 ghost use Rattle.es_match.specs.Asks.{asks};
 ghost use Rattle.es_match.specs.Cluster.{is_refusal_asked, refused_senders};
 ghost use Rattle.es_match.specs.Shown.{listed};
-ghost use Rattle.es_cluster.specs.State.{books};
+ghost use Rattle.es_cluster.specs.State.{cores};
 ghost use Rattle.es_outcome.specs.Said.{IsAt, awaited_first, refused_at, said_by, told_of};
 
 use es_cluster::{Member, Planned};
@@ -28,9 +28,9 @@ pub(crate) struct Said {
 }
 
 impl Model for Said {
-    ghost use Rattle.es_outcome.specs.Said.{Told};
+    ghost use Rattle.es_outcome.specs.Said.{SaidView};
 
-    ghost Value = { Told };
+    ghost Value = { SaidView };
 
     ghost view = { λ s. record { ever = s.buffers.items; refused = s.refused.items } };
 }
@@ -50,7 +50,7 @@ pub(crate) fn all_said<L: Planned>(
     alloc: Global,
     members: &[Member<L>],
 ) -> Result<Vec<Said>, NoMemory>
-    ensures { IfOk result (λ v. v.items ≡ map said_by (books members.now)) }
+    ensures { IfOk result (λ v. v.items ≡ map said_by (cores members.now)) }
 {
     let mut all = Vec::new(alloc);
     for place in 0..members.len() {
@@ -60,7 +60,7 @@ pub(crate) fn all_said<L: Planned>(
 }
 
 fn said_by<L: Planned>(alloc: Global, member: &Member<L>) -> Result<Said, NoMemory>
-    ensures { IfOk result (λ s. s ≡ said_by member.now.book) }
+    ensures { IfOk result (λ s. s ≡ said_by member.now.core) }
 {
     let core = member.core();
     let refused = refused_senders(alloc, core.plan(), core.history())?;

@@ -9,7 +9,7 @@ use Rattle.es_mark.specs.Made.{is_made}
 use Rattle.es_mark.specs.Marks.{IsLeast, is_marked}
 use Rattle.es_mark.proofs.Following.{made_numbered}
 use Rattle.es_parmark.specs.Pairs.{HasPairs}
-use Rattle.es_parmark.specs.Snapshot.{Copied, IsSound, IsCopyOf, targets_of, pairs_of, row, CopyHasRoots, CopyHasEdges, CopyHasEntries, are_made, AreMarksOf, AreMarksWith}
+use Rattle.es_parmark.specs.Snapshot.{SnapshotView, IsSound, IsCopyOf, targets_of, pairs_of, row, CopyHasRoots, CopyHasEdges, CopyHasEntries, are_made, AreMarksOf, AreMarksWith}
 use Rattle.es_parmark.proofs.Rows.{row_passes}
 use Rattle.es_parmark.proofs.Tests.{list_has}
 
@@ -28,7 +28,7 @@ is_numbered made i = elim (cases_lt made i) [
   ]
 ]
 
-module _ {made : ℕ} {roots : (ℕ → Bool) → Type 0} {edges entries : ℕ → (ℕ → Bool) → Type 0} {s : Copied} (c : IsCopyOf made roots edges entries s) where
+module _ {made : ℕ} {roots : (ℕ → Bool) → Type 0} {edges entries : ℕ → (ℕ → Bool) → Type 0} {s : SnapshotView} (c : IsCopyOf made roots edges entries s) where
   -- what is closed in the source is closed in the copy
   pub closed_in_copy : (t : ℕ → Bool) → IsClosed roots edges entries t → IsClosed (CopyHasRoots s) (CopyHasEdges s) (CopyHasEntries s) t
   closed_in_copy t closed = record {
@@ -53,7 +53,7 @@ module _ {made : ℕ} {roots : (ℕ → Bool) → Type 0} {edges entries : ℕ �
 
 -- what was made is closed in a sound copy
 
-module _ (s : Copied) (sound : IsSound s) where
+module _ (s : SnapshotView) (sound : IsSound s) where
   made_pairs : (ps : List (ℕ × ℕ)) → list_all (λ p. is_made s.made p.1) ps ≡ true → HasPairs ps (is_made s.made)
   made_pairs [] e = tt
   made_pairs (p ∷ ps) e = let q = and_parts (is_made s.made p.1) (list_all (λ p. is_made s.made p.1) ps) e in (λ _. q.0, made_pairs ps q.1)
@@ -70,7 +70,7 @@ module _ (s : Copied) (sound : IsSound s) where
   marks_made marks least i e = made_numbered s.made i (least.least (is_made s.made) made_closed i e)
 
 -- the marks of the copy are those of its source
-pub marks_serve : {made : ℕ} {roots : (ℕ → Bool) → Type 0} {edges entries : ℕ → (ℕ → Bool) → Type 0} {s : Copied} → IsCopyOf made roots edges entries s → (marks : List Bool) → AreMarksOf s marks
+pub marks_serve : {made : ℕ} {roots : (ℕ → Bool) → Type 0} {edges entries : ℕ → (ℕ → Bool) → Type 0} {s : SnapshotView} → IsCopyOf made roots edges entries s → (marks : List Bool) → AreMarksOf s marks
     → IsLeast roots edges entries marks
 marks_serve {made} {roots} {edges} {entries} {s} c marks least = record {
   closed = closed_in_source c (is_marked marks) (λ i e. rw (← c.made_same) (marks_made s c.sound marks least i e)) least.closed;
@@ -79,14 +79,14 @@ marks_serve {made} {roots} {edges} {entries} {s} c marks least = record {
 
 -- the same with these identities as roots besides its own
 
-module _ (s : Copied) (sound : IsSound s) (more : List ℕ) (good : are_made s.made more ≡ true) (marks : List Bool) (least : AreMarksWith s more marks) where
+module _ (s : SnapshotView) (sound : IsSound s) (more : List ℕ) (good : are_made s.made more ≡ true) (marks : List Bool) (least : AreMarksWith s more marks) where
   -- what is marked was made
   pub more_made : (i : ℕ) → is_marked marks i ≡ true → IsNumbered s.made i
   more_made i e =
       let made = made_closed s sound in
       made_numbered s.made i (least.least (is_made s.made) (record { has_roots = (made.has_roots, list_has s.made more good); follows = made.follows; enters = made.enters }) i e)
 
-pub more_serve : {made : ℕ} {roots : (ℕ → Bool) → Type 0} {edges entries : ℕ → (ℕ → Bool) → Type 0} {s : Copied} → IsCopyOf made roots edges entries s → (more : List ℕ) → are_made s.made more ≡ true
+pub more_serve : {made : ℕ} {roots : (ℕ → Bool) → Type 0} {edges entries : ℕ → (ℕ → Bool) → Type 0} {s : SnapshotView} → IsCopyOf made roots edges entries s → (more : List ℕ) → are_made s.made more ≡ true
     → (marks : List Bool) → AreMarksWith s more marks → IsLeast (λ t. roots t × HasAll more t) edges entries marks
 more_serve {made} {roots} {edges} {entries} {s} c more good marks least =
     let own = closed_in_source c (is_marked marks) (λ i e. rw (← c.made_same) (more_made s c.sound more good marks least i e))

@@ -10,7 +10,7 @@ use Rattle.es_mark.specs.Made.{is_made}
 use Rattle.es_mark.specs.Marks.{is_marked}
 use Rattle.es_mark.specs.Listed.{IsListed, IsAdded}
 use Rattle.es_mark.specs.Steps.{HasBoth, IsStep, Obeys, IsFollowed}
-use Rattle.es_mark.specs.Waiting.{waiting_for, Queues, Waits}
+use Rattle.es_mark.specs.Waiting.{waiting_for, WaitingView, Waits}
 use Rattle.es_mark.proofs.Lists.{all_mono, all_both, all_join, all_front, all_back}
 use Rattle.es_mark.proofs.Listed.{added_nothing, added_more}
 use Rattle.es_mark.proofs.Following.{made_fit}
@@ -25,25 +25,25 @@ use Rattle.es_parmark.proofs.Rows.{part_front}
 
 -- one pair
 
-as_pair : (p : ℕ × ℕ) (a : List ℕ) (u : Queues) (b : List ℕ) (v : Queues) → IsStep (HasValues ((p.0, Object p.1) ∷ [])) a u b v → IsStep (HasPairs (p ∷ [])) a u b v
+as_pair : (p : ℕ × ℕ) (a : List ℕ) (u : WaitingView) (b : List ℕ) (v : WaitingView) → IsStep (HasValues ((p.0, Object p.1) ∷ [])) a u b v → IsStep (HasPairs (p ∷ [])) a u b v
 as_pair p a u b v s = step_as (HasValues ((p.0, Object p.1) ∷ [])) (HasPairs (p ∷ [])) a u b v s (λ t. values_from (p ∷ []) t) (λ t. values_to (p ∷ []) t)
 
-pub pair_entered : (p : ℕ × ℕ) (marks : List Bool) (old new : List ℕ) (waiting : Queues) → IsListed marks old → is_marked marks p.0 ≡ true → IsAdded (p.1 ∷ []) old new
+pub pair_entered : (p : ℕ × ℕ) (marks : List Bool) (old new : List ℕ) (waiting : WaitingView) → IsListed marks old → is_marked marks p.0 ≡ true → IsAdded (p.1 ∷ []) old new
     → IsStep (HasPairs (p ∷ [])) old waiting new waiting
 pair_entered p marks old new waiting listed map added = as_pair p old waiting new waiting (step_entered (p.0, Object p.1) p.1 marks old new waiting refl listed map added)
 
-pub pair_known : (p : ℕ × ℕ) (marks : List Bool) (order : List ℕ) (waiting : Queues) → IsListed marks order → is_marked marks p.1 ≡ true → IsStep (HasPairs (p ∷ [])) order waiting order waiting
+pub pair_known : (p : ℕ × ℕ) (marks : List Bool) (order : List ℕ) (waiting : WaitingView) → IsListed marks order → is_marked marks p.1 ≡ true → IsStep (HasPairs (p ∷ [])) order waiting order waiting
 pair_known p marks order waiting listed here = as_pair p order waiting order waiting (step_known (p.0, Object p.1) p.1 marks order waiting refl listed here)
 
-pub pair_waits : (p : ℕ × ℕ) (marks : List Bool) (order : List ℕ) (waited waiting : Queues) → IsListed marks order → is_marked marks p.0 ≡ false → Waits waited p.0 p.1 waiting
+pub pair_waits : (p : ℕ × ℕ) (marks : List Bool) (order : List ℕ) (waited waiting : WaitingView) → IsListed marks order → is_marked marks p.0 ≡ false → Waits waited p.0 p.1 waiting
     → IsStep (HasPairs (p ∷ [])) order waited order waiting
 pair_waits p marks order waited waiting listed map w = as_pair p order waited order waiting (step_waits (p.0, Object p.1) p.1 marks order waited waiting refl listed map w)
 
-pub pairs_none : (order : List ℕ) (waiting : Queues) → IsStep (HasPairs []) order waiting order waiting
+pub pairs_none : (order : List ℕ) (waiting : WaitingView) → IsStep (HasPairs []) order waiting order waiting
 pairs_none order waiting = step_none (HasPairs []) order waiting (λ t. tt)
 
 -- pairs after others
-pub pairs_more : (ps qs : List (ℕ × ℕ)) (a : List ℕ) (u : Queues) (b : List ℕ) (v : Queues) (c : List ℕ) (w : Queues) → IsStep (HasPairs ps) a u b v → IsStep (HasPairs qs) b v c w
+pub pairs_more : (ps qs : List (ℕ × ℕ)) (a : List ℕ) (u : WaitingView) (b : List ℕ) (v : WaitingView) (c : List ℕ) (w : WaitingView) → IsStep (HasPairs ps) a u b v → IsStep (HasPairs qs) b v c w
     → IsStep (HasPairs (ps ++ qs)) a u c w
 pairs_more ps qs a u b v c w s r = step_more (λ t (q : ℕ × ℕ). t q.0 ≡ true → t q.1 ≡ true) ps qs a u b v c w s r
 
@@ -112,7 +112,7 @@ none_flat : (f : ℕ → List ℕ) (ids : List ℕ) → ((m : ℕ) → f m ≡ [
 none_flat f [] none = refl
 none_flat f (i ∷ ids) none = rw (none i) (none_flat f ids none)
 
-pub released_nothing : (waiting : Queues) (ids order : List ℕ) → ((m : ℕ) → waiting_for waiting m ≡ []) → IsAdded (flat_map (waiting_for waiting) ids) order order
+pub released_nothing : (waiting : WaitingView) (ids order : List ℕ) → ((m : ℕ) → waiting_for waiting m ≡ []) → IsAdded (flat_map (waiting_for waiting) ids) order order
 released_nothing waiting ids order none = rw (none_flat (waiting_for waiting) ids none) (added_nothing order)
 
 pub released_more : (f : ℕ → List ℕ) (from at i : ℕ) (old cur new found : List ℕ) → from ≤ at → at < length old → i ≡ get_or cur at i
@@ -123,23 +123,23 @@ released_more f from at i old cur new found le l is a same b =
     (added_more (flat_map f (take (at - from) (drop from old))) found old cur new a b)
 
 -- what waits for one of the list has room
-pub waiting_fits : (waiting : Queues) (size room at i : ℕ) (old cur rest : List ℕ) → cur ≡ old ++ rest → at < length old → i ≡ get_or cur at i → room ≡ size
+pub waiting_fits : (waiting : WaitingView) (size room at i : ℕ) (old cur rest : List ℕ) → cur ≡ old ++ rest → at < length old → i ≡ get_or cur at i → room ≡ size
     → AllByRecursion (λ m. AllByRecursion (λ j. j < size) (waiting_for waiting m)) old → AllByRecursion (λ j. j < room) (waiting_for waiting i)
 waiting_fits waiting size room at i old cur rest added l is same all =
     rw same (item_has (λ m. AllByRecursion (λ j. j < size) (waiting_for waiting m)) old at i l (is ∙ get_kept old cur rest at i added l) all)
 
-each_waiting : (waiting : Queues) (ids : List ℕ) (t : ℕ → Bool) → HasAll (flat_map (waiting_for waiting) ids) t → OfEach (λ m. HasAll (waiting_for waiting m)) ids t
+each_waiting : (waiting : WaitingView) (ids : List ℕ) (t : ℕ → Bool) → HasAll (flat_map (waiting_for waiting) ids) t → OfEach (λ m. HasAll (waiting_for waiting m)) ids t
 each_waiting waiting [] t all = tt
 each_waiting waiting (i ∷ ids) t all =
     (all_front _ (waiting_for waiting i) (flat_map (waiting_for waiting) ids) all, each_waiting waiting ids t (all_back _ (waiting_for waiting i) (flat_map (waiting_for waiting) ids) all))
 
-waiting_each : (waiting : Queues) (ids : List ℕ) (t : ℕ → Bool) → HasBoth ids waiting t → HasAll (flat_map (waiting_for waiting) ids) t
+waiting_each : (waiting : WaitingView) (ids : List ℕ) (t : ℕ → Bool) → HasBoth ids waiting t → HasAll (flat_map (waiting_for waiting) ids) t
 waiting_each waiting [] t both = tt
 waiting_each waiting (i ∷ ids) t both = all_join _ (waiting_for waiting i) (flat_map (waiting_for waiting) ids) (both.1 i both.0.0) (waiting_each waiting ids t (both.0.1, both.1))
 
 -- a part that helpers found is followed
 
-step_within : (P Q : (ℕ → Bool) → Type 0) (a : List ℕ) (u : Queues) (b : List ℕ) (v : Queues) → IsStep P a u b v → ((t : ℕ → Bool) → Q t → P t) → ((t : ℕ → Bool) → HasAll a t → P t → Q t)
+step_within : (P Q : (ℕ → Bool) → Type 0) (a : List ℕ) (u : WaitingView) (b : List ℕ) (v : WaitingView) → IsStep P a u b v → ((t : ℕ → Bool) → Q t → P t) → ((t : ℕ → Bool) → HasAll a t → P t → Q t)
     → IsStep Q a u b v
 step_within P Q a u b v p to from = record {
   rest = p.rest;
@@ -157,7 +157,7 @@ module _ {made : ℕ} {marks : List Bool} {edges entries : ℕ → (ℕ → Bool
   pub pairs_fit : (size : ℕ) → made < size → AllByRecursion (λ p. p.1 < size) pairs
   pairs_fit size l = rw part.enters.added (seconds_fit made size part.enters.rest l part.enters.passes)
 
-module _ (made : ℕ) (edges entries : ℕ → (ℕ → Bool) → Type 0) (front : List ℕ) (marks : List Bool) (old : List ℕ) (u : Queues) (mid : List ℕ) (last : List ℕ) (w : Queues) (ids : List ℕ)
+module _ (made : ℕ) (edges entries : ℕ → (ℕ → Bool) → Type 0) (front : List ℕ) (marks : List Bool) (old : List ℕ) (u : WaitingView) (mid : List ℕ) (last : List ℕ) (w : WaitingView) (ids : List ℕ)
     (pairs : List (ℕ × ℕ)) (listed : IsListed marks old) (within : (P : ℕ → Type 0) → AllByRecursion P old → AllByRecursion P front) (numbered : HasBoth old u (is_made made))
     (part : IsPart made marks edges entries front ids pairs) (added : IsAdded ids old mid) (entered : IsStep (HasPairs pairs) mid u last w) where
   led : IsStep (OfEach edges front) old u mid u
@@ -211,7 +211,7 @@ module _ (made : ℕ) (edges entries : ℕ → (ℕ → Bool) → Type 0) (front
   }
 
 -- one that is followed where it stands
-pub followed_one : (made : ℕ) (edges entries : ℕ → (ℕ → Bool) → Type 0) (from i : ℕ) (old : List ℕ) (u : Queues) (new : List ℕ) (w : Queues) → from < length old → i ≡ get_or old from i
+pub followed_one : (made : ℕ) (edges entries : ℕ → (ℕ → Bool) → Type 0) (from i : ℕ) (old : List ℕ) (u : WaitingView) (new : List ℕ) (w : WaitingView) → from < length old → i ≡ get_or old from i
     → IsFollowed made edges entries i old u new w → AreFollowed made edges entries (take (from + 1 - from) (drop from old)) old u new w
 followed_one made edges entries from i old u new w l is f =
     let one : take (from + 1 - from) (drop from old) ≡ i ∷ [] = part_more old from from i (omega arith) l ∙ ap (λ x. x ++ get_or old from i ∷ []) (part_start from old) ∙ ap (λ x. x ∷ []) (sym is) in
@@ -222,8 +222,8 @@ followed_one made edges entries from i old u new w l is f =
     }
 
 -- what lasts while parts of the list are followed
-pub goes_on : (roots : (ℕ → Bool) → Type 0) (edges entries : ℕ → (ℕ → Bool) → Type 0) (made done to : ℕ) (marks : List Bool) (order : List ℕ) (waited : Queues) (more : List Bool) (new : List ℕ)
-    (waiting : Queues) → Marking roots edges entries made done marks order waited → done ≤ to → to ≤ length order
+pub goes_on : (roots : (ℕ → Bool) → Type 0) (edges entries : ℕ → (ℕ → Bool) → Type 0) (made done to : ℕ) (marks : List Bool) (order : List ℕ) (waited : WaitingView) (more : List Bool) (new : List ℕ)
+    (waiting : WaitingView) → Marking roots edges entries made done marks order waited → done ≤ to → to ≤ length order
     → AreFollowed made edges entries (take (to - done) (drop done order)) order waited new waiting → length more ≡ length marks → Marking roots edges entries made to more new waiting
 goes_on roots edges entries made done to marks order waited more new waiting m le l f room =
     let front = take (to - done) (drop done order) in

@@ -3,16 +3,16 @@ use Rattle.std.proofs.Common.{ℕ, ◌≡◌, ◌+◌, ◌<◌, Bool, true, zero
 use Rattle.std.proofs.Math.ListN.{get_or}
 use Rattle.std.specs.Prelude.{MatchResult}
 use Rattle.std.specs.declared.result.Result.{Result}
-use Rattle.std.specs.List.{AllByRecursion, AllZip, flat_map, list_all}
+use Rattle.std.specs.List.{AllByRecursion, AllZip, flat_map}
 use Rattle.std.proofs.lemmas.List.{append-nil, append_assoc}
 use Rattle.std.proofs.lemmas.List.Concat.{flat_map-append}
 use Rattle.es_value.specs.declared.value.Value.{Value}
 use Rattle.es_mark.specs.Graph.{HasAll, Finds, FindsEntries}
 use Rattle.es_mark.specs.Made.{is_made}
-use Rattle.es_mark.specs.Marks.{is_marked, IsWithin}
+use Rattle.es_mark.specs.Marks.{IsWithin}
 use Rattle.es_mark.proofs.Lists.{all_join, all_front, all_back}
 use Rattle.es_mark.proofs.Following.{found_made, found_only, found_all}
-use Rattle.es_parmark.specs.Pairs.{HasPairs, pairs_said}
+use Rattle.es_parmark.specs.Pairs.{pairs_said}
 use Rattle.es_parmark.specs.Gathered.{IsGathered, IsSifted, GathersIds, GathersPairs, OfEach, IsPart}
 use Rattle.es_parmark.proofs.Tests.{list_all_join, has_list}
 use Rattle.es_parmark.proofs.PairLists.{said_from, said_to, said_made}

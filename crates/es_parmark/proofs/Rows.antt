@@ -1,16 +1,13 @@
 -- Rows one after another.
-use Rattle.std.proofs.Common.{map, ℕ, ◌≡◌, ◌+◌, ◌-◌, ◌<◌, ◌≤◌, Bool, true, zero, suc, arith, sym, ◌∙◌, ap, refl, List, [], ◌∷◌, ◌++◌, length, take, drop, inl, inr, min, Some, None, Option}
+use Rattle.std.proofs.Common.{ℕ, ◌≡◌, ◌+◌, ◌-◌, ◌<◌, ◌≤◌, Bool, true, zero, suc, arith, sym, ◌∙◌, ap, refl, List, [], ◌∷◌, ◌++◌, length, take, drop, inl, inr, min}
 use Rattle.std.proofs.Math.ListN.{get_or}
 use Rattle.std.specs.List.{AllByRecursion, list_all}
 use Rattle.std.proofs.lemmas.Bool.{cases_lt, and_parts}
 use Rattle.std.proofs.lemmas.List.{take-append-le, drop-append-le, drop_all, take_all, length-append, length_push, length-drop}
 use Rattle.es_value.specs.declared.value.Value.{Value}
-use Rattle.es_value.specs.declared.value.Value.TheVariants.{Object}
-use Rattle.es_value.specs.Values.{identity}
-use Rattle.es_mark.specs.Graph.{IsNumbered, HasAll, HasValues, Finds, FindsEntries}
+use Rattle.es_mark.specs.Graph.{HasAll, Finds, FindsEntries}
 use Rattle.es_mark.specs.Made.{is_made}
-use Rattle.es_mark.proofs.Following.{made_numbered, numbered_made}
-use Rattle.es_parmark.specs.Pairs.{HasPairs, pairs_said}
+use Rattle.es_parmark.specs.Pairs.{pairs_said}
 use Rattle.es_parmark.specs.Snapshot.{row, IsSound, IsCopyOf}
 use Rattle.es_parmark.specs.Copying.{AreRows}
 use Rattle.es_parmark.proofs.Tests.{list_all_join, numbered_list, list_numbered}

@@ -5,7 +5,7 @@ use Rattle.es_mark.specs.Graph.{HasAll}
 use Rattle.es_mark.specs.Made.{is_made}
 use Rattle.es_mark.specs.Marks.{IsWithin}
 use Rattle.es_mark.specs.Steps.{HasBoth, IsStep, Obeys}
-use Rattle.es_mark.specs.Waiting.{Queues, waiting_for}
+use Rattle.es_mark.specs.Waiting.{WaitingView, waiting_for}
 
 -- the list has grown by what passes the test, and a set with the marks has this exactly where it has what is asked for
 pub record IsGathered {X : Type 0} (marks : List Bool) (test : X → Bool) (Has : (ℕ → Bool) → X → Type 0) (asked : (ℕ → Bool) → Type 0) (old new : List X) : Type 0 where
@@ -37,7 +37,7 @@ pub record IsPart (made : ℕ) (marks : List Bool) (edges entries : ℕ → (ℕ
   pub enters : GathersPairs made marks (OfEach entries front) [] pairs
 
 -- these identities are followed, and what waited for each of them is marked
-pub record AreFollowed (made : ℕ) (edges entries : ℕ → (ℕ → Bool) → Type 0) (ids old : List ℕ) (waited : Queues) (new : List ℕ) (waiting : Queues) : Type 0 where
+pub record AreFollowed (made : ℕ) (edges entries : ℕ → (ℕ → Bool) → Type 0) (ids old : List ℕ) (waited : WaitingView) (new : List ℕ) (waiting : WaitingView) : Type 0 where
   pub step : IsStep (OfEach (Obeys edges entries) ids) old waited new waiting
   pub released : (t : ℕ → Bool) → HasAll new t → OfEach (λ m. HasAll (waiting_for waiting m)) ids t
   pub numbered : HasBoth new waiting (is_made made)

@@ -25,9 +25,9 @@ pub struct Snapshot {
 }
 
 impl Model for Snapshot {
-    ghost use Rattle.es_parmark.specs.Snapshot.{Copied, IsSound};
+    ghost use Rattle.es_parmark.specs.Snapshot.{SnapshotView, IsSound};
 
-    ghost Value = { Copied };
+    ghost Value = { SnapshotView };
 
     ghost view = { λ s. record { made = s.made; roots = s.roots.items; ends = s.ends.items; targets = s.targets.items; stops = s.stops.items; pairs = s.pairs.items } };
 

@@ -6,14 +6,14 @@ use Rattle.es_path.specs.declared.step.Step.TheVariants.{Variable, Kept, Registr
 use Rattle.es_path.specs.declared.way.Way.{Way}
 use Rattle.es_path.specs.Finds.{Finds}
 use Rattle.es_path.specs.Added.{AreAdded}
-use Rattle.es_path.specs.Waiting.{Queues, waiting_for}
+use Rattle.es_path.specs.Waiting.{WaitingView, waiting_for}
 use Rattle.es_path.specs.Search.{IsWaiting, Covers, Searching, Sorting}
 use Rattle.es_path.proofs.Adding.{added_has, added_ordered}
 use Rattle.es_path.proofs.Finding.{found_led, found_every}
 use Rattle.es_path.proofs.Sorted.{sorting_added}
 
 module _ (leads : Step → ℕ → Type 0) (found ws : List Way) (f : Finds leads [] [] found) (a : AreAdded found [] ws) where
-  covers : (waiting : Queues) (s : Step) (i : ℕ) → leads s i → Covers [] ws waiting s i
+  covers : (waiting : WaitingView) (s : Step) (i : ℕ) → leads s i → Covers [] ws waiting s i
   covers waiting (Variable n) i led = added_has a i (found_every f (Variable n) i led refl)
   covers waiting Kept i led = added_has a i (found_every f Kept i led refl)
   covers waiting Registry i led = added_has a i (found_every f Registry i led refl)
@@ -21,7 +21,7 @@ module _ (leads : Step → ℕ → Type 0) (found ws : List Way) (f : Finds lead
   covers waiting (Property o n) i led = λ e. cc
   covers waiting (Entry m k) i led = λ e. cc
 
-  pub begins : (waiting : Queues) → ((m : ℕ) → waiting_for waiting m ≡ []) → Searching leads 0 ws waiting
+  pub begins : (waiting : WaitingView) → ((m : ℕ) → waiting_for waiting m ≡ []) → Searching leads 0 ws waiting
   begins waiting none = record {
     bound = omega arith;
     ordered = added_ordered leads found [] ws a tt (found_led f [] tt);

@@ -5,10 +5,10 @@ use Rattle.es_path.specs.declared.step.Step.{Step}
 use Rattle.es_path.specs.declared.step.Step.TheVariants.{Variable, Kept, Registry, Held, Property, Entry}
 use Rattle.es_path.specs.declared.way.Way.{Way}
 use Rattle.es_path.specs.Ways.{sources, has_way}
-use Rattle.es_path.specs.Waiting.{Queues}
+use Rattle.es_path.specs.Waiting.{WaitingView}
 use Rattle.es_path.specs.Search.{Covers}
 
-module _ (leads : Step → ℕ → Type 0) (front ws : List Way) (waiting : Queues) (covers : (s : Step) (i : ℕ) → leads s i → Covers front ws waiting s i) where
+module _ (leads : Step → ℕ → Type 0) (front ws : List Way) (waiting : WaitingView) (covers : (s : Step) (i : ℕ) → leads s i → Covers front ws waiting s i) where
   pub covered : (s : Step) (i : ℕ) → leads s i → AllByRecursion (λ j. has_way front j ≡ true) (sources s) → has_way ws i ≡ true
   covered (Variable n) i led comes = covers (Variable n) i led
   covered Kept i led comes = covers Kept i led

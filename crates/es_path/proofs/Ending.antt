@@ -4,12 +4,12 @@ use Rattle.std.proofs.lemmas.List.{take_all}
 use Rattle.es_path.specs.declared.step.Step.{Step}
 use Rattle.es_path.specs.declared.way.Way.{Way}
 use Rattle.es_path.specs.Ways.{has_way, AreWays}
-use Rattle.es_path.specs.Waiting.{Queues}
+use Rattle.es_path.specs.Waiting.{WaitingView}
 use Rattle.es_path.specs.Search.{Covers, Searching}
 use Rattle.es_path.proofs.Adding.{ordered_within}
 use Rattle.es_path.proofs.Covering.{covered}
 
-module _ (leads : Step → ℕ → Type 0) (done : ℕ) (ws : List Way) (waiting : Queues) (s : Searching leads done ws waiting) (all : length ws ≤ done) where
+module _ (leads : Step → ℕ → Type 0) (done : ℕ) (ws : List Way) (waiting : WaitingView) (s : Searching leads done ws waiting) (all : length ws ≤ done) where
   covers : (t : Step) (i : ℕ) → leads t i → Covers ws ws waiting t i
   covers t i led = subst (λ (l : List Way). Covers l ws waiting t i) (take_all done ws all) (s.covers t i led)
 

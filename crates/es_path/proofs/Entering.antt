@@ -7,16 +7,16 @@ use Rattle.es_path.specs.declared.way.Way.{Way}
 use Rattle.es_path.specs.Ways.{has_way}
 use Rattle.es_path.specs.Added.{with_ways, AreAdded}
 use Rattle.es_path.specs.Search.{ready, delayed, way_to, AreEntered}
-use Rattle.es_path.specs.Waiting.{Queues, waiting_for, Waits}
+use Rattle.es_path.specs.Waiting.{WaitingView, waiting_for, Waits}
 use Rattle.es_path.proofs.Adding.{with_append, front_all}
 use Rattle.es_path.proofs.Pairs.{ready_append, delayed_append}
 
 -- no entry
-pub entered_nothing : (count k : ℕ) (ws : List Way) (waiting : Queues) → AreEntered count k [] ws waiting ws waiting
+pub entered_nothing : (count k : ℕ) (ws : List Way) (waiting : WaitingView) → AreEntered count k [] ws waiting ws waiting
 entered_nothing count k ws waiting = record { listed = refl; waits = λ m. sym (append-nil (waiting_for waiting m)) }
 
 -- its WeakMap is followed
-pub entered_now : (count k : ℕ) (e : ℕ × ℕ) (old new : List Way) (waiting : Queues) → has_way (take count old) e.0 ≡ true → AreAdded (way_to e.1 (Entry e.0 k) ∷ []) old new
+pub entered_now : (count k : ℕ) (e : ℕ × ℕ) (old new : List Way) (waiting : WaitingView) → has_way (take count old) e.0 ≡ true → AreAdded (way_to e.1 (Entry e.0 k) ∷ []) old new
     → AreEntered count k (e ∷ []) old waiting new waiting
 entered_now count k e old new waiting s a = record {
   listed = rw s a.added;
@@ -24,7 +24,7 @@ entered_now count k e old new waiting s a = record {
 }
 
 -- it waits
-pub entered_later : (count k : ℕ) (e : ℕ × ℕ) (ws : List Way) (waited waiting : Queues) → has_way (take count ws) e.0 ≡ false → Waits waited e.0 (k, e.1) waiting
+pub entered_later : (count k : ℕ) (e : ℕ × ℕ) (ws : List Way) (waited waiting : WaitingView) → has_way (take count ws) e.0 ≡ false → Waits waited e.0 (k, e.1) waiting
     → AreEntered count k (e ∷ []) ws waited ws waiting
 entered_later count k e ws waited waiting s w = record {
   listed = rw s refl;
@@ -39,7 +39,7 @@ entered_later count k e ws waited waiting s w = record {
 }
 
 -- one entry more
-pub entered_more : (count k : ℕ) (es : List (ℕ × ℕ)) (e : ℕ × ℕ) (a b c : List Way) (u v w : Queues) → count ≤ length a → AreEntered count k es a u b v → AreEntered count k (e ∷ []) b v c w
+pub entered_more : (count k : ℕ) (es : List (ℕ × ℕ)) (e : ℕ × ℕ) (a b c : List Way) (u v w : WaitingView) → count ≤ length a → AreEntered count k es a u b v → AreEntered count k (e ∷ []) b v c w
     → AreEntered count k (es ++ e ∷ []) a u c w
 entered_more count k es e a b c u v w l p q =
     let front : take count b ≡ take count a = ap (take count) p.listed ∙ front_all count a (ready (take count a) k es) l in

@@ -8,7 +8,7 @@ use Rattle.es_path.specs.declared.way.Way.{Way}
 use Rattle.es_path.specs.Ways.{has_way}
 use Rattle.es_path.specs.Finds.{Finds, FindsEntries, has_pair}
 use Rattle.es_path.specs.Added.{AreAdded}
-use Rattle.es_path.specs.Waiting.{Queues, waiting_for}
+use Rattle.es_path.specs.Waiting.{WaitingView, waiting_for}
 use Rattle.es_path.specs.Search.{HasRoom, IsLed, IsWaiting, Covers, Searching, Sorting, Stands, AreEntered, ready, delayed, released}
 use Rattle.es_path.proofs.Adding.{has_append, has_take, added_more, added_keeps, added_has, added_front, added_length, added_ordered, led_mono}
 use Rattle.es_path.proofs.Finding.{found_led, found_every, entries_only, entries_every}
@@ -26,8 +26,8 @@ stands_more ws place x st j =
     let last : has_way (st.way ∷ []) j ≡ (x == j) = subst (λ (v : ℕ). has_way (st.way ∷ []) j ≡ (v == j)) st.value (or_none (st.way.value == j)) in
     ap (λ (l : List Way). has_way l j) st.split ∙ has_append (take place ws) (st.way ∷ []) j ∙ ap (λ (b : Bool). has_way (take place ws) j || b) last
 
-module _ (leads : Step → ℕ → Type 0) (done x : ℕ) (ws : List Way) (waited : Queues) (s : Searching leads done ws waited) (within : done < length ws) (st : Stands ws done x)
-    (found next : List Way) (f : Finds leads (x ∷ []) [] found) (added : AreAdded found ws next) (es : List (ℕ × ℕ)) (g : FindsEntries leads x [] es) (last : List Way) (waiting : Queues)
+module _ (leads : Step → ℕ → Type 0) (done x : ℕ) (ws : List Way) (waited : WaitingView) (s : Searching leads done ws waited) (within : done < length ws) (st : Stands ws done x)
+    (found next : List Way) (f : Finds leads (x ∷ []) [] found) (added : AreAdded found ws next) (es : List (ℕ × ℕ)) (g : FindsEntries leads x [] es) (last : List Way) (waiting : WaitingView)
     (entered : AreEntered (done + 1) x es next waited last waiting) where
   more : (j : ℕ) → has_way (take (done + 1) ws) j ≡ (has_way (take done ws) j || (x == j))
   more = stands_more ws done x st

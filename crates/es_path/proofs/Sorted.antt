@@ -7,7 +7,7 @@ use Rattle.es_path.specs.declared.step.Step.{Step}
 use Rattle.es_path.specs.declared.way.Way.{Way}
 use Rattle.es_path.specs.Ways.{sources, has_way, IsWithin}
 use Rattle.es_path.specs.Added.{with_ways, AreAdded}
-use Rattle.es_path.specs.Waiting.{Queues}
+use Rattle.es_path.specs.Waiting.{WaitingView}
 use Rattle.es_path.specs.Search.{IsLed, Searching, Stands, IsNoFarther, AreSorted, Sorting}
 use Rattle.es_path.proofs.Adding.{has_append, led_mono}
 use Rattle.es_path.proofs.Covering.{covered}
@@ -96,7 +96,7 @@ module _ (leads : Step → ℕ → Type 0) where
 
   -- The value that is followed next is the nearest of those that are not followed
 
-  module _ (done x : ℕ) (ws : List Way) (waiting : Queues) (s : Searching leads done ws waiting) (st : Stands ws done x)
+  module _ (done x : ℕ) (ws : List Way) (waiting : WaitingView) (s : Searching leads done ws waiting) (st : Stands ws done x)
       (more : (j : ℕ) → has_way (take (done + 1) ws) j ≡ (has_way (take done ws) j || (x == j))) (sorting : Sorting leads (take done ws) ws) where
     whole : AreSorted leads (take (done + 1) ws ++ drop (done + 1) ws)
     whole = subst (AreSorted leads) (sym (take-append-drop (done + 1) ws)) sorting.sorted
@@ -164,7 +164,7 @@ module _ (leads : Step → ℕ → Type 0) where
       | inr same ↦ subst (λ (k : ℕ). IsWithin leads n k) (eqb-true x j same) is
     ]
 
-  pub sorting_followed : (done x : ℕ) (ws : List Way) (waiting : Queues) → Searching leads done ws waiting → Stands ws done x
+  pub sorting_followed : (done x : ℕ) (ws : List Way) (waiting : WaitingView) → Searching leads done ws waiting → Stands ws done x
       → ((j : ℕ) → has_way (take (done + 1) ws) j ≡ (has_way (take done ws) j || (x == j))) → (added new : List Way) → AreAdded added ws new
       → AllByRecursion (IsLed leads (take (done + 1) ws)) added → Sorting leads (take done ws) ws → Sorting leads (take (done + 1) ws) new
   sorting_followed done x ws waiting s st more added new a led sorting =

@@ -7,7 +7,7 @@ use Rattle.es_path.specs.declared.way.Way.{Way}
 use Rattle.es_path.specs.Ways.{sources, has_way, AreOrdered, IsWithin, AreShortest}
 use Rattle.es_path.specs.Finds.{has_pair}
 use Rattle.es_path.specs.Added.{with_ways}
-use Rattle.es_path.specs.Waiting.{Queues, waiting_for}
+use Rattle.es_path.specs.Waiting.{WaitingView, waiting_for}
 
 -- each identity to which a step leads has a place
 abbrev pub HasRoom : (Step → ℕ → Type 0) → ℕ → Type 0
@@ -32,7 +32,7 @@ released m [] = []
 released m (e ∷ es) = way_to e.1 (Entry m e.0) ∷ released m es
 
 -- entries with key k are entered: those whose WeakMap is among the first ways have a way, the others wait
-pub record AreEntered (count k : ℕ) (es : List (ℕ × ℕ)) (old : List Way) (waited : Queues) (new : List Way) (waiting : Queues) : Type 0 where
+pub record AreEntered (count k : ℕ) (es : List (ℕ × ℕ)) (old : List Way) (waited : WaitingView) (new : List Way) (waiting : WaitingView) : Type 0 where
   pub listed : new ≡ with_ways old (ready (take count old) k es)
   pub waits : (m : ℕ) → waiting_for waiting m ≡ waiting_for waited m ++ delayed (take count old) k es m
 
@@ -45,7 +45,7 @@ abbrev pub IsWaiting : (Step → ℕ → Type 0) → List Way → ℕ → ℕ ×
 IsWaiting leads ws m e = leads (Entry m e.0) e.1 × (has_way ws e.0 ≡ true)
 
 -- where what the step comes from is in front, the value has a way; an entry whose WeakMap alone is not in front waits for it
-abbrev pub Covers : List Way → List Way → Queues → Step → ℕ → Type 0
+abbrev pub Covers : List Way → List Way → WaitingView → Step → ℕ → Type 0
 Covers front ws waiting (Variable n) i = has_way ws i ≡ true
 Covers front ws waiting Kept i = has_way ws i ≡ true
 Covers front ws waiting Registry i = has_way ws i ≡ true
@@ -54,7 +54,7 @@ Covers front ws waiting (Property o n) i = has_way front o ≡ true → has_way 
 Covers front ws waiting (Entry m k) i = has_way front k ≡ true → (if has_way front m then has_way ws i else has_pair (waiting_for waiting m) k i) ≡ true
 
 -- the first ways are followed
-pub record Searching (leads : Step → ℕ → Type 0) (done : ℕ) (ws : List Way) (waiting : Queues) : Type 0 where
+pub record Searching (leads : Step → ℕ → Type 0) (done : ℕ) (ws : List Way) (waiting : WaitingView) : Type 0 where
   pub bound : done ≤ length ws
   pub ordered : AreOrdered leads [] ws
   pub covers : (s : Step) (i : ℕ) → leads s i → Covers (take done ws) ws waiting s i

@@ -2,14 +2,14 @@
 use Rattle.std.specs.Prelude.{ℕ, ◌≡◌, List, [], ◌∷◌, ◌++◌, ◌==◌, if◌then◌else◌}
 
 -- for each WeakMap keys and values
-abbrev pub Queues : Type 0
-Queues = List (ℕ × List (ℕ × ℕ))
+abbrev pub WaitingView : Type 0
+WaitingView = List (ℕ × List (ℕ × ℕ))
 
 -- what waits for the WeakMap
-abbrev pub waiting_for : Queues → ℕ → List (ℕ × ℕ)
+abbrev pub waiting_for : WaitingView → ℕ → List (ℕ × ℕ)
 waiting_for [] m = []
 waiting_for (q ∷ qs) m = if q.0 == m then q.1 else waiting_for qs m
 
 -- one more entry waits for the WeakMap, and for every other one what waited
-abbrev pub Waits : Queues → ℕ → ℕ × ℕ → Queues → Type 0
+abbrev pub Waits : WaitingView → ℕ → ℕ × ℕ → WaitingView → Type 0
 Waits old m e new = (k : ℕ) → waiting_for new k ≡ (if m == k then waiting_for old m ++ e ∷ [] else waiting_for old k)

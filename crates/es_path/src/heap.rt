@@ -9,8 +9,8 @@ use es_value::{Id, NoMemory};
 
 /// Values that lead to each other: which steps lead to which identity.
 ///
-/// The owner says in its own words where a step leads (ECMA-262, Execution and WeakMap Objects say
-/// what can lead to a value). A call's clause ties these words to what the call finds, in any order:
+/// The owner says by definitions of its own where a step leads (ECMA-262, Execution and WeakMap Objects say
+/// what can lead to a value). A call's clause ties these definitions to what the call finds, in any order:
 /// each step that was found leads to its value, and each value to which such a step leads was found.
 ///
 /// `roots`, `properties` and `entries` fail where `found` cannot grow, and then nothing is said of it.

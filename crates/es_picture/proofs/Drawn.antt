@@ -5,13 +5,13 @@ use Rattle.std.specs.Io.KnownBytes.{Appends}
 use Rattle.std.proofs.KnownBytes.{Appends-trans}
 use Rattle.es_event.specs.Identities.{made}
 use Rattle.es_event.specs.WeakRefs.{kept}
-use Rattle.es_record.specs.Book.{Book}
+use Rattle.es_record.specs.AgentView.{AgentView}
 use Rattle.es_why.specs.Leads.{AreAllNames}
 use Rattle.es_picture.specs.Lines.{head, emptied_line, entry_lines, kept_line, kept_lines, key_line, map_line, point_line, value_line}
 use Rattle.es_picture.specs.Picture.{registrations, things, variable_at, IsPicture}
 use Rattle.es_picture.proofs.Ranged.{WritesEach}
 
-pub drawn : (b : Book) (ids : List ℕ) (names : List (List ℕ)) (w0 w1 w2 w3 w4 w5 w6 w7 w8 : Option (List ℕ)) → AreAllNames b names
+pub drawn : (b : AgentView) (ids : List ℕ) (names : List (List ℕ)) (w0 w1 w2 w3 w4 w5 w6 w7 w8 : Option (List ℕ)) → AreAllNames b names
     → Appends w0 w1 (head b.plan.name)
     → Appends w1 w2 (flat_map emptied_line ids)
     → Appends w2 w3 (things b.history)

@@ -12,7 +12,7 @@ use Rattle.es_event.specs.Properties.{prop, keys}
 use Rattle.es_event.specs.WeakRefs.{kept, target}
 use Rattle.es_event.specs.Ephemerons.{entry, is_member}
 use Rattle.es_event.specs.Registrations.{Cell, Fate, live, cell, fate, same_fate, is_present, registered}
-use Rattle.es_record.specs.Book.{Book}
+use Rattle.es_record.specs.AgentView.{AgentView}
 use Rattle.es_why.specs.Leads.{AreAllNames}
 use Rattle.es_picture.specs.Lines.{head, thing_line, emptied_line, variable_lines, kept_lines, property_line, entry_lines, weak_line, target_line, held_line}
 
@@ -28,7 +28,7 @@ abbrev pub things : History → List ℕ
 things h = flat_map (thing_at h) (range_with_len 1 (made h))
 
 -- what variables of these names hold
-abbrev pub variable_at : Book → List ℕ → List ℕ
+abbrev pub variable_at : AgentView → List ℕ → List ℕ
 variable_at b x = if_some (variable_lines x) (identity (var (receivers b.plan.jobs) b.history x))
 
 -- what the property of o under this key holds
@@ -86,7 +86,7 @@ abbrev pub registrations : History → List ℕ
 registrations h = flat_map (registration_at h) (range_with_len 1 (registered h))
 
 -- the picture of what an agent has after it emptied these
-pub record IsPicture (b : Book) (ids : List ℕ) (text : List ℕ) : Type 0 where
+pub record IsPicture (b : AgentView) (ids : List ℕ) (text : List ℕ) : Type 0 where
   -- the variables, in any order
   pub names : List (List ℕ)
   pub edges : List ℕ

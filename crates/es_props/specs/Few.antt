@@ -5,7 +5,7 @@ use Rattle.es_value.specs.declared.value.Value.{Value}
 use Rattle.es_props.specs.Heap.{Properties, value_at}
 
 -- the properties, and for how many more there is room
-pub record FewProperties : Type 0 where
+pub record FewView : Type 0 where
   pub entries : Properties
   pub room : ℕ
 

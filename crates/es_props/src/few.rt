@@ -24,9 +24,9 @@ impl Model for Few {
     ghost use Rattle.std.specs.List.{IsDistinct};
     ghost use Rattle.std.specs.Str.{bytes_eq};
     ghost use Rattle.es_props.specs.Heap.{keys_of};
-    ghost use Rattle.es_props.specs.Few.{FewProperties};
+    ghost use Rattle.es_props.specs.Few.{FewView};
 
-    ghost Value = { FewProperties };
+    ghost Value = { FewView };
 
     ghost view = { λ f. record { entries = f.entries.items; room = vec_capacity f.entries - vec_len f.entries } };
 

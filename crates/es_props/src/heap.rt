@@ -25,10 +25,10 @@ pub struct Heap {
 
 impl Model for Heap {
     ghost use Rattle.std.specs.Prelude.{map};
-    ghost use Rattle.es_props.specs.Heap.{Objects};
+    ghost use Rattle.es_props.specs.Heap.{HeapView};
     ghost use Rattle.es_props.specs.Slots.{objects_from};
 
-    ghost Value = { Objects };
+    ghost Value = { HeapView };
 
     ghost view = { λ h. record {
       all = objects_from 1 h.slots.items;

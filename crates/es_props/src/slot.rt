@@ -42,9 +42,9 @@ pub(crate) enum Held {
 }
 
 impl Model for Slot {
-    ghost use Rattle.es_props.specs.Slots.{Place, place_of};
+    ghost use Rattle.es_props.specs.Slots.{SlotView, place_of};
 
-    ghost Value = { Place };
+    ghost Value = { SlotView };
 
     ghost view = { λ s. place_of s.held };
 }

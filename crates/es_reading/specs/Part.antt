@@ -1,5 +1,4 @@
 -- Internal: what the reader of operands sees of a JSON value.
-use Rattle.std.specs.Prelude.{ℕ}
 use Rattle.serde_json.specs.Data.{Data, null, boolean, number, string, array, no_items}
 use Rattle.serde_json.specs.View.{number_view}
 use Rattle.es_reading.specs.declared.part.Part.{Part}

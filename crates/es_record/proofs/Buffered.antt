@@ -5,7 +5,7 @@ use Rattle.std.proofs.lemmas.Bool.Decides.{nat_tests}
 use Rattle.std.proofs.lemmas.List.{reverse-append}
 use Rattle.es_event.specs.declared.row.Row.{Row}
 use Rattle.es_event.specs.Sharing.{Buffers, row_at}
-use Rattle.es_ticket.specs.Shares.{at, is_rising_from}
+use Rattle.es_ticket.specs.Stakes.{at, is_rising_from}
 use Rattle.es_record.specs.Newest.{newest}
 
 reversed : (t : ℕ × Row) (ts : Buffers) → reverse (t ∷ ts) ≡ reverse ts ++ t ∷ []

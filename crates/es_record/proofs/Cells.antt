@@ -14,15 +14,15 @@ use Rattle.es_event.specs.declared.event.Event.{Event}
 use Rattle.es_event.specs.declared.event.Event.TheVariants.{CleanupBegun, Taken}
 use Rattle.es_event.specs.declared.plan.AgentPlan.{AgentPlan}
 use Rattle.es_event.specs.Jobs.{receivers, job, cleaning}
-use Rattle.es_event.specs.Order.{Phase, between, handed, inside, stopped, ended, phase, left, queue, clean, take_cell, end_job, due_end, due, due_at, due_after, due_inside, due_between, due_job}
+use Rattle.es_event.specs.Order.{Phase, between, handed, inside, stopped, ended, phase, left, queue, clean, take_cell, due_end, due, due_at, due_after, due_inside, due_between, due_job}
 use Rattle.es_event.specs.Follows.{Permits}
 use Rattle.es_event.specs.Later.{snapshot}
-use Rattle.es_record.specs.Book.{Book, IsNext}
+use Rattle.es_record.specs.AgentView.{AgentView, IsNext}
 use Rattle.es_record.specs.NextCell.{next_taken, IsNextCell, FindsNextCell}
 use Rattle.es_registry.specs.declared.slot.Cell.{Cell as KeptCell}
 use Rattle.es_registry.specs.declared.slot.Slot.{Slot}
 use Rattle.es_registry.specs.Slots.{has_token, awaits, cell_of, is_live, is_awaiting, is_unregistered, is_taken}
-use Rattle.es_registry.specs.Registries.{Contents, oldest}
+use Rattle.es_registry.specs.Registries.{RegistriesView, oldest}
 use Rattle.es_tables.specs.Tables.{slot_said}
 use Rattle.es_tables.proofs.Numbered.{any_map, find_map}
 use Rattle.es_tables.proofs.Slots.{slots, slot_at}
@@ -54,7 +54,7 @@ awaits_slot r n awaiting (Some c) = refl
 awaits_slot r n unregistered (Some c) = and_false (c.registry == r)
 awaits_slot r n taken (Some c) = and_false (c.registry == r)
 
-pub oldest_is : (h : History) (t : Contents) (r : ℕ) → t.cells ≡ slots h → oldest t r ≡ option_and_then cell_of (option_map (slot_said h) (first_awaiting h r))
+pub oldest_is : (h : History) (t : RegistriesView) (r : ℕ) → t.cells ≡ slots h → oldest t r ≡ option_and_then cell_of (option_map (slot_said h) (first_awaiting h r))
 oldest_is h t r says =
     ap (λ cs. option_and_then cell_of (find (awaits r) cs)) says
     ∙ ap (option_and_then cell_of) (find_map (awaits r) (slot_said h) (is_of h r awaiting) (λ n. awaits_slot r n (fate h n) (cell h n)) (registrations h))
@@ -85,7 +85,7 @@ oldest_from h r (Some n) o first e =
     let passes = and_parts (option_map_or (λ c. c.registry == r) (cell h n) false) (same_fate (fate h n) awaiting) (found_passes (is_of h r awaiting) (registrations h) n first) in
     oldest_at h r n (fate h n) (cell h n) o first refl refl (awaiting_is (fate h n) passes.1) passes.0 e
 
-pub oldest_said : (h : History) (t : Contents) (r : ℕ) (o : KeptCell) → t.cells ≡ slots h → Some o ≡ oldest t r → IsOldest h r o
+pub oldest_said : (h : History) (t : RegistriesView) (r : ℕ) (o : KeptCell) → t.cells ≡ slots h → Some o ≡ oldest t r → IsOldest h r o
 oldest_said h t r o says e = oldest_from h r (first_awaiting h r) o refl (sym (e ∙ oldest_is h t r says))
 
 some_oldest : (h : History) (r : ℕ) (q : Option ℕ) → first_awaiting h r ≡ q → is_some (option_and_then cell_of (option_map (slot_said h) q)) ≡ is_some q
@@ -102,19 +102,19 @@ pub copied_some : {A : Type 0} (o : Option (Bor A)) → is_some (option_copied o
 copied_some None = refl
 copied_some (Some x) = refl
 
-pub is_awaited : (h : History) (t : Contents) (r : ℕ) → t.cells ≡ slots h → is_some (oldest t r) ≡ is_some (first_awaiting h r)
+pub is_awaited : (h : History) (t : RegistriesView) (r : ℕ) → t.cells ≡ slots h → is_some (oldest t r) ≡ is_some (first_awaiting h r)
 is_awaited h t r says = ap is_some (oldest_is h t r says) ∙ some_oldest h r (first_awaiting h r) refl
 
 none_is : (o : Option ℕ) → is_some o ≡ false → o ≡ None
 none_is None e = refl
 none_is (Some n) e = cc
 
-pub none_awaits : (h : History) (t : Contents) (r : ℕ) → t.cells ≡ slots h → oldest t r ≡ None → first_awaiting h r ≡ None
+pub none_awaits : (h : History) (t : RegistriesView) (r : ℕ) → t.cells ≡ slots h → oldest t r ≡ None → first_awaiting h r ≡ None
 none_awaits h t r says none = none_is (first_awaiting h r) (sym (is_awaited h t r says) ∙ ap is_some none)
 
 -- The cell that the running cleanup job takes next
 
-pub next_found : (h : History) (t : Contents) (r : ℕ) → t.cells ≡ slots h → cleaning h ≡ Some r → (o : Option KeptCell) → o ≡ oldest t r → FindsNextCell h o
+pub next_found : (h : History) (t : RegistriesView) (r : ℕ) → t.cells ≡ slots h → cleaning h ≡ Some r → (o : Option KeptCell) → o ≡ oldest t r → FindsNextCell h o
 next_found h t r says runs None is = ap (option_and_then (first_awaiting h)) runs ∙ none_awaits h t r says (sym is)
 next_found h t r says runs (Some c) is =
     let found = oldest_said h t r c says is in
@@ -163,14 +163,14 @@ takes_next plan h ended n e = cc
 number_is : (h : History) (c : KeptCell) (n : ℕ) → next_taken h ≡ Some n → IsNextCell h c → n ≡ c.registration
 number_is h c n is found = let f : Some n ≡ Some c.registration = sym is ∙ found.number in cc
 
-pub taking_next : (b : Book) (c : KeptCell) (n : ℕ) (e : Event) → due b.plan b.history ≡ take_cell n → IsNextCell b.history c → e ≡ Taken c.registration c.held → IsNext b e
+pub taking_next : (b : AgentView) (c : KeptCell) (n : ℕ) (e : Event) → due b.plan b.history ≡ take_cell n → IsNextCell b.history c → e ≡ Taken c.registration c.held → IsNext b e
 taking_next b c n e is found event =
     subst (IsNext b) (sym event) (record {
       lawful = (found.held, found.awaits);
       permitted = subst (λ d. Permits b.over (receivers b.plan.jobs) b.history d (Taken c.registration c.held)) (sym is) (sym (number_is b.history c n (takes_next b.plan b.history (phase b.history) n is) found));
     })
 
-pub some_found : (b : Book) (n : ℕ) → due b.plan b.history ≡ take_cell n → FindsNextCell b.history None → ⊥
+pub some_found : (b : AgentView) (n : ℕ) → due b.plan b.history ≡ take_cell n → FindsNextCell b.history None → ⊥
 some_found b n is none = let f : ◌≡◌ {A = Option ℕ} None (Some n) = sym none ∙ takes_next b.plan b.history (phase b.history) n is in cc
 
 -- a cleanup job that is due is of the first registry of the queue
@@ -206,13 +206,13 @@ cleans_next plan h inside r e = absurd (cleans_inside h (left plan h) r e)
 cleans_next plan h stopped r e = absurd (end_cleans_none (snapshot h) r e)
 cleans_next plan h ended r e = cc
 
-pub cleaning_next : (b : Book) (q r : ℕ) (kept : List ℕ) → due b.plan b.history ≡ clean r → kept ≡ queue b.history → Some q ≡ slice_get kept 0 → IsNext b (CleanupBegun q)
+pub cleaning_next : (b : AgentView) (q r : ℕ) (kept : List ℕ) → due b.plan b.history ≡ clean r → kept ≡ queue b.history → Some q ≡ slice_get kept 0 → IsNext b (CleanupBegun q)
 cleaning_next b q r kept is says first =
     let f : Some q ≡ Some r = first ∙ (ap (λ k. slice_get k 0) says ∙ cleans_next b.plan b.history (phase b.history) r is) in
     let same : q ≡ r = cc in
     record { lawful = tt; permitted = subst (λ d. Permits b.over (receivers b.plan.jobs) b.history d (CleanupBegun q)) (sym is) same }
 
-pub some_queued : (b : Book) (r : ℕ) (kept : List ℕ) → due b.plan b.history ≡ clean r → kept ≡ queue b.history → None ≡ slice_get kept 0 → ⊥
+pub some_queued : (b : AgentView) (r : ℕ) (kept : List ℕ) → due b.plan b.history ≡ clean r → kept ≡ queue b.history → None ≡ slice_get kept 0 → ⊥
 some_queued b r kept is says none =
     let f : ◌≡◌ {A = Option ℕ} None (Some r) = none ∙ (ap (λ k. slice_get k 0) says ∙ cleans_next b.plan b.history (phase b.history) r is) in cc
 

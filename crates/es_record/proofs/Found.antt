@@ -19,14 +19,14 @@ use Rattle.es_event.specs.Legal.{LegalBy}
 use Rattle.es_event.proofs.Keeping.{kept_within}
 use Rattle.es_event.proofs.Objects.{object_within, var_within, prop_within, map_within, value_within}
 use Rattle.es_mark.specs.Graph.{IsNumbered, HasAll, Finds, FindsEntries}
-use Rattle.es_record.specs.Book.{Book}
+use Rattle.es_record.specs.AgentView.{AgentView}
 use Rattle.es_tables.specs.Found.{Adds, HasHeld, AddsEntries, HasEntered}
 use Rattle.es_record.specs.Graph.{HasRoots, HasEdges, HasEntries}
 use Rattle.es_tags.specs.Tags.{tag_at, tag_of, is_tag}
 use Rattle.es_tags.specs.declared.tags.Tag.{Tag}
 use Rattle.es_tags.specs.declared.tags.Tag.TheVariants.{WeakRef as WeakRefTag, WeakMap as WeakMapTag, WeakSet as WeakSetTag, FinalizationRegistry as RegistryTag, SharedArrayBuffer as BufferTag}
 use Rattle.es_record.specs.Tagged.{is_of}
-use Rattle.es_tables.specs.Tables.{State, Says, slot_said}
+use Rattle.es_tables.specs.Tables.{TablesView, Says, slot_said}
 use Rattle.es_registry.specs.declared.slot.Slot.{Slot}
 use Rattle.es_registry.specs.Slots.{is_this, holds}
 use Rattle.es_registry.specs.Registries.{callback as callback_kept}
@@ -104,7 +104,7 @@ slot_passes f p (x ∷ xs) n e is = elim (or_cases (x == n) (is_in xs n) e) [
   | inr r ↦ or_right (p (f x)) (list_any p (map f xs)) (slot_passes f p xs n r is)
 ]
 
-roots_held : (b : Book) (s : State) (t : ℕ → Bool) → Says (receivers b.plan.jobs) b.history s → HasRoots b t → HasHeld s t
+roots_held : (b : AgentView) (s : TablesView) (t : ℕ → Bool) → Says (receivers b.plan.jobs) b.history s → HasRoots b t → HasHeld s t
 roots_held b s t says roots = record {
   variables = λ x i e. roots.variables x i (ap identity (sym (says.variables x)) ∙ e);
   kept = each_all t s.weakrefs.kept (λ i e. roots.kept i (ap (λ l. is_in l i) (sym says.kept) ∙ sym (in_reverse s.weakrefs.kept i) ∙ e));
@@ -117,7 +117,7 @@ roots_held b s t says roots = record {
   ];
 }
 
-held_roots : (b : Book) (s : State) (t : ℕ → Bool) → Says (receivers b.plan.jobs) b.history s → HasHeld s t → HasRoots b t
+held_roots : (b : AgentView) (s : TablesView) (t : ℕ → Bool) → Says (receivers b.plan.jobs) b.history s → HasHeld s t → HasRoots b t
 held_roots b s t says held = record {
   variables = λ x i e. held.variables x i (ap identity (says.variables x) ∙ e);
   kept = λ i e. all_each t s.weakrefs.kept held.kept i (in_reverse s.weakrefs.kept i ∙ ap (λ l. is_in l i) says.kept ∙ e);
@@ -130,7 +130,7 @@ held_roots b s t says held = record {
       (held_at i n (fate b.history n) (cell b.history n) c e p is)));
 }
 
-pub finds_roots : (over : Buffers) (b : Book) (s : State) (old new : List ℕ) → LegalBy over (receivers b.plan.jobs) b.history → Says (receivers b.plan.jobs) b.history s
+pub finds_roots : (over : Buffers) (b : AgentView) (s : TablesView) (old new : List ℕ) → LegalBy over (receivers b.plan.jobs) b.history → Says (receivers b.plan.jobs) b.history s
     → Adds (HasHeld s) old new → Finds (made b.history) (HasRoots b) old new
 finds_roots over b s old new legal says adds =
     let into = receivers b.plan.jobs in
@@ -151,7 +151,7 @@ finds_roots over b s old new legal says adds =
 -- Edges
 
 -- what has a property is there
-owner_there : (over : Buffers) (into : Receivers) (h : History) (s : State) → LegalBy over into h → Says into h s → (o : ℕ) (k : List ℕ) (v : Value) → property s.heap o k ≡ Some v → is_there h o ≡ true
+owner_there : (over : Buffers) (into : Receivers) (h : History) (s : TablesView) → LegalBy over into h → Says into h s → (o : ℕ) (k : List ℕ) (v : Value) → property s.heap o k ≡ Some v → is_there h o ≡ true
 owner_there over into h s legal says o k v e =
     let parts = both_of (is_some (kind h o)) (is_gone h o) (sym (says.objects o) ∙ has_property (object s.heap o) e) in
     is_within h o (object_within over into h legal o parts.0) parts.1
@@ -160,7 +160,7 @@ owner_there over into h s legal says o k v e =
     has_property None e = cc
     has_property (Some ps) e = refl
 
-pub finds_edges : (over : Buffers) (b : Book) (s : State) (o : ℕ) (old new : List ℕ) → LegalBy over (receivers b.plan.jobs) b.history → Says (receivers b.plan.jobs) b.history s
+pub finds_edges : (over : Buffers) (b : AgentView) (s : TablesView) (o : ℕ) (old new : List ℕ) → LegalBy over (receivers b.plan.jobs) b.history → Says (receivers b.plan.jobs) b.history s
     → Adds (HasProperties s.heap o) old new → Finds (made b.history) (HasEdges b o) old new
 finds_edges over b s o old new legal says adds =
     let into = receivers b.plan.jobs in
@@ -185,16 +185,16 @@ entry_recorded : (g : Bool) (o : Option Value) (v : Value) → cond g None o ≡
 entry_recorded true o v e = cc
 entry_recorded false o v e = (refl, e)
 
-recorded_entry : (into : Receivers) (h : History) (s : State) → Says into h s → (m k : ℕ) (v : Value) → record_at s.weak.entries.all m k ≡ Some v → (is_gone h m ≡ false) × (entry h m k ≡ Some v)
+recorded_entry : (into : Receivers) (h : History) (s : TablesView) → Says into h s → (m k : ℕ) (v : Value) → record_at s.weak.entries.all m k ≡ Some v → (is_gone h m ≡ false) × (entry h m k ≡ Some v)
 recorded_entry into h s says m k v e = entry_recorded (is_gone h m) (entry h m k) v (sym (says.entries m k) ∙ e)
 
-numbered_values : (over : Buffers) (into : Receivers) (h : History) (s : State) (k : ℕ) → LegalBy over into h → Says into h s → (es : List (ℕ × Value))
+numbered_values : (over : Buffers) (into : Receivers) (h : History) (s : TablesView) (k : ℕ) → LegalBy over into h → Says into h s → (es : List (ℕ × Value))
     → AllByRecursion (λ e. record_at s.weak.entries.all e.0 k ≡ Some e.1) es → AllByRecursion (λ e. (i : ℕ) → identity e.1 ≡ Some i → IsNumbered (made h) i) es
 numbered_values over into h s k legal says [] recorded = tt
 numbered_values over into h s k legal says (e ∷ es) recorded =
     (λ i is. value_within over into h legal e.0 k e.1 i (recorded_entry into h s says e.0 k e.1 recorded.0).1 is, numbered_values over into h s k legal says es recorded.1)
 
-pub finds_entries : (over : Buffers) (b : Book) (s : State) (k : ℕ) (old new : List (ℕ × Value)) → LegalBy over (receivers b.plan.jobs) b.history → Says (receivers b.plan.jobs) b.history s
+pub finds_entries : (over : Buffers) (b : AgentView) (s : TablesView) (k : ℕ) (old new : List (ℕ × Value)) → LegalBy over (receivers b.plan.jobs) b.history → Says (receivers b.plan.jobs) b.history s
     → AddsEntries s.weak.entries.all k old new → FindsEntries (made b.history) (HasEntries b k) old new
 finds_entries over b s k old new legal says adds =
     let into = receivers b.plan.jobs in
@@ -259,7 +259,7 @@ none_tells RegistryTag = refl
 none_tells BufferTag = refl
 none_tells _ = refl
 
-pub tagged_as : (over : Buffers) (into : Receivers) (h : History) (s : State) (t : Tag) → LegalBy over into h → Says into h s → (o : ℕ) → 0 < o → is_gone h o ≡ false → is_tag t (tag_at s.tags.all o) ≡ is_of t (kind h o)
+pub tagged_as : (over : Buffers) (into : Receivers) (h : History) (s : TablesView) (t : Tag) → LegalBy over into h → Says into h s → (o : ℕ) → 0 < o → is_gone h o ≡ false → is_tag t (tag_at s.tags.all o) ≡ is_of t (kind h o)
 tagged_as over into h s t legal says o positive here = ap (is_tag t) (says.tags o positive) ∙ at_there (is_there h o) refl (kind h o) refl
   where
     at_there : (b : Bool) → is_there h o ≡ b → (k : Option Kind) → kind h o ≡ k → is_tag t (cond b (Some (tag_of k)) None) ≡ is_of t k

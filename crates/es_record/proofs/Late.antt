@@ -1,16 +1,11 @@
 -- What is late, by the marks of the copy of the open collection.
-use Rattle.std.proofs.Common.{◌≡◌, ℕ, ◌+◌, ◌<◌, ◌≤◌, ◌==◌, ◌&&◌, ◌||◌, not, Bool, true, false, nat_lt, nat_le, sym, ◌∙◌, ap, refl, subst, arith, List, [], ◌∷◌, ◌++◌, Option, Some, None, inl, inr}
+use Rattle.std.proofs.Common.{◌≡◌, ℕ, ◌+◌, ◌<◌, ◌≤◌, ◌&&◌, not, Bool, true, false, nat_lt, nat_le, sym, ◌∙◌, ap, refl, subst, arith, List, [], ◌∷◌, ◌++◌, Option, Some, None, inl, inr}
 use Rattle.std.specs.Prelude.{is_some}
 use Rattle.std.specs.List.{list_all}
-use Rattle.std.specs.Option.{option_to_list}
-use Rattle.std.proofs.lemmas.Bool.{cases_Bool, false≢true, and_parts, and_from, or_cases, ltb-true, leb-true, lt-ltb, le-leb}
-use Rattle.std.proofs.lemmas.Bool.Decides.{nat_tests}
+use Rattle.std.proofs.lemmas.Bool.{false≢true, and_parts, and_from, or_cases, ltb-true, leb-true}
 use Rattle.es_value.specs.declared.value.Value.{Value}
-use Rattle.es_value.specs.declared.value.Value.TheVariants.{Undefined}
 use Rattle.es_event.specs.declared.event.Answer.{Answer}
-use Rattle.es_event.specs.declared.event.Answer.TheVariants.{Gives}
 use Rattle.es_event.specs.declared.event.Event.TheVariants.{Did, Emptied}
-use Rattle.es_event.specs.declared.command.Command.{Command}
 use Rattle.es_event.specs.declared.command.Command.TheVariants.{Deref, CollectLater}
 use Rattle.es_event.specs.declared.plan.AgentPlan.{AgentPlan}
 use Rattle.es_event.specs.Commands.{first}
@@ -20,7 +15,7 @@ use Rattle.es_event.specs.Jobs.{Receivers, receivers}
 use Rattle.es_event.specs.WeakRefs.{identity_given, first_target, target}
 use Rattle.es_event.specs.Later.{snapshot, derefed_since}
 use Rattle.es_event.specs.Late.{IsReachedWith, AreLate}
-use Rattle.es_event.specs.Legal.{word_in, Lawful, LegalBy, is_rising}
+use Rattle.es_event.specs.Legal.{word_in, LegalBy, is_rising}
 use Rattle.es_event.specs.Reach.{IsClosed}
 use Rattle.es_event.specs.Rules.{target_of, or_undefined}
 use Rattle.es_event.specs.Sharing.{Buffers}
@@ -30,20 +25,19 @@ use Rattle.es_event.proofs.Alive.{Alive, Stays, alive_at, stays_along, is_not}
 use Rattle.es_event.proofs.Holds.{at_object}
 use Rattle.es_event.proofs.Late.{late_from_least}
 use Rattle.es_event.proofs.Lists.{in_both, in_option}
-use Rattle.es_event.proofs.Opening.{Since, since_copy}
+use Rattle.es_event.proofs.Opening.{since_copy}
 use Rattle.es_event.proofs.Safe.{there_from}
 use Rattle.es_event.proofs.Staying.{made_more}
 use Rattle.es_event.proofs.Targets.{target_from}
-use Rattle.es_mark.specs.Graph.{IsClosed as IsClosedIn}
 use Rattle.es_mark.specs.Marks.{is_marked, IsLeast}
 use Rattle.es_cursor.specs.declared.cursor.Cursor.{Cursor}
 use Rattle.es_tags.specs.declared.tags.Tag.{Tag}
-use Rattle.es_tables.specs.Tables.{State}
+use Rattle.es_tables.specs.Tables.{TablesView}
 use Rattle.es_tags.specs.Tags.{tag_at, tag_said}
 use Rattle.es_tags.proofs.Passing.{passing}
-use Rattle.es_record.specs.Book.{Book}
+use Rattle.es_record.specs.AgentView.{AgentView}
 use Rattle.es_record.specs.Graph.{HasRoots, HasEdges, HasEntries, as_at, HasDerefed, AreLateMarks}
-use Rattle.es_record.specs.Ties.{Ties}
+use Rattle.es_record.specs.Ties.{RecordTies}
 use Rattle.es_record.proofs.Reached.{closed_in_graph, there_closed, both_of}
 use Rattle.es_record.proofs.Unmarked.{is_left, tagged, in_range, within_range, passing_in, passing_rises, all_from}
 
@@ -98,7 +92,7 @@ earlier over plan h p is legal follows =
 
 -- The marks
 
-module _ (over : Buffers) (b : Book) (p : History) (marks : List Bool) (is : snapshot b.history ≡ Some p) (legal : LegalBy over (receivers b.plan.jobs) b.history)
+module _ (over : Buffers) (b : AgentView) (p : History) (marks : List Bool) (is : snapshot b.history ≡ Some p) (legal : LegalBy over (receivers b.plan.jobs) b.history)
     (legal_p : LegalBy over (receivers b.plan.jobs) p) (early : Earlier (receivers b.plan.jobs) b.history p)
     (least : IsLeast (λ t. HasRoots (as_at b p) t × HasDerefed b p t) (HasEdges (as_at b p)) (HasEntries (as_at b p)) marks) where
   -- what derefs gave was there then
@@ -171,7 +165,7 @@ left_at into h p tags marks n count early says = record {
 }
 
 -- so it is all that is late, in order
-pub all_late : (b : Book) (s : State) (c : Cursor) (marks : List Bool) (ids : List ℕ) (p : History) → Ties b.over b.plan b.history s c → AreLateMarks b marks → snapshot b.history ≡ Some p
+pub all_late : (b : AgentView) (s : TablesView) (c : Cursor) (marks : List Bool) (ids : List ℕ) (p : History) → RecordTies b.over b.plan b.history s c → AreLateMarks b marks → snapshot b.history ≡ Some p
     → (n : ℕ) → n ≡ made p → ids ≡ passing (is_left s.tags.all marks) 1 n → AreLate (receivers b.plan.jobs) p (derefed_since b.history) ids
 all_late b s c marks ids p ties marked is n count same =
     let early = earlier b.over b.plan b.history p is ties.legal ties.follows in

@@ -22,7 +22,7 @@ use Rattle.es_event.specs.Registrations.{Cell, Fate, live, awaiting, unregistere
 use Rattle.es_event.proofs.Cells.{cell_within}
 use Rattle.es_registry.specs.declared.slot.Slot.{Slot}
 use Rattle.es_registry.specs.Slots.{held_identity, registration_of}
-use Rattle.es_tables.specs.Tables.{State, Says, slot_said}
+use Rattle.es_tables.specs.Tables.{TablesView, Says, slot_said}
 use Rattle.es_tags.specs.Tags.{tag_said, tag_of}
 use Rattle.es_tags.specs.declared.tags.Tag.{Tag}
 use Rattle.es_tables.proofs.Numbered.{get_numbered}
@@ -42,7 +42,7 @@ named (p ∷ es) x i e = elim (cases_Bool (bytes_eq x p.0)) [
   | inr s ↦ or_right (bytes_eq p.0 x) (has_key (map (λ e. e.0) es) x) (named es x i (rw s at e))
 ]
 
-pub names_all : (into : Receivers) (h : History) (s : State) → Says into h s → (ns : List (List ℕ)) → ns ≡ map (λ e. e.0) s.variables.entries → (x : List ℕ) (i : ℕ) → identity (var into h x) ≡ Some i → has_key ns x ≡ true
+pub names_all : (into : Receivers) (h : History) (s : TablesView) → Says into h s → (ns : List (List ℕ)) → ns ≡ map (λ e. e.0) s.variables.entries → (x : List ℕ) (i : ℕ) → identity (var into h x) ≡ Some i → has_key ns x ≡ true
 names_all into h s says ns is x i e = subst (λ (l : List (List ℕ)). has_key l x ≡ true) (sym is) (named s.variables.entries x i (ap identity (says.variables x) ∙ e))
 
 -- What is there
@@ -56,7 +56,7 @@ tag_there h i o is = ap is_some is ∙ tagged (is_there h i) (tag_of (kind h i))
 
 -- Cells
 
-pub registered_said : (into : Receivers) (h : History) (s : State) → Says into h s → length s.registries.cells ≡ registered h
+pub registered_said : (into : Receivers) (h : History) (s : TablesView) → Says into h s → length s.registries.cells ≡ registered h
 registered_said into h s says = ap length says.cells ∙ count_slots h
 
 none_past : (h : History) (n : ℕ) → registered h < n → (k : Option Cell) → cell h n ≡ k → cell h n ≡ None
@@ -77,7 +77,7 @@ module _ {A : Type 0} (read : Slot → Option A) (said : ℕ → Fate → Cell �
         ∙ sym (ap (option_and_then (said n (fate h n))) (none_past h n (omega (arith, positive, g)) (cell h n) refl))
   ]
 
-  read_said : (into : Receivers) (h : History) (s : State) → Says into h s → (n : ℕ) → 0 < n → option_and_then read (slice_get s.registries.cells (n - 1)) ≡ option_and_then (said n (fate h n)) (cell h n)
+  read_said : (into : Receivers) (h : History) (s : TablesView) → Says into h s → (n : ℕ) → 0 < n → option_and_then read (slice_get s.registries.cells (n - 1)) ≡ option_and_then (said n (fate h n)) (cell h n)
   read_said into h s says n positive = ap (λ (l : List Slot). option_and_then read (slice_get l (n - 1))) says.cells ∙ slots_read h n positive
 
 held_slot : (n : ℕ) (f : Fate) (k : Option Cell) → held_identity (slot_at n f k) ≡ option_and_then (held_in f) k
@@ -87,7 +87,7 @@ held_slot n awaiting (Some c) = refl
 held_slot n unregistered (Some c) = refl
 held_slot n taken (Some c) = refl
 
-pub held_said : (into : Receivers) (h : History) (s : State) → Says into h s → (n : ℕ) → 0 < n → option_and_then held_identity (slice_get s.registries.cells (n - 1)) ≡ held_of h n
+pub held_said : (into : Receivers) (h : History) (s : TablesView) → Says into h s → (n : ℕ) → 0 < n → option_and_then held_identity (slice_get s.registries.cells (n - 1)) ≡ held_of h n
 held_said into h s says n positive = read_said held_identity (λ m f c. held_in f c) held_slot into h s says n positive
 
 registration_slot : (n : ℕ) (f : Fate) (k : Option Cell) → registration_of (slot_at n f k) ≡ option_and_then (registration_in n f) k
@@ -97,7 +97,7 @@ registration_slot n awaiting (Some c) = refl
 registration_slot n unregistered (Some c) = refl
 registration_slot n taken (Some c) = refl
 
-pub registration_kept : (into : Receivers) (h : History) (s : State) → Says into h s → (n : ℕ) → 0 < n → option_and_then registration_of (slice_get s.registries.cells (n - 1)) ≡ registration_said h n
+pub registration_kept : (into : Receivers) (h : History) (s : TablesView) → Says into h s → (n : ℕ) → 0 < n → option_and_then registration_of (slice_get s.registries.cells (n - 1)) ≡ registration_said h n
 registration_kept into h s says n positive = read_said registration_of registration_in registration_slot into h s says n positive
 
 -- Entries
@@ -106,7 +106,7 @@ entry_recorded : (g : Bool) (o : Option Value) (v : Value) → cond g None o ≡
 entry_recorded true o v e = cc
 entry_recorded false o v e = (refl, e)
 
-pub adds_under : (into : Receivers) (h : History) (s : State) (k : ℕ) (old new : List (ℕ × Value)) → Says into h s → IsDistinct nat_eq (holders (records_at s.weak.entries.all k))
+pub adds_under : (into : Receivers) (h : History) (s : TablesView) (k : ℕ) (old new : List (ℕ × Value)) → Says into h s → IsDistinct nat_eq (holders (records_at s.weak.entries.all k))
     → new ≡ old ++ records_at s.weak.entries.all k → AddsUnder h k old new
 adds_under into h s k old new says distinct is = record {
   entries = records_at s.weak.entries.all k;
@@ -128,7 +128,7 @@ member_recorded : (g m : Bool) → cond g false m ≡ true → (g ≡ false) × 
 member_recorded true m e = cc
 member_recorded false m e = (refl, e)
 
-pub adds_sets : (into : Receivers) (h : History) (s : State) (v : ℕ) (old new : List ℕ) → Says into h s → new ≡ old ++ holders (records_at s.weak.members.all v) → AddsSets h v old new
+pub adds_sets : (into : Receivers) (h : History) (s : TablesView) (v : ℕ) (old new : List ℕ) → Says into h s → new ≡ old ++ holders (records_at s.weak.members.all v) → AddsSets h v old new
 adds_sets into h s v old new says is = record {
   sets = holders (records_at s.weak.members.all v);
   added = is;

@@ -19,7 +19,7 @@ use Rattle.es_event.proofs.Registries.{holding_within}
 use Rattle.es_event.proofs.Safe.{there_from}
 use Rattle.es_mark.specs.Graph.{IsClosed as IsClosedIn}
 use Rattle.es_mark.specs.Marks.{is_marked}
-use Rattle.es_record.specs.Book.{Book}
+use Rattle.es_record.specs.AgentView.{AgentView}
 use Rattle.es_record.specs.Graph.{HasRoots, HasEdges, HasEntries, AreMarksOf, AreReached}
 
 -- a registry was made
@@ -32,14 +32,14 @@ pub called_within : (over : Buffers) (into : Receivers) (h : History) → LegalB
 called_within over into h legal r c e = object_within over into h legal r (called_kind (kind h r) c e)
 
 -- a closed set by the definitions is one of the graph
-pub closed_in_graph : (b : Book) (m : ℕ → Bool) → IsClosed (receivers b.plan.jobs) b.history (λ i. m i ≡ true) → IsClosedIn (HasRoots b) (HasEdges b) (HasEntries b) m
+pub closed_in_graph : (b : AgentView) (m : ℕ → Bool) → IsClosed (receivers b.plan.jobs) b.history (λ i. m i ≡ true) → IsClosedIn (HasRoots b) (HasEdges b) (HasEntries b) m
 closed_in_graph b m closed = record {
   has_roots = record { variables = closed.variables; kept = closed.kept; registries = closed.registries; cells = closed.cells };
   follows = λ o here there k v i e is. closed.properties o k v i here e is;
   enters = λ k here m v i there map e is. closed.entries m k v i map here e is;
 }
 
-pub marked_reached : (b : Book) (marks : List Bool) → AreMarksOf b marks → (i : ℕ) → is_marked marks i ≡ true → IsReached (receivers b.plan.jobs) b.history i
+pub marked_reached : (b : AgentView) (marks : List Bool) → AreMarksOf b marks → (i : ℕ) → is_marked marks i ≡ true → IsReached (receivers b.plan.jobs) b.history i
 marked_reached b marks least i e m closed = least.least m (closed_in_graph b m closed) i e
 
 -- what is there is a closed set of the graph
@@ -57,7 +57,7 @@ here_of h o there = (both_of (nat_lt 0 o && nat_le o (made h)) (is_gone h o) the
 pub is_within : (h : History) (i : ℕ) → (0 < i) × (i ≤ made h) → is_gone h i ≡ false → is_there h i ≡ true
 is_within h i within here = there_from h i here within.0 within.1
 
-pub there_closed : (over : Buffers) (b : Book) → LegalBy over (receivers b.plan.jobs) b.history → Stays (receivers b.plan.jobs) b.history → IsClosedIn (HasRoots b) (HasEdges b) (HasEntries b) (is_there b.history)
+pub there_closed : (over : Buffers) (b : AgentView) → LegalBy over (receivers b.plan.jobs) b.history → Stays (receivers b.plan.jobs) b.history → IsClosedIn (HasRoots b) (HasEdges b) (HasEntries b) (is_there b.history)
 there_closed over b legal stays =
     let into = receivers b.plan.jobs in
     record {
@@ -75,7 +75,7 @@ there_closed over b legal stays =
     }
 
 -- so the marks are a closed set by the definitions
-marks_closed : (over : Buffers) (b : Book) (marks : List Bool) → LegalBy over (receivers b.plan.jobs) b.history → Stays (receivers b.plan.jobs) b.history → AreMarksOf b marks
+marks_closed : (over : Buffers) (b : AgentView) (marks : List Bool) → LegalBy over (receivers b.plan.jobs) b.history → Stays (receivers b.plan.jobs) b.history → AreMarksOf b marks
     → IsClosed (receivers b.plan.jobs) b.history (λ i. is_marked marks i ≡ true)
 marks_closed over b marks legal stays least = record {
   variables = least.closed.has_roots.variables;
@@ -86,11 +86,11 @@ marks_closed over b marks legal stays least = record {
   entries = λ m k v i map key e is. least.closed.enters k key m v i (least.least (is_there b.history) (there_closed over b legal stays) m map) map e is;
 }
 
-pub reached_marked : (over : Buffers) (b : Book) (marks : List Bool) → LegalBy over (receivers b.plan.jobs) b.history → Stays (receivers b.plan.jobs) b.history → AreMarksOf b marks
+pub reached_marked : (over : Buffers) (b : AgentView) (marks : List Bool) → LegalBy over (receivers b.plan.jobs) b.history → Stays (receivers b.plan.jobs) b.history → AreMarksOf b marks
     → (i : ℕ) → IsReached (receivers b.plan.jobs) b.history i → is_marked marks i ≡ true
 reached_marked over b marks legal stays least i reached = reached (is_marked marks) (marks_closed over b marks legal stays least)
 
-pub marks_reached : (b : Book) (marks : List Bool) → IsRun b.plan b.history → AreMarksOf b marks → AreReached b marks
+pub marks_reached : (b : AgentView) (marks : List Bool) → IsRun b.plan b.history → AreMarksOf b marks → AreReached b marks
 marks_reached b marks run least i = (
   marked_reached b marks least i,
   reached_marked run.0 b marks run.1 (stays_along run.0 b.plan b.history run.1 run.2) least i,

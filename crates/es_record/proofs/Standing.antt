@@ -21,8 +21,8 @@ use Rattle.es_event.specs.Later.{snapshot}
 use Rattle.es_cursor.specs.declared.cursor.Cursor.{Cursor}
 use Rattle.es_cursor.specs.declared.cursor.Position.TheVariants.{Ended as EndPosition}
 use Rattle.es_tags.specs.Tags.{tag_of, tag_said}
-use Rattle.es_tables.specs.Tables.{State, Says}
-use Rattle.es_record.specs.Ties.{Ties}
+use Rattle.es_tables.specs.Tables.{TablesView, Says}
+use Rattle.es_record.specs.Ties.{RecordTies}
 
 -- what is due by the phase
 
@@ -59,7 +59,7 @@ under_closed h i =
     let count : made h ≡ 0 + made h = omega arith in
     ap (λ m. if (nat_lt 0 i && nat_le i m) && not (is_gone h i) then Some (tag_of (kind h i)) else None) count
 
-pub says_closed : (into : Receivers) (h : History) (s : State) → Says into h s → Says into (Closed ∷ h) s
+pub says_closed : (into : Receivers) (h : History) (s : TablesView) → Says into h s → Says into (Closed ∷ h) s
 says_closed into h s says = record {
   variables = says.variables;
   properties = says.properties;
@@ -76,7 +76,7 @@ says_closed into h s says = record {
   made = omega (arith, says.made);
 }
 
-pub ties_closed : (over : Buffers) (plan : AgentPlan) (h : History) (s : State) (c : Cursor) → Ties over plan h s c → due plan h ≡ close → Ties over plan (Closed ∷ h) s (record { job = c.job; position = EndPosition })
+pub ties_closed : (over : Buffers) (plan : AgentPlan) (h : History) (s : TablesView) (c : Cursor) → RecordTies over plan h s c → due plan h ≡ close → RecordTies over plan (Closed ∷ h) s (record { job = c.job; position = EndPosition })
 ties_closed over plan h s c ties is = record {
   legal = (tt, ties.legal);
   follows = (subst (λ d. Permits over (receivers plan.jobs) h d Closed) (sym is) tt, ties.follows);

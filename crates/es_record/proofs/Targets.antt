@@ -14,7 +14,7 @@ use Rattle.es_event.specs.Sharing.{Buffers}
 use Rattle.es_event.specs.Legal.{LegalBy}
 use Rattle.es_event.proofs.Objects.{with_identity, target_told, target_identity}
 use Rattle.es_event.proofs.Targets.{target_from}
-use Rattle.es_tables.specs.Tables.{State, Says, target}
+use Rattle.es_tables.specs.Tables.{TablesView, Says, target}
 
 chosen : (k : Option Kind) (b : Bool) (i : ℕ) → b ≡ (is_some k && not false) → cond b (Object i) (Symbol i) ≡ with_identity k i
 chosen None true i e = cc
@@ -22,7 +22,7 @@ chosen None false i e = refl
 chosen (Some k) true i e = refl
 chosen (Some k) false i e = cc
 
-pub value_told : (over : Buffers) (into : Receivers) (h : History) (s : State) → LegalBy over into h → Says into h s → (w i : ℕ) → is_gone h w ≡ false
+pub value_told : (over : Buffers) (into : Receivers) (h : History) (s : TablesView) → LegalBy over into h → Says into h s → (w i : ℕ) → is_gone h w ≡ false
     → target s.weakrefs w ≡ Some i → target_said h w ≡ Some (cond (has s.heap i) (Object i) (Symbol i))
 value_told over into h s legal says w i here is = at_said (target_said h w) refl (sym (says.targets w here) ∙ is)
   where
@@ -33,7 +33,7 @@ value_told over into h s legal says w i here is = at_said (target_said h w) refl
         let alive : is_gone h i ≡ false = sym (ap (λ o. option_map_or (is_in (gone h)) o false) e) ∙ from.1 in
         said ∙ ap Some (target_told over into h legal w v i from.0 e ∙ sym (chosen (kind h i) (has s.heap i) i (says.objects i ∙ ap (λ g. is_some (kind h i) && not g) alive)))
 
-pub none_told : (over : Buffers) (into : Receivers) (h : History) (s : State) → LegalBy over into h → Says into h s → (w : ℕ) → is_gone h w ≡ false
+pub none_told : (over : Buffers) (into : Receivers) (h : History) (s : TablesView) → LegalBy over into h → Says into h s → (w : ℕ) → is_gone h w ≡ false
     → target s.weakrefs w ≡ None → target_said h w ≡ None
 none_told over into h s legal says w here is = at_said (target_said h w) refl (sym (says.targets w here) ∙ is)
   where

@@ -1,5 +1,5 @@
 -- What has a tag and is not marked, by rising identity, is all that is dead.
-use Rattle.std.proofs.Common.{◌≡◌, ℕ, zero, suc, ◌+◌, ◌<◌, ◌≤◌, ◌==◌, ◌&&◌, ◌||◌, not, Bool, true, false, nat_lt, nat_le, sym, ◌∙◌, ap, refl, subst, arith, List, [], ◌∷◌, length, Option, Some, None, inl, inr, if◌then◌else◌}
+use Rattle.std.proofs.Common.{◌≡◌, ℕ, zero, suc, ◌+◌, ◌<◌, ◌≤◌, ◌==◌, ◌&&◌, ◌||◌, not, Bool, true, false, nat_lt, nat_le, sym, ◌∙◌, ap, refl, subst, arith, List, [], ◌∷◌, Option, Some, None, inl, inr, if◌then◌else◌}
 use Rattle.std.specs.Prelude.{is_some}
 use Rattle.std.specs.List.{list_all}
 use Rattle.std.proofs.lemmas.Bool.{cases_Bool, ltb-true, leb-true, lt-ltb, false≢true, and_parts, and_from}
@@ -13,11 +13,11 @@ use Rattle.es_event.specs.Reach.{AreDead}
 use Rattle.es_event.proofs.Alive.{Stays, stays_along, is_not}
 use Rattle.es_mark.specs.Marks.{is_marked}
 use Rattle.es_tags.specs.declared.tags.Tag.{Tag}
-use Rattle.es_record.specs.Book.{Book}
+use Rattle.es_record.specs.AgentView.{AgentView}
 use Rattle.es_record.specs.Graph.{AreMarksOf}
 use Rattle.es_cursor.specs.declared.cursor.Cursor.{Cursor}
-use Rattle.es_tables.specs.Tables.{State}
-use Rattle.es_record.specs.Ties.{Ties}
+use Rattle.es_tables.specs.Tables.{TablesView}
+use Rattle.es_record.specs.Ties.{RecordTies}
 use Rattle.es_tags.specs.Tags.{tag_at, tag_of, tag_said}
 use Rattle.es_tags.proofs.Passing.{passing}
 use Rattle.es_record.proofs.Reached.{marked_reached, reached_marked}
@@ -102,7 +102,7 @@ left_there h marks ids left = all_from (is_there h) ids (λ i e. (left.only i e)
 
 -- So it is all that is dead
 
-left_dead : (over : Buffers) (b : Book) (marks : List Bool) (ids : List ℕ) → LegalBy over (receivers b.plan.jobs) b.history → Stays (receivers b.plan.jobs) b.history → AreMarksOf b marks
+left_dead : (over : Buffers) (b : AgentView) (marks : List Bool) (ids : List ℕ) → LegalBy over (receivers b.plan.jobs) b.history → Stays (receivers b.plan.jobs) b.history → AreMarksOf b marks
     → AreLeft b.history marks ids → AreDead (receivers b.plan.jobs) b.history ids
 left_dead over b marks ids legal stays least left = record {
   only = λ i e. record {
@@ -116,12 +116,12 @@ left_dead over b marks ids legal stays least left = record {
 }
 
 -- all that is dead, in order
-pub record Dead (b : Book) (ids : List ℕ) : Type 0 where
+pub record Dead (b : AgentView) (ids : List ℕ) : Type 0 where
   pub dead : AreDead (receivers b.plan.jobs) b.history ids
   pub there : list_all (is_there b.history) ids ≡ true
   pub rising : is_rising ids ≡ true
 
-pub all_dead : (b : Book) (s : State) (c : Cursor) (marks : List Bool) (ids : List ℕ) → Ties b.over b.plan b.history s c → AreMarksOf b marks
+pub all_dead : (b : AgentView) (s : TablesView) (c : Cursor) (marks : List Bool) (ids : List ℕ) → RecordTies b.over b.plan b.history s c → AreMarksOf b marks
     → (n : ℕ) → n ≡ made b.history → ids ≡ passing (is_left s.tags.all marks) 1 n → Dead b ids
 all_dead b s c marks ids ties least n all is =
     let left = subst (AreLeft b.history marks) (sym is) (left_are b.history s.tags.all marks n all ties.says.tags) in

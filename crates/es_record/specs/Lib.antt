@@ -1,4 +1,4 @@
-pub mod Book
+pub mod AgentView
 pub mod Newest
 pub mod NextCell
 pub mod Tagged

@@ -2,7 +2,7 @@
 use Rattle.std.specs.Prelude.{ℕ, [], ◌∷◌}
 use Rattle.es_event.specs.Sharing.{Buffers}
 
-pub record BufferList : Type 0 where
+pub record BufferTableView : Type 0 where
   pub rows : Buffers
   -- for how many more there is room
   pub room : ℕ

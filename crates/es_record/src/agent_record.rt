@@ -11,7 +11,7 @@ ghost use Rattle.es_event.specs.Sharing.{blocks_opened, messages_posted};
 ghost use Rattle.es_event.specs.Live.{Honest};
 ghost use Rattle.es_event.specs.Order.{due, close, run};
 ghost use Rattle.es_event.specs.Runs.{IsRunOver};
-ghost use Rattle.es_record.specs.Book.{Book, IsNext, Records, with_buffer, with_row, emptied_last};
+ghost use Rattle.es_record.specs.AgentView.{AgentView, IsNext, Records, with_buffer, with_row, emptied_last};
 ghost use Rattle.es_record.specs.Newest.{newest};
 ghost use Rattle.es_cursor.specs.Cursor.{IsAt};
 ghost use Rattle.es_cursor.specs.Due.{shown};
@@ -72,16 +72,16 @@ impl Model for AgentRecord {
     ghost use Rattle.es_event.specs.Sharing.{blocks_opened, messages_posted};
     ghost use Rattle.es_event.specs.Later.{snapshot};
     ghost use Rattle.es_event.specs.Order.{phase, ended};
-    ghost use Rattle.es_record.specs.Book.{Book};
+    ghost use Rattle.es_record.specs.AgentView.{AgentView};
     ghost use Rattle.es_record.specs.Newest.{newest};
-    ghost use Rattle.es_record.specs.Ties.{Ties};
+    ghost use Rattle.es_record.specs.Ties.{RecordTies};
 
-    ghost Value = { Book };
+    ghost Value = { AgentView };
 
     ghost view = { λ a. record { plan = a.plan; number = a.number; agents = a.agents; over = a.buffers.rows; history = a.events.events } };
 
     // there is room for the closing event, until it stands
-    ghost invariant = { λ a. Ties a.buffers.rows a.plan a.events.events a.tables a.cursor × (a.held ≡ codes "held") × (phase a.events.events ≢ ended → 0 < a.events.room) × (newest a.buffers.rows ≤ made a.events.events) × (a.opened ≡ blocks_opened a.events.events) × (a.posted ≡ messages_posted a.events.events) × (a.unassigned ≡ Undefined) × (a.later ≡ is_some (snapshot a.events.events)) };
+    ghost invariant = { λ a. RecordTies a.buffers.rows a.plan a.events.events a.tables a.cursor × (a.held ≡ codes "held") × (phase a.events.events ≢ ended → 0 < a.events.room) × (newest a.buffers.rows ≤ made a.events.events) × (a.opened ≡ blocks_opened a.events.events) × (a.posted ≡ messages_posted a.events.events) × (a.unassigned ≡ Undefined) × (a.later ≡ is_some (snapshot a.events.events)) };
 }
 
 impl AgentRecord {

@@ -3,7 +3,7 @@
 ghost use Rattle.std.specs.Prelude.{◌≡◌, ◌<◌, ◌≤◌, ◌∷◌, ℕ, [], Some, None, true, IfOk, IfErr, OnOk, length, reverse, slice_index_or};
 ghost use Rattle.es_event.specs.declared.row.Row.{Row as RowSaid};
 ghost use Rattle.es_event.specs.Sharing.{row_at};
-ghost use Rattle.es_ticket.specs.Shares.{at, is_rising_from};
+ghost use Rattle.es_ticket.specs.Stakes.{at, is_rising_from};
 ghost use Rattle.es_record.specs.Newest.{newest};
 
 use es_event::Row;
@@ -21,10 +21,10 @@ pub(crate) struct BufferTable {
 
 impl Model for BufferTable {
     ghost use Rattle.std.specs.Prelude.{◌≡◌, ◌-◌, true, reverse, vec_len, vec_capacity};
-    ghost use Rattle.es_ticket.specs.Shares.{is_rising_from};
-    ghost use Rattle.es_record.specs.Newest.{BufferList};
+    ghost use Rattle.es_ticket.specs.Stakes.{is_rising_from};
+    ghost use Rattle.es_record.specs.Newest.{BufferTableView};
 
-    ghost Value = { BufferList };
+    ghost Value = { BufferTableView };
 
     ghost view = { λ t. record { rows = reverse t.all.items; room = vec_capacity t.all - vec_len t.all } };
 

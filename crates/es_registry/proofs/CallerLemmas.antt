@@ -5,12 +5,12 @@ use Rattle.std.specs.Ordering.{nat_cmp}
 use Rattle.std.proofs.lemmas.Bool.{eqb-true}
 use Rattle.std.proofs.lemmas.Map.Keys.{sorted_from_strictly_increasing, sorted_head, sorted_tail}
 use Rattle.es_value.specs.Ids.{is_in}
-use Rattle.es_registry.specs.Registries.{Contents, CanRegister, KeepsCellRoom}
+use Rattle.es_registry.specs.Registries.{RegistriesView, CanRegister, KeepsCellRoom}
 use Rattle.es_registry.proofs.Indexing.{among_is_contains}
 use Rattle.es_registry.proofs.Oldest.{later}
 
 -- what could be registered still can
-pub can_still_register : (old new : Contents) (r : ℕ) (token : Option ℕ) → KeepsCellRoom old new → CanRegister old r token → CanRegister new r token
+pub can_still_register : (old new : RegistriesView) (r : ℕ) (token : Option ℕ) → KeepsCellRoom old new → CanRegister old r token → CanRegister new r token
 can_still_register old new r token kept can = record {
   of_slots = omega (arith, kept.of_slots, can.of_slots);
   of_places = omega (arith, kept.of_places, can.of_places);

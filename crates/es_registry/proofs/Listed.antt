@@ -4,7 +4,7 @@ use Rattle.std.specs.Option.{option_map_or}
 use Rattle.std.specs.Ordering.{nat_cmp}
 use Rattle.std.specs.BTreeSet.{BTreeSet, contains}
 use Rattle.std.proofs.lemmas.Bool.Decides.{nat_tests}
-use Rattle.es_registry.specs.Places.{Listing}
+use Rattle.es_registry.specs.Places.{PlacesView}
 use Rattle.es_registry.specs.Registries.{pair_eq}
 
 same_number : (a r : ℕ) → nat_eq a r ≡ true → a ≡ r
@@ -16,10 +16,10 @@ same_pair true false a r b t e f = inr (rw (e, f) refl)
 same_pair false d a r b t e f = inr (rw e refl)
 
 abbrev pub ItemsByPair : Type 0
-ItemsByPair = ℕ × ℕ → Option Listing
+ItemsByPair = ℕ × ℕ → Option PlacesView
 
 -- the list of the pair a and b changed to the items of v
-pub listed_after : (old new : ItemsByPair) (a b : ℕ) (v : Listing) → ((q : ℕ × ℕ) → new q ≡ cond (pair_eq (a, b) q) (Some v) (old q)) → (f : ℕ → ℕ → List ℕ) → v.items ≡ f a b
+pub listed_after : (old new : ItemsByPair) (a b : ℕ) (v : PlacesView) → ((q : ℕ × ℕ) → new q ≡ cond (pair_eq (a, b) q) (Some v) (old q)) → (f : ℕ → ℕ → List ℕ) → v.items ≡ f a b
     → (r t : ℕ) → option_map_or (λ w. w.items) (new (r, t)) [] ≡ cond (nat_eq a r && nat_eq b t) (f r t) (option_map_or (λ w. w.items) (old (r, t)) [])
 listed_after old new a b v after f is r t =
     elim (same_pair (nat_eq a r) (nat_eq b t) a r b t refl refl) [
@@ -28,7 +28,7 @@ listed_after old new a b v after f is r t =
     ]
 
 -- the same, where the items stay
-pub listed_still : (old new : ItemsByPair) (a b : ℕ) (v : Listing) → ((q : ℕ × ℕ) → new q ≡ cond (pair_eq (a, b) q) (Some v) (old q)) → v.items ≡ option_map_or (λ w. w.items) (old (a, b)) []
+pub listed_still : (old new : ItemsByPair) (a b : ℕ) (v : PlacesView) → ((q : ℕ × ℕ) → new q ≡ cond (pair_eq (a, b) q) (Some v) (old q)) → v.items ≡ option_map_or (λ w. w.items) (old (a, b)) []
     → (r t : ℕ) → option_map_or (λ w. w.items) (new (r, t)) [] ≡ option_map_or (λ w. w.items) (old (r, t)) []
 listed_still old new a b v after is r t =
     listed_after old new a b v after (λ x y. option_map_or (λ w. w.items) (old (x, y)) []) is r t ∙ either (nat_eq a r && nat_eq b t) (option_map_or (λ w. w.items) (old (r, t)) [])

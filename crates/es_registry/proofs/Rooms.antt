@@ -2,13 +2,13 @@
 use Rattle.std.proofs.Common.{◌≡◌, ℕ, Bool, true, false, cond, List, [], ◌∷◌, Option, Some, None, Result, Ok, Err, OnOk, OnErr, map, refl}
 use Rattle.std.specs.Option.{option_map_or}
 use Rattle.std.specs.Map.{lookup}
-use Rattle.es_registry.specs.Places.{Tokens, Listing, CanList}
+use Rattle.es_registry.specs.Places.{Tokens, PlacesView, CanList}
 use Rattle.es_registry.specs.Registries.{pair_eq, room_at, HasTokenRoom}
 
-abbrev pub rooms_of : List ((ℕ × ℕ) × Listing) → List ((ℕ × ℕ) × ℕ)
+abbrev pub rooms_of : List ((ℕ × ℕ) × PlacesView) → List ((ℕ × ℕ) × ℕ)
 rooms_of es = map (λ e. (e.0, e.1.room)) es
 
-room_found : (es : List ((ℕ × ℕ) × Listing)) (r k : ℕ) → room_at (rooms_of es) r k ≡ option_map_or (λ p. p.room) (lookup (pair_eq (r, k)) es) 0
+room_found : (es : List ((ℕ × ℕ) × PlacesView)) (r k : ℕ) → room_at (rooms_of es) r k ≡ option_map_or (λ p. p.room) (lookup (pair_eq (r, k)) es) 0
 room_found [] r k = refl
 room_found (e ∷ es) r k = by_key (pair_eq (r, k) e.0) (room_found es r k)
   where

@@ -6,7 +6,7 @@ use Rattle.es_registry.specs.declared.slot.Slot.{Slot}
 use Rattle.es_registry.specs.Slots.{is_present, is_awaiting, is_unregistered, is_taken, passes_at}
 
 -- the slots, the oldest registration first, and for how many more there is room, of slots and of places
-pub record Row : Type 0 where
+pub record CellsView : Type 0 where
   pub all : List Slot
   pub slot_room : ℕ
   pub place_room : ℕ

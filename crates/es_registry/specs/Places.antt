@@ -14,11 +14,11 @@ use Rattle.es_registry.specs.Slots.{passes_at, awaits, has_token, is_of}
 use Rattle.es_registry.specs.Registries.{pair_eq}
 
 -- places, and for how many more there is room
-pub record Listing : Type 0 where
+pub record PlacesView : Type 0 where
   pub items : List ℕ
   pub room : ℕ
 
-abbrev pub listing_of : Kept → Listing
+abbrev pub listing_of : Kept → PlacesView
 listing_of Nothing = record { items = []; room = 1 }
 listing_of (One k) = record { items = k ∷ []; room = 0 }
 listing_of (Many ks) = record { items = ks.value.items; room = vec_capacity ks.value - vec_len ks.value }
@@ -33,7 +33,7 @@ waits w r k = option_map_or (λ s. contains nat_cmp s k) (get nat_eq w r) false
 
 -- for each registry and token the places of the cells that were registered with them
 abbrev pub Tokens : Type 0
-Tokens = HashMap (ℕ × ℕ) Listing (BuildHasherDefault FoldHasher)
+Tokens = HashMap (ℕ × ℕ) PlacesView (BuildHasherDefault FoldHasher)
 
 -- the places listed for registry r and token t
 abbrev pub listed : Tokens → ℕ → ℕ → List ℕ

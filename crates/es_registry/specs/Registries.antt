@@ -14,7 +14,7 @@ use Rattle.es_registry.specs.Slots.{is_losing, awaits, cell_of, holds}
 -- registries whose cleanup job is to run, the first one first, and for how many more there is room: of
 -- registries, of registrations (of slots, of places, and of places by registry and token) and of queued
 -- ones
-pub record Contents : Type 0 where
+pub record RegistriesView : Type 0 where
   pub callbacks : List (ℕ × ℕ)
   pub cells : List Slot
   pub queue : List ℕ
@@ -30,15 +30,15 @@ found [] r = None
 found (p ∷ ps) r = if p.0 == r then Some p.1 else found ps r
 
 -- the callback of the registry r
-abbrev pub callback : Contents → ℕ → Option ℕ
+abbrev pub callback : RegistriesView → ℕ → Option ℕ
 callback t r = found t.callbacks r
 
 -- r has this callback, and every other registry its own
-abbrev pub AddsRegistry : Contents → ℕ → ℕ → Contents → Type 0
+abbrev pub AddsRegistry : RegistriesView → ℕ → ℕ → RegistriesView → Type 0
 AddsRegistry old r c new = (q : ℕ) → callback new q ≡ (if r == q then Some c else callback old q)
 
 -- every registry has the callback that it had
-abbrev pub SameCallbacks : Contents → Contents → Type 0
+abbrev pub SameCallbacks : RegistriesView → RegistriesView → Type 0
 SameCallbacks old new = (q : ℕ) → callback new q ≡ callback old q
 
 -- the same registry and the same token
@@ -56,13 +56,13 @@ HasTokenRoom rooms r None = ⊤
 HasTokenRoom rooms r (Some k) = 0 < room_at rooms r k
 
 -- there is room for a registration in r with this token
-pub record CanRegister (t : Contents) (r : ℕ) (token : Option ℕ) : Type 0 where
+pub record CanRegister (t : RegistriesView) (r : ℕ) (token : Option ℕ) : Type 0 where
   pub of_slots : 0 < t.slot_room
   pub of_places : 0 < t.place_room
   pub of_token : HasTokenRoom t.token_rooms r token
 
 -- what could be registered still can
-pub record KeepsCellRoom (old new : Contents) : Type 0 where
+pub record KeepsCellRoom (old new : RegistriesView) : Type 0 where
   pub of_slots : old.slot_room ≤ new.slot_room
   pub of_places : old.place_room ≤ new.place_room
   pub of_tokens : new.token_rooms ≡ old.token_rooms
@@ -72,11 +72,11 @@ abbrev pub registered : ℕ → ℕ → Value → Option ℕ → ℕ → Slot
 registered r t h token n = Present (record { registry = r; target = Some t; token = token; cell = record { registration = n; held = h } })
 
 -- the oldest cell of r whose target was emptied
-abbrev pub oldest : Contents → ℕ → Option Cell
+abbrev pub oldest : RegistriesView → ℕ → Option Cell
 oldest t r = option_and_then cell_of (find (awaits r) t.cells)
 
 -- a registry, or an identity that a cell holds
-abbrev pub is_root : Contents → ℕ → Bool
+abbrev pub is_root : RegistriesView → ℕ → Bool
 is_root t i = is_some (callback t i) || list_any (holds i) t.cells
 
 -- a cell of r loses its target where ids are emptied
@@ -85,6 +85,6 @@ loses ids r cells = list_any (is_losing ids r) cells
 
 -- these join the queue, by rising identity: the registries of which a cell loses its target and that
 -- are not queued
-pub record Joins (old : Contents) (ids more : List ℕ) : Type 0 where
+pub record Joins (old : RegistriesView) (ids more : List ℕ) : Type 0 where
   pub rising : IsStrictlyIncreasing more
   pub exactly : (r : ℕ) → is_in more r ≡ (loses ids r old.cells && not (is_in old.queue r))

@@ -28,9 +28,9 @@ pub(crate) struct Cells {
 
 impl Model for Cells {
     ghost use Rattle.std.specs.Prelude.{◌-◌, vec_len, vec_capacity};
-    ghost use Rattle.es_registry.specs.Cells.{Row, Counts};
+    ghost use Rattle.es_registry.specs.Cells.{CellsView, Counts};
 
-    ghost Value = { Row };
+    ghost Value = { CellsView };
 
     ghost view = { λ c. record {
       all = c.slots.items;

@@ -25,9 +25,9 @@ pub(crate) enum Kept {
 }
 
 impl Model for Places {
-    ghost use Rattle.es_registry.specs.Places.{Listing, listing_of};
+    ghost use Rattle.es_registry.specs.Places.{PlacesView, listing_of};
 
-    ghost Value = { Listing };
+    ghost Value = { PlacesView };
 
     ghost view = { λ p. listing_of p.kept };
 }

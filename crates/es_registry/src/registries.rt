@@ -38,9 +38,9 @@ impl Model for Registries {
     ghost use Rattle.std.specs.HashMap.{spare};
     ghost use Rattle.std.specs.VecDeque.{deque_len, deque_capacity};
     ghost use Rattle.es_registry.specs.Places.{IsIndexed};
-    ghost use Rattle.es_registry.specs.Registries.{Contents};
+    ghost use Rattle.es_registry.specs.Registries.{RegistriesView};
 
-    ghost Value = { Contents };
+    ghost Value = { RegistriesView };
 
     ghost view = { λ r. record {
       callbacks = r.callbacks.entries;

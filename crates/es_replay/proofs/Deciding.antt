@@ -1,4 +1,4 @@
--- What an agent does next is settled by its book, and by what the ledger says.
+-- What an agent does next is settled by its view, and by what the ledger says.
 use Rattle.std.proofs.Common.{◌≡◌, ℕ, ◌+◌, ◌&&◌, true, false, cond, sym, ◌∙◌, ap, refl, subst, List, [], ◌∷◌, Option, Some, None, Ok, Err}
 use Rattle.std.proofs.lemmas.Bool.{false≢true, and_parts}
 use Rattle.std.specs.Prelude.{nat_lt, is_none}
@@ -31,7 +31,7 @@ use Rattle.es_match.specs.Asks.{asks_did, between_jobs, nothing as asks_nothing,
 use Rattle.es_match.specs.Cluster.{awaited, is_refusal_asked}
 use Rattle.es_deeds.specs.Deeds.{Deed, Spends}
 use Rattle.es_match.specs.Meets.{after, refused_in, serials_of, spends, ticket_in, within}
-use Rattle.es_record.specs.Book.{Book, with_row}
+use Rattle.es_record.specs.AgentView.{AgentView, with_row}
 use Rattle.es_agent.specs.Tickets.{tickets}
 use Rattle.es_member.proofs.Asking.{at_command, at_message, awaited_at}
 use Rattle.es_replay.specs.Alike.{Alike}
@@ -52,11 +52,11 @@ by_deeds : (n : ℕ) (l : Ledger) (ds es : List Deed) → ds ≡ es → Alike (d
 by_deeds n l ds es is = subst (λ es. Alike (did n ds l) (did n es l)) is (same (did n ds l))
 
 -- where the same ticket comes, and the same is heard, the event is the same
-one_event : (n : ℕ) (l : Ledger) (b : Book) (e f : Event) (r q : Option Row) (ds es : List Deed) → Move n l b e r ds → Move n l b f q es → r ≡ q → heard e ≡ heard f → e ≡ f
+one_event : (n : ℕ) (l : Ledger) (b : AgentView) (e f : Event) (r q : Option Row) (ds es : List Deed) → Move n l b e r ds → Move n l b f q es → r ≡ q → heard e ≡ heard f → e ≡ f
 one_event n l b e f r q ds es x y rows hears =
     one_next (with_row q b).over b.plan b.history e f (subst (λ r. ComesNext (with_row r b).over b.plan b.history e) rows (x.next.lawful, x.next.permitted)) (y.next.lawful, y.next.permitted) hears
 
-agree : (n : ℕ) (l : Ledger) (b : Book) (e f : Event) (r q : Option Row) (ds es : List Deed) → Move n l b e r ds → Move n l b f q es → r ≡ q → heard e ≡ heard f → Alike (did n ds l) (did n es l) → Agree n l e f r q ds es
+agree : (n : ℕ) (l : Ledger) (b : AgentView) (e f : Event) (r q : Option Row) (ds es : List Deed) → Move n l b e r ds → Move n l b f q es → r ≡ q → heard e ≡ heard f → Alike (did n ds l) (did n es l) → Agree n l e f r q ds es
 agree n l b e f r q ds es x y rows hears alike = record { event = one_event n l b e f r q ds es x y rows hears; row = rows; alike = alike }
 
 -- Events that ask nothing
@@ -65,13 +65,13 @@ record Quiet (r : Option Row) (ds : List Deed) : Type 0 where
   row : r ≡ None
   deeds : ds ≡ []
 
-is_quiet : (n : ℕ) (l : Ledger) (b : Book) (e : Event) (r : Option Row) (ds : List Deed) → asked_by b e ≡ asks_nothing → Move n l b e r ds → Quiet r ds
+is_quiet : (n : ℕ) (l : Ledger) (b : AgentView) (e : Event) (r : Option Row) (ds : List Deed) → asked_by b e ≡ asks_nothing → Move n l b e r ds → Quiet r ds
 is_quiet n l b e r ds asks x = record {
   row = no_row (made b.history) r (sym (ap (λ q. ticket_in q ds) asks) ∙ x.came);
   deeds = none_more ds (some_if_true _ (tickets b) x.left (ap (λ q. after (tickets b) q ds) (sym asks) ∙ x.met));
 }
 
-both_quiet : (n : ℕ) (l : Ledger) (b : Book) (e f : Event) (r q : Option Row) (ds es : List Deed) → asked_by b e ≡ asks_nothing → asked_by b f ≡ asks_nothing → heard e ≡ heard f → Move n l b e r ds → Move n l b f q es → Agree n l e f r q ds es
+both_quiet : (n : ℕ) (l : Ledger) (b : AgentView) (e f : Event) (r q : Option Row) (ds es : List Deed) → asked_by b e ≡ asks_nothing → asked_by b f ≡ asks_nothing → heard e ≡ heard f → Move n l b e r ds → Move n l b f q es → Agree n l e f r q ds es
 both_quiet n l b e f r q ds es left right hears x y =
     let a = is_quiet n l b e r ds left x in
     let c = is_quiet n l b f q es right y in
@@ -79,19 +79,19 @@ both_quiet n l b e f r q ds es left right hears x y =
 
 -- A command
 
-agrees_row : (b : Book) (r : Option Row) → AgreeSoFar b.history b.over (with_row r b).over
+agrees_row : (b : AgentView) (r : Option Row) → AgreeSoFar b.history b.over (with_row r b).over
 agrees_row b None = agrees_with_itself b.history b.over
 agrees_row b (Some r) = agrees_longer b.history b.over r
 
 -- whatever ticket comes
-same_done : (b : Book) → IsRunOver b.over b.plan b.history → (r q : Option Row) (c : Command) (vs : List Value) (w : ℕ)
+same_done : (b : AgentView) → IsRunOver b.over b.plan b.history → (r q : Option Row) (c : Command) (vs : List Value) (w : ℕ)
     → completion (with_row r b).over b.history c vs w ≡ completion (with_row q b).over b.history c vs w
 same_done b history r q c vs w =
     same_completion b.over (with_row r b).over (receivers b.plan.jobs) b.history history.0 (agrees_row b r) c vs w
     ∙ sym (same_completion b.over (with_row q b).over (receivers b.plan.jobs) b.history history.0 (agrees_row b q) c vs w)
 
 -- a command is not both done and refused
-not_refused : (b : Book) → IsRunOver b.over b.plan b.history → (r q : Option Row) (c d : Command) (vs : List Value) (a : Answer) (code : Refusal) → d ≡ c → vs ≡ values_of (receivers b.plan.jobs) b.history (reads d)
+not_refused : (b : AgentView) → IsRunOver b.over b.plan b.history → (r q : Option Row) (c d : Command) (vs : List Value) (a : Answer) (code : Refusal) → d ≡ c → vs ≡ values_of (receivers b.plan.jobs) b.history (reads d)
     → completion (with_row r b).over b.history d vs (word_in a) ≡ Ok a → refusal (with_row q b).over b.history c (values_of (receivers b.plan.jobs) b.history (reads c)) ≡ Some code → ⊥
 not_refused b history r q c d vs a code same read done refused =
     let into = receivers b.plan.jobs in
@@ -100,10 +100,10 @@ not_refused b history r q c d vs a code same read done refused =
     let fails : completion (with_row q b).over b.history d vs (word_in a) ≡ Err code = ap (λ f. refuse_or f (result (with_row q b).over b.history d vs (word_in a))) now in
     let clash = sym done ∙ same_done b history r q d vs (word_in a) ∙ fails in cc
 
-refused_quiet : (b : Book) (c : Command) (code : Refusal) → due b.plan b.history ≡ run c → asked_by b (Refused code) ≡ asks_nothing
+refused_quiet : (b : AgentView) (c : Command) (code : Refusal) → due b.plan b.history ≡ run c → asked_by b (Refused code) ≡ asks_nothing
 refused_quiet b c code at = ap (λ t. cond (t && wants_room code) to_refuse asks_nothing) (at_command b.plan b.history c at)
 
-both_done : (n : ℕ) (l : Ledger) (b : Book) (c d k : Command) (vs us : List Value) (a z : Answer) (r q : Option Row) (ds es : List Deed) → d ≡ c → k ≡ c → Move n l b (Did (d, vs, a)) r ds → Move n l b (Did (k, us, z)) q es
+both_done : (n : ℕ) (l : Ledger) (b : AgentView) (c d k : Command) (vs us : List Value) (a z : Answer) (r q : Option Row) (ds es : List Deed) → d ≡ c → k ≡ c → Move n l b (Did (d, vs, a)) r ds → Move n l b (Did (k, us, z)) q es
     → Agree n l (Did (d, vs, a)) (Did (k, us, z)) r q ds es
 both_done n l b c d k vs us a z r q ds es p o x y =
     let u = settled d vs a r ds p x in
@@ -119,10 +119,10 @@ both_done n l b c d k vs us a z r q ds es p o x y =
         let asks : asks_did d vs a ≡ asks_did c values a = ap (λ d. asks_did d vs a) p ∙ ap (λ vs. asks_did c vs a) read in
         settles n l (tickets b) x.left (made b.history) c values a r ds (ap (λ q. after (tickets b) q ds) (sym asks) ∙ x.met) (ap (λ q. ticket_in q ds) (sym asks) ∙ x.came) x.fit
 
-no_ticket_emptied : (n : ℕ) (l : Ledger) (b : Book) (ids : List ℕ) (r : Option Row) (ds : List Deed) → Move n l b (Emptied ids) r ds → r ≡ None
+no_ticket_emptied : (n : ℕ) (l : Ledger) (b : AgentView) (ids : List ℕ) (r : Option Row) (ds : List Deed) → Move n l b (Emptied ids) r ds → r ≡ None
 no_ticket_emptied n l b ids r ds x = no_row (made b.history) r x.came
 
-both_emptied : (n : ℕ) (l : Ledger) (b : Book) (ids jds : List ℕ) (r q : Option Row) (ds es : List Deed) → Move n l b (Emptied ids) r ds → Move n l b (Emptied jds) q es → Agree n l (Emptied ids) (Emptied jds) r q ds es
+both_emptied : (n : ℕ) (l : Ledger) (b : AgentView) (ids jds : List ℕ) (r q : Option Row) (ds es : List Deed) → Move n l b (Emptied ids) r ds → Move n l b (Emptied jds) q es → Agree n l (Emptied ids) (Emptied jds) r q ds es
 both_emptied n l b ids jds r q ds es x y =
     let rows : r ≡ q = no_ticket_emptied n l b ids r ds x ∙ sym (no_ticket_emptied n l b jds q es y) in
     let event : ◌≡◌ {A = Event} (Emptied ids) (Emptied jds) = one_event n l b (Emptied ids) (Emptied jds) r q ds es x y rows refl in
@@ -136,12 +136,12 @@ both_emptied n l b ids jds r q ds es x y =
     }
 
 -- what is refused is not emptied
-not_emptied : (n : ℕ) (l : Ledger) (b : Book) (c : Command) (code : Refusal) (ids : List ℕ) (r q : Option Row) (ds es : List Deed) → due b.plan b.history ≡ run c → Move n l b (Refused code) r ds → Move n l b (Emptied ids) q es → ⊥
+not_emptied : (n : ℕ) (l : Ledger) (b : AgentView) (c : Command) (code : Refusal) (ids : List ℕ) (r q : Option Row) (ds es : List Deed) → due b.plan b.history ≡ run c → Move n l b (Refused code) r ds → Move n l b (Emptied ids) q es → ⊥
 not_emptied n l b c code ids r q ds es at x y =
     let rows : r ≡ q = (is_quiet n l b (Refused code) r ds (refused_quiet b c code at) x).row ∙ sym (no_ticket_emptied n l b ids q es y) in
     let event : ◌≡◌ {A = Event} (Refused code) (Emptied ids) = one_event n l b (Refused code) (Emptied ids) r q ds es x y rows refl in cc
 
-commanded : (n : ℕ) (l : Ledger) (b : Book) → IsRunOver b.over b.plan b.history → (c : Command) → due b.plan b.history ≡ run c → (e f : Event) (r q : Option Row) (ds es : List Deed)
+commanded : (n : ℕ) (l : Ledger) (b : AgentView) → IsRunOver b.over b.plan b.history → (c : Command) → due b.plan b.history ≡ run c → (e f : Event) (r q : Option Row) (ds es : List Deed)
     → AtCommand (with_row r b).over (receivers b.plan.jobs) b.history c e → AtCommand (with_row q b).over (receivers b.plan.jobs) b.history c f → Move n l b e r ds → Move n l b f q es → Agree n l e f r q ds es
 commanded n l b history c at (Did (d, vs, a)) (Did (k, us, z)) r q ds es p o x y = both_done n l b c d k vs us a z r q ds es p o x y
 commanded n l b history c at (Did (d, vs, a)) (Refused code) r q ds es p o x y = absurd (not_refused b history r q c d vs a code p x.next.lawful.0 x.next.lawful.1 o)
@@ -163,14 +163,14 @@ same_says : (m : Body) (w i : ℕ) (v z : Value) (r q : Option Row) → Says m w
 same_says (Plain u) w i v z r q a c = (a.0 ∙ sym c.0, a.1 ∙ sym c.1)
 same_says (Block b k) w i v z r q a c = (a.0 ∙ sym c.0, a.1 ∙ sym c.1)
 
-received : (n : ℕ) (l : Ledger) (b : Book) (s t : ℕ) (v : Value) (r : Option Row) (ds : List Deed) → t ≡ s → Move n l b (Received t v) r ds → Receives l n s (made b.history) v r ds
+received : (n : ℕ) (l : Ledger) (b : AgentView) (s t : ℕ) (v : Value) (r : Option Row) (ds : List Deed) → t ≡ s → Move n l b (Received t v) r ds → Receives l n s (made b.history) v r ds
 received n l b s t v r ds same x =
     subst (λ s. Receives l n s (made b.history) v r ds) same (receives (with_row r b).over b.history n l (tickets b) x.left t v r ds x.next.lawful x.met x.came x.fit)
 
-skipped : (n : ℕ) (l : Ledger) (b : Book) (s j t : ℕ) (r : Option Row) (ds : List Deed) → t ≡ s → Move n l b (Skipped j t) r ds → Skips l n s ds
+skipped : (n : ℕ) (l : Ledger) (b : AgentView) (s j t : ℕ) (r : Option Row) (ds : List Deed) → t ≡ s → Move n l b (Skipped j t) r ds → Skips l n s ds
 skipped n l b s j t r ds same x = subst (λ s. Skips l n s ds) same (skips n l t ds (some_if_true _ _ x.left x.met) x.fit)
 
-no_ticket_skipped : (n : ℕ) (l : Ledger) (b : Book) (j t : ℕ) (r : Option Row) (ds : List Deed) → Move n l b (Skipped j t) r ds → r ≡ None
+no_ticket_skipped : (n : ℕ) (l : Ledger) (b : AgentView) (j t : ℕ) (r : Option Row) (ds : List Deed) → Move n l b (Skipped j t) r ds → r ≡ None
 no_ticket_skipped n l b j t r ds x = no_row (made b.history) r x.came
 
 -- the refusal of a message
@@ -178,7 +178,7 @@ record Declined (n : ℕ) (l : Ledger) (s : ℕ) (r : Option Row) (ds : List Dee
   refuses : Refuses l n s ds
   row : r ≡ None
 
-declined : (n : ℕ) (l : Ledger) (b : Book) → IsRunOver b.over b.plan b.history → (j s : ℕ) → due b.plan b.history ≡ receive j s → (code : Refusal) (r : Option Row) (ds : List Deed) → code ≡ TooManyValues → Move n l b (Refused code) r ds
+declined : (n : ℕ) (l : Ledger) (b : AgentView) → IsRunOver b.over b.plan b.history → (j s : ℕ) → due b.plan b.history ≡ receive j s → (code : Refusal) (r : Option Row) (ds : List Deed) → code ≡ TooManyValues → Move n l b (Refused code) r ds
     → Declined n l s r ds
 declined n l b history j s at code r ds same x =
     let between : between_jobs b.history ≡ true = at_message b.over b.plan b.history j s history.1 at in
@@ -191,14 +191,14 @@ declined n l b history j s at code r ds same x =
     }
 
 -- a message that finds no room is not received: its block would be a new object
-not_received : (n : ℕ) (l : Ledger) (b : Book) (s : ℕ) (v : Value) (r : Option Row) (ds es : List Deed) → HasRoom b.history (object_of v) → nat_lt (made b.history) most_identities ≡ false → Receives l n s (made b.history) v r ds → Refuses l n s es → ⊥
+not_received : (n : ℕ) (l : Ledger) (b : AgentView) (s : ℕ) (v : Value) (r : Option Row) (ds es : List Deed) → HasRoom b.history (object_of v) → nat_lt (made b.history) most_identities ≡ false → Receives l n s (made b.history) v r ds → Refuses l n s es → ⊥
 not_received n l b s v r ds es room full x y =
     let body : x.body ≡ Block y.block y.serial = (let found = sym x.front_is ∙ y.front_is in cc) in
     let value : v ≡ Object (made b.history + 1) = (subst (λ m. Says m (next_words l s n) (made b.history) v r) body x.says).0 in
     let has : nat_lt (made b.history) most_identities ≡ true = subst (λ v. HasRoom b.history (object_of v)) value room in
     false≢true (sym full ∙ has)
 
-messaged : (n : ℕ) (l : Ledger) (b : Book) → IsRunOver b.over b.plan b.history → (j s : ℕ) → due b.plan b.history ≡ receive j s → (e f : Event) (r q : Option Row) (ds es : List Deed)
+messaged : (n : ℕ) (l : Ledger) (b : AgentView) → IsRunOver b.over b.plan b.history → (j s : ℕ) → due b.plan b.history ≡ receive j s → (e f : Event) (r q : Option Row) (ds es : List Deed)
     → Permits (with_row r b).over (receivers b.plan.jobs) b.history (receive j s) e → Permits (with_row q b).over (receivers b.plan.jobs) b.history (receive j s) f → Move n l b e r ds → Move n l b f q es → Agree n l e f r q ds es
 messaged n l b history j s at (Received t v) (Received u z) r q ds es p o x y =
     let a = received n l b s t v r ds p.0 x in
@@ -228,14 +228,14 @@ messaged n l b history j s at _ f r q ds es p o x y = absurd p
 
 -- Whatever is due
 
-both_closed : (n : ℕ) (l : Ledger) (b : Book) (r q : Option Row) (ds es : List Deed) → Move n l b Closed r ds → Move n l b Closed q es → Agree n l Closed Closed r q ds es
+both_closed : (n : ℕ) (l : Ledger) (b : AgentView) (r q : Option Row) (ds es : List Deed) → Move n l b Closed r ds → Move n l b Closed q es → Agree n l Closed Closed r q ds es
 both_closed n l b r q ds es x y = record {
   event = refl;
   row = no_row (made b.history) r x.came ∙ sym (no_row (made b.history) q y.came);
   alike = in_any_order true n l (serials_of (tickets b)) ds es (some_if_true _ _ x.left x.met) (some_if_true _ _ y.left y.met);
 }
 
-by_due : (n : ℕ) (l : Ledger) (b : Book) → IsRunOver b.over b.plan b.history → (d : Due) → due b.plan b.history ≡ d → (e f : Event) (r q : Option Row) (ds es : List Deed)
+by_due : (n : ℕ) (l : Ledger) (b : AgentView) → IsRunOver b.over b.plan b.history → (d : Due) → due b.plan b.history ≡ d → (e f : Event) (r q : Option Row) (ds es : List Deed)
     → Permits (with_row r b).over (receivers b.plan.jobs) b.history d e → Permits (with_row q b).over (receivers b.plan.jobs) b.history d f → Move n l b e r ds → Move n l b f q es → Agree n l e f r q ds es
 by_due n l b history (run c) at e f r q ds es p o x y = commanded n l b history c at e f r q ds es p o x y
 by_due n l b history (receive j s) at e f r q ds es p o x y = messaged n l b history j s at e f r q ds es p o x y
@@ -253,5 +253,5 @@ by_due n l b history end_job at JobEnded _ r q ds es p o x y = absurd o
 by_due n l b history close at Closed _ r q ds es p o x y = absurd o
 by_due n l b history _ at _ f r q ds es p o x y = absurd p
 
-pub one_way : (n : ℕ) (l : Ledger) (b : Book) (e f : Event) (r q : Option Row) (ds es : List Deed) → IsRunOver b.over b.plan b.history → Move n l b e r ds → Move n l b f q es → Agree n l e f r q ds es
+pub one_way : (n : ℕ) (l : Ledger) (b : AgentView) (e f : Event) (r q : Option Row) (ds es : List Deed) → IsRunOver b.over b.plan b.history → Move n l b e r ds → Move n l b f q es → Agree n l e f r q ds es
 one_way n l b e f r q ds es history x y = by_due n l b history (due b.plan b.history) refl e f r q ds es x.next.permitted y.next.permitted x y

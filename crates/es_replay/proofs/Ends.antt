@@ -9,10 +9,10 @@ use Rattle.es_event.specs.declared.outcome.Outcome.{Outcome}
 use Rattle.es_event.specs.declared.plan.Plan.{Plan}
 use Rattle.es_event.specs.Ledger.{Ledger, port_of}
 use Rattle.es_event.specs.LegalLedger.{LegalSoFar}
-use Rattle.es_ledger.specs.Draining.{drained, drained_below, drained_each, drained_one, drained_to}
+use Rattle.es_ledger.specs.Draining.{after_drain, drained_below, drained_each, drained_one, drained_to}
 use Rattle.es_cluster.specs.Ends.{EndsIn}
 use Rattle.es_cluster.specs.Moves.{RunsToEnd}
-use Rattle.es_cluster.specs.State.{Cluster, first_state, names_of}
+use Rattle.es_cluster.specs.State.{ClusterView, first_state, names_of}
 use Rattle.es_replay.specs.Alike.{Alike, SameEnd}
 use Rattle.es_replay.specs.Together.{Same}
 use Rattle.es_replay.proofs.Running.{runs_same, stands_first}
@@ -57,11 +57,11 @@ legal_under : (k : ℕ) (l : Ledger) (n m : ℕ) → LegalSoFar k (drained_below
 legal_under k l n zero legal = legal
 legal_under k l n (suc m) legal = legal_under k l n m (legal_for k (drained_below l n m) m n legal)
 
-legal_before : (p : Plan) (c : Cluster) (o : Outcome) (run : RunsToEnd (first_state p) c) → EndsIn c o → LegalSoFar c.ledger.agents run.0.ledger.history
+legal_before : (p : Plan) (c : ClusterView) (o : Outcome) (run : RunsToEnd (first_state p) c) → EndsIn c o → LegalSoFar c.ledger.agents run.0.ledger.history
 legal_before p c o run end =
     let k = c.ledger.agents in
-    let all : LegalSoFar k (drained c.ledger.history c.ledger.agents) = subst (LegalSoFar k) end.ledger end.legal.0 in
-    let once : LegalSoFar k (drained run.0.ledger.history run.0.ledger.agents) = subst (LegalSoFar k) (ap (λ c. c.ledger.history) run.2) (legal_under k c.ledger.history c.ledger.agents c.ledger.agents all) in
+    let all : LegalSoFar k (after_drain c.ledger.history c.ledger.agents) = subst (LegalSoFar k) end.ledger end.legal.0 in
+    let once : LegalSoFar k (after_drain run.0.ledger.history run.0.ledger.agents) = subst (LegalSoFar k) (ap (λ c. c.ledger.history) run.2) (legal_under k c.ledger.history c.ledger.agents c.ledger.agents all) in
     legal_under k run.0.ledger.history run.0.ledger.agents run.0.ledger.agents once
 
 -- The outcomes
@@ -70,21 +70,21 @@ reversed_twice : (hs : List (List Event)) → map reverse (map reverse hs) ≡ h
 reversed_twice [] = refl
 reversed_twice (h ∷ hs) = ap (λ k. k ∷ map reverse (map reverse hs)) (reverse-reverse h) ∙ ap (λ ks. h ∷ ks) (reversed_twice hs)
 
-ledger_is : (p : Plan) (c : Cluster) (o : Outcome) (run : RunsToEnd (first_state p) c) → EndsIn c o
-    → reverse o.ledger ≡ drained (drained run.0.ledger.history run.0.ledger.agents) run.0.ledger.agents
-ledger_is p c o run end = end.ledger ∙ ap (λ c. drained c.ledger.history c.ledger.agents) run.2
+ledger_is : (p : Plan) (c : ClusterView) (o : Outcome) (run : RunsToEnd (first_state p) c) → EndsIn c o
+    → reverse o.ledger ≡ after_drain (after_drain run.0.ledger.history run.0.ledger.agents) run.0.ledger.agents
+ledger_is p c o run end = end.ledger ∙ ap (λ c. after_drain c.ledger.history c.ledger.agents) run.2
 
-pub one_end : (p : Plan) (c d : Cluster) (o q : Outcome) → RunsToEnd (first_state p) c → EndsIn c o → RunsToEnd (first_state p) d → EndsIn d q → SameEnd o q
+pub one_end : (p : Plan) (c d : ClusterView) (o q : Outcome) → RunsToEnd (first_state p) c → EndsIn c o → RunsToEnd (first_state p) d → EndsIn d q → SameEnd o q
 one_end p c d o q left a right b = record {
   names = a.names ∙ ap names_of agents ∙ sym b.names;
   histories = sym (reversed_twice o.histories) ∙ ap (map reverse) (a.agents.are ∙ ap (map (λ b. b.history)) agents ∙ sym b.agents.are) ∙ reversed_twice q.histories;
-  ledgers = subst (Alike (reverse o.ledger)) (sym (ledger_is p d q right b)) (subst (λ l. Alike l (drained (drained f.ledger.history f.ledger.agents) f.ledger.agents)) (sym (ledger_is p c o left a)) alike);
+  ledgers = subst (Alike (reverse o.ledger)) (sym (ledger_is p d q right b)) (subst (λ l. Alike l (after_drain (after_drain f.ledger.history f.ledger.agents) f.ledger.agents)) (sym (ledger_is p c o left a)) alike);
 }
   where
-    e : Cluster
+    e : ClusterView
     e = left.0
 
-    f : Cluster
+    f : ClusterView
     f = right.0
 
     both : Same e f
@@ -95,6 +95,6 @@ one_end p c d o q left a right b = record {
     agents : c.agents ≡ d.agents
     agents = ap (λ c. c.agents) left.2 ∙ both.agents ∙ sym (ap (λ c. c.agents) right.2)
 
-    alike : Alike (drained (drained e.ledger.history e.ledger.agents) e.ledger.agents) (drained (drained f.ledger.history f.ledger.agents) f.ledger.agents)
-    alike = subst (λ n. Alike (drained (drained e.ledger.history e.ledger.agents) e.ledger.agents) (drained (drained f.ledger.history n) n)) both.number
-        (drained_under (drained e.ledger.history e.ledger.agents) (drained f.ledger.history e.ledger.agents) e.ledger.agents e.ledger.agents (drained_under e.ledger.history f.ledger.history e.ledger.agents e.ledger.agents both.ledgers))
+    alike : Alike (after_drain (after_drain e.ledger.history e.ledger.agents) e.ledger.agents) (after_drain (after_drain f.ledger.history f.ledger.agents) f.ledger.agents)
+    alike = subst (λ n. Alike (after_drain (after_drain e.ledger.history e.ledger.agents) e.ledger.agents) (after_drain (after_drain f.ledger.history n) n)) both.number
+        (drained_under (after_drain e.ledger.history e.ledger.agents) (after_drain f.ledger.history e.ledger.agents) e.ledger.agents e.ledger.agents (drained_under e.ledger.history f.ledger.history e.ledger.agents e.ledger.agents both.ledgers))

@@ -15,8 +15,8 @@ use Rattle.es_match.specs.Meets.{nothing_came}
 use Rattle.es_member.specs.declared.member.Progress.TheVariants.{Moved}
 use Rattle.es_member.specs.Tied.{IsSettled, IsTied, came_to}
 use Rattle.es_member.specs.Turned.{IsSeated}
-use Rattle.es_record.specs.Book.{Book}
-use Rattle.es_cluster.specs.State.{Cluster}
+use Rattle.es_record.specs.AgentView.{AgentView}
+use Rattle.es_cluster.specs.State.{ClusterView}
 use Rattle.es_cluster.specs.Turns.{Turned}
 
 abbrev plan : AgentPlan
@@ -27,15 +27,15 @@ plan = record {
 }
 
 -- a cluster of one agent
-abbrev cluster : Book → Ledger → Cluster
+abbrev cluster : AgentView → Ledger → ClusterView
 cluster b l = record { agents = b ∷ []; ledger = record { agents = 1; history = l }; failed = false }
 
 -- its job has begun
-abbrev begun : Book
+abbrev begun : AgentView
 begun = record { plan = plan; number = 0; agents = 1; over = []; history = JobBegun 1 ∷ [] }
 
 -- it has made a buffer of two words
-abbrev made : Book
+abbrev made : AgentView
 made = record {
   plan = plan;
   number = 0;
@@ -71,7 +71,7 @@ in_one_turn = record {
 }
 
 -- what the agent has after a turn of it
-after_is : (b c : Book) (l m : Ledger) (t : Turned Moved 0 (cluster b l) (cluster c m)) → t.after ≡ c
+after_is : (b c : AgentView) (l m : Ledger) (t : Turned Moved 0 (cluster b l) (cluster c m)) → t.after ≡ c
 after_is b c l m t = let same : c ∷ [] ≡ t.after ∷ [] = after_set t in cc
   where
     after_set : (t : Turned Moved 0 (cluster b l) (cluster c m)) → c ∷ [] ≡ t.after ∷ []
@@ -92,7 +92,7 @@ a_turn_early t =
     cc
 
 -- an agent that says it is the sixth of one
-abbrev sixth : Book
+abbrev sixth : AgentView
 sixth = record { plan = plan; number = 5; agents = 1; over = []; history = [] }
 
 without_a_place : Turned Moved 0 (cluster sixth []) (cluster (record sixth { history = JobBegun 1 ∷ [] }) []) → ⊥

@@ -5,7 +5,7 @@ use Rattle.std.proofs.lemmas.List.{reverse-append, take-append-drop}
 use Rattle.es_event.specs.declared.event.Event.{Event}
 use Rattle.es_event.specs.History.{History}
 use Rattle.es_match.specs.Asks.{Asking, asks, between_jobs}
-use Rattle.es_match.specs.Cluster.{Ties}
+use Rattle.es_match.specs.Cluster.{DeedsMeet}
 use Rattle.es_deeds.specs.Deeds.{Deed}
 use Rattle.es_match.specs.Goes.{asked, goes}
 use Rattle.es_match.specs.Meets.{Came, came_after, no_more, nothing_came, some_if}
@@ -13,7 +13,7 @@ use Rattle.es_match.proofs.Bridge.{ties-go, ties_mean_goes}
 use Rattle.es_replay.proofs.Commands.{none_more, some_if_true}
 
 -- the deeds that are left to it are its own
-pub came_next : (h : History) (p now : List Deed) (c d : Came) (e : Event) → Ties h p c → Ties (e ∷ h) (p ++ now) d → came_after c (asks (between_jobs h) e) now ≡ Some d
+pub came_next : (h : History) (p now : List Deed) (c d : Came) (e : Event) → DeedsMeet h p c → DeedsMeet (e ∷ h) (p ++ now) d → came_after c (asks (between_jobs h) e) now ≡ Some d
 came_next h p now c d e before all = by_met (came_after c q (take k now)) refl goes_on
   where
     q : Asking

@@ -9,11 +9,11 @@ use Rattle.es_event.specs.Identities.{made}
 use Rattle.es_event.specs.Jobs.{job}
 use Rattle.es_event.specs.Ledger.{Ledger}
 use Rattle.es_event.specs.LegalLedger.{ComesNext, LegalSoFar, MayCome, owed}
-use Rattle.es_match.specs.Cluster.{Ties, awaited, is_refusal_asked, refused_senders}
+use Rattle.es_match.specs.Cluster.{DeedsMeet, awaited, is_refusal_asked, refused_senders}
 use Rattle.es_deeds.specs.Deeds.{Deed, deed, is_wait, part}
 use Rattle.es_match.specs.Meets.{Tickets, after, refused_in, ticket_in}
 use Rattle.es_match.proofs.Bridge.{mapped}
-use Rattle.es_record.specs.Book.{Book, IsNext, with_row}
+use Rattle.es_record.specs.AgentView.{AgentView, IsNext, with_row}
 use Rattle.es_agent.specs.Tickets.{tickets}
 use Rattle.es_member.specs.Tied.{AreDeedsOf, GrowsBy, came_to}
 use Rattle.es_member.proofs.Growing.{part_own, part_waits}
@@ -91,18 +91,18 @@ cancelled [] ys zs is = is
 cancelled (x ∷ xs) ys zs is = cancelled xs ys zs (let rest : xs ++ ys ≡ xs ++ zs = cc in rest)
 
 -- the ticket that came
-row_came : (b : Book) (r : Option Row) (t : Tickets) → reverse b.over ++ t ≡ reverse (with_row r b).over → t ≡ came_row (made b.history) r
+row_came : (b : AgentView) (r : Option Row) (t : Tickets) → reverse b.over ++ t ≡ reverse (with_row r b).over → t ≡ came_row (made b.history) r
 row_came b None t is = cancelled (reverse b.over) t [] (is ∙ sym (append-nil (reverse b.over)))
 row_came b (Some r) t is = cancelled (reverse b.over) t ((made b.history + 1, r) ∷ []) (is ∙ reverse-append ((made b.history + 1, r) ∷ []) b.over)
 
 -- the agent after the event
-abbrev pub after_event : Book → Option Row → Event → Book
+abbrev pub after_event : AgentView → Option Row → Event → AgentView
 after_event b r e = record (with_row r b) { history = e ∷ b.history }
 
-pub move : (n : ℕ) (l m : Ledger) (b : Book) (e : Event) (r : Option Row) → Ties b.history (part l n) (came_to b) → Ties (e ∷ b.history) (part m n) (came_to (after_event b r e)) → IsNext (with_row r b) e
+pub move : (n : ℕ) (l m : Ledger) (b : AgentView) (e : Event) (r : Option Row) → DeedsMeet b.history (part l n) (came_to b) → DeedsMeet (e ∷ b.history) (part m n) (came_to (after_event b r e)) → IsNext (with_row r b) e
     → (x : Done n l m) → Move n l b e r x.deeds
 move n l m b e r before now next x =
-    let met = came_next b.history (part l n) x.deeds (came_to b) (came_to (after_event b r e)) e before (subst (λ p. Ties (e ∷ b.history) p (came_to (after_event b r e))) x.part_is now) in
+    let met = came_next b.history (part l n) x.deeds (came_to b) (came_to (after_event b r e)) e before (subst (λ p. DeedsMeet (e ∷ b.history) p (came_to (after_event b r e))) x.part_is now) in
     let had = mapped _ (after (tickets b) (asked_by b e) x.deeds) (came_to (after_event b r e)) met in
     record {
       next = next;

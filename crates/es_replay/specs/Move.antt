@@ -9,16 +9,16 @@ use Rattle.es_match.specs.Asks.{Asking, asks, between_jobs}
 use Rattle.es_match.specs.Cluster.{awaited, is_refusal_asked}
 use Rattle.es_deeds.specs.Deeds.{Deed}
 use Rattle.es_match.specs.Meets.{Tickets, after, refused_in, ticket_in}
-use Rattle.es_record.specs.Book.{Book, IsNext, with_row}
+use Rattle.es_record.specs.AgentView.{AgentView, IsNext, with_row}
 use Rattle.es_agent.specs.Tickets.{tickets}
 use Rattle.es_replay.specs.Doing.{AllFit}
 use Rattle.es_replay.specs.Settled.{came_row}
 
-abbrev pub asked_by : Book → Event → Asking
+abbrev pub asked_by : AgentView → Event → Asking
 asked_by b e = asks (between_jobs b.history) e
 
--- agent n, of this book, has event e next, with this ticket, by these deeds
-pub record Move (n : ℕ) (l : Ledger) (b : Book) (e : Event) (r : Option Row) (ds : List Deed) : Type 0 where
+-- agent n, of this view, has event e next, with this ticket, by these deeds
+pub record Move (n : ℕ) (l : Ledger) (b : AgentView) (e : Event) (r : Option Row) (ds : List Deed) : Type 0 where
   pub next : IsNext (with_row r b) e
   pub left : Tickets
   pub met : after (tickets b) (asked_by b e) ds ≡ Some left

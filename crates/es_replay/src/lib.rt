@@ -1,5 +1,5 @@
 //! Runs by turns of one plan come to the same end: an agent's next event, with what it does in the
-//! ledger, is settled by its book and by what the ledger says.
+//! ledger, is settled by what it is and did, and by what the ledger says.
 #![tactic(auto)]
 
 mod laws;

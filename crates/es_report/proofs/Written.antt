@@ -10,7 +10,7 @@ use Rattle.es_event.specs.declared.event.Event.{Event}
 use Rattle.es_event.specs.declared.outcome.Outcome.{Outcome}
 use Rattle.es_event.specs.Report.{agent_text, agents_text, cluster_text, report}
 use Rattle.es_registry.specs.declared.slot.Tally.{Tally}
-use Rattle.es_count.specs.Counts.{IsCountsOf, Sums}
+use Rattle.es_count.specs.Counts.{IsCountsOf, CountsView}
 use Rattle.es_count.specs.Tallies.{AreTallies, end_tally}
 use Rattle.es_report.specs.Totals.{totals_text}
 
@@ -36,7 +36,7 @@ place_written a b last ns hs i inside size here rest =
     (Appends-trans a b last (agent_text (slice_index_or ns i []) (slice_index_or hs i [])) (agents_text (drop (suc i) ns) (drop (suc i) hs)) here others)
 
 -- the lines of the agents and then the totals are the report, where the totals are the outcome's
-pub whole_written : {X E : Type 0} (o : Outcome) (s : Sums) (r : Result X E) (a b c : Option (List ℕ)) → IsCountsOf o s → Appends a b (agents_text o.names o.histories) → OnOk r (Appends b c (totals_text s)) → OnOk r (Appends a c (report o))
+pub whole_written : {X E : Type 0} (o : Outcome) (s : CountsView) (r : Result X E) (a b c : Option (List ℕ)) → IsCountsOf o s → Appends a b (agents_text o.names o.histories) → OnOk r (Appends b c (totals_text s)) → OnOk r (Appends a c (report o))
 whole_written o s r a b c counted agents totals =
     let same : totals_text s ≡ cluster_text (reverse o.ledger) = ap totals_text counted in
     let told : OnOk r (Appends b c (cluster_text (reverse o.ledger))) = subst (λ t. OnOk r (Appends b c t)) same totals in

@@ -1,8 +1,8 @@
 -- Internal: the lines of the cluster, from its totals.
 use Rattle.std.specs.Prelude.{ℕ, List, ◌++◌, codes, decimal}
-use Rattle.es_count.specs.Counts.{Sums}
+use Rattle.es_count.specs.Counts.{CountsView}
 
-abbrev pub totals_text : Sums → List ℕ
+abbrev pub totals_text : CountsView → List ℕ
 totals_text c =
     codes "cluster\nblocks " ++ decimal c.opened
     ++ codes " released " ++ decimal c.released

@@ -27,7 +27,7 @@ use Rattle.es_event.specs.Order.{receive, run, due}
 use Rattle.es_event.specs.Follows.{HasRoom, Permits}
 use Rattle.es_event.proofs.Extending.{refuses_so}
 use Rattle.es_event.proofs.Next.{its_own_word}
-use Rattle.es_record.specs.Book.{Book, IsNext, with_buffer}
+use Rattle.es_record.specs.AgentView.{AgentView, IsNext, with_buffer}
 use Rattle.es_rules.specs.Needs.{Request, for_block, for_post, for_buffer_post, for_access, posts_to, asked, unless_refused, request, Need, asks_copy, asks_ledger, asks_message, need_of, need, TakesTicket, TakesWord, TakesDone}
 use Rattle.es_rules.specs.Giving.{MayGive}
 use Rattle.es_rules.proofs.Needs.{ledger_due, ledger_command, copy_due, message_due, not_refused}
@@ -38,7 +38,7 @@ none_asked : (f : Option Refusal) (n : ℕ) (a r : Answer) → unless_refused f 
 none_asked None n a r e done = cc
 none_asked (Some code) n a r e done = cc
 
-no_words : (b : Book) (c : Command) (r : Answer) → request b c ≡ None → completion b.over b.history c (values_of (receivers b.plan.jobs) b.history (reads c)) 0 ≡ Ok r → HasWords b.over (made b.history + 1) (opens_words c)
+no_words : (b : AgentView) (c : Command) (r : Answer) → request b c ≡ None → completion b.over b.history c (values_of (receivers b.plan.jobs) b.history (reads c)) 0 ≡ Ok r → HasWords b.over (made b.history + 1) (opens_words c)
 no_words b (SharedArrayBuffer to n) r none e = absurd (none_asked (refusal b.over b.history (SharedArrayBuffer to n) []) n (result b.over b.history (SharedArrayBuffer to n) [] 0) r none e)
 no_words b _ r none e = tt
 
@@ -51,14 +51,14 @@ no_collection : (over : Buffers) (h : History) (c : Command) (vs : List Value) (
 no_collection over h Collect vs r e done = absurd (none_done (snapshot h) Nothing r e done)
 no_collection over h _ vs r e done = refl
 
-pub local_done : (b : Book) (c : Command) (vs : List Value) (r : Answer) → due b.plan b.history ≡ run c → collects_now b.history c ≡ false → request b c ≡ None
+pub local_done : (b : AgentView) (c : Command) (vs : List Value) (r : Answer) → due b.plan b.history ≡ run c → collects_now b.history c ≡ false → request b c ≡ None
     → vs ≡ values_of (receivers b.plan.jobs) b.history (reads c) → completion b.over b.history c vs 0 ≡ Ok r → IsNext b (Did (c, vs, r))
 local_done b c vs r is empties_nothing none said e = record {
   lawful = (said, its_own_word b.over b.history c vs r e, no_collection b.over b.history c vs r empties_nothing e, no_words b c r none (subst (λ vs. completion b.over b.history c vs 0 ≡ Ok r) said e));
   permitted = subst (λ d. Permits b.over (receivers b.plan.jobs) b.history d (Did (c, vs, r))) (sym is) refl;
 }
 
-pub local_refused : (b : Book) (c : Command) (vs : List Value) (code : Refusal) → due b.plan b.history ≡ run c → vs ≡ values_of (receivers b.plan.jobs) b.history (reads c)
+pub local_refused : (b : AgentView) (c : Command) (vs : List Value) (code : Refusal) → due b.plan b.history ≡ run c → vs ≡ values_of (receivers b.plan.jobs) b.history (reads c)
     → completion b.over b.history c vs 0 ≡ Err code → IsNext b (Refused code)
 local_refused b c vs code is said e = record {
   lawful = tt;
@@ -124,7 +124,7 @@ done_gives over h (Post a y) vs r is done none = (ap (λ f. refuse_or f Nothing)
 done_gives over h (SharedArrayBuffer to n) vs r is done none = absurd (both_ways (is_done r) done (some_is is_done (for_block n) r false refl is))
 done_gives over h _ vs r is done none = cc
 
-word_may : (b : Book) (w : ℕ) (r : Request) → need b ≡ asks_ledger r → is_word r ≡ true → w < 2 ^ 32 → MayGive b (Gives (Number (pos w)))
+word_may : (b : AgentView) (w : ℕ) (r : Request) → need b ≡ asks_ledger r → is_word r ≡ true → w < 2 ^ 32 → MayGive b (Gives (Number (pos w)))
 word_may b w r is word small =
     let at = ledger_due b (due b.plan b.history) r is in
     let vs = values_of (receivers b.plan.jobs) b.history (reads at.0) in
@@ -132,7 +132,7 @@ word_may b w r is word small =
     let gives = word_gives b.over b.history at.0 vs r w open'.1 word open'.0 small in
     record { command = at.0; is_due = at.1; gives = gives.0; no_collection = at.2; no_block = gives.1 }
 
-done_may : (b : Book) (r : Request) → need b ≡ asks_ledger r → is_done r ≡ true → MayGive b Nothing
+done_may : (b : AgentView) (r : Request) → need b ≡ asks_ledger r → is_done r ≡ true → MayGive b Nothing
 done_may b r is done =
     let at = ledger_due b (due b.plan b.history) r is in
     let vs = values_of (receivers b.plan.jobs) b.history (reads at.0) in
@@ -140,24 +140,24 @@ done_may b r is done =
     let gives = done_gives b.over b.history at.0 vs r open'.1 done open'.0 in
     record { command = at.0; is_due = at.1; gives = gives.0; no_collection = at.2; no_block = gives.1 }
 
-word_at : (b : Book) (w : ℕ) (n : Need) → need b ≡ n → TakesWord n → w < 2 ^ 32 → MayGive b (Gives (Number (pos w)))
+word_at : (b : AgentView) (w : ℕ) (n : Need) → need b ≡ n → TakesWord n → w < 2 ^ 32 → MayGive b (Gives (Number (pos w)))
 word_at b w (asks_ledger (for_access o i a)) is takes small = word_may b w (for_access o i a) is takes small
 word_at b w _ is takes small = absurd takes
 
-pub may_give_word : (b : Book) (w : ℕ) → TakesWord (need b) → w < 2 ^ 32 → MayGive b (Gives (Number (pos w)))
+pub may_give_word : (b : AgentView) (w : ℕ) → TakesWord (need b) → w < 2 ^ 32 → MayGive b (Gives (Number (pos w)))
 may_give_word b w takes small = word_at b w (need b) refl takes small
 
-done_at : (b : Book) (n : Need) → need b ≡ n → TakesDone n → MayGive b Nothing
+done_at : (b : AgentView) (n : Need) → need b ≡ n → TakesDone n → MayGive b Nothing
 done_at b (asks_ledger (for_post a v)) is takes = done_may b (for_post a v) is refl
 done_at b (asks_ledger (for_buffer_post a o)) is takes = done_may b (for_buffer_post a o) is refl
 done_at b (asks_ledger (for_access o i a)) is takes = done_may b (for_access o i a) is (ap not takes)
 done_at b _ is takes = absurd takes
 
-pub may_give_nothing : (b : Book) → TakesDone (need b) → MayGive b Nothing
+pub may_give_nothing : (b : AgentView) → TakesDone (need b) → MayGive b Nothing
 may_give_nothing b takes = done_at b (need b) refl takes
 
 -- the due command done with an answer that it may give comes next
-pub done_next : (b : Book) (r : Answer) (c : Command) → MayGive b r → due b.plan b.history ≡ run c → IsNext b (Did (c, values_of (receivers b.plan.jobs) b.history (reads c), r))
+pub done_next : (b : AgentView) (r : Answer) (c : Command) → MayGive b r → due b.plan b.history ≡ run c → IsNext b (Did (c, values_of (receivers b.plan.jobs) b.history (reads c), r))
 done_next b r c may is =
     let same_due : run may.command ≡ run c = sym may.is_due ∙ is in
     let same : may.command ≡ c = cc in
@@ -185,14 +185,14 @@ block_asked (Atomic a) n vs e = absurd (both_ways true refl (access_is is_block 
 block_asked (Post a y) n vs e = absurd (both_ways true refl (some_is is_block (posts_to a (first vs)) (for_block n) false (posts_no_block a (first vs)) e))
 block_asked _ n vs e = cc
 
-buffer_next : (b : Book) (to : List ℕ) (n : ℕ) (row : Row) → due b.plan b.history ≡ run (SharedArrayBuffer to n) → refusal b.over b.history (SharedArrayBuffer to n) [] ≡ None → row.words ≡ n
+buffer_next : (b : AgentView) (to : List ℕ) (n : ℕ) (row : Row) → due b.plan b.history ≡ run (SharedArrayBuffer to n) → refusal b.over b.history (SharedArrayBuffer to n) [] ≡ None → row.words ≡ n
     → IsNext (with_buffer row b) (Did (SharedArrayBuffer to n, [], Gives (Object (made b.history + 1))))
 buffer_next b to n row is none words = record {
   lawful = (refl, ap (λ f. refuse_or f (Gives (Object (made b.history + 1)))) none, refl, ap (λ t. option_map (λ r. r.words) (cond t (Some row) (row_at b.over (made b.history + 1)))) (eq-eqb (made b.history + 1) (made b.history + 1) refl) ∙ ap Some words);
   permitted = subst (λ d. Permits (with_buffer row b).over (receivers b.plan.jobs) b.history d (Did (SharedArrayBuffer to n, [], Gives (Object (made b.history + 1))))) (sym is) refl;
 }
 
-buffer_of : (b : Book) (c : Command) (n : ℕ) (row : Row) → due b.plan b.history ≡ run c → request b c ≡ Some (for_block n) → row.words ≡ n → IsNext (with_buffer row b) (Did (c, [], Gives (Object (made b.history + 1))))
+buffer_of : (b : AgentView) (c : Command) (n : ℕ) (row : Row) → due b.plan b.history ≡ run c → request b c ≡ Some (for_block n) → row.words ≡ n → IsNext (with_buffer row b) (Did (c, [], Gives (Object (made b.history + 1))))
 buffer_of b c n row is asks words =
     let vs = values_of (receivers b.plan.jobs) b.history (reads c) in
     let open' = not_refused (refusal b.over b.history c vs) (asked c vs) (for_block n) asks in
@@ -200,16 +200,16 @@ buffer_of b c n row is asks words =
     subst (λ c. IsNext (with_buffer row b) (Did (c, [], Gives (Object (made b.history + 1))))) (sym from.1)
     (buffer_next b from.0 n row (subst (λ c. due b.plan b.history ≡ run c) from.1 is) (subst (λ c. refusal b.over b.history c (values_of (receivers b.plan.jobs) b.history (reads c)) ≡ None) from.1 open'.0) words)
 
-ticket_at : (b : Book) (c : Command) (row : Row) (n : Need) → need_of b (run c) ≡ n → TakesTicket n row → due b.plan b.history ≡ run c → IsNext (with_buffer row b) (Did (c, [], Gives (Object (made b.history + 1))))
+ticket_at : (b : AgentView) (c : Command) (row : Row) (n : Need) → need_of b (run c) ≡ n → TakesTicket n row → due b.plan b.history ≡ run c → IsNext (with_buffer row b) (Did (c, [], Gives (Object (made b.history + 1))))
 ticket_at b c row (asks_ledger (for_block n)) asks takes is = buffer_of b c n row is (ledger_command b c (for_block n) asks).1 takes
 ticket_at b c row (asks_message s) asks takes is = let f = message_due b (run c) s asks in let g : run c ≡ receive f.0 s = f.1 in cc
 ticket_at b c row _ asks takes is = absurd takes
 
 -- the command that asked for the block, done with the new buffer object, comes next over a table that has it
-pub block_next : (b : Book) (c : Command) (row : Row) → TakesTicket (need b) row → due b.plan b.history ≡ run c → IsNext (with_buffer row b) (Did (c, [], Gives (Object (made b.history + 1))))
+pub block_next : (b : AgentView) (c : Command) (row : Row) → TakesTicket (need b) row → due b.plan b.history ≡ run c → IsNext (with_buffer row b) (Did (c, [], Gives (Object (made b.history + 1))))
 block_next b c row takes is = ticket_at b c row (need_of b (run c)) refl (subst (λ d. TakesTicket (need_of b d) row) is takes) is
 
-makes_at : (b : Book) (c : Command) (row : Row) (n : Need) → need_of b (run c) ≡ n → TakesTicket n row → makes c ≡ 1
+makes_at : (b : AgentView) (c : Command) (row : Row) (n : Need) → need_of b (run c) ≡ n → TakesTicket n row → makes c ≡ 1
 makes_at b c row (asks_ledger (for_block n)) asks takes =
     let vs = values_of (receivers b.plan.jobs) b.history (reads c) in
     let from = block_asked c n vs (not_refused (refusal b.over b.history c vs) (asked c vs) (for_block n) (ledger_command b c (for_block n) asks).1).1 in
@@ -218,11 +218,11 @@ makes_at b c row (asks_message s) asks takes = let f = message_due b (run c) s a
 makes_at b c row _ asks takes = absurd takes
 
 -- which makes one identity
-pub block_makes : (b : Book) (c : Command) (row : Row) → TakesTicket (need b) row → due b.plan b.history ≡ run c → makes c ≡ 1
+pub block_makes : (b : AgentView) (c : Command) (row : Row) → TakesTicket (need b) row → due b.plan b.history ≡ run c → makes c ≡ 1
 block_makes b c row takes is = makes_at b c row (need_of b (run c)) refl (subst (λ d. TakesTicket (need_of b d) row) is takes)
 
 -- and so does a receipt of a buffer object, where there is room
-pub buffer_received : (b : Book) (n s : ℕ) (row : Row) → due b.plan b.history ≡ receive n s → nat_lt (made b.history) most_identities ≡ true → IsNext (with_buffer row b) (Received s (Object (made b.history + 1)))
+pub buffer_received : (b : AgentView) (n s : ℕ) (row : Row) → due b.plan b.history ≡ receive n s → nat_lt (made b.history) most_identities ≡ true → IsNext (with_buffer row b) (Received s (Object (made b.history + 1)))
 buffer_received b n s row is room = record {
   lawful = (refl, ap (λ t. is_some (cond t (Some row) (row_at b.over (made b.history + 1)))) (eq-eqb (made b.history + 1) (made b.history + 1) refl));
   permitted = subst (λ d. Permits (with_buffer row b).over (receivers b.plan.jobs) b.history d (Received s (Object (made b.history + 1)))) (sym is) (refl, room);
@@ -236,7 +236,7 @@ plain_arrives over h (Object o) none = cc
 plain_arrives over h (Symbol i) none = cc
 plain_arrives over h _ none = (none, tt)
 
-pub value_received : (b : Book) (n s : ℕ) (v : Value) → due b.plan b.history ≡ receive n s → identity v ≡ None → IsNext b (Received s v)
+pub value_received : (b : AgentView) (n s : ℕ) (v : Value) → due b.plan b.history ≡ receive n s → identity v ≡ None → IsNext b (Received s v)
 value_received b n s v is plain =
     let arrives = plain_arrives b.over b.history v plain in
     record {
@@ -244,13 +244,13 @@ value_received b n s v is plain =
       permitted = subst (λ d. Permits b.over (receivers b.plan.jobs) b.history d (Received s v)) (sym is) (refl, arrives.1);
     }
 
-pub message_refused : (b : Book) (n s : ℕ) → due b.plan b.history ≡ receive n s → nat_lt (made b.history) most_identities ≡ false → IsNext b (Refused TooManyValues)
+pub message_refused : (b : AgentView) (n s : ℕ) → due b.plan b.history ≡ receive n s → nat_lt (made b.history) most_identities ≡ false → IsNext b (Refused TooManyValues)
 message_refused b n s is full = record {
   lawful = tt;
   permitted = subst (λ d. Permits b.over (receivers b.plan.jobs) b.history d (Refused TooManyValues)) (sym is) (refl, full);
 }
 
-pub job_skipped : (b : Book) (n s : ℕ) → due b.plan b.history ≡ receive n s → IsNext b (Skipped n s)
+pub job_skipped : (b : AgentView) (n s : ℕ) → due b.plan b.history ≡ receive n s → IsNext b (Skipped n s)
 job_skipped b n s is = record {
   lawful = tt;
   permitted = subst (λ d. Permits b.over (receivers b.plan.jobs) b.history d (Skipped n s)) (sym is) (refl, refl);
@@ -263,13 +263,13 @@ unopened_done : (o : Option History) → o ≡ None → refuse_or (first_refusal
 unopened_done None e = refl
 unopened_done (Some p) e = cc
 
-pub opening_is : (b : Book) (c : Command) → need b ≡ asks_copy → due b.plan b.history ≡ run c → c ≡ CollectLater
+pub opening_is : (b : AgentView) (c : Command) → need b ≡ asks_copy → due b.plan b.history ≡ run c → c ≡ CollectLater
 opening_is b c asks is =
     let at = copy_due b (due b.plan b.history) asks in
     let same : run c ≡ run CollectLater = sym is ∙ at.0 in
     cc
 
-pub opening_next : (b : Book) → need b ≡ asks_copy → IsNext b (Did (CollectLater, [], Nothing))
+pub opening_next : (b : AgentView) → need b ≡ asks_copy → IsNext b (Did (CollectLater, [], Nothing))
 opening_next b asks =
     let at = copy_due b (due b.plan b.history) asks in
     record {

@@ -17,7 +17,7 @@ use Rattle.es_event.specs.Sharing.{Buffers}
 use Rattle.es_event.specs.Order.{Due, begin, receive, run, clean, take_cell, finish, end_job, due_end, close, nothing, due}
 use Rattle.es_event.specs.Follows.{Permits}
 use Rattle.es_tables.specs.Effects.{IsQuiet}
-use Rattle.es_record.specs.Book.{Book, IsNext}
+use Rattle.es_record.specs.AgentView.{AgentView, IsNext}
 use Rattle.es_rules.specs.Needs.{Request, asked, unless_refused, request, Need, asks_nobody, asks_marks, asks_copy, asks_late_marks, asks_ledger, asks_message, asks_closing, ledger_or_nobody, opens_now, need_of, need}
 
 -- what a command that is due asks for
@@ -33,7 +33,7 @@ asks false true q n e = for_copy refl refl (sym e)
 asks false false None n e = nobody refl refl refl (sym e)
 asks false false (Some r) n e = the_ledger r refl refl refl (sym e)
 
-of_command : (b : Book) (c : Command) (n : Need) → need_of b (run c) ≡ n → Asks (collects_now b.history c) (opens_now b.history c) (request b c) n
+of_command : (b : AgentView) (c : Command) (n : Need) → need_of b (run c) ≡ n → Asks (collects_now b.history c) (opens_now b.history c) (request b c) n
 of_command b c n e = asks (collects_now b.history c) (opens_now b.history c) (request b c) n e
 
 no_closing : {b o : Bool} {q : Option Request} → Asks b o q asks_closing → ⊥
@@ -43,7 +43,7 @@ no_closing (the_ledger r is opens some f) = cc
 no_closing (nobody is opens none f) = cc
 
 -- an agent asks for its closing only where it is due
-pub closes : (b : Book) (d : Due) → need_of b d ≡ asks_closing → d ≡ close
+pub closes : (b : AgentView) (d : Due) → need_of b d ≡ asks_closing → d ≡ close
 closes b close e = refl
 closes b (begin n) e = cc
 closes b (receive n s) e = cc
@@ -55,7 +55,7 @@ closes b (take_cell n) e = cc
 closes b nothing e = cc
 
 -- it asks for marks only where a collection is due
-pub collects_due : (b : Book) (d : Due) → need_of b d ≡ asks_marks → (c : Command) × (d ≡ run c) × (collects_now b.history c ≡ true)
+pub collects_due : (b : AgentView) (d : Due) → need_of b d ≡ asks_marks → (c : Command) × (d ≡ run c) × (collects_now b.history c ≡ true)
 collects_due b (run c) e = (c, refl, of_marks (of_command b c asks_marks e))
   where
     of_marks : {b o : Bool} {q : Option Request} → Asks b o q asks_marks → b ≡ true
@@ -78,7 +78,7 @@ opens_by CollectLater None e = (refl, refl)
 opens_by CollectLater (Some p) e = cc
 opens_by _ o e = cc
 
-pub copy_due : (b : Book) (d : Due) → need_of b d ≡ asks_copy → (d ≡ run CollectLater) × (snapshot b.history ≡ None)
+pub copy_due : (b : AgentView) (d : Due) → need_of b d ≡ asks_copy → (d ≡ run CollectLater) × (snapshot b.history ≡ None)
 copy_due b (run c) e = let is = opens_by c (snapshot b.history) (of_copy (of_command b c asks_copy e)) in (ap run is.0, is.1)
   where
     of_copy : {b o : Bool} {q : Option Request} → Asks b o q asks_copy → o ≡ true
@@ -96,7 +96,7 @@ copy_due b close e = cc
 copy_due b nothing e = cc
 
 -- it asks for the marks of the copy only where the open collection is to be finished
-pub finish_due : (b : Book) (d : Due) → need_of b d ≡ asks_late_marks → (p : History) × (d ≡ finish p)
+pub finish_due : (b : AgentView) (d : Due) → need_of b d ≡ asks_late_marks → (p : History) × (d ≡ finish p)
 finish_due b (finish p) e = (p, refl)
 finish_due b (run c) e = absurd (no_finish (of_command b c asks_late_marks e))
   where
@@ -114,7 +114,7 @@ finish_due b close e = cc
 finish_due b nothing e = cc
 
 -- it asks nobody where its command empties nothing, opens nothing and asks the ledger for nothing
-pub local_command : (b : Book) (c : Command) → need_of b (run c) ≡ asks_nobody → (collects_now b.history c ≡ false) × (request b c ≡ None)
+pub local_command : (b : AgentView) (c : Command) → need_of b (run c) ≡ asks_nobody → (collects_now b.history c ≡ false) × (request b c ≡ None)
 local_command b c e = of_nobody (of_command b c asks_nobody e)
   where
     of_nobody : {b o : Bool} {q : Option Request} → Asks b o q asks_nobody → (b ≡ false) × (q ≡ None)
@@ -133,7 +133,7 @@ request_collects None c vs r e = asks_collects c vs r e
 request_collects (Some code) c vs r e = cc
 
 -- it asks the ledger only where a command is due that asks for this
-pub ledger_command : (b : Book) (c : Command) (r : Request) → need_of b (run c) ≡ asks_ledger r → (collects c ≡ false) × (request b c ≡ Some r)
+pub ledger_command : (b : AgentView) (c : Command) (r : Request) → need_of b (run c) ≡ asks_ledger r → (collects c ≡ false) × (request b c ≡ Some r)
 ledger_command b c r e =
     let some = of_ledger (of_command b c (asks_ledger r) e) in
     let vs = values_of (receivers b.plan.jobs) b.history (reads c) in
@@ -145,7 +145,7 @@ ledger_command b c r e =
     of_ledger (the_ledger s is opens some f) = cc
     of_ledger (nobody is opens none f) = cc
 
-pub ledger_due : (b : Book) (d : Due) (r : Request) → need_of b d ≡ asks_ledger r → (c : Command) × (d ≡ run c) × (collects c ≡ false) × (request b c ≡ Some r)
+pub ledger_due : (b : AgentView) (d : Due) (r : Request) → need_of b d ≡ asks_ledger r → (c : Command) × (d ≡ run c) × (collects c ≡ false) × (request b c ≡ Some r)
 ledger_due b (run c) r e = let asked = ledger_command b c r e in (c, refl, asked.0, asked.1)
 ledger_due b (begin n) r e = cc
 ledger_due b (receive n s) r e = cc
@@ -157,7 +157,7 @@ ledger_due b close r e = cc
 ledger_due b nothing r e = cc
 
 -- it asks for a message only where a job waits for one
-pub message_due : (b : Book) (d : Due) (s : ℕ) → need_of b d ≡ asks_message s → (n : ℕ) × (d ≡ receive n s)
+pub message_due : (b : AgentView) (d : Due) (s : ℕ) → need_of b d ≡ asks_message s → (n : ℕ) × (d ≡ receive n s)
 message_due b (receive n t) s e = let same : t ≡ s = cc in (n, subst (λ s. receive n t ≡ receive n s) same refl)
 message_due b (run c) s e = absurd (no_message (of_command b c (asks_message s) e))
   where
@@ -175,11 +175,11 @@ message_due b close s e = cc
 message_due b nothing s e = cc
 
 -- where the job is to end, a step that asks nobody ends it: no later collection is open
-end_local : (b : Book) (o : Option History) → need_of b (due_end o) ≡ asks_nobody → due_end o ≡ end_job
+end_local : (b : AgentView) (o : Option History) → need_of b (due_end o) ≡ asks_nobody → due_end o ≡ end_job
 end_local b None e = refl
 end_local b (Some p) e = cc
 
-pub ends_local : (b : Book) (o : Option History) → due_end o ≡ due b.plan b.history → need b ≡ asks_nobody → due b.plan b.history ≡ end_job
+pub ends_local : (b : AgentView) (o : Option History) → due_end o ≡ due b.plan b.history → need b ≡ asks_nobody → due b.plan b.history ≡ end_job
 ends_local b o is e = sym is ∙ end_local b o (ap (need_of b) is ∙ e)
 
 -- what is asked for was not refused
@@ -188,11 +188,11 @@ not_refused None q r e = (refl, e)
 not_refused (Some code) q r e = cc
 
 -- a step that asks nobody empties nothing
-local_at : (b : Book) (over : Buffers) (into : Receivers) (d : Due) (ids : List ℕ) → need_of b d ≡ asks_nobody → Permits over into b.history d (Emptied ids) → ⊥
+local_at : (b : AgentView) (over : Buffers) (into : Receivers) (d : Due) (ids : List ℕ) → need_of b d ≡ asks_nobody → Permits over into b.history d (Emptied ids) → ⊥
 local_at b over into (run c) ids e p = let none : collects_now b.history c ≡ false = (local_command b c e).0 in cc
 local_at b over into (finish q) ids e p = cc
 local_at b over into _ ids e p = absurd p
 
-pub local_is_quiet : (b : Book) (e : Event) → need b ≡ asks_nobody → IsNext b e → IsQuiet e
+pub local_is_quiet : (b : AgentView) (e : Event) → need b ≡ asks_nobody → IsNext b e → IsQuiet e
 local_is_quiet b (Emptied ids) asked next = local_at b b.over (receivers b.plan.jobs) (due b.plan b.history) ids asked next.permitted
 local_is_quiet b _ asked next = tt

@@ -7,10 +7,10 @@ use Rattle.es_event.specs.Jobs.{receivers}
 use Rattle.es_event.specs.Rules.{completion}
 use Rattle.es_event.specs.Legal.{values_of, word_in}
 use Rattle.es_event.specs.Order.{run, due}
-use Rattle.es_record.specs.Book.{Book}
+use Rattle.es_record.specs.AgentView.{AgentView}
 
 -- a command is due, is no collection, opens no block, and the rules give it this answer
-pub record MayGive (b : Book) (r : Answer) : Type 0 where
+pub record MayGive (b : AgentView) (r : Answer) : Type 0 where
   pub command : Command
   pub is_due : due b.plan b.history ≡ run command
   pub gives : completion b.over b.history command (values_of (receivers b.plan.jobs) b.history (reads command)) (word_in r) ≡ Ok r

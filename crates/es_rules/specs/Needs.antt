@@ -21,7 +21,7 @@ use Rattle.es_event.specs.Later.{is_later, snapshot, collects_now}
 use Rattle.es_event.specs.Rules.{refusal}
 use Rattle.es_event.specs.Legal.{values_of}
 use Rattle.es_event.specs.Order.{Due, begin, receive, run, clean, take_cell, finish, end_job, close, nothing, due}
-use Rattle.es_record.specs.Book.{Book}
+use Rattle.es_record.specs.AgentView.{AgentView}
 
 -- what the ledger is asked for: a new block of so many words; to post to a receiver a value, or the block of a buffer object; or
 -- an access to the word at an index of a buffer object's block
@@ -52,7 +52,7 @@ abbrev pub unless_refused : Option Refusal → Option Request → Option Request
 unless_refused None r = r
 unless_refused (Some code) r = None
 
-abbrev pub request : Book → Command → Option Request
+abbrev pub request : AgentView → Command → Option Request
 request b c = unless_refused (refusal b.over b.history c (values_of (receivers b.plan.jobs) b.history (reads c))) (asked c (values_of (receivers b.plan.jobs) b.history (reads c)))
 
 -- what an agent asks for: nobody, for a step that it takes alone; the marks of what it reaches, to empty all else; a copy of its
@@ -77,7 +77,7 @@ abbrev pub opens_now : History → Command → Bool
 opens_now h c = is_later c && is_none (snapshot h)
 
 -- what the agent asks for, where this is due
-abbrev pub need_of : Book → Due → Need
+abbrev pub need_of : AgentView → Due → Need
 need_of b (begin n) = asks_nobody
 need_of b (receive n s) = asks_message s
 need_of b (run c) = if collects_now b.history c then asks_marks else if opens_now b.history c then asks_copy else ledger_or_nobody (request b c)
@@ -89,7 +89,7 @@ need_of b close = asks_closing
 need_of b nothing = asks_nothing
 
 -- what the agent asks for next
-abbrev pub need : Book → Need
+abbrev pub need : AgentView → Need
 need b = need_of b (due b.plan b.history)
 
 -- What answers it
@@ -137,7 +137,7 @@ TakesDone asks_closing = ⊥
 TakesDone asks_nothing = ⊥
 
 -- the event is the due command, done with this answer
-abbrev pub IsDone : Book → Answer → Event → Type 0
+abbrev pub IsDone : AgentView → Answer → Event → Type 0
 IsDone b r e = (c : Command) × (due b.plan b.history ≡ run c) × (e ≡ Did (c, values_of (receivers b.plan.jobs) b.history (reads c), r))
 
 -- the event brings the object o: it is the answer of the due command, or a receipt

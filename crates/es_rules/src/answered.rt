@@ -8,7 +8,7 @@ ghost use Rattle.es_event.specs.Order.{due, receive, run};
 ghost use Rattle.es_event.specs.Commands.{reads};
 ghost use Rattle.es_event.specs.Jobs.{receivers};
 ghost use Rattle.es_event.specs.Legal.{values_of};
-ghost use Rattle.es_record.specs.Book.{IsNext, AreThere, with_buffer};
+ghost use Rattle.es_record.specs.AgentView.{IsNext, AreThere, with_buffer};
 ghost use Rattle.es_rules.specs.Needs.{need, asks_message, asks_copy, TakesTicket, TakesWord, TakesDone, IsDone, Brings};
 ghost use Rattle.es_rules.specs.Giving.{MayGive};
 

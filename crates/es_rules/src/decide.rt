@@ -11,7 +11,7 @@ ghost use Rattle.es_event.specs.Jobs.{receivers};
 ghost use Rattle.es_event.specs.Rules.{completion, refuse_or, first_refusal, none_open, room, of_object, of_weakref, of_held_weakly, or_undefined, prop_of, keys_of, target_of};
 ghost use Rattle.es_event.specs.Legal.{values_of};
 ghost use Rattle.es_event.specs.Order.{due, run};
-ghost use Rattle.es_record.specs.Book.{IsNext, AreThere};
+ghost use Rattle.es_record.specs.AgentView.{IsNext, AreThere};
 ghost use Rattle.es_rules.specs.Completion.{Completes};
 ghost use Rattle.es_rules.specs.Needs.{asks_nobody, need, request};
 

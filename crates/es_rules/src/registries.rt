@@ -4,7 +4,7 @@ ghost use Rattle.std.specs.Prelude.{◌≡◌, ◌∷◌, [], ℕ, false, IfOk};
 ghost use Rattle.es_event.specs.Identities.{gone, has_identity_in};
 ghost use Rattle.es_event.specs.Rules.{refuse_or, first_refusal, of_registry, of_held_weakly, of_other, of_token, finds_token_of};
 ghost use Rattle.es_event.specs.Order.{due, clean, take_cell};
-ghost use Rattle.es_record.specs.Book.{IsNext};
+ghost use Rattle.es_record.specs.AgentView.{IsNext};
 ghost use Rattle.es_rules.specs.Completion.{Completes};
 
 use crate::operand::{held_weakly, other_than, token};

@@ -1,7 +1,7 @@
 //! Audits of a cluster under locks.
 
 ghost use Rattle.std.specs.Prelude.{◌≡◌, map, length, true, IfOk, OnOk};
-ghost use Rattle.es_cluster.specs.State.{books};
+ghost use Rattle.es_cluster.specs.State.{cores};
 ghost use Rattle.es_member.specs.Audits.{Audits};
 ghost use Rattle.es_outcome.specs.Places.{AreAtPlaces};
 
@@ -15,7 +15,7 @@ use std::sync::{MutexGuard, Wait};
 
 /// Whether each agent is at the place of its number.
 fn are_at_places<L: Planned>(members: &mut [&mut Member<L>]) -> bool
-    ensures placed { result ≡ true → AreAtPlaces (books (map (λ m. m.now) members.old)) }
+    ensures placed { result ≡ true → AreAtPlaces (cores (map (λ m. m.now) members.old)) }
     ensures same { map (λ m. m.now) members.new ≡ map (λ m. m.now) members.old }
 {
     let mut place = 0;
@@ -35,9 +35,9 @@ fn audit_all<L: Planned>(
     members: &mut [&mut Member<L>],
     ledger: &mut LedgerCore<L>,
 ) -> Result<Audit, NoMemory>
-    ensures audit { IfOk result (λ a. Audits (books (map (λ m. m.now) members.old)) ledger.old a) }
+    ensures audit { IfOk result (λ a. Audits (cores (map (λ m. m.now) members.old)) ledger.old a) }
     ensures all { OnOk result (length members.old ≡ ledger.old.agents) }
-    ensures placed { OnOk result (AreAtPlaces (books (map (λ m. m.now) members.old))) }
+    ensures placed { OnOk result (AreAtPlaces (cores (map (λ m. m.now) members.old))) }
     ensures members { map (λ m. m.now) members.new ≡ map (λ m. m.now) members.old }
     ensures ledger { ledger.new ≡ ledger.old }
 {

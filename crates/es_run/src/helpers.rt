@@ -52,8 +52,8 @@ impl Helpers {
         member: &Member<L>,
         open: &mut Option<Pending>,
     ) -> Result<Marks, NoMemory>
-        requires { AsksMarks (need member.now.book) }
-        ensures { IfOk result (AreAskedFor (need member.now.book) member.now.book) }
+        requires { AsksMarks (need member.now.core) }
+        ensures { IfOk result (AreAskedFor (need member.now.core) member.now.core) }
     {
         match member.core().next() {
             Need::Collect => self.collected(rt, member),
@@ -91,7 +91,7 @@ impl Helpers {
         rt: &R,
         member: &Member<L>,
     ) -> Result<Marks, NoMemory>
-        ensures own { IfOk result (AreMarksOf member.now.book) }
+        ensures own { IfOk result (AreMarksOf member.now.core) }
     {
         if self.number == 1 {
             return member.core().marks();

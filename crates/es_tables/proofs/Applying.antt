@@ -27,14 +27,14 @@ use Rattle.es_tables.specs.declared.table_change.TableChange.TheVariants.{NoChan
 use Rattle.es_tables.specs.declared.table_change.TableChange.{TableChange}
 use Rattle.es_tables.specs.Effects.{Takes, Changed, object_born, points}
 use Rattle.es_tables.specs.Ready.{CanApply}
-use Rattle.es_tables.specs.Tables.{State, SameState, Bindings, bound, Says, slot_said}
+use Rattle.es_tables.specs.Tables.{TablesView, SameState, VariablesView, bound, Says, slot_said}
 use Rattle.es_event.specs.declared.command.Command.{Command}
 use Rattle.es_event.specs.Registrations.{Cell, Fate, awaiting, callback as callback_said, callback_in, registers_by, registered, cell, fate}
 use Rattle.es_event.proofs.Accepted.{is_result}
 use Rattle.es_event.proofs.Cells.{cell_within}
 use Rattle.es_event.proofs.Entries.{mapped}
 use Rattle.es_registry.specs.Slots.{passes_at, is_awaiting}
-use Rattle.es_registry.specs.Registries.{Contents as RegistryContents, callback}
+use Rattle.es_registry.specs.Registries.{RegistriesView as RegistryContents, callback}
 use Rattle.es_tables.specs.declared.registries.RegistryChange.TheVariants.{Leaves, Registers, Unregisters, Queues}
 use Rattle.es_tables.specs.Changes.{table_change, put_of, born_of, points_of}
 use Rattle.es_tables.proofs.Reading.{IsRead, is_read}
@@ -133,7 +133,7 @@ can_change over into h t (Taken n held) legal lawful callbacks cells =
 can_change over into h t JobEnded legal lawful callbacks cells = can_end (again_at h) t
 can_change over into h t e legal lawful callbacks cells = tt
 
-pub can_apply : (over : Buffers) (into : Receivers) (h : History) (s : State) (e : Event)
+pub can_apply : (over : Buffers) (into : Receivers) (h : History) (s : TablesView) (e : Event)
     → LegalBy over into h → Lawful over into h e → Stays into h → Says into h s → CanApply s (table_change (again_at h) e)
 can_apply over into h s e legal lawful stays says = let read : IsRead (again_at h) e (table_change (again_at h) e) = is_read (again_at h) e in record {
   put = if_some (λ p. has s.heap p.0.0) (put_of (table_change (again_at h) e)) true (λ q is.
@@ -149,14 +149,14 @@ can_apply over into h s e legal lawful stays says = let read : IsRead (again_at 
 
 -- tables with these variables, and with this heap
 
-abbrev with_variables : Bindings → State → State
+abbrev with_variables : VariablesView → TablesView → TablesView
 with_variables b s = record { variables = b; heap = s.heap; rooms = s.rooms; weakrefs = s.weakrefs; weak = s.weak; registries = s.registries; tags = s.tags }
 
-abbrev with_heap : Store → List ℕ → State → State
+abbrev with_heap : Store → List ℕ → TablesView → TablesView
 with_heap h rooms s = record { variables = s.variables; heap = h; rooms = rooms; weakrefs = s.weakrefs; weak = s.weak; registries = s.registries; tags = s.tags }
 
 -- where every object is as it was, the tables say the same
-same_objects : (s : State) (h : Store) (rooms : List ℕ) → Unchanged s.heap h → SameState s (with_heap h rooms s)
+same_objects : (s : TablesView) (h : Store) (rooms : List ℕ) → Unchanged s.heap h → SameState s (with_heap h rooms s)
 same_objects s h rooms same = record {
   variables = λ x. refl;
   heap = record {
@@ -176,7 +176,7 @@ same_objects s h rooms same = record {
 
 -- an event that changes no table
 
-changes_none : (s : State) (b : Bindings) → Changed s NoChange (with_variables b s)
+changes_none : (s : TablesView) (b : VariablesView) → Changed s NoChange (with_variables b s)
 changes_none s b = record {
   properties = λ o k. refl;
   keys = λ o. refl;
@@ -191,7 +191,7 @@ changes_none s b = record {
   tags = sym (append-nil s.tags.all);
 }
 
-pub takes_alone : (a : Option (List ℕ × Value)) (c : TableChange) (s : State) (b : Bindings) → NoChange ≡ c
+pub takes_alone : (a : Option (List ℕ × Value)) (c : TableChange) (s : TablesView) (b : VariablesView) → NoChange ≡ c
     → ((x : List ℕ) → bound b x ≡ unwrap_or (at_key bytes_eq x a) (bound s.variables x))
     → Takes a c s (with_variables b s)
 takes_alone a c s b none assigned = record {
@@ -203,7 +203,7 @@ takes_alone a c s b none assigned = record {
 
 -- a property that is set, once there is room for it: what is no object's stays as where nothing changes
 
-pub takes_put : (s : State) (mid new : Store) (mid_rooms rooms : List ℕ) (o : ℕ) (k : List ℕ) (v : Value) → Unchanged s.heap mid
+pub takes_put : (s : TablesView) (mid new : Store) (mid_rooms rooms : List ℕ) (o : ℕ) (k : List ℕ) (v : Value) → Unchanged s.heap mid
     → ((p : ℕ) (x : List ℕ) → property new p x ≡ cond (same_key (o, k) (p, x)) (Some v) (property mid p x))
     → ((p : ℕ) → keys new p ≡ keys_after p (Some ((o, k), Some v)) (keys mid p))
     → ((p : ℕ) → has new p ≡ has mid p)

@@ -15,7 +15,7 @@ use Rattle.es_weakref.specs.WeakRefs.{found}
 use Rattle.es_event.proofs.Alive.{Stays}
 use Rattle.es_tables.specs.Effects.{Advances, AssignsTo}
 use Rattle.es_tables.specs.Registries.{again_at}
-use Rattle.es_tables.specs.Tables.{State, IsNew, SameState, Says}
+use Rattle.es_tables.specs.Tables.{TablesView, IsNew, SameState, Says}
 use Rattle.es_tags.specs.Tags.{tag_at, tag_said}
 use Rattle.es_tags.specs.declared.tags.Tag.{Tag}
 pub use Rattle.es_tables.proofs.Applying.{can_apply}
@@ -27,7 +27,7 @@ none_made : (i : ℕ) → 0 < i → ◌≡◌ {A = Option Tag} None (tag_said []
 none_made i positive = grind (arith, nat_tests, positive)
 
 -- new tables say what a history without events says
-pub says_new : (into : Receivers) (s : State) → IsNew s → Says into [] s
+pub says_new : (into : Receivers) (s : TablesView) → IsNew s → Says into [] s
 says_new into s new = record {
   variables = λ x. ap (λ es. unwrap_or (lookup (bytes_eq x) es) Undefined) new.variables;
   objects = λ o. ap (λ t. has t o) new.heap;
@@ -45,7 +45,7 @@ says_new into s new = record {
 }
 
 -- tables that say the same say what a history says
-pub says_same : (into : Receivers) (h : History) (s t : State) → SameState s t → Says into h s → Says into h t
+pub says_same : (into : Receivers) (h : History) (s t : TablesView) → SameState s t → Says into h s → Says into h t
 says_same into h s t same says = record {
   variables = λ x. same.variables x ∙ says.variables x;
   objects = λ o. same.heap.objects o ∙ says.objects o;
@@ -63,7 +63,7 @@ says_same into h s t same says = record {
 }
 
 -- tables that took in an event say what the history says after it
-pub says_advanced : (over : Buffers) (into : Receivers) (h : History) (s t : State) (e : Event)
+pub says_advanced : (over : Buffers) (into : Receivers) (h : History) (s t : TablesView) (e : Event)
     → LegalBy over into h → Lawful over into h e → Stays into h → IsQuiet e → Says into h s → (received : List ℕ) → AssignsTo received (into h) e → Advances received (again_at h) e s t → Says into (e ∷ h) t
 says_advanced over into h s t e legal lawful stays silent says received to steps =
     says_after over into h steps.before t e legal lawful stays silent (says_same into h s steps.before steps.same says) received to steps.assigned steps.changed

@@ -22,7 +22,7 @@ use Rattle.es_event.specs.Legal.{LegalBy}
 use Rattle.es_registry.specs.Slots.{emptied}
 use Rattle.es_tables.proofs.Queued.{joined}
 use Rattle.es_tables.proofs.Slots.{slots_emptied}
-use Rattle.es_tables.specs.Tables.{State, Says, Emptying}
+use Rattle.es_tables.specs.Tables.{TablesView, Says, Emptying}
 use Rattle.es_tables.proofs.Weak.{dropped}
 
 -- an object is there unless it is among these
@@ -81,7 +81,7 @@ some_left : {A : Type 0} (b : Bool) (o : Option A) → is_some (cond b None o) �
 some_left true o = refl
 some_left false o = refl
 
-pub says_emptied : (over : Buffers) (into : Receivers) (h : History) (s t : State) (ids : List ℕ) → LegalBy over into h → Says into h s → Emptying s ids t → Says into (Emptied ids ∷ h) t
+pub says_emptied : (over : Buffers) (into : Receivers) (h : History) (s t : TablesView) (ids : List ℕ) → LegalBy over into h → Says into h s → Emptying s ids t → Says into (Emptied ids ∷ h) t
 says_emptied over into h s t ids legal says new = record {
   variables = λ x. new.variables x ∙ says.variables x;
   objects = λ o.

@@ -9,12 +9,12 @@ use Rattle.es_props.specs.Heap.{Store, keys, edges, HasProperties}
 use Rattle.es_props.proofs.CallerLemmas.{edges-from_properties, properties-from_edges}
 use Rattle.es_ephemeron.specs.Ephemerons.{Records, holders, records_at, record_at}
 use Rattle.es_ephemeron.proofs.CallerLemmas.{all_records-from_each, each-from_all_records}
-use Rattle.es_registry.specs.Registries.{Contents as RegistryContents, is_root}
+use Rattle.es_registry.specs.Registries.{RegistriesView as RegistryContents, is_root}
 use Rattle.es_value.specs.Ids.{is_in}
 use Rattle.es_mark.specs.Graph.{HasAll, HasValue}
 use Rattle.es_mark.proofs.Lists.{all_front, all_back, all_join}
 use Rattle.es_tables.specs.Found.{Adds, HasBound, HasHeld, AddsEntries}
-use Rattle.es_tables.specs.Tables.{State}
+use Rattle.es_tables.specs.Tables.{TablesView}
 
 -- sets as tests, and as lists
 
@@ -36,7 +36,7 @@ appended : (xs ys zs : List ℕ) → (xs ++ ys) ++ zs ≡ xs ++ (ys ++ zs)
 appended [] ys zs = refl
 appended (x ∷ xs) ys zs = ap (λ l. x ∷ l) (appended xs ys zs)
 
-pub adds_held : (s : State) (old mid more new : List ℕ) → Adds (HasBound s.variables) old mid → more ≡ mid ++ s.weakrefs.kept → AddsRegistryRoots s.registries more new → Adds (HasHeld s) old new
+pub adds_held : (s : TablesView) (old mid more new : List ℕ) → Adds (HasBound s.variables) old mid → more ≡ mid ++ s.weakrefs.kept → AddsRegistryRoots s.registries more new → Adds (HasHeld s) old new
 adds_held s old mid more new bound' kept roots = record {
   ids = bound'.ids ++ (s.weakrefs.kept ++ roots.ids);
   added = roots.added

@@ -16,7 +16,7 @@ use Rattle.es_event.proofs.Registries.{registry_within}
 use Rattle.es_event.proofs.Rising.{same_rising, rising_numbers, in_numbers, in_filter}
 use Rattle.es_registry.specs.Slots.{is_this, is_losing}
 use Rattle.es_registry.specs.Registries.{Joins, loses}
-use Rattle.es_tables.specs.Tables.{State, Says, slot_said}
+use Rattle.es_tables.specs.Tables.{TablesView, Says, slot_said}
 use Rattle.es_tables.proofs.Numbered.{any_map}
 use Rattle.es_tables.proofs.Slots.{slots, slot_at}
 
@@ -72,7 +72,7 @@ rises [] e = refl
 rises (i ∷ []) e = refl
 rises (i ∷ j ∷ js) e = and_from (nat_lt i j) (is_rising (j ∷ js)) (lt-ltb i j (e 0 (omega arith))) (rises (j ∷ js) (λ k l. let next : suc k + 1 ≡ suc (k + 1) = omega arith in subst (λ n. slice_index (j ∷ js) k < slice_index (i ∷ j ∷ js) n) next (e (suc k) (omega (arith, l)))))
 
-pub joined : (over : Buffers) (into : Receivers) (h : History) (s : State) (ids more : List ℕ) → LegalBy over into h → Says into h s → Joins s.registries ids more → more ≡ queues h ids (queue h)
+pub joined : (over : Buffers) (into : Receivers) (h : History) (s : TablesView) (ids more : List ℕ) → LegalBy over into h → Says into h s → Joins s.registries ids more → more ≡ queues h ids (queue h)
 joined over into h s ids more legal says joins =
     let p : ℕ → Bool = λ r. loses_said h ids r && not (is_in (queue h) r) in
     let exactly : (r : ℕ) → is_in more r ≡ p r = λ r.

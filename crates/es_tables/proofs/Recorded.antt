@@ -32,7 +32,7 @@ use Rattle.es_event.proofs.Births.{birth, born_some, received as received_object
 use Rattle.es_event.proofs.Holds.{first_of}
 use Rattle.es_event.proofs.Targets.{held_weakly_identity}
 use Rattle.es_tables.specs.Effects.{AssignsTo, Changed, assigned_by, object_born, points}
-use Rattle.es_tables.specs.Tables.{State, Says, bound}
+use Rattle.es_tables.specs.Tables.{TablesView, Says, bound}
 use Rattle.es_event.proofs.Births.{born_next}
 use Rattle.es_tables.proofs.Fresh.{next_target}
 use Rattle.es_registry.specs.Registries.{callback}
@@ -126,7 +126,7 @@ assigns : (into : Receivers) (h : History) (received : List ℕ) (e : Event) →
 assigns into h received (Received t v) to = ap (λ x. Some (x, v)) (sym to)
 assigns into h received e to = refl
 
-pub says_after : (over : Buffers) (into : Receivers) (h : History) (s t : State) (e : Event)
+pub says_after : (over : Buffers) (into : Receivers) (h : History) (s t : TablesView) (e : Event)
     → LegalBy over into h → Lawful over into h e → Stays into h → IsQuiet e → Says into h s → (received : List ℕ) → AssignsTo received (into h) e
     → ((x : List ℕ) → bound t.variables x ≡ unwrap_or (at_key bytes_eq x (assigned_by received e)) (bound s.variables x)) → Changed s (table_change (again_at h) e) t → Says into (e ∷ h) t
 says_after over into h s t e legal lawful stays silent says received to assigned' changed = let quiet : empties e ≡ [] = quiet_empties e silent in let read : IsRead (again_at h) e (table_change (again_at h) e) = is_read (again_at h) e in record {

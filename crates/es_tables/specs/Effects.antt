@@ -23,7 +23,7 @@ use Rattle.es_tables.specs.declared.table_change.TableChange.{TableChange}
 use Rattle.es_tables.specs.Changes.{table_change, put_of, born_of, points_of, entered_of, joined_of, registry_of, kept_of, clears, makes_of}
 use Rattle.es_registry.specs.Registries.{callback}
 use Rattle.es_tables.specs.Registries.{callback_after, cells_after, queue_after}
-use Rattle.es_tables.specs.Tables.{State, SameState, bound}
+use Rattle.es_tables.specs.Tables.{TablesView, SameState, bound}
 
 -- the object that the event makes
 abbrev pub object_born : Event → Option ℕ
@@ -78,7 +78,7 @@ abbrev pub assigned_by : List ℕ → Event → Option (List ℕ × Value)
 assigned_by received e = assigned (λ h. received) [] e
 
 -- the tables after the change
-pub record Changed (s : State) (c : TableChange) (t : State) : Type 0 where
+pub record Changed (s : TablesView) (c : TableChange) (t : TablesView) : Type 0 where
   pub properties : (o : ℕ) (k : List ℕ) → property t.heap o k ≡ unwrap_or (at_key same_key (o, k) (put_of c)) (property s.heap o k)
   pub keys : (o : ℕ) → keys t.heap o ≡ keys_after o (put_of c) (keys s.heap o)
   pub objects : (o : ℕ) → has t.heap o ≡ (option_map_or (λ b. b == o) (born_of c) false || has s.heap o)
@@ -92,12 +92,12 @@ pub record Changed (s : State) (c : TableChange) (t : State) : Type 0 where
   pub tags : t.tags.all ≡ s.tags.all ++ map Some (option_to_list (makes_of c))
 
 -- the tables after an assignment, if there is one, and a change, which were made in tables that said the same
-pub record Takes (a : Option (List ℕ × Value)) (c : TableChange) (s t : State) : Type 0 where
-  pub before : State
+pub record Takes (a : Option (List ℕ × Value)) (c : TableChange) (s t : TablesView) : Type 0 where
+  pub before : TablesView
   pub same : SameState s before
   pub assigned : (x : List ℕ) → bound t.variables x ≡ unwrap_or (at_key bytes_eq x a) (bound before.variables x)
   pub changed : Changed before c t
 
 -- the tables after the event
-abbrev pub Advances : List ℕ → Option ℕ → Event → State → State → Type 0
+abbrev pub Advances : List ℕ → Option ℕ → Event → TablesView → TablesView → Type 0
 Advances received again e s t = Takes (assigned_by received e) (table_change again e) s t

@@ -6,15 +6,15 @@ pub use Rattle.es_ephemeron.specs.Ephemerons.{record_at}
 pub use Rattle.es_variables.specs.Variables.{Adds, HasBound}
 use Rattle.std.specs.List.{AllByRecursion}
 use Rattle.es_mark.specs.Graph.{HasAll, HasValue, HasValues}
-use Rattle.es_registry.specs.Registries.{Contents as RegistryContents, is_root}
-use Rattle.es_tables.specs.Tables.{State}
+use Rattle.es_registry.specs.Registries.{RegistriesView as RegistryContents, is_root}
+use Rattle.es_tables.specs.Tables.{TablesView}
 
 -- the set has the registries, and what cells in them hold
 abbrev pub HasRegistryRoots : RegistryContents → (ℕ → Bool) → Type 0
 HasRegistryRoots c t = (i : ℕ) → is_root c i ≡ true → t i ≡ true
 
 -- the set has all roots: what variables hold, what is kept, the registries and what cells in them hold
-pub record HasHeld (s : State) (t : ℕ → Bool) : Type 0 where
+pub record HasHeld (s : TablesView) (t : ℕ → Bool) : Type 0 where
   pub variables : HasBound s.variables t
   pub kept : HasAll s.weakrefs.kept t
   pub registries : HasRegistryRoots s.registries t

@@ -9,10 +9,10 @@ use Rattle.es_tables.specs.declared.table_change.TableChange.{TableChange}
 use Rattle.es_tables.specs.declared.table_change.TableChange.TheVariants.{NoChange, Property, Birth, WeakRefBirth, RegistryBirth, Keeping, Entry, Member, Registry, JobEnd}
 use Rattle.es_tables.specs.Changes.{put_of, born_of, points_of, registry_of}
 use Rattle.es_tables.specs.Registries.{CanChange, HasRoomFor}
-use Rattle.es_tables.specs.Tables.{State}
+use Rattle.es_tables.specs.Tables.{TablesView}
 
 -- what is put is an object's, what is born is not there yet, and a cell that is taken awaits its cleanup
-pub record CanApply (s : State) (c : TableChange) : Type 0 where
+pub record CanApply (s : TablesView) (c : TableChange) : Type 0 where
   pub put : option_map_or (λ p. has s.heap p.0.0) (put_of c) true ≡ true
   pub born : option_map_or (has s.heap) (born_of c) false ≡ false
   pub points : option_map_or (λ p. is_some (target s.weakrefs p.0)) (points_of c) false ≡ false
@@ -46,7 +46,7 @@ abbrev pub has_member_room : List ℕ → Option ((ℕ × ℕ) × Bool) → Bool
 has_member_room rooms joined = option_map_or (λ p. has_room_for rooms p.0.1 p.1) joined true
 
 -- there is room for all that the change adds
-abbrev pub HasRoom : State → TableChange → Type 0
+abbrev pub HasRoom : TablesView → TableChange → Type 0
 HasRoom s NoChange = ⊤
 HasRoom s (Property p) = has_room s.rooms p ≡ true
 HasRoom s (Birth t b) = (has_place s.rooms b ≡ true) × (0 < s.tags.room)

@@ -16,7 +16,7 @@ use Rattle.es_event.specs.Order.{queues_again}
 use Rattle.es_registry.specs.declared.slot.Slot.{Slot}
 use Rattle.es_registry.specs.declared.slot.Slot.TheVariants.{Taken as TakenSlot}
 use Rattle.es_registry.specs.Slots.{passes_at, is_awaiting, unregistered_by}
-use Rattle.es_registry.specs.Registries.{Contents, callback, registered, CanRegister}
+use Rattle.es_registry.specs.Registries.{RegistriesView, callback, registered, CanRegister}
 use Rattle.es_tables.specs.declared.registries.RegistryChange.{RegistryChange}
 use Rattle.es_tables.specs.declared.registries.RegistryChange.TheVariants.{Leaves, Makes, Registers, Unregisters, Takes, Dequeues, Queues}
 
@@ -62,13 +62,13 @@ queue_after (Queues r) queue = queue ++ r ∷ []
 queue_after _ queue = queue
 
 -- a registry that is made is not there yet, and a cell that is taken awaits its cleanup
-abbrev pub CanChange : Contents → RegistryChange → Type 0
+abbrev pub CanChange : RegistriesView → RegistryChange → Type 0
 CanChange t (Makes r c) = callback t r ≡ None
 CanChange t (Takes n) = (0 < n) × (passes_at is_awaiting t.cells (n - 1) ≡ true)
 CanChange t _ = ⊤
 
 -- there is room for what is added
-abbrev pub HasRoomFor : Contents → RegistryChange → Type 0
+abbrev pub HasRoomFor : RegistriesView → RegistryChange → Type 0
 HasRoomFor t (Makes r c) = 0 < t.registry_room
 HasRoomFor t (Registers r i held token) = CanRegister t r token
 HasRoomFor t (Queues r) = 0 < t.queue_room

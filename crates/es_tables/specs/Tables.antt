@@ -3,13 +3,13 @@ use Rattle.std.specs.Prelude.{ℕ, ◌≡◌, ◌<◌, ◌&&◌, not, false, Lis
 use Rattle.std.specs.Option.{option_map, option_and_then}
 use Rattle.es_value.specs.Values.{identity}
 use Rattle.es_props.specs.Heap.{Store, object, has, property, keys}
-use Rattle.es_weakref.specs.WeakRefs.{Contents, unless_among}
+use Rattle.es_weakref.specs.WeakRefs.{WeakRefsView, unless_among}
 pub use Rattle.es_weakref.specs.WeakRefs.{target}
-use Rattle.es_ephemeron.specs.Ephemerons.{Contents as WeakContents, record_at, Unchanged, Empties}
+use Rattle.es_ephemeron.specs.Ephemerons.{WeakTablesView as WeakContents, record_at, Unchanged, Empties}
 use Rattle.es_registry.specs.declared.slot.Slot.{Slot}
 use Rattle.es_registry.specs.declared.slot.Slot.TheVariants.{Present, Unregistered, Taken}
 use Rattle.es_registry.specs.Slots.{emptied}
-use Rattle.es_registry.specs.Registries.{Contents as RegistryContents, callback, Joins}
+use Rattle.es_registry.specs.Registries.{RegistriesView as RegistryContents, callback, Joins}
 use Rattle.es_event.specs.History.{History}
 use Rattle.es_event.specs.Identities.{is_in, made, is_gone, kind}
 use Rattle.es_event.specs.Jobs.{Receivers}
@@ -19,24 +19,24 @@ use Rattle.es_event.specs.WeakRefs.{target as target_said, kept}
 use Rattle.es_event.specs.Ephemerons.{entry, is_member}
 use Rattle.es_event.specs.Order.{queue}
 use Rattle.es_event.specs.Registrations.{Cell, Fate, live, awaiting, unregistered, taken, callback as callback_said, registrations, cell, fate}
-pub use Rattle.es_variables.specs.Variables.{Bindings, bound}
-use Rattle.es_tags.specs.Tags.{TagList, tag_at, tag_said}
+pub use Rattle.es_variables.specs.Variables.{VariablesView, bound}
+use Rattle.es_tags.specs.Tags.{TagsView, tag_at, tag_said}
 
 -- all tables of an agent
-pub record State : Type 0 where
-  pub variables : Bindings
+pub record TablesView : Type 0 where
+  pub variables : VariablesView
   pub heap : Store
   -- for how many more properties each object has room
   pub rooms : List ℕ
-  pub weakrefs : Contents
+  pub weakrefs : WeakRefsView
   -- entries of WeakMaps and members of WeakSets
   pub weak : WeakContents
   -- FinalizationRegistries, their cells and the cleanup queue
   pub registries : RegistryContents
-  pub tags : TagList
+  pub tags : TagsView
 
 -- nothing assigned, nothing made
-pub record IsNew (s : State) : Type 0 where
+pub record IsNew (s : TablesView) : Type 0 where
   pub variables : s.variables.entries ≡ []
   pub heap : s.heap ≡ []
   pub targets : s.weakrefs.targets ≡ []
@@ -55,7 +55,7 @@ pub record SameHeap (s t : Store) : Type 0 where
   pub objects : (o : ℕ) → has t o ≡ has s o
 
 -- the tables say the same
-pub record SameState (s t : State) : Type 0 where
+pub record SameState (s t : TablesView) : Type 0 where
   pub variables : (x : List ℕ) → bound t.variables x ≡ bound s.variables x
   pub heap : SameHeap s.heap t.heap
   pub targets : (w : ℕ) → target t.weakrefs w ≡ target s.weakrefs w
@@ -70,7 +70,7 @@ pub record SameState (s t : State) : Type 0 where
 -- the tables after these identities were emptied: nothing is left of them, WeakRefs and cells with one of them as target have
 -- none, no entry and no member has them as key, as WeakMap or as WeakSet, and each registry of which a cell lost its target
 -- is queued
-pub record Emptying (s : State) (ids : List ℕ) (t : State) : Type 0 where
+pub record Emptying (s : TablesView) (ids : List ℕ) (t : TablesView) : Type 0 where
   pub variables : (x : List ℕ) → bound t.variables x ≡ bound s.variables x
   pub objects : (o : ℕ) → object t.heap o ≡ (if is_in ids o then None else object s.heap o)
   pub targets : (w : ℕ) → target t.weakrefs w ≡ (if is_in ids w then None else option_and_then (unless_among ids) (target s.weakrefs w))
@@ -96,7 +96,7 @@ slot_said h n = unwrap_or (option_map (slot_of n (fate h n)) (cell h n)) Taken
 
 -- the tables say what the history says, of what is not emptied; of what is, no object, no entry, no member and no tag is
 -- left
-pub record Says (into : Receivers) (h : History) (s : State) : Type 0 where
+pub record Says (into : Receivers) (h : History) (s : TablesView) : Type 0 where
   pub variables : (x : List ℕ) → bound s.variables x ≡ var into h x
   pub objects : (o : ℕ) → has s.heap o ≡ (is_some (kind h o) && not (is_gone h o))
   pub properties : (o : ℕ) (k : List ℕ) → is_gone h o ≡ false → property s.heap o k ≡ prop h o k

@@ -19,7 +19,7 @@ ghost use Rattle.es_registry.specs.Registries.{callback as callback_of, oldest};
 ghost use Rattle.es_tables.specs.Found.{Adds, HasHeld, AddsEntries};
 ghost use Rattle.es_variables.specs.Variables.{said};
 ghost use Rattle.es_tables.specs.Ready.{CanApply, HasRoom};
-ghost use Rattle.es_tables.specs.Tables.{bound, IsNew, SameState, State, Emptying};
+ghost use Rattle.es_tables.specs.Tables.{bound, IsNew, SameState, TablesView, Emptying};
 ghost use Rattle.es_tags.specs.Tags.{tag_at};
 
 use crate::assigned::{assigned_by, given_by, given_to};
@@ -57,9 +57,9 @@ pub struct Tables {
 }
 
 impl Model for Tables {
-    ghost use Rattle.es_tables.specs.Tables.{State};
+    ghost use Rattle.es_tables.specs.Tables.{TablesView};
 
-    ghost Value = { State };
+    ghost Value = { TablesView };
 
     ghost view = { λ t. record { variables = t.variables; heap = t.heap.all; rooms = t.heap.rooms; weakrefs = t.weakrefs; weak = t.weak; registries = t.registries; tags = t.tags } };
 }

@@ -13,7 +13,7 @@ use Rattle.es_tags.specs.declared.tags.Tag.{Tag}
 use Rattle.es_tags.specs.declared.tags.Tag.TheVariants.{Symbol as SymbolTag, Ordinary, WeakRef as WeakRefTag, WeakMap as WeakMapTag, WeakSet as WeakSetTag, FinalizationRegistry as RegistryTag, SharedArrayBuffer as BufferTag}
 
 -- the tags of identities, of which the first is numbered 1, and for how many more there is room
-pub record TagList : Type 0 where
+pub record TagsView : Type 0 where
   pub all : List (Option Tag)
   pub room : ℕ
 

@@ -39,9 +39,9 @@ pub struct Tags {
 
 impl Model for Tags {
     ghost use Rattle.std.specs.Prelude.{◌-◌, vec_len, vec_capacity};
-    ghost use Rattle.es_tags.specs.Tags.{TagList};
+    ghost use Rattle.es_tags.specs.Tags.{TagsView};
 
-    ghost Value = { TagList };
+    ghost Value = { TagsView };
 
     ghost view = { λ t. record { all = t.all.items; room = vec_capacity t.all - vec_len t.all } };
 }

@@ -8,7 +8,7 @@ use Rattle.std.proofs.lemmas.List.Filters.{length-filter_both, sum_by-filter_bot
 use Rattle.es_event.specs.declared.row.Row.{Row}
 use Rattle.es_event.specs.Identities.{is_in}
 use Rattle.es_ticket.specs.Owned.{Owns}
-use Rattle.es_ticket.specs.Shares.{among, besides, placed}
+use Rattle.es_ticket.specs.Stakes.{among, besides, placed}
 
 pub counted_placed : (p : Row → Bool) (i : ℕ) (r : Row) (ts : List (ℕ × Row)) → count_by (λ t. p t.1) (placed i r ts) ≡ count_by (λ t. p t.1) ts + cond (p r) 1 0
 counted_placed p i r [] = sum_by_push {X = ℕ × Row} (λ t. cond (p t.1) 1 0) [] (i, r)

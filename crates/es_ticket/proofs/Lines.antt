@@ -8,7 +8,7 @@ use Rattle.es_event.specs.declared.row.Holder.{Holder}
 use Rattle.es_event.specs.declared.row.Holder.TheVariants.{Nobody}
 use Rattle.es_event.specs.Rows.{rows_by, moved, held_by}
 use Rattle.es_ticket.specs.Numbered.{IsNumberedFrom}
-use Rattle.es_ticket.specs.Shares.{erase, has_serial}
+use Rattle.es_ticket.specs.Stakes.{erase, has_serial}
 use Rattle.es_ticket.proofs.Rising.{Rising, from_less, absent, erase_middle}
 
 append_nil : (l : List Row) → l ++ [] ≡ l

@@ -1,4 +1,4 @@
--- Each step on a ledger's word keeps the rule.
+-- Each step on a ledger's proof word keeps the rule.
 use Rattle.std.proofs.Common.{◌≡◌, ◌≢◌, ℕ, List, [], ◌∷◌, ◌++◌, length, set, Bool, true, false, true≢false, cond, ◌==◌, ◌&&◌, refl, sym, ap, ◌∙◌, subst, ⊎_elim, eq-eqb, ne_eqb}
 use mathlib.Core.Option.{some}
 use mathlib.Core.Logic.{dite}

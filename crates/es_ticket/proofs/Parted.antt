@@ -2,7 +2,7 @@
 use Rattle.std.proofs.Common.{◌≡◌, ◌<◌, ◌+◌, ℕ, List, [], ◌∷◌, ◌++◌, Bool, true, false, not, cond, length, get_or, drop, refl, sym, ap, ◌∙◌, arith, append_assoc}
 use Rattle.std.specs.List.{filter}
 use Rattle.es_event.specs.declared.row.Row.{Row}
-use Rattle.es_ticket.specs.Shares.{is_rising_from}
+use Rattle.es_ticket.specs.Stakes.{is_rising_from}
 use Rattle.es_ticket.proofs.Racked.{rises, rises_from, first_above, rest_rises}
 
 module _ {X : Type 0} (p : X → Bool) where

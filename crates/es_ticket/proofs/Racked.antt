@@ -7,7 +7,7 @@ use Rattle.std.proofs.lemmas.Cmp.{ranked}
 use Rattle.std.proofs.lemmas.List.Sorted.{IsNonDecreasingBy-from_default}
 use Rattle.std.proofs.lemmas.Bool.Decides.{nat_tests}
 use Rattle.es_event.specs.declared.row.Row.{Row}
-use Rattle.es_ticket.specs.Shares.{at, placed, removed, is_rising_from}
+use Rattle.es_ticket.specs.Stakes.{at, placed, removed, is_rising_from}
 use Rattle.es_event.specs.Rows.{row}
 
 -- the identity at a place

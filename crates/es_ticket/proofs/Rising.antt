@@ -3,7 +3,7 @@ use Rattle.std.proofs.Common.{◌≡◌, ◌≤◌, ◌<◌, ◌+◌, ◌||◌, 
 use Rattle.std.specs.List.{Contains, count_by, sum_by}
 use Rattle.std.proofs.lemmas.List.Sums.{sum_by-append}
 use Rattle.es_event.specs.declared.row.Row.{Row}
-use Rattle.es_ticket.specs.Shares.{erase, has_serial}
+use Rattle.es_ticket.specs.Stakes.{erase, has_serial}
 
 -- each serial is n or above, and above those before it
 abbrev pub Rising : ℕ → List Row → Type 0

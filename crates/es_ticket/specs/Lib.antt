@@ -1,5 +1,5 @@
 pub mod NoTable
 pub mod Numbered
 pub mod Views
-pub mod Shares
+pub mod Stakes
 pub mod Owned

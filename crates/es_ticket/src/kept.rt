@@ -2,18 +2,18 @@
 
 ghost use Rattle.std.specs.Prelude.{◌≡◌};
 
-use crate::run::Run;
+use crate::ledger_name::LedgerName;
 use crate::ticket::Ticket;
 use es_value::Id;
 use std::marker::Model;
 
 /// A ticket, at the buffer object over its block.
-pub struct Kept<L: Run> {
+pub struct Kept<L: LedgerName> {
     pub id: Id,
     pub ticket: Ticket<L>,
 }
 
-impl<L: Run> Model for Kept<L> {
+impl<L: LedgerName> Model for Kept<L> {
     ghost use Rattle.std.specs.Prelude.{ℕ};
     ghost use Rattle.es_event.specs.declared.row.Row.{Row};
 
@@ -22,7 +22,7 @@ impl<L: Run> Model for Kept<L> {
     ghost view = { λ k. (k.id, k.ticket) };
 }
 
-impl<L: Run> Kept<L> {
+impl<L: LedgerName> Kept<L> {
     /// The number of its buffer object.
     pub fn number(&self) -> u32
         ensures { result ≡ self.now.0 }

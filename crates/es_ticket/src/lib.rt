@@ -3,17 +3,17 @@
 #![tactic(auto)]
 
 mod kept;
+mod ledger_name;
 mod parting;
 mod rack;
 mod rows;
-mod run;
 mod stake;
 mod steps;
 mod ticket;
 mod view;
 
+pub use ledger_name::LedgerName;
 pub use rack::Rack;
 pub use rows::{Opened, Rows};
-pub use run::Run;
 pub use stake::Stake;
 pub use ticket::Ticket;

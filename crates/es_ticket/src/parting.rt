@@ -1,16 +1,16 @@
 //! Parting tickets by whether their buffer objects are among some.
 
 ghost use Rattle.std.specs.Prelude.{◌≡◌, ◌≤◌, [], length, vec_capacity};
-ghost use Rattle.es_ticket.specs.Shares.{among, besides};
+ghost use Rattle.es_ticket.specs.Stakes.{among, besides};
 
 use crate::kept::Kept;
-use crate::run::Run;
+use crate::ledger_name::LedgerName;
 use es_value::IdSet;
 use std::alloc::Global;
 use std::collections::VecDeque;
 
 /// How many of these tickets are at one of these buffer objects.
-pub(crate) fn count_among<L: Run>(kept: &[Kept<L>], ids: &IdSet<'_>) -> usize
+pub(crate) fn count_among<L: LedgerName>(kept: &[Kept<L>], ids: &IdSet<'_>) -> usize
     ensures { result ≡ length (among ids.now kept.now) }
 {
     kept.iter().filter(|one| ids.has(one.id)).count()
@@ -18,7 +18,7 @@ pub(crate) fn count_among<L: Run>(kept: &[Kept<L>], ids: &IdSet<'_>) -> usize
 
 /// The tickets at these buffer objects, and the others, both in the order in which they came. It is
 /// one pass over them. The vector has room for the first, which go there, and takes no memory then.
-pub(crate) fn part<L: Run>(
+pub(crate) fn part<L: LedgerName>(
     kept: Vec<Kept<L>>,
     ids: &IdSet<'_>,
     mut taken: Vec<Kept<L>>,

@@ -2,12 +2,12 @@
 
 ghost use Rattle.std.specs.Prelude.{◌≡◌, ◌<◌, ◌≤◌, ◌+◌, ℕ, true, [], ◌∷◌, ◌++◌, Some, None, is_some, length, slice_index_or, IfOk, IfErr, OnOk, IsOk, IfSome, IfNone};
 ghost use Rattle.std.specs.List.{insert, remove};
-ghost use Rattle.es_ticket.specs.Shares.{at, placed, removed, is_rising_from, among, besides};
+ghost use Rattle.es_ticket.specs.Stakes.{at, placed, removed, is_rising_from, among, besides};
 ghost use Rattle.es_event.specs.declared.row.Row.{Row};
 
 use crate::kept::Kept;
+use crate::ledger_name::LedgerName;
 use crate::parting::{count_among, part};
-use crate::run::Run;
 use crate::ticket::Ticket;
 use es_value::{Id, IdSet, NoMemory};
 use std::alloc::Global;
@@ -16,22 +16,22 @@ use std::mem;
 
 /// The tickets of an agent, by buffer object (the SharedArrayBuffer objects over their blocks).
 /// They lie by rising identity.
-pub struct Rack<L: Run> {
+pub struct Rack<L: LedgerName> {
     kept: Vec<Kept<L>>,
 }
 
-impl<L: Run> Model for Rack<L> {
+impl<L: LedgerName> Model for Rack<L> {
     ghost use Rattle.std.specs.Prelude.{◌≡◌, ◌-◌, true, vec_len, vec_capacity};
-    ghost use Rattle.es_ticket.specs.Shares.{Racked, is_rising_from};
+    ghost use Rattle.es_ticket.specs.Stakes.{RackView, is_rising_from};
 
-    ghost Value = { Racked };
+    ghost Value = { RackView };
 
     ghost view = { λ r. record { tickets = r.kept.items; room = vec_capacity r.kept - vec_len r.kept } };
 
     ghost invariant = { λ r. is_rising_from 0 r.kept.items ≡ true };
 }
 
-impl<L: Run> Rack<L> {
+impl<L: LedgerName> Rack<L> {
     /// An empty rack. It takes no memory.
     pub fn new(alloc: Global) -> Rack<L>
         ensures { result.tickets ≡ [] }
@@ -160,7 +160,7 @@ impl<L: Run> Rack<L> {
 }
 
 // The place of a buffer object, or the one where it would come.
-fn place_of<L: Run>(kept: &[Kept<L>], id: Id) -> Result<usize, usize>
+fn place_of<L: LedgerName>(kept: &[Kept<L>], id: Id) -> Result<usize, usize>
     requires { is_rising_from 0 kept.now ≡ true }
     ensures found { IfOk result (λ i. (i < length kept.now) × (removed id kept.now ≡ remove kept.now i) × ((d : ℕ × Row) → at id kept.now ≡ Some (slice_index_or kept.now i d).1)) }
     ensures positive { 0 < id }

@@ -4,12 +4,12 @@ ghost use Rattle.std.specs.Prelude.{◌≡◌, ◌<◌, ◌+◌, ◌^◌, [], �
 ghost use Rattle.es_event.specs.Rows.{held, in_port, moved, held_by};
 ghost use Rattle.es_ticket.specs.Numbered.{IsNumberedFrom};
 ghost use Rattle.es_ticket.specs.Views.{ledger_view};
-ghost use Rattle.es_ticket.specs.Shares.{erase, has_serial};
+ghost use Rattle.es_ticket.specs.Stakes.{erase, has_serial};
 ghost use Rattle.es_event.specs.Rows.{row};
 ghost use Rattle.es_event.specs.declared.row.Row.{Row};
 ghost use Rattle.es_event.specs.declared.row.Holder.TheVariants.{Agent, Port, Nobody};
 
-use crate::run::Run;
+use crate::ledger_name::LedgerName;
 use crate::stake::Stake;
 use crate::steps::{Mine, change, look, note};
 use crate::ticket::Ticket;
@@ -22,7 +22,7 @@ use std::marker::{Model, PhantomData};
 
 type Word = Table<Vec<Entry>, View, (), Tied, Global>;
 
-/// The word of a ledger whose run has no name yet. The run's name is the type `L` of all that
+/// The proof word of a ledger that has no name yet. The name is the type `L` of all that
 /// belongs to it, and a type can't be chosen before the word is there; so the word is made first,
 /// and `named` gives it to the run.
 #[derive(Drop)]
@@ -54,7 +54,7 @@ impl Opened {
     }
 
     /// The empty table of the run that has this word.
-    pub fn named<L: Run>(self, alloc: Global) -> Rows<L>
+    pub fn named<L: LedgerName>(self, alloc: Global) -> Rows<L>
         requires { self ≡ L.table }
         ensures { (result.rows ≡ []) × (result.agents ≡ 0) }
     {
@@ -72,7 +72,7 @@ impl Opened {
 /// The ledger's table of serials: what the ticket of each serial that was made names, and who holds
 /// it.
 #[derive(Drop)]
-pub struct Rows<L: Run> {
+pub struct Rows<L: LedgerName> {
     word: Word,
     seat: Mine,
     // by serial, from 1 on
@@ -81,20 +81,20 @@ pub struct Rows<L: Run> {
     of: PhantomData<L>,
 }
 
-impl<L: Run> Model for Rows<L> {
+impl<L: LedgerName> Model for Rows<L> {
     ghost use Rattle.std.specs.Prelude.{◌≡◌, []};
     ghost use Rattle.es_ticket.specs.Views.{ledger_view};
     ghost use Rattle.es_ticket.specs.Numbered.{IsNumberedFrom};
-    ghost use Rattle.es_ticket.specs.Shares.{Desk};
+    ghost use Rattle.es_ticket.specs.Stakes.{RowsView};
 
-    ghost Value = { Desk };
+    ghost Value = { RowsView };
 
     ghost view = { λ s. record { rows = s.entries.items; agents = s.agents } };
 
     ghost invariant = { λ s. (s.word.shared.table_id ≡ L.table) × (L.table.words ≡ 1) × (s.seat.table_id ≡ L.table) × (s.seat.me ≡ (ledger_view s.entries.items 0 s.agents, [])) × IsNumberedFrom 1 s.entries.items };
 }
 
-impl<L: Run> Rows<L> {
+impl<L: LedgerName> Rows<L> {
     /// How many tickets were made.
     pub fn made(&self) -> usize
         ensures count { result ≡ length self.now.rows }

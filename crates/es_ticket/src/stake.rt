@@ -2,7 +2,7 @@
 
 ghost use Rattle.std.specs.Prelude.{◌≡◌};
 
-use crate::run::Run;
+use crate::ledger_name::LedgerName;
 use crate::steps::Mine;
 use std::marker::{Model, PhantomData};
 
@@ -10,25 +10,25 @@ use std::marker::{Model, PhantomData};
 /// since contracts alone see that list. Only calls of `Rows` change it, and it is always the list
 /// that the table has for the agent (`Rows::look` tells so).
 #[derive(Drop)]
-pub struct Stake<L: Run> {
+pub struct Stake<L: LedgerName> {
     pub(crate) number: usize,
     pub(crate) seat: Mine,
     pub(crate) of: PhantomData<L>,
 }
 
-impl<L: Run> Model for Stake<L> {
+impl<L: LedgerName> Model for Stake<L> {
     ghost use Rattle.std.specs.Prelude.{◌≡◌, ◌<◌, ◌^◌, []};
     ghost use Rattle.es_ticket.specs.Views.{agent_view};
-    ghost use Rattle.es_ticket.specs.Shares.{Share};
+    ghost use Rattle.es_ticket.specs.Stakes.{StakeView};
 
-    ghost Value = { Share };
+    ghost Value = { StakeView };
 
     ghost view = { λ s. record { agent = s.number; rows = s.seat.me.0.agent.mine } };
 
     ghost invariant = { λ s. (s.number < 2 ^ 32) × (s.seat.table_id ≡ L.table) × (s.seat.me ≡ (agent_view s.number s.seat.me.0.agent.mine, [])) };
 }
 
-impl<L: Run> Stake<L> {
+impl<L: LedgerName> Stake<L> {
     /// The agent's number, from 0.
     pub fn number(&self) -> usize
         ensures { result ≡ self.now.agent }

@@ -1,4 +1,4 @@
-//! The steps on a ledger's word.
+//! The steps on a ledger's proof word.
 
 ghost use Rattle.std.specs.Prelude.{◌≡◌, ◌≢◌, ◌<◌, ◌+◌, ◌^◌, ℕ, []};
 ghost use Rattle.es_event.specs.Rows.{held};
@@ -8,10 +8,10 @@ use crate::view::{Back, Beside, Looks, Offers, Part, Settles, Takes, Tied, Under
 use atomic_table::{Seat, Shared};
 use es_event::Entry;
 
-/// A seat of a ledger's word.
+/// A seat of a ledger's proof word.
 pub type Mine = Seat<Vec<Entry>, View>;
 
-/// The steps of a ledger's word.
+/// The steps of a ledger's proof word.
 pub type Steps = Shared<Vec<Entry>, View, (), Tied>;
 
 /// The agent's rows are the ledger's for it.

@@ -2,7 +2,7 @@
 
 ghost use Rattle.std.specs.Prelude.{◌≡◌};
 
-use crate::run::Run;
+use crate::ledger_name::LedgerName;
 use es_event::Row;
 use std::marker::{Model, PhantomData};
 
@@ -11,12 +11,12 @@ use std::marker::{Model, PhantomData};
 ///
 /// It can be neither copied nor forgotten: it has neither `Clone` nor `Drop`, so it ends by being
 /// spent, or lies in a rack or in a message.
-pub struct Ticket<L: Run> {
+pub struct Ticket<L: LedgerName> {
     pub(crate) row: Row,
     pub(crate) of: PhantomData<L>,
 }
 
-impl<L: Run> Model for Ticket<L> {
+impl<L: LedgerName> Model for Ticket<L> {
     ghost use Rattle.es_event.specs.declared.row.Row.{Row};
 
     ghost Value = { Row };
@@ -24,7 +24,7 @@ impl<L: Run> Model for Ticket<L> {
     ghost view = { λ t. t.row };
 }
 
-impl<L: Run> Ticket<L> {
+impl<L: LedgerName> Ticket<L> {
     /// What it names: its serial, and its block with its number of words.
     pub fn row(&self) -> Row
         ensures { result ≡ self.now }

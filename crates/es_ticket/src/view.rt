@@ -1,4 +1,4 @@
-//! What the seats of a ledger's word know. No value of these views is made.
+//! What the seats of a ledger's proof word know. No value of these views is made.
 
 use atomic_table::{Join, Play, Split, TableRule};
 use es_event::{Entry, Row};
@@ -25,7 +25,7 @@ pub struct View {
     pub agent: AgentPart,
 }
 
-/// The rule of a ledger's word: each agent's rows are the table's, but for the one that the word
+/// The rule of a ledger's proof word: each agent's rows are the table's, but for the one that the word
 /// names.
 pub struct Tied;
 

@@ -7,7 +7,7 @@ use Rattle.es_event.specs.declared.ledger_event.LedgerEvent.TheVariants.{Spent, 
 use Rattle.es_event.specs.declared.ledger_event.Body.{Body}
 use Rattle.es_event.specs.declared.ledger_event.Body.TheVariants.{Plain, Block}
 use Rattle.es_event.specs.Ledger.{Ledger, opened, opens, port_of}
-use Rattle.es_ledger.specs.Draining.{drained, drained_below, drained_each, drained_one, drained_to}
+use Rattle.es_ledger.specs.Draining.{after_drain, drained_below, drained_each, drained_one, drained_to}
 use Rattle.es_tracing.specs.Known.{Says, so_far}
 use Rattle.es_tracing.specs.declared.blocks.Blocks.{Blocks}
 
@@ -108,5 +108,5 @@ below_drained : (l : Ledger) (n m : ℕ) → IsLater l (drained_below l n m)
 below_drained l n zero = ([], refl)
 below_drained l n (suc m) = further l (drained_below l n m) (drained_to (drained_below l n m) m n) (below_drained l n m) (to_drained (drained_below l n m) m n)
 
-pub drained_later : (l : Ledger) (n : ℕ) → IsLater l (drained l n)
+pub drained_later : (l : Ledger) (n : ℕ) → IsLater l (after_drain l n)
 drained_later l n = below_drained l n n

@@ -9,7 +9,7 @@ use Rattle.es_event.specs.Ledger.{Ledger}
 use Rattle.es_member.specs.declared.member.Progress.{Progress}
 use Rattle.es_member.specs.declared.member.Progress.TheVariants.{Moved, Waiting, Ended}
 use Rattle.es_path.specs.declared.kept.Kept.{Kept}
-use Rattle.es_record.specs.Book.{Book}
+use Rattle.es_record.specs.AgentView.{AgentView}
 use Rattle.es_why.specs.Kept.{AreKept}
 use Rattle.es_picture.specs.Picture.{IsPicture}
 use Rattle.es_trace.specs.Columns.{label, widest}
@@ -21,7 +21,7 @@ use Rattle.es_trace_json.specs.Events.{line_after}
 use Rattle.es_trace_json.specs.Kept.{kept_lines}
 use Rattle.es_trace_json.specs.Ledger.{ledger_lines}
 use Rattle.es_cluster.specs.Moves.{RunsOut, with_drained}
-use Rattle.es_cluster.specs.State.{Cluster, names_of}
+use Rattle.es_cluster.specs.State.{ClusterView, names_of}
 use Rattle.es_cluster.specs.Watched.{TakenTurn, AreTurns}
 use Rattle.es_options.specs.declared.view.Form.{Form}
 use Rattle.es_options.specs.declared.view.Form.TheVariants.{Rows, Lines, Pictures}
@@ -36,13 +36,13 @@ event_told Lines names plan earlier e = line_after names plan earlier e
 event_told Pictures names plan earlier e = []
 
 -- what is told of the agent after it emptied these
-abbrev pub IsCollectionTold : Form → Bool → List (List ℕ) → Book → List ℕ → List ℕ → Type 0
+abbrev pub IsCollectionTold : Form → Bool → List (List ℕ) → AgentView → List ℕ → List ℕ → Type 0
 IsCollectionTold Rows all names b ids text = (ks : List Kept) × AreKept b all ks × (text ≡ kept_rows (label (widest 1 names) b.plan.name) ks)
 IsCollectionTold Lines all names b ids text = (ks : List Kept) × AreKept b all ks × (text ≡ kept_lines b.plan.name ks)
 IsCollectionTold Pictures all names b ids text = IsPicture b ids text
 
 -- the same, where the event is an emptying; nothing is told after other events
-abbrev pub IsAfterTold : View → List (List ℕ) → Book → Event → List ℕ → Type 0
+abbrev pub IsAfterTold : View → List (List ℕ) → AgentView → Event → List ℕ → Type 0
 IsAfterTold v names b (JobBegun j) text = text ≡ []
 IsAfterTold v names b (CleanupBegun q) text = text ≡ []
 IsAfterTold v names b (Received t x) text = text ≡ []
@@ -55,12 +55,12 @@ IsAfterTold v names b (Skipped j t) text = text ≡ []
 IsAfterTold v names b Closed text = text ≡ []
 
 -- what is told of the newest event of the agent
-abbrev pub IsNewestTold : View → List (List ℕ) → Book → History → List ℕ → Type 0
+abbrev pub IsNewestTold : View → List (List ℕ) → AgentView → History → List ℕ → Type 0
 IsNewestTold v names b [] text = text ≡ []
 IsNewestTold v names b (e ∷ earlier) text = (after : List ℕ) × IsAfterTold v names b e after × (text ≡ event_told v.form names b.plan earlier e ++ after)
 
 -- the same of the event that the agent got, if it moved
-abbrev pub IsMoveTold : View → List (List ℕ) → Progress → Option Book → List ℕ → Type 0
+abbrev pub IsMoveTold : View → List (List ℕ) → Progress → Option AgentView → List ℕ → Type 0
 IsMoveTold v names Moved (Some b) text = IsNewestTold v names b b.history text
 IsMoveTold v names Moved None text = text ≡ []
 IsMoveTold v names Waiting o text = text ≡ []
@@ -96,9 +96,9 @@ AreTurnsTold v names [] text = text ≡ []
 AreTurnsTold v names (t ∷ ts) text = (first rest : List ℕ) × IsTurnTold v names t first × AreTurnsTold v names ts rest × (text ≡ first ++ rest)
 
 -- a run from this state to its end, turn by turn, and then the messages that nobody took
-pub record IsTraceFrom (v : View) (first : Cluster) (text : List ℕ) : Type 0 where
+pub record IsTraceFrom (v : View) (first : ClusterView) (text : List ℕ) : Type 0 where
   pub turns : List TakenTurn
-  pub end : Cluster
+  pub end : ClusterView
   pub taken : AreTurns turns first end
   pub runs : RunsOut first end
   pub told : List ℕ

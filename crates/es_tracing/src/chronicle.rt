@@ -2,8 +2,8 @@
 
 ghost use Rattle.std.specs.Prelude.{◌≡◌, ◌++◌, ◌<◌, ◌≤◌, ◌^◌, ℕ, [], List, Some, length, slice_get, slice_set, IfOk, OnOk};
 ghost use Rattle.std.specs.List.{AllByRecursion};
-ghost use Rattle.es_record.specs.Book.{Book};
-ghost use Rattle.es_cluster.specs.State.{books, names_of as names_said};
+ghost use Rattle.es_record.specs.AgentView.{AgentView};
+ghost use Rattle.es_cluster.specs.State.{cores, names_of as names_said};
 ghost use Rattle.es_cluster.specs.Turns.{Takes};
 ghost use Rattle.es_trace.specs.Keeping.{Keeps};
 ghost use Rattle.es_tracing.specs.Told.{IsMoveTold, told_from};
@@ -67,8 +67,8 @@ impl Chronicle {
     ) -> Result<(), NoMemory>
         requires { number < length self.old.scribes.items }
         ensures same { (self.new.view ≡ self.old.view) × (self.new.names.items ≡ self.old.names.items) × (self.new.written ≡ self.old.written) × (self.new.blocks ≡ self.old.blocks) }
-        ensures scribes { OnOk result ((bs : List Book) (b : Book) → slice_get bs number ≡ Some b → HaveScribes self.old.names.items bs self.old.scribes.items → Takes progress b agent.now → HaveScribes self.old.names.items (slice_set bs number agent.now) self.new.scribes.items) }
-        ensures text { OnOk result ((bs : List Book) (b : Book) → slice_get bs number ≡ Some b → HaveScribes self.old.names.items bs self.old.scribes.items → Takes progress b agent.now → Grows self.old.text.items self.new.text.items (IsMoveTold self.old.view self.old.names.items progress (Some agent.now))) }
+        ensures scribes { OnOk result ((bs : List AgentView) (b : AgentView) → slice_get bs number ≡ Some b → HaveScribes self.old.names.items bs self.old.scribes.items → Takes progress b agent.now → HaveScribes self.old.names.items (slice_set bs number agent.now) self.new.scribes.items) }
+        ensures text { OnOk result ((bs : List AgentView) (b : AgentView) → slice_get bs number ≡ Some b → HaveScribes self.old.names.items bs self.old.scribes.items → Takes progress b agent.now → Grows self.old.text.items self.new.text.items (IsMoveTold self.old.view self.old.names.items progress (Some agent.now))) }
     {
         match progress {
             Progress::Moved => tell_newest(
@@ -148,7 +148,7 @@ fn count_of(events: &[LedgerEvent]) -> usize
 
 /// The names of agents.
 fn names_of<L: Planned>(alloc: Global, members: &[Member<L>]) -> Result<Vec<Name>, NoMemory>
-    ensures { IfOk result (λ names. names.items ≡ names_said (books members.now)) }
+    ensures { IfOk result (λ names. names.items ≡ names_said (cores members.now)) }
 {
     let mut names = Vec::new(alloc);
     for member in members {
@@ -163,8 +163,8 @@ fn scribes_of<L: Planned>(
     names: &[Name],
     members: &[Member<L>],
 ) -> Result<Vec<Scribe>, NoMemory>
-    requires { AllByRecursion (λ b. b.history ≡ []) (books members.now) }
-    ensures { IfOk result (λ scribes. HaveScribes names.now (books members.now) scribes.items) }
+    requires { AllByRecursion (λ b. b.history ≡ []) (cores members.now) }
+    ensures { IfOk result (λ scribes. HaveScribes names.now (cores members.now) scribes.items) }
 {
     let mut scribes = Vec::new(alloc);
     for member in members {

@@ -2,8 +2,8 @@
 
 ghost use Rattle.std.specs.Prelude.{◌≡◌, ◌∷◌, ◌++◌, ℕ, List, OnOk};
 ghost use Rattle.es_event.specs.History.{History};
-ghost use Rattle.es_member.specs.Turned.{Moves};
-ghost use Rattle.es_record.specs.Book.{Book};
+ghost use Rattle.es_member.specs.Turned.{GrowsByOne};
+ghost use Rattle.es_record.specs.AgentView.{AgentView};
 ghost use Rattle.es_trace.specs.Keeping.{Keeps};
 ghost use Rattle.es_tracing.specs.Known.{Grows};
 ghost use Rattle.es_tracing.specs.Told.{IsNewestTold, event_told};
@@ -27,8 +27,8 @@ pub(crate) fn tell_newest<L: Planned>(
     scribe: &mut Scribe,
     text: &mut Vec<u8>,
 ) -> Result<(), NoMemory>
-    ensures keeps { OnOk result ((b : Book) → Keeps names.now b.plan b.history scribe.old → Moves b agent.now → Keeps names.now agent.now.plan agent.now.history scribe.new) }
-    ensures text { OnOk result ((b : Book) → Keeps names.now b.plan b.history scribe.old → Moves b agent.now → Grows text.old.items text.new.items (IsNewestTold view names.now agent.now agent.now.history)) }
+    ensures keeps { OnOk result ((b : AgentView) → Keeps names.now b.plan b.history scribe.old → GrowsByOne b agent.now → Keeps names.now agent.now.plan agent.now.history scribe.new) }
+    ensures text { OnOk result ((b : AgentView) → Keeps names.now b.plan b.history scribe.old → GrowsByOne b agent.now → Grows text.old.items text.new.items (IsNewestTold view names.now agent.now agent.now.history)) }
 {
     let Some(event) = agent.history().last() else {
         return Ok(());

@@ -5,26 +5,26 @@ use Rattle.es_event.specs.declared.plan.Plan.{Plan}
 use Rattle.es_event.specs.LegalLedger.{LegalLedger}
 use Rattle.es_cluster.proofs.Beginning.{first_plans}
 use Rattle.es_cluster.specs.Ends.{EndsIn}
-use Rattle.es_cluster.specs.State.{Cluster, accounts, first_state, names_of, plans}
-use Rattle.es_record.specs.Book.{Book}
+use Rattle.es_cluster.specs.State.{ClusterView, accounts, first_state, names_of, plans}
+use Rattle.es_record.specs.AgentView.{AgentView}
 use Rattle.es_registry.specs.declared.slot.Tally.{Tally}
 use Rattle.es_count.specs.Tallies.{end_tally, AreTallies}
 use Rattle.es_outcome.proofs.Ended.{told_plans}
-use Rattle.es_outcome.proofs.Tallied.{of_books, of_events}
+use Rattle.es_outcome.proofs.Tallied.{of_cores, of_events}
 use Rattle.es_outcome.proofs.Telling.{told_histories}
 use Rattle.es_outcome.specs.Outcomes.{IsClusterOutcome}
 
 -- Plans
 
-names_by_plans : (bs : List Book) → names_of bs ≡ map (λ p. p.name) (plans bs)
+names_by_plans : (bs : List AgentView) → names_of bs ≡ map (λ p. p.name) (plans bs)
 names_by_plans [] = refl
 names_by_plans (b ∷ bs) = ap (λ ns. b.plan.name ∷ ns) (names_by_plans bs)
 
-plans_length : (bs : List Book) → length (plans bs) ≡ length bs
+plans_length : (bs : List AgentView) → length (plans bs) ≡ length bs
 plans_length [] = refl
 plans_length (b ∷ bs) = ap suc (plans_length bs)
 
-pub outcome_of : (plan : Plan) (c : Cluster) (o : Outcome) → plans c.agents ≡ plan.agents → length c.agents ≡ c.ledger.agents → EndsIn c o → IsClusterOutcome plan o
+pub outcome_of : (plan : Plan) (c : ClusterView) (o : Outcome) → plans c.agents ≡ plan.agents → length c.agents ≡ c.ledger.agents → EndsIn c o → IsClusterOutcome plan o
 outcome_of plan c o same number end = record {
   names = end.names ∙ names_by_plans c.agents ∙ ap (λ ps. map (λ p. p.name) ps) same;
   agents = accounts c.agents;
@@ -41,11 +41,11 @@ outcome_of plan c o same number end = record {
 
 -- Totals
 
-pub tallies_of_outcome : (c : Cluster) (o : Outcome) (ts : List Tally) → EndsIn c o → ts ≡ map (λ b. end_tally b.history) c.agents → AreTallies o.histories ts
-tallies_of_outcome c o ts end are = are ∙ of_books c.agents ∙ ap (map end_tally) (sym end.agents.are) ∙ sym (of_events o.histories)
+pub tallies_of_outcome : (c : ClusterView) (o : Outcome) (ts : List Tally) → EndsIn c o → ts ≡ map (λ b. end_tally b.history) c.agents → AreTallies o.histories ts
+tallies_of_outcome c o ts end are = are ∙ of_cores c.agents ∙ ap (map end_tally) (sym end.agents.are) ∙ sym (of_events o.histories)
 
 -- A cluster of the plan
 
 -- before its first event it has the plans of the plan
-pub begins_planned : (plan : Plan) (c : Cluster) → c ≡ first_state plan → plans c.agents ≡ plan.agents
+pub begins_planned : (plan : Plan) (c : ClusterView) → c ≡ first_state plan → plans c.agents ≡ plan.agents
 begins_planned plan c is = ap (λ c. plans c.agents) is ∙ first_plans (length plan.agents) 0 plan.agents

@@ -5,13 +5,13 @@ use Rattle.es_event.specs.declared.plan.Plan.{Plan}
 use Rattle.es_event.specs.Report.{report}
 use Rattle.es_cluster.specs.Ends.{EndsIn}
 use Rattle.es_cluster.specs.Moves.{RunsToEnd}
-use Rattle.es_cluster.specs.State.{Cluster, first_state}
+use Rattle.es_cluster.specs.State.{ClusterView, first_state}
 use Rattle.es_outcome.specs.Outcomes.{IsClusterOutcome}
 use Rattle.es_script.specs.Fault.{IsPlanOf}
 
 -- the outcome is what a cluster comes to by turns: by moves, each of the lowest-numbered agent that can move, to the end of all agents
-abbrev pub EndsByTurns : Cluster → Outcome → Type 0
-EndsByTurns from o = (c : Cluster) × RunsToEnd from c × EndsIn c o
+abbrev pub EndsByTurns : ClusterView → Outcome → Type 0
+EndsByTurns from o = (c : ClusterView) × RunsToEnd from c × EndsIn c o
 
 -- the outcome is that of the plan's run by turns, from its first state
 abbrev pub IsByTurns : Plan → Outcome → Type 0
@@ -32,5 +32,5 @@ abbrev pub IsAnswerTo : Bool → List ℕ → List ℕ → Type 0
 IsAnswerTo check bytes text = (p : Plan) × IsPlanOf bytes p × IsAnswer check true p text
 
 -- the report of what a cluster of this plan, however far its agents are, comes to by turns
-abbrev pub IsReportOfRest : Plan → Cluster → List ℕ → Type 0
+abbrev pub IsReportOfRest : Plan → ClusterView → List ℕ → Type 0
 IsReportOfRest p from text = (o : Outcome) × IsClusterOutcome p o × EndsByTurns from o × (text ≡ report o)

@@ -10,11 +10,11 @@ use Rattle.es_value.specs.Values.{identity}
 use Rattle.es_mark.specs.Graph.{HasAll}
 
 -- the variables that were assigned
-pub record Bindings : Type 0 where
+pub record VariablesView : Type 0 where
   pub entries : List (List ℕ × Value)
 
 -- the value of x
-abbrev pub bound : Bindings → List ℕ → Value
+abbrev pub bound : VariablesView → List ℕ → Value
 bound b x = unwrap_or (lookup (bytes_eq x) b.entries) Undefined
 
 -- at place i there is the variable x
@@ -33,5 +33,5 @@ pub record Adds (asked : (ℕ → Bool) → Type 0) (old new : List ℕ) : Type 
   pub all : (t : ℕ → Bool) → HasAll ids t → asked t
 
 -- the set has what variables hold
-abbrev pub HasBound : Bindings → (ℕ → Bool) → Type 0
+abbrev pub HasBound : VariablesView → (ℕ → Bool) → Type 0
 HasBound b t = (x : List ℕ) (i : ℕ) → identity (bound b x) ≡ Some i → t i ≡ true

@@ -23,9 +23,9 @@ pub struct Variables {
 }
 
 impl Model for Variables {
-    ghost use Rattle.es_variables.specs.Variables.{Bindings};
+    ghost use Rattle.es_variables.specs.Variables.{VariablesView};
 
-    ghost Value = { Bindings };
+    ghost Value = { VariablesView };
 
     ghost view = { λ v. record { entries = v.values.entries } };
 }

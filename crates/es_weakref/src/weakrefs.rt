@@ -19,9 +19,9 @@ pub struct WeakRefs {
 impl Model for WeakRefs {
     ghost use Rattle.std.specs.Prelude.{◌-◌, vec_len, vec_capacity};
     ghost use Rattle.std.specs.HashMap.{spare};
-    ghost use Rattle.es_weakref.specs.WeakRefs.{Contents};
+    ghost use Rattle.es_weakref.specs.WeakRefs.{WeakRefsView};
 
-    ghost Value = { Contents };
+    ghost Value = { WeakRefsView };
 
     ghost view = { λ w. record {
       targets = w.targets.entries;

@@ -16,13 +16,13 @@ use Rattle.es_event.proofs.Registries.{holding_within}
 use Rattle.es_path.specs.declared.step.Step.{Step}
 use Rattle.es_path.specs.declared.step.Step.TheVariants.{Variable, Kept, Registry, Held, Property, Entry}
 use Rattle.es_path.specs.Finds.{IsBound}
-use Rattle.es_record.specs.Book.{Book}
+use Rattle.es_record.specs.AgentView.{AgentView}
 use Rattle.es_record.specs.Leading.{held_in}
 use Rattle.es_record.proofs.Reached.{called_within}
 use Rattle.es_why.specs.Leads.{LeadsTo}
 use Rattle.es_why.proofs.Parts.{both_some, some_there, held_parts}
 
-module _ (over : Buffers) (b : Book) (names : List (List ℕ)) (legal : LegalBy over (receivers b.plan.jobs) b.history) where
+module _ (over : Buffers) (b : AgentView) (names : List (List ℕ)) (legal : LegalBy over (receivers b.plan.jobs) b.history) where
   pub leads_bound : (s : Step) (i : ℕ) → LeadsTo b names s i → i ≤ made b.history
   leads_bound (Variable n) i led =
       let p = both_some (λ x. identity (var (receivers b.plan.jobs) b.history x)) (slice_get names n) i led in

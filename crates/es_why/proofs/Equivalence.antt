@@ -20,14 +20,14 @@ use Rattle.es_path.specs.declared.step.Step.{Step}
 use Rattle.es_path.specs.declared.step.Step.TheVariants.{Variable, Kept, Registry, Held, Property, Entry}
 use Rattle.es_path.specs.declared.way.Way.{Way}
 use Rattle.es_path.specs.Ways.{sources, AreWays, AreShortest}
-use Rattle.es_record.specs.Book.{Book}
+use Rattle.es_record.specs.AgentView.{AgentView}
 use Rattle.es_record.specs.Graph.{HasRoots, HasEdges, HasEntries}
 use Rattle.es_record.specs.Leading.{held_in}
 use Rattle.es_record.proofs.Reached.{there_closed}
 use Rattle.es_why.specs.Leads.{LeadsTo, AreAllNames, AreReasons}
 use Rattle.es_why.proofs.Parts.{both_some, some_there, held_parts, held_from, key_place}
 
-module _ (b : Book) (names : List (List ℕ)) where
+module _ (b : AgentView) (names : List (List ℕ)) where
   -- a closed set by the definitions is closed by the steps
   closed_by_steps : (m : ℕ → Bool) → IsClosedBy (receivers b.plan.jobs) b.history (λ j. m j ≡ true) → (s : Step) (i : ℕ) → LeadsTo b names s i
       → AllByRecursion (λ j. m j ≡ true) (sources s) → m i ≡ true

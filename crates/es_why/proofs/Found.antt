@@ -25,7 +25,7 @@ use Rattle.es_path.specs.Ways.{sources, has_way}
 use Rattle.es_path.specs.Finds.{Finds, FindsEntries, has_pair}
 use Rattle.es_path.proofs.Adding.{has_front, has_back}
 use Rattle.es_path.proofs.Lists.{all_join}
-use Rattle.es_record.specs.Book.{Book}
+use Rattle.es_record.specs.AgentView.{AgentView}
 use Rattle.es_record.specs.Leading.{held_in, held_of, property_at, AddsUnder}
 use Rattle.es_record.proofs.Reached.{here_of, is_within, called_within}
 use Rattle.es_why.specs.Leads.{LeadsTo, variable_at}
@@ -81,7 +81,7 @@ pairs_every m i v is (x ∷ es) e = elim (cases_Bool (x.0 == m)) [
   | inr s ↦ pair_later m i x.0 (pairs_of es) (identity x.1) (pairs_every m i v is es (rw s at e))
 ]
 
-module _ (over : Buffers) (b : Book) (names : List (List ℕ)) (legal : LegalBy over (receivers b.plan.jobs) b.history) where
+module _ (over : Buffers) (b : AgentView) (names : List (List ℕ)) (legal : LegalBy over (receivers b.plan.jobs) b.history) where
   -- Roots
 
   roots_every : (s : Step) (i : ℕ) → LeadsTo b names s i → sources s ≡ [] → has_way

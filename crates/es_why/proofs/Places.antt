@@ -10,11 +10,11 @@ use Rattle.es_event.specs.Identities.{identity}
 use Rattle.es_event.specs.Jobs.{receivers}
 use Rattle.es_event.specs.Variables.{var}
 use Rattle.es_event.specs.Properties.{prop, keys}
-use Rattle.es_record.specs.Book.{Book}
+use Rattle.es_record.specs.AgentView.{AgentView}
 use Rattle.es_record.specs.Leading.{property_at}
 use Rattle.es_why.specs.Leads.{variable_at}
 
-pub variable_said : (b : Book) (names : List (List ℕ)) (place : ℕ) (x : List ℕ) (v : Value) (id : Option ℕ) → place < length names → x ≡ get_or names place x → v ≡ var (receivers b.plan.jobs) b.history x
+pub variable_said : (b : AgentView) (names : List (List ℕ)) (place : ℕ) (x : List ℕ) (v : Value) (id : Option ℕ) → place < length names → x ≡ get_or names place x → v ≡ var (receivers b.plan.jobs) b.history x
     → id ≡ identity v → id ≡ variable_at b names place
 variable_said b names place x v id within is said found =
     found ∙ ap identity said ∙ sym (ap (option_and_then (λ y. identity (var (receivers b.plan.jobs) b.history y))) (slice_get_read names (length names) place x refl within is))

@@ -15,7 +15,7 @@ use Rattle.es_path.specs.declared.kept.Kept.{Kept}
 use Rattle.es_path.specs.declared.kept.Reason.{Reason}
 use Rattle.es_path.specs.declared.kept.Reason.TheVariants.{Variable as ByVariable, KeptAlive as ByKeptAlive, Registry as AsRegistry, Registration as ByRegistration, Property as ByProperty, Entry as ByEntry}
 use Rattle.es_path.specs.Ways.{sources}
-use Rattle.es_record.specs.Book.{Book}
+use Rattle.es_record.specs.AgentView.{AgentView}
 use Rattle.es_why.specs.Leads.{AreReasons}
 
 -- i is the target of a WeakRef that is there, has an entry in a WeakMap that is there, is a member of a WeakSet that is there, or is the target of
@@ -55,7 +55,7 @@ ways_for t (w ∷ ws) = if t w.value || is_source (ways_for t ws) w.value then w
 
 -- all values that the agent reaches, or those that are held weakly with all that lies on their ways: each once, with the last step of a shortest way
 -- to it, after those that the way comes from
-pub record AreKept (b : Book) (all : Bool) (ks : List Kept) : Type 0 where
+pub record AreKept (b : AgentView) (all : Bool) (ks : List Kept) : Type 0 where
   pub names : List (List ℕ)
   pub ways : List Way
   pub told : ℕ → Bool

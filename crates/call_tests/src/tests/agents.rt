@@ -5,7 +5,7 @@ ghost use Rattle.std.specs.Prelude.{◌≡◌, []};
 use es_agent::{AgentCore, Need};
 use es_event::AgentPlan;
 use es_script::read_plan;
-use es_ticket::Run;
+use es_ticket::LedgerName;
 use es_value::NoMemory;
 use std::alloc::Global;
 use std::marker::Brand;
@@ -23,7 +23,7 @@ pub(super) fn plan_of<R: Abort + AllocGlobal>(rt: &R, jobs: &str) -> Result<Agen
 }
 
 /// Takes a step that asks nobody, and tells whether there was one.
-pub(super) fn step<L: Run>(core: &mut AgentCore<L>) -> Result<bool, NoMemory>
+pub(super) fn step<L: LedgerName>(core: &mut AgentCore<L>) -> Result<bool, NoMemory>
     requires { core.old.over ≡ [] }
     ensures { core.new.over ≡ [] }
 {
@@ -35,7 +35,7 @@ pub(super) fn step<L: Run>(core: &mut AgentCore<L>) -> Result<bool, NoMemory>
 }
 
 /// Ends an agent without buffers.
-pub(super) fn end<L: Run>(core: AgentCore<L>)
+pub(super) fn end<L: LedgerName>(core: AgentCore<L>)
     requires { core.over ≡ [] }
 {
     core.abandon().end();
@@ -69,12 +69,12 @@ fn closes_at_once_without_jobs(rt: HostRuntime) -> Result<(), Fail> {
 }
 
 /// Whether the agent's next need is for the ledger.
-fn asks_ledger<L: Run>(core: &AgentCore<L>) -> bool {
+fn asks_ledger<L: LedgerName>(core: &AgentCore<L>) -> bool {
     matches!(core.next(), Need::Ledger(_))
 }
 
 /// Whose message it waits for.
-fn awaited<L: Run>(core: &AgentCore<L>) -> Option<usize> {
+fn awaited<L: LedgerName>(core: &AgentCore<L>) -> Option<usize> {
     match core.next() {
         Need::Message(sender) => Some(sender),
         _ => None,
@@ -112,7 +112,7 @@ fn a_command_on_buffers_asks_the_ledger(rt: HostRuntime) -> Result<(), Fail> {
 }
 
 /// How many objects KeptAlive has after each of so many steps, each taken if the agent takes it alone.
-fn kept_step_by_step<L: Run>(
+fn kept_step_by_step<L: LedgerName>(
     alloc: Global,
     core: &mut AgentCore<L>,
     steps: usize,

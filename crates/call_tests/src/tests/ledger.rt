@@ -5,14 +5,14 @@ ghost use Rattle.es_event.specs.Ledger.{ended};
 ghost use Rattle.es_ledger.specs.Handing.{LiesIn};
 
 use es_ledger::{LedgerCore, Letter, Message, Turn};
-use es_ticket::{Opened, Run, Stake, Ticket};
+use es_ticket::{LedgerName, Opened, Stake, Ticket};
 use es_value::{NoMemory, Value};
 use std::alloc::Global;
 use std::marker::Brand;
 use std::test::Fail;
 
 /// An agent ends, where it has not.
-fn end_agent<L: Run>(ledger: &mut LedgerCore<L>, agent: usize)
+fn end_agent<L: LedgerName>(ledger: &mut LedgerCore<L>, agent: usize)
     requires { agent < ledger.old.agents }
     ensures agents { ledger.new.agents ≡ ledger.old.agents }
     ensures over { ended ledger.new.history agent ≡ true }
@@ -24,7 +24,7 @@ fn end_agent<L: Run>(ledger: &mut LedgerCore<L>, agent: usize)
 }
 
 /// Ends a ledger of two agents, whatever lies in its ports: how many events there were in the end.
-fn closed<L: Run>(mut ledger: LedgerCore<L>) -> usize
+fn closed<L: LedgerName>(mut ledger: LedgerCore<L>) -> usize
     requires { ledger.agents ≡ 2 }
 {
     end_agent(&mut ledger, 0);
@@ -36,7 +36,7 @@ fn closed<L: Run>(mut ledger: LedgerCore<L>) -> usize
 
 /// What is read through a ticket of a block of two words: what was stored, what an addition found and
 /// left, and the other word.
-fn words_of<L: Run>(
+fn words_of<L: LedgerName>(
     ledger: &mut LedgerCore<L>,
     stake: &mut Stake<L>,
     ticket: &Ticket<L>,
@@ -57,7 +57,7 @@ fn words_of<L: Run>(
 /// One agent opens a block of two words, uses and spends it, and opens another without words. The
 /// words that it read, and then how many tickets the first block had, whether it was released, how
 /// many it has left, and the second one's block and serial.
-fn used<L: Run>(
+fn used<L: LedgerName>(
     ledger: &mut LedgerCore<L>,
     stake: &mut Stake<L>,
 ) -> Result<([u32; 4], [u64; 5]), NoMemory>
@@ -79,7 +79,7 @@ fn used<L: Run>(
     ))
 }
 
-fn lived<L: Run>(alloc: Global, opened: Opened) -> Result<([u32; 4], [u64; 5]), NoMemory>
+fn lived<L: LedgerName>(alloc: Global, opened: Opened) -> Result<([u32; 4], [u64; 5]), NoMemory>
     requires { opened ≡ L.table }
 {
     let (mut ledger, mut stakes) = LedgerCore::<L>::new(alloc, opened, 2)?;
@@ -102,7 +102,7 @@ fn a_block_lives_as_long_as_its_ticket(rt: HostRuntime) -> Result<(), Fail> {
 
 /// Of two agents the first ends: whether each had ended before and has afterwards, and how many
 /// events there are once both have.
-fn ended<L: Run>(alloc: Global, opened: Opened) -> Result<([bool; 4], usize), NoMemory>
+fn ended<L: LedgerName>(alloc: Global, opened: Opened) -> Result<([bool; 4], usize), NoMemory>
     requires { opened ≡ L.table }
 {
     let (mut ledger, _stakes) = LedgerCore::<L>::new(alloc, opened, 2)?;
@@ -122,7 +122,7 @@ fn an_agent_ends_alone(rt: HostRuntime) -> Result<(), Fail> {
 }
 
 /// What a letter carries: 1 for a value, and for a block 10 and its ticket's serial, which is spent.
-fn content<L: Run>(ledger: &mut LedgerCore<L>, stake: &mut Stake<L>, letter: Letter<L>) -> u64
+fn content<L: LedgerName>(ledger: &mut LedgerCore<L>, stake: &mut Stake<L>, letter: Letter<L>) -> u64
     requires { LiesIn stake.old.rows letter }
     ensures agents { ledger.new.agents ≡ ledger.old.agents }
     ensures agent { stake.new.agent ≡ stake.old.agent }
@@ -138,7 +138,7 @@ fn content<L: Run>(ledger: &mut LedgerCore<L>, stake: &mut Stake<L>, letter: Let
 }
 
 /// The same of the next message of a sender, and 0 for none.
-fn read<L: Run>(ledger: &mut LedgerCore<L>, stake: &mut Stake<L>, sender: usize) -> u64
+fn read<L: LedgerName>(ledger: &mut LedgerCore<L>, stake: &mut Stake<L>, sender: usize) -> u64
     requires { (sender < ledger.old.agents) × (stake.old.agent < ledger.old.agents) }
     ensures agents { ledger.new.agents ≡ ledger.old.agents }
     ensures agent { stake.new.agent ≡ stake.old.agent }
@@ -150,7 +150,7 @@ fn read<L: Run>(ledger: &mut LedgerCore<L>, stake: &mut Stake<L>, sender: usize)
 }
 
 /// The first agent posts a block, a value, and the block again to the second.
-fn posted<L: Run>(
+fn posted<L: LedgerName>(
     ledger: &mut LedgerCore<L>,
     stake: &mut Stake<L>,
     ticket: &Ticket<L>,
@@ -168,7 +168,7 @@ fn posted<L: Run>(
 
 /// How many tickets the block has once it was posted, after its first ticket was spent, and after the
 /// second agent read once, twice and thrice; then what it read.
-fn received<L: Run>(
+fn received<L: LedgerName>(
     ledger: &mut LedgerCore<L>,
     first: &mut Stake<L>,
     second: &mut Stake<L>,
@@ -204,7 +204,7 @@ fn received<L: Run>(
     ])
 }
 
-fn received_by_both<L: Run>(
+fn received_by_both<L: LedgerName>(
     ledger: &mut LedgerCore<L>,
     stakes: &mut Vec<Stake<L>>,
     second: &mut Stake<L>,
@@ -223,7 +223,7 @@ fn received_by_both<L: Run>(
     }
 }
 
-fn sent<L: Run>(alloc: Global, opened: Opened) -> Result<[u64; 9], NoMemory>
+fn sent<L: LedgerName>(alloc: Global, opened: Opened) -> Result<[u64; 9], NoMemory>
     requires { opened ≡ L.table }
 {
     let (mut ledger, mut stakes) = LedgerCore::<L>::new(alloc, opened, 2)?;
@@ -244,7 +244,7 @@ fn messages_come_in_order_with_their_own_tickets(rt: HostRuntime) -> Result<(), 
 }
 
 /// What an agent of two is told that asks for a message of the other.
-fn asked<L: Run>(ledger: &mut LedgerCore<L>, agent: usize) -> Result<Turn, NoMemory>
+fn asked<L: LedgerName>(ledger: &mut LedgerCore<L>, agent: usize) -> Result<Turn, NoMemory>
     requires two { ledger.old.agents ≡ 2 }
     requires agent { agent < 2 }
     ensures { ledger.new.agents ≡ ledger.old.agents }
@@ -256,7 +256,7 @@ fn asked<L: Run>(ledger: &mut LedgerCore<L>, agent: usize) -> Result<Turn, NoMem
 }
 
 /// Both wait for each other: what each is told, and the second again after the first has ended.
-fn stuck<L: Run>(ledger: &mut LedgerCore<L>) -> Result<[Turn; 4], NoMemory>
+fn stuck<L: LedgerName>(ledger: &mut LedgerCore<L>) -> Result<[Turn; 4], NoMemory>
     requires { ledger.old.agents ≡ 2 }
     ensures { ledger.new.agents ≡ ledger.old.agents }
 {
@@ -270,7 +270,7 @@ fn stuck<L: Run>(ledger: &mut LedgerCore<L>) -> Result<[Turn; 4], NoMemory>
 
 /// The first agent posts a value and ends: what the second is told, what it reads, and what it is told
 /// then.
-fn left_behind<L: Run>(
+fn left_behind<L: LedgerName>(
     ledger: &mut LedgerCore<L>,
     second: &mut Stake<L>,
 ) -> Result<(Turn, u64, Turn), NoMemory>
@@ -286,7 +286,7 @@ fn left_behind<L: Run>(
     Ok((ready, value, skip))
 }
 
-fn waited<L: Run>(alloc: Global, opened: Opened) -> Result<[Turn; 4], NoMemory>
+fn waited<L: LedgerName>(alloc: Global, opened: Opened) -> Result<[Turn; 4], NoMemory>
     requires { opened ≡ L.table }
 {
     let (mut ledger, _stakes) = LedgerCore::<L>::new(alloc, opened, 2)?;
@@ -303,7 +303,7 @@ fn of_two_that_wait_the_lower_skips(rt: HostRuntime) -> Result<(), Fail> {
     Ok(())
 }
 
-fn taken_late<L: Run>(alloc: Global, opened: Opened) -> Result<(Turn, u64, Turn), NoMemory>
+fn taken_late<L: LedgerName>(alloc: Global, opened: Opened) -> Result<(Turn, u64, Turn), NoMemory>
     requires { opened ≡ L.table }
 {
     let (mut ledger, mut stakes) = LedgerCore::<L>::new(alloc, opened, 2)?;
@@ -327,7 +327,7 @@ fn what_an_ended_agent_posted_is_taken(rt: HostRuntime) -> Result<(), Fail> {
 
 /// The first agent posts a block and a value, and spends its own ticket; then all is drained. How many
 /// tickets the block had before and has afterwards, and how many events there were.
-fn unread<L: Run>(ledger: &mut LedgerCore<L>, first: &mut Stake<L>) -> Result<[u64; 2], NoMemory>
+fn unread<L: LedgerName>(ledger: &mut LedgerCore<L>, first: &mut Stake<L>) -> Result<[u64; 2], NoMemory>
     requires two { ledger.old.agents ≡ 2 }
     requires first { first.old.agent ≡ 0 }
     ensures { ledger.new.agents ≡ ledger.old.agents }
@@ -343,7 +343,7 @@ fn unread<L: Run>(ledger: &mut LedgerCore<L>, first: &mut Stake<L>) -> Result<[u
     Ok([before, ledger.count(1)])
 }
 
-fn drained<L: Run>(alloc: Global, opened: Opened) -> Result<([u64; 2], usize), NoMemory>
+fn drained<L: LedgerName>(alloc: Global, opened: Opened) -> Result<([u64; 2], usize), NoMemory>
     requires { opened ≡ L.table }
 {
     let (mut ledger, mut stakes) = LedgerCore::<L>::new(alloc, opened, 2)?;

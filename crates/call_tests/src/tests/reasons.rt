@@ -6,7 +6,7 @@ use super::agents::{end, plan_of, step};
 use es_agent::AgentCore;
 use es_event::AgentPlan;
 use es_path::{Step, Way};
-use es_ticket::Run;
+use es_ticket::LedgerName;
 use es_value::NoMemory;
 use es_why::{Reasons, find_reasons};
 use std::alloc::Global;
@@ -68,7 +68,7 @@ fn reasons_after(alloc: Global, plan: AgentPlan, steps: usize) -> Result<Reasons
 }
 
 /// Takes so many steps, each if the agent takes it alone.
-pub(super) fn step_often<L: Run>(core: &mut AgentCore<L>, steps: usize) -> Result<(), NoMemory>
+pub(super) fn step_often<L: LedgerName>(core: &mut AgentCore<L>, steps: usize) -> Result<(), NoMemory>
     requires { core.old.over ≡ [] }
     ensures { core.new.over ≡ [] }
 {

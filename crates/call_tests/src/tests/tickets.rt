@@ -2,11 +2,11 @@
 
 ghost use Rattle.std.specs.Prelude.{◌≡◌, ◌<◌, ◌≤◌, ◌+◌, [], ◌∷◌, None, IfOk};
 ghost use Rattle.es_event.specs.Rows.{held};
-ghost use Rattle.es_ticket.specs.Shares.{at, placed};
+ghost use Rattle.es_ticket.specs.Stakes.{at, placed};
 
 mod extracting;
 
-use es_ticket::{Opened, Rack, Rows, Run, Stake, Ticket};
+use es_ticket::{LedgerName, Opened, Rack, Rows, Stake, Ticket};
 use es_value::{Id, NoMemory};
 use std::alloc::Global;
 use std::marker::Brand;
@@ -14,7 +14,7 @@ use std::test::Fail;
 
 // The first agent opens a ticket and posts it, the second takes what was posted. The serial, block
 // and words of both tickets, before both are spent.
-fn sent<L: Run>(alloc: Global, opened: Opened) -> Result<[u64; 6], NoMemory>
+fn sent<L: LedgerName>(alloc: Global, opened: Opened) -> Result<[u64; 6], NoMemory>
     requires { opened ≡ L.table }
 {
     let mut rows = opened.named::<L>(alloc);
@@ -52,7 +52,7 @@ fn a_ticket_is_opened_posted_taken_and_spent(rt: HostRuntime) -> Result<(), Fail
 }
 
 // An agent's ticket is posted and nobody takes it. How many tickets were made in the end.
-fn unread<L: Run>(alloc: Global, opened: Opened) -> Result<usize, NoMemory>
+fn unread<L: LedgerName>(alloc: Global, opened: Opened) -> Result<usize, NoMemory>
     requires { opened ≡ L.table }
 {
     let mut rows = opened.named::<L>(alloc);
@@ -73,7 +73,7 @@ fn what_nobody_reads_is_drained(rt: HostRuntime) -> Result<(), Fail> {
 }
 
 // An agent opens a ticket and spends it: what the table has for another stays.
-fn opened_beside<L: Run>(
+fn opened_beside<L: LedgerName>(
     rows: &mut Rows<L>,
     stake: &mut Stake<L>,
     other: &mut Stake<L>,
@@ -89,7 +89,7 @@ fn opened_beside<L: Run>(
 }
 
 // How many tickets two agents made, one beside the other's.
-fn beside<L: Run>(alloc: Global, opened: Opened) -> Result<usize, NoMemory>
+fn beside<L: LedgerName>(alloc: Global, opened: Opened) -> Result<usize, NoMemory>
     requires { opened ≡ L.table }
 {
     let mut rows = opened.named::<L>(alloc);
@@ -111,7 +111,7 @@ fn what_one_agent_does_is_not_the_others(rt: HostRuntime) -> Result<(), Fail> {
 }
 
 // A put for which there is room.
-fn put<L: Run>(rack: &mut Rack<L>, number: u32, ticket: Ticket<L>)
+fn put<L: LedgerName>(rack: &mut Rack<L>, number: u32, ticket: Ticket<L>)
     requires number { 0 < number }
     requires lacks { at number rack.old.tickets ≡ None }
     requires room { 0 < rack.old.room }
@@ -126,7 +126,7 @@ fn put<L: Run>(rack: &mut Rack<L>, number: u32, ticket: Ticket<L>)
 
 // An agent's three tickets at the buffer objects 5, 2 and 9, in this order. The serials of the
 // first that is popped, and then of those at 5 and 2; each is spent.
-fn in_order<L: Run>(
+fn in_order<L: LedgerName>(
     rack: &mut Rack<L>,
     rows: &mut Rows<L>,
     stake: &mut Stake<L>,
@@ -159,7 +159,7 @@ fn in_order<L: Run>(
 }
 
 // Three tickets, or none.
-fn three<L: Run>(
+fn three<L: LedgerName>(
     rows: &mut Rows<L>,
     stake: &mut Stake<L>,
 ) -> Result<(Ticket<L>, Ticket<L>, Ticket<L>), NoMemory>
@@ -185,7 +185,7 @@ fn three<L: Run>(
 }
 
 // The same of three tickets that were just opened.
-fn racked<L: Run>(alloc: Global, opened: Opened) -> Result<[u64; 3], NoMemory>
+fn racked<L: LedgerName>(alloc: Global, opened: Opened) -> Result<[u64; 3], NoMemory>
     requires { opened ≡ L.table }
 {
     let mut rows = opened.named::<L>(alloc);

@@ -2,9 +2,9 @@
 
 ghost use Rattle.std.specs.Prelude.{ℕ, ◌≡◌, ◌≢◌, ◌<◌, OnOk, OnErr, IfOk};
 ghost use Rattle.es_rules.specs.Needs.{need, asks_ledger, for_block, for_post, for_buffer_post, for_access, TakesTicket};
-ghost use Rattle.es_member.specs.Seats.{HoldsBeside, seat};
+ghost use Rattle.es_member.specs.Members.{HoldsBeside, member_of};
 ghost use Rattle.es_member.specs.Tied.{IsSettled};
-ghost use Rattle.es_member.specs.Turned.{Heard, Keeps, Moves, Proceeds, StaysTied};
+ghost use Rattle.es_member.specs.Turned.{WaitsRightly, Keeps, GrowsByOne, Proceeds, StaysTied};
 ghost use Rattle.es_agent.specs.Tickets.{DoesWith};
 ghost use Rattle.es_member.specs.Midway.{IsHeld, HasFetched, answer_to};
 
@@ -12,11 +12,11 @@ use crate::member::Progress;
 use es_agent::{AdmitFault, AgentCore};
 use es_event::Access;
 use es_ledger::LedgerCore;
-use es_ticket::{Run, Stake, Ticket};
+use es_ticket::{LedgerName, Stake, Ticket};
 use es_value::{Id, NoMemory, Value};
 
 /// A new block: the agent takes its first ticket.
-pub(crate) fn open<L: Run>(
+pub(crate) fn open<L: LedgerName>(
     core: &mut AgentCore<L>,
     stake: &mut Stake<L>,
     ledger: &mut LedgerCore<L>,
@@ -24,8 +24,8 @@ pub(crate) fn open<L: Run>(
 ) -> Result<Progress, NoMemory>
     requires due { need core.old ≡ asks_ledger (for_block words) }
     requires ready { IsHeld core.old stake.old ledger.old }
-    ensures ok { IfOk result (λ p. Proceeds p (seat core.old stake.old) (seat core.new stake.new)) }
-    ensures told { IfOk result (λ p. Heard p core.old ledger.old ledger.new) }
+    ensures ok { IfOk result (λ p. Proceeds p (member_of core.old stake.old) (member_of core.new stake.new)) }
+    ensures told { IfOk result (λ p. WaitsRightly p core.old ledger.old ledger.new) }
     ensures err { OnErr result (core.new ≡ core.old) }
     ensures tied { IfOk result (λ p. StaysTied p core.old ledger.old core.new ledger.new) }
     ensures keeps { Keeps core.old ledger.old core.new stake.new ledger.new }
@@ -37,7 +37,7 @@ pub(crate) fn open<L: Run>(
 
 /// The agent takes in a ticket that its stake has beside its own. One that it does not take in is
 /// spent.
-pub(crate) fn admit<L: Run>(
+pub(crate) fn admit<L: LedgerName>(
     core: &mut AgentCore<L>,
     stake: &mut Stake<L>,
     ledger: &mut LedgerCore<L>,
@@ -45,7 +45,7 @@ pub(crate) fn admit<L: Run>(
 ) -> Result<(), NoMemory>
     requires takes { TakesTicket (need core.old) ticket }
     requires held { HoldsBeside ticket core.old stake.old }
-    ensures ok { OnOk result (Moves core.old core.new) }
+    ensures ok { OnOk result (GrowsByOne core.old core.new) }
     ensures err { OnErr result (core.new ≡ core.old) }
     ensures tied { OnOk result (HasFetched core.old ticket ledger.old.history → IsSettled core.new ledger.new.history) }
     ensures keeps { Keeps core.old ledger.old core.new stake.new ledger.new }
@@ -64,7 +64,7 @@ pub(crate) fn admit<L: Run>(
 }
 
 /// A value without an identity is posted.
-pub(crate) fn post<L: Run>(
+pub(crate) fn post<L: LedgerName>(
     core: &mut AgentCore<L>,
     stake: &Stake<L>,
     ledger: &mut LedgerCore<L>,
@@ -74,8 +74,8 @@ pub(crate) fn post<L: Run>(
     requires due { need core.old ≡ asks_ledger (for_post receiver value) }
     requires others { (receiver < ledger.old.agents) × (core.old.number ≢ receiver) }
     requires ready { IsHeld core.old stake.now ledger.old }
-    ensures ok { IfOk result (λ p. Proceeds p (seat core.old stake.now) (seat core.new stake.now)) }
-    ensures told { IfOk result (λ p. Heard p core.old ledger.old ledger.new) }
+    ensures ok { IfOk result (λ p. Proceeds p (member_of core.old stake.now) (member_of core.new stake.now)) }
+    ensures told { IfOk result (λ p. WaitsRightly p core.old ledger.old ledger.new) }
     ensures err { OnErr result (core.new ≡ core.old) }
     ensures tied { IfOk result (λ p. StaysTied p core.old ledger.old core.new ledger.new) }
     ensures keeps { Keeps core.old ledger.old core.new stake.now ledger.new }
@@ -86,7 +86,7 @@ pub(crate) fn post<L: Run>(
 }
 
 /// The block of a buffer object is posted.
-pub(crate) fn post_buffer<L: Run>(
+pub(crate) fn post_buffer<L: LedgerName>(
     core: &mut AgentCore<L>,
     stake: &mut Stake<L>,
     ledger: &mut LedgerCore<L>,
@@ -96,8 +96,8 @@ pub(crate) fn post_buffer<L: Run>(
     requires due { need core.old ≡ asks_ledger (for_buffer_post receiver buffer) }
     requires others { (receiver < ledger.old.agents) × (core.old.number ≢ receiver) }
     requires ready { IsHeld core.old stake.old ledger.old }
-    ensures ok { IfOk result (λ p. Proceeds p (seat core.old stake.old) (seat core.new stake.new)) }
-    ensures told { IfOk result (λ p. Heard p core.old ledger.old ledger.new) }
+    ensures ok { IfOk result (λ p. Proceeds p (member_of core.old stake.old) (member_of core.new stake.new)) }
+    ensures told { IfOk result (λ p. WaitsRightly p core.old ledger.old ledger.new) }
     ensures err { OnErr result (core.new ≡ core.old) }
     ensures tied { IfOk result (λ p. StaysTied p core.old ledger.old core.new ledger.new) }
     ensures keeps { Keeps core.old ledger.old core.new stake.new ledger.new }
@@ -109,7 +109,7 @@ pub(crate) fn post_buffer<L: Run>(
 }
 
 /// The agent does this to the word at an index of a buffer object's block.
-pub(crate) fn access_word<L: Run>(
+pub(crate) fn access_word<L: LedgerName>(
     core: &mut AgentCore<L>,
     stake: &mut Stake<L>,
     ledger: &mut LedgerCore<L>,
@@ -119,8 +119,8 @@ pub(crate) fn access_word<L: Run>(
 ) -> Result<Progress, NoMemory>
     requires due { need core.old ≡ asks_ledger (for_access buffer index access) }
     requires ready { IsHeld core.old stake.old ledger.old }
-    ensures ok { IfOk result (λ p. Proceeds p (seat core.old stake.old) (seat core.new stake.new)) }
-    ensures told { IfOk result (λ p. Heard p core.old ledger.old ledger.new) }
+    ensures ok { IfOk result (λ p. Proceeds p (member_of core.old stake.old) (member_of core.new stake.new)) }
+    ensures told { IfOk result (λ p. WaitsRightly p core.old ledger.old ledger.new) }
     ensures err { OnErr result (core.new ≡ core.old) }
     ensures tied { IfOk result (λ p. StaysTied p core.old ledger.old core.new ledger.new) }
     ensures keeps { Keeps core.old ledger.old core.new stake.new ledger.new }
@@ -132,7 +132,7 @@ pub(crate) fn access_word<L: Run>(
 }
 
 /// The agent takes the word that was there, where its command gives it.
-fn answer<L: Run>(core: &mut AgentCore<L>, access: Access, old: u32) -> Result<(), NoMemory>
+fn answer<L: LedgerName>(core: &mut AgentCore<L>, access: Access, old: u32) -> Result<(), NoMemory>
     requires due { (o i : ℕ) × (need core.old ≡ asks_ledger (for_access o i access)) }
     ensures ok { OnOk result (DoesWith core.old (answer_to access old) core.new) }
     ensures err { OnErr result (core.new ≡ core.old) }

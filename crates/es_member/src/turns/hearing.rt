@@ -3,19 +3,19 @@
 ghost use Rattle.std.specs.Prelude.{◌≡◌, ◌≢◌, ◌<◌, true, OnOk, OnErr, IfOk};
 ghost use Rattle.es_event.specs.LegalLedger.{has_message};
 ghost use Rattle.es_rules.specs.Needs.{need, asks_message};
-ghost use Rattle.es_member.specs.Seats.{seat};
-ghost use Rattle.es_member.specs.Turned.{Heard, Keeps, Proceeds, StaysTied};
+ghost use Rattle.es_member.specs.Members.{member_of};
+ghost use Rattle.es_member.specs.Turned.{WaitsRightly, Keeps, Proceeds, StaysTied};
 ghost use Rattle.es_member.specs.Midway.{IsHeld};
 
 use super::asking::admit;
 use crate::member::Progress;
 use es_agent::AgentCore;
 use es_ledger::{LedgerCore, Letter, Message, Turn};
-use es_ticket::{Run, Stake};
+use es_ticket::{LedgerName, Stake};
 use es_value::NoMemory;
 
 /// The agent asks for a message of a sender.
-pub(crate) fn hear<L: Run>(
+pub(crate) fn hear<L: LedgerName>(
     core: &mut AgentCore<L>,
     stake: &mut Stake<L>,
     ledger: &mut LedgerCore<L>,
@@ -24,8 +24,8 @@ pub(crate) fn hear<L: Run>(
     requires due { need core.old ≡ asks_message sender }
     requires others { (sender < ledger.old.agents) × (core.old.number ≢ sender) }
     requires ready { IsHeld core.old stake.old ledger.old }
-    ensures ok { IfOk result (λ p. Proceeds p (seat core.old stake.old) (seat core.new stake.new)) }
-    ensures told { IfOk result (λ p. Heard p core.old ledger.old ledger.new) }
+    ensures ok { IfOk result (λ p. Proceeds p (member_of core.old stake.old) (member_of core.new stake.new)) }
+    ensures told { IfOk result (λ p. WaitsRightly p core.old ledger.old ledger.new) }
     ensures err { OnErr result (core.new ≡ core.old) }
     ensures tied { IfOk result (λ p. StaysTied p core.old ledger.old core.new ledger.new) }
     ensures keeps { Keeps core.old ledger.old core.new stake.new ledger.new }
@@ -41,7 +41,7 @@ pub(crate) fn hear<L: Run>(
 }
 
 // The message is there, and the agent takes it.
-fn receive<L: Run>(
+fn receive<L: LedgerName>(
     core: &mut AgentCore<L>,
     stake: &mut Stake<L>,
     ledger: &mut LedgerCore<L>,
@@ -51,8 +51,8 @@ fn receive<L: Run>(
     requires known { sender < ledger.old.agents }
     requires there { has_message ledger.old.history sender core.old.number ≡ true }
     requires ready { IsHeld core.old stake.old ledger.old }
-    ensures ok { IfOk result (λ p. Proceeds p (seat core.old stake.old) (seat core.new stake.new)) }
-    ensures told { IfOk result (λ p. Heard p core.old ledger.old ledger.new) }
+    ensures ok { IfOk result (λ p. Proceeds p (member_of core.old stake.old) (member_of core.new stake.new)) }
+    ensures told { IfOk result (λ p. WaitsRightly p core.old ledger.old ledger.new) }
     ensures err { OnErr result (core.new ≡ core.old) }
     ensures tied { IfOk result (λ p. StaysTied p core.old ledger.old core.new ledger.new) }
     ensures keeps { Keeps core.old ledger.old core.new stake.new ledger.new }

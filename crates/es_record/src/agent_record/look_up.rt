@@ -15,7 +15,7 @@ ghost use Rattle.es_event.specs.Rules.{kind_of};
 ghost use Rattle.es_event.specs.Legal.{values_of};
 ghost use Rattle.es_event.specs.Sharing.{row_at, blocks_opened, messages_posted};
 ghost use Rattle.es_tags.specs.Tags.{is_tag};
-ghost use Rattle.es_record.specs.Book.{AreThere};
+ghost use Rattle.es_record.specs.AgentView.{AreThere};
 ghost use Rattle.es_record.specs.Tagged.{is_of};
 
 use super::AgentRecord;

@@ -3,16 +3,16 @@
 ghost use Rattle.std.specs.Prelude.{◌≡◌, ◌<◌, ◌≤◌, ◌+◌, [], None, OnOk, OnErr, Bool, true, length, count_by};
 ghost use Rattle.es_event.specs.declared.row.Row.{Row};
 ghost use Rattle.es_ticket.specs.Owned.{Owns};
-ghost use Rattle.es_ticket.specs.Shares.{at, placed};
+ghost use Rattle.es_ticket.specs.Stakes.{at, placed};
 
-use es_ticket::{Opened, Rack, Rows, Run, Stake};
+use es_ticket::{LedgerName, Opened, Rack, Rows, Stake};
 use es_value::{Id, NoMemory};
 use std::alloc::Global;
 use std::marker::Brand;
 use std::test::Fail;
 
 /// Opens a ticket and puts it at a buffer object that has none.
-fn open_at<L: Run>(
+fn open_at<L: LedgerName>(
     rows: &mut Rows<L>,
     stake: &mut Stake<L>,
     rack: &mut Rack<L>,
@@ -36,7 +36,7 @@ fn open_at<L: Run>(
 }
 
 /// Opens four tickets, at the buffer objects 5, 2, 9 and 7 in this order.
-fn fill<L: Run>(
+fn fill<L: LedgerName>(
     rows: &mut Rows<L>,
     stake: &mut Stake<L>,
     rack: &mut Rack<L>,
@@ -53,7 +53,7 @@ fn fill<L: Run>(
 
 /// Spends all tickets of a rack: their serials, that of the newest buffer object first, and 0 after
 /// the last.
-fn spend_all<L: Run>(rows: &mut Rows<L>, stake: &mut Stake<L>, rack: &mut Rack<L>) -> [u64; 4]
+fn spend_all<L: LedgerName>(rows: &mut Rows<L>, stake: &mut Stake<L>, rack: &mut Rack<L>) -> [u64; 4]
     requires owns { Owns stake.old.rows rack.old.tickets }
     requires few { length rack.old.tickets ≤ 4 }
     ensures empty { rack.new.tickets ≡ [] }
@@ -72,7 +72,7 @@ fn spend_all<L: Run>(rows: &mut Rows<L>, stake: &mut Stake<L>, rack: &mut Rack<L
 
 /// Takes out the tickets at these buffer objects, and spends all: the serials of what was taken out,
 /// and of what stayed.
-fn told_of<L: Run>(
+fn told_of<L: LedgerName>(
     rows: &mut Rows<L>,
     stake: &mut Stake<L>,
     rack: &mut Rack<L>,
@@ -97,7 +97,7 @@ fn told_of<L: Run>(
 }
 
 /// The same of a rack that was just filled.
-fn parted<L: Run>(alloc: Global, opened: Opened, ids: &[Id]) -> Result<[[u64; 4]; 2], NoMemory>
+fn parted<L: LedgerName>(alloc: Global, opened: Opened, ids: &[Id]) -> Result<[[u64; 4]; 2], NoMemory>
     requires opened { opened ≡ L.table }
 {
     let mut rows = opened.named::<L>(alloc);

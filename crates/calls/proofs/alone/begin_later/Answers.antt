@@ -1,5 +1,5 @@
 use Rattle.std.proofs.Common.{sym, subst}
-use Rattle.es_member.specs.Seats.{Holds}
+use Rattle.es_member.specs.Members.{Holds}
 use Rattle.es_member.proofs.Moving.{holds_still, opened_leaves}
 use Rattle.calls.proofs.alone.begin_later.Goals as goal
 

@@ -1,5 +1,5 @@
 use Rattle.std.proofs.Common.{sym, subst}
-use Rattle.es_member.specs.Seats.{Holds}
+use Rattle.es_member.specs.Members.{Holds}
 use Rattle.es_member.proofs.Moving.{collected_owns, collected_holds}
 use Rattle.calls.proofs.alone.collect.Goals as goal
 

@@ -1,6 +1,6 @@
 use Rattle.std.proofs.Common.{refl, sym, subst}
 use Rattle.es_rules.specs.Needs.{for_buffer_post, TakesDone}
-use Rattle.es_member.specs.Seats.{Holds}
+use Rattle.es_member.specs.Members.{Holds}
 use Rattle.es_member.proofs.Aims.{aims_at_ticket}
 use Rattle.es_member.proofs.Counting.{ticket_held}
 use Rattle.calls.proofs.asking.post_buffer.Goals as goal

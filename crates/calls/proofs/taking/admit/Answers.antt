@@ -1,7 +1,7 @@
 use Rattle.std.proofs.Common.{◌≡◌, sym, subst}
 use Rattle.es_agent.specs.Failing.{FailsToAdmit}
 use Rattle.es_rules.specs.Needs.{need, TakesTicket}
-use Rattle.es_member.specs.Seats.{HoldsBeside}
+use Rattle.es_member.specs.Members.{HoldsBeside}
 use Rattle.es_member.proofs.Counting.{beside_held}
 use Rattle.es_member.proofs.Moving.{admitted_holds, refused_stays}
 use Rattle.calls.proofs.Holding.{spent_holds}

@@ -1,6 +1,6 @@
 use Rattle.std.proofs.Common.{sym, subst}
 use Rattle.es_rules.specs.Needs.{need, TakesWord}
-use Rattle.es_member.specs.Seats.{Holds}
+use Rattle.es_member.specs.Members.{Holds}
 use Rattle.es_member.proofs.Moving.{holds_still, done_stays}
 use Rattle.calls.proofs.taking.answer_word.Goals as goal
 

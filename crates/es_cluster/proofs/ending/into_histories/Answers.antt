@@ -2,10 +2,10 @@ use Rattle.std.proofs.Common.{◌≡◌, ◌≤◌, refl, sym, ◌∙◌, ap, su
 use Rattle.std.specs.Prelude.{slice_get}
 use Rattle.std.proofs.lemmas.List.{length-reverse, reverse-reverse}
 use Rattle.es_cluster.specs.Ends.{AreHistories, HaveNoTicket}
-use Rattle.es_cluster.specs.State.{books}
-use Rattle.es_member.specs.Seats.{Seat}
+use Rattle.es_cluster.specs.State.{cores}
+use Rattle.es_member.specs.Members.{MemberView}
 use Rattle.es_cluster.proofs.Beginning.{next_last}
-use Rattle.es_cluster.proofs.Histories.{all_done, at_done, books_more, histories_more, none_more}
+use Rattle.es_cluster.proofs.Histories.{all_done, at_done, cores_more, histories_more, none_more}
 use Rattle.es_cluster.proofs.ending.into_histories.Goals as goal
 
 pub loop-init : goal.loop-init
@@ -27,8 +27,8 @@ loop-init g c =
 pub into_history-requires : goal.into_history-requires
 into_history-requires g c =
     let front = next_last c.loop.members.items c.pop.new.self.items c.in-Some.member c.in-Some.ensures.items in
-    c.requires.ended (length c.loop.invariant.done) c.in-Some.member.book
-    (ap (λ ms. slice_get (books ms) (length c.loop.invariant.done)) (c.loop.invariant.left ∙ ap (λ ms. c.loop.invariant.done ++ ms) front) ∙ at_done c.loop.invariant.done (reverse c.pop.new.self.items) c.in-Some.member)
+    c.requires.ended (length c.loop.invariant.done) c.in-Some.member.core
+    (ap (λ ms. slice_get (cores ms) (length c.loop.invariant.done)) (c.loop.invariant.left ∙ ap (λ ms. c.loop.invariant.done ++ ms) front) ∙ at_done c.loop.invariant.done (reverse c.pop.new.self.items) c.in-Some.member)
 
 pub loop-preserved : goal.loop-preserved
 loop-preserved g c =
@@ -39,7 +39,7 @@ loop-preserved g c =
     let long = ap length c.push_reserved.ensures.items ∙ length-append c.loop.histories.items (c.into_history.result ∷ []) in
     let size = was.size in
     let taken = was.taken in
-    let over = c.requires.ended (length was.done) m.book (ap (λ ms. slice_get (books ms) (length was.done)) (was.left ∙ ap (λ ms. was.done ++ ms) front) ∙ at_done was.done (reverse c.pop.new.self.items) m) in
+    let over = c.requires.ended (length was.done) m.core (ap (λ ms. slice_get (cores ms) (length was.done)) (was.left ∙ ap (λ ms. was.done ++ ms) front) ∙ at_done was.done (reverse c.pop.new.self.items) m) in
     record {
       done = was.done ++ m ∷ [];
       left = was.left ∙ ap (λ ms. was.done ++ ms) front ∙ sym (append_assoc was.done (m ∷ []) (reverse c.pop.new.self.items));
@@ -47,12 +47,12 @@ loop-preserved g c =
       taken = omega (arith, taken, long);
       room = subst (λ n. c.len-end.result ≤ n) (sym c.push_reserved.ensures.capacity) was.room;
       same = c.into_history.ensures.same ∙ was.same;
-      histories = subst (λ bs. AreHistories bs c.push_reserved.new.self.items) (sym (books_more was.done m))
-          (subst (λ hs. AreHistories (books was.done ++ m.book ∷ []) hs) (sym c.push_reserved.ensures.items)
-          (histories_more (books was.done) c.loop.histories.items m.book c.into_history.result was.histories c.into_history.ensures.events c.into_history.ensures.run over));
-      none = subst (λ bs. HaveNoTicket bs c.into_history.new.ledger.history) (sym (books_more was.done m))
-          (subst (λ l. HaveNoTicket (books was.done ++ m.book ∷ []) l.history) (sym c.into_history.ensures.same)
-          (none_more (books was.done) m.book c.loop.ledger.history was.none c.into_history.ensures.none));
+      histories = subst (λ bs. AreHistories bs c.push_reserved.new.self.items) (sym (cores_more was.done m))
+          (subst (λ hs. AreHistories (cores was.done ++ m.core ∷ []) hs) (sym c.push_reserved.ensures.items)
+          (histories_more (cores was.done) c.loop.histories.items m.core c.into_history.result was.histories c.into_history.ensures.events c.into_history.ensures.run over));
+      none = subst (λ bs. HaveNoTicket bs c.into_history.new.ledger.history) (sym (cores_more was.done m))
+          (subst (λ l. HaveNoTicket (cores was.done ++ m.core ∷ []) l.history) (sym c.into_history.ensures.same)
+          (none_more (cores was.done) m.core c.loop.ledger.history was.none c.into_history.ensures.none));
     }
 
 pub returns-clause-none : goal.returns-clause-none
@@ -61,8 +61,8 @@ returns-clause-none g c =
     let size = c.loop.invariant.size in
     let few : length c.loop.members.items ≡ 0 = omega (arith, past, size) in
     let all = all_done c.args.members.items c.loop.invariant.done c.loop.members.items c.loop.invariant.left (empty c.loop.members.items few) in
-    subst (λ ms. HaveNoTicket (books ms) c.args.ledger.now.history) (sym all) (subst (λ l. HaveNoTicket (books c.loop.invariant.done) l.history) c.loop.invariant.same c.loop.invariant.none)
+    subst (λ ms. HaveNoTicket (cores ms) c.args.ledger.now.history) (sym all) (subst (λ l. HaveNoTicket (cores c.loop.invariant.done) l.history) c.loop.invariant.same c.loop.invariant.none)
   where
-    empty : (ms : List Seat) → length ms ≡ 0 → ms ≡ []
+    empty : (ms : List MemberView) → length ms ≡ 0 → ms ≡ []
     empty [] few = refl
     empty (m ∷ ms) few = cc

@@ -1,18 +1,18 @@
 use Rattle.std.proofs.Common.{◌≡◌, ◌≤◌, ◌+◌, List, ◌++◌, length, reverse}
 use Rattle.std.specs.Prelude.{vec_capacity}
 use Rattle.es_cluster.specs.Ends.{AreHistories, HaveNoTicket}
-use Rattle.es_cluster.specs.State.{books}
-use Rattle.es_member.specs.Seats.{Seat}
+use Rattle.es_cluster.specs.State.{cores}
+use Rattle.es_member.specs.Members.{MemberView}
 use Rattle.es_cluster.proofs.ending.into_histories.Given as goal
 
 abbrev pub invariant-loop : goal.invariant-loop
 invariant-loop g l = record {
-  done : List Seat;
+  done : List MemberView;
   left : l.fn.members.items ≡ done ++ reverse l.members.items;
   size : length l.members.items + l.counter ≡ l.end;
   taken : length l.histories.items ≡ l.counter;
   room : l.end ≤ vec_capacity l.histories;
   same : l.ledger ≡ l.fn.ledger;
-  histories : AreHistories (books done) l.histories.items;
-  none : HaveNoTicket (books done) l.ledger.history;
+  histories : AreHistories (cores done) l.histories.items;
+  none : HaveNoTicket (cores done) l.ledger.history;
 }

@@ -3,8 +3,8 @@ use Rattle.std.specs.Prelude.{slice_get}
 use Rattle.std.proofs.lemmas.Iterator.Adapters.{YieldsList-from_vec}
 use Rattle.std.proofs.lemmas.Iterator.Consumers.{YieldsList-turn}
 use Rattle.es_agent.specs.Tickets.{tickets}
-use Rattle.es_member.specs.Seats.{Seat}
-use Rattle.es_cluster.specs.State.{books}
+use Rattle.es_member.specs.Members.{MemberView}
+use Rattle.es_cluster.specs.State.{cores}
 use Rattle.es_cluster.proofs.Beginning.{got, one_seated, next_last}
 use Rattle.es_cluster.proofs.seating.seat_all.Goals as goal
 
@@ -38,7 +38,7 @@ loop-plan-preserved g c =
     let short = ap length c.in-Some-pop.ensures.items ∙ length-append c.pop.new.self.items (c.in-Some-pop.stake ∷ []) in
     let more = ap length c.push_reserved.ensures.items ∙ length-append c.loop-plan.members.items (c.new-in-Ok-new.result ∷ []) in
     record {
-      seated = ap (λ (ms : List Seat). books ms) c.push_reserved.ensures.items
+      seated = ap (λ (ms : List MemberView). cores ms) c.push_reserved.ensures.items
           ∙ one_seated c.loop-plan.members.items c.new-in-Ok-new.result c.len-count.result c.loop-plan.yielded c.in-Some.plan was.seated was.size
           (c.new-in-Ok-new.ensures.0 ∙ c.in-Ok-new.ensures ∙ ap (λ n. record { plan = c.in-Some.plan; number = n; agents = c.len-count.result; over = []; history = [] }) (c.len.ensures ∙ c.loop-plan.members.ok.0));
       size = (let size = was.size in omega (arith, size, long, more));

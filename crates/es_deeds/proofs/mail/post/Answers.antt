@@ -1,6 +1,6 @@
 use Rattle.std.proofs.Common.{[], ◌∷◌, ◌++◌, ap, ◌∙◌, rules}
 use Rattle.std.specs.HashMap.{get}
-use Rattle.es_deeds.specs.Tables.{port_in, pair_eq}
+use Rattle.es_deeds.specs.LedgerPass.{port_in, pair_eq}
 use Rattle.es_deeds.proofs.Posted.{port_after, queued_in, on_ok}
 use Rattle.es_deeds.proofs.mail.post.Goals as goal
 

@@ -1,6 +1,6 @@
 use Rattle.std.proofs.Common.{[], ◌∷◌, ◌++◌, ap, ◌∙◌}
 use Rattle.std.specs.HashMap.{get}
-use Rattle.es_deeds.specs.Tables.{port_in, pair_eq, bodies}
+use Rattle.es_deeds.specs.LedgerPass.{port_in, pair_eq, bodies}
 use Rattle.es_deeds.proofs.Posted.{port_after, first_message, on_ok}
 use Rattle.es_deeds.proofs.mail.start.Goals as goal
 

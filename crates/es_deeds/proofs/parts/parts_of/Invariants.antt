@@ -1,12 +1,12 @@
 use Rattle.std.proofs.Common.{length, ◌≤◌, ◌-◌, reverse, take}
 use Rattle.es_deeds.specs.Split.{IsSplit}
-use Rattle.es_deeds.specs.Tables.{Says}
+use Rattle.es_deeds.specs.LedgerPass.{Says}
 use Rattle.es_deeds.proofs.parts.parts_of.Given as goal
 
 abbrev pub invariant-loop-place : goal.invariant-loop-place
 invariant-loop-place l = record {
   within : l.place ≤ length l.ledger;
-  says : Says (reverse (take l.place l.ledger)) l.tables;
+  says : Says (reverse (take l.place l.ledger)) l.pass;
   split : IsSplit l.agents (reverse (take l.place l.ledger)) l.parts.items;
 }
 

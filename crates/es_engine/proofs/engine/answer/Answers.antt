@@ -1,5 +1,4 @@
-use Rattle.std.proofs.Common.{◌≡◌, ℕ, Bool, true, false, not, cond, sym, ap, ◌∙◌, refl, ◌||◌}
-use Rattle.es_engine.specs.Engine.{audits_of}
+use Rattle.std.proofs.Common.{◌≡◌, ℕ, Bool, true, false, not, cond, ◌∙◌, refl, ◌||◌}
 use Rattle.es_engine.proofs.engine.answer.Goals as goal
 
 -- where nothing is only checked, there are as many as without turns

@@ -1,7 +1,7 @@
 use Rattle.std.proofs.Common.{◌≡◌, map, take}
-use Rattle.es_cluster.specs.State.{books}
+use Rattle.es_cluster.specs.State.{cores}
 use Rattle.es_count.specs.Tallies.{end_tally}
 use Rattle.es_outcome.proofs.counting.tallies_of.Given as goal
 
 abbrev pub invariant-loop-place : goal.invariant-loop-place
-invariant-loop-place g l = l.tallies.items ≡ map (λ b. end_tally b.history) (take l.place (books l.members))
+invariant-loop-place g l = l.tallies.items ≡ map (λ b. end_tally b.history) (take l.place (cores l.members))

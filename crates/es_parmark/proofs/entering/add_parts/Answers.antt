@@ -1,4 +1,4 @@
-use Rattle.std.proofs.Common.{◌≡◌, ◌<◌, ℕ, length, ◌∙◌, refl}
+use Rattle.std.proofs.Common.{◌<◌, length, ◌∙◌, refl}
 use Rattle.std.proofs.lemmas.List.{take_more}
 use Rattle.es_mark.proofs.Listed.{added_nothing, added_more}
 use Rattle.es_parmark.proofs.Gathering.{flat_map_push}

@@ -1,4 +1,4 @@
-use Rattle.std.proofs.Common.{◌≡◌, ◌<◌, ℕ, length, ◌∙◌, refl}
+use Rattle.std.proofs.Common.{◌<◌, ℕ, length, ◌∙◌, refl}
 use Rattle.std.proofs.lemmas.List.{take_more}
 use Rattle.es_parmark.proofs.Fronts.{pairs_none, pairs_more, item_has}
 use Rattle.es_parmark.proofs.entering.enter_pairs.Goals as goal

@@ -1,5 +1,5 @@
 use Rattle.std.proofs.Common.{◌≡◌, true, sym}
-use Rattle.es_parmark.proofs.Gathering.{gathered_nothing, sifted_one}
+use Rattle.es_parmark.proofs.Gathering.{gathered_nothing}
 use Rattle.es_parmark.proofs.expanding.gather_one.Goals as goal
 
 pub returns-else-not-has : goal.returns-else-not-has

@@ -1,5 +1,3 @@
-use Rattle.std.proofs.Common.{sym, subst}
-use Rattle.std.specs.Result.{IfOk}
 use Rattle.es_report.proofs.Written.{place_written}
 use Rattle.es_report.proofs.beside.write_texts.Goals as goal
 

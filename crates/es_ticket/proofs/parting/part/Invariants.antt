@@ -1,6 +1,6 @@
 use Rattle.std.proofs.Common.{◌≤◌, length, vec_capacity}
 use Rattle.es_event.specs.Identities.{is_in}
-use Rattle.es_ticket.specs.Shares.{among}
+use Rattle.es_ticket.specs.Stakes.{among}
 use Rattle.es_ticket.proofs.Parted.{Parting}
 use Rattle.es_ticket.proofs.parting.part.Given as goal
 

@@ -1,5 +1,5 @@
 use Rattle.std.proofs.Common.{◌≡◌, ◌∙◌, ◌∷◌, ◌++◌, sym, ap, subst}
-use Rattle.es_record.specs.Book.{Book}
+use Rattle.es_record.specs.AgentView.{AgentView}
 use Rattle.es_trace.specs.Keeping.{Keeps}
 use Rattle.es_tracing.specs.Known.{Grows}
 use Rattle.es_tracing.specs.Told.{IsAfterTold, event_told}
@@ -18,7 +18,7 @@ returns-clause-text g c =
     let plan = c.plan.ensures in
     let before = subst (λ p. Keeps names p b.history c.args.scribe.now) (sym (plan ∙ moves_plan b agent moves)) keeps in
     let event = c.in_ok-tell_event.ensures.text b.history before ∙ ap (λ p. c.args.text.now.items ++ event_told c.args.view.form names p b.history e) plan in
-    let followed = subst (λ p. Keeps names p (e ∷ b.history) c.tell_event.new.scribe) (plan ∙ sym (ap (λ (b : Book). b.plan) c.record.ensures)) (c.in_ok-tell_event.ensures.keeps b.history before) in
-    let after = subst (λ (x : Book). Grows c.tell_event.new.text.items c.tell_after.new.text.items (IsAfterTold c.args.view names x e)) c.record.ensures (told names (e ∷ b.history) followed) in
+    let followed = subst (λ p. Keeps names p (e ∷ b.history) c.tell_event.new.scribe) (plan ∙ sym (ap (λ (b : AgentView). b.plan) c.record.ensures)) (c.in_ok-tell_event.ensures.keeps b.history before) in
+    let after = subst (λ (x : AgentView). Grows c.tell_event.new.text.items c.tell_after.new.text.items (IsAfterTold c.args.view names x e)) c.record.ensures (told names (e ∷ b.history) followed) in
     told_newest c.args.view names b agent e c.args.text.now.items c.tell_event.new.text.items c.tell_after.new.text.items grew event after))
     c.tell_after.ensures

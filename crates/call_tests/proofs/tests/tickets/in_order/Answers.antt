@@ -1,6 +1,6 @@
 use Rattle.std.proofs.Common.{◌≡◌, ℕ, List, [], ◌∷◌, ◌++◌, length, length-append, get_or, Some, unwrap_or, is_some, refl, sym, ap, ◌∙◌, arith}
 use Rattle.es_event.specs.declared.row.Row.{Row}
-use Rattle.es_ticket.specs.Shares.{at, placed, removed}
+use Rattle.es_ticket.specs.Stakes.{at, placed, removed}
 use Rattle.es_ticket.proofs.Rising.{contains_same}
 use Rattle.call_tests.proofs.tests.tickets.in_order.Goals as goal
 

@@ -1,6 +1,6 @@
 use Rattle.std.proofs.Common.{◌∙◌, ap, sym, subst}
-use Rattle.es_ticket.specs.Shares.{among}
-use Rattle.es_record.specs.Book.{emptied_last}
+use Rattle.es_ticket.specs.Stakes.{among}
+use Rattle.es_record.specs.AgentView.{emptied_last}
 use Rattle.es_record.specs.Graph.{AreLateMarks}
 use Rattle.es_agent.specs.Tickets.{AreLateNow}
 use Rattle.es_agent.proofs.Racks.{late_next_of, has_collected}

@@ -1,7 +1,7 @@
 use Rattle.std.proofs.Common.{◌≡◌, true, false, sym, ◌∙◌, ap, subst}
 use Rattle.es_cluster.specs.Asked.{BeginsMove}
 use Rattle.es_cluster.specs.Moves.{all_over, with_drained}
-use Rattle.es_cluster.specs.State.{books, plans}
+use Rattle.es_cluster.specs.State.{cores, plans}
 use Rattle.es_cluster.proofs.Draining.{as_drained, drained_stands}
 use Rattle.es_cluster.proofs.Finishing.{move_on, moved_less, runs_out}
 use Rattle.es_cluster.proofs.Watching.{kept_then}
@@ -32,7 +32,7 @@ invariant_of-self g c =
     let begins = subst (λ o. BeginsMove o c.loop-agent.self c.begin_move.new.self) c.in_default.is c.in_ok-agent.ensures.begins in
     let whole = subst (λ s. s.failed ≡ false) (sym c.self-2.view_is) begins.0.whole in
     let ends = subst (λ s. all_over s ≡ true) (sym c.self-2.view_is) begins.1 in
-    let stands = drained_stands (books c.self-2.inside.members.items) c.self-2.inside.ledger c.drain.new.self c.self-2.invariant.0 (c.self-2.invariant.1 whole) c.history.ensures.legal ends c.drain.ensures.history.0 c.drain.ensures.history.1 in
+    let stands = drained_stands (cores c.self-2.inside.members.items) c.self-2.inside.ledger c.drain.new.self c.self-2.invariant.0 (c.self-2.invariant.1 whole) c.history.ensures.legal ends c.drain.ensures.history.0 c.drain.ensures.history.1 in
     (stands.0, λ whole. stands.1, c.self-2.invariant.2, c.self-2.invariant.3, c.self-2.invariant.4)
 
 pub returns-clause-over : goal.returns-clause-over
@@ -40,7 +40,7 @@ returns-clause-over g c =
     let begins = subst (λ o. BeginsMove o c.loop-agent.self c.begin_move.new.self) c.in_default.is c.in_ok-agent.ensures.begins in
     let whole = subst (λ s. s.failed ≡ false) (sym c.self-2.view_is) begins.0.whole in
     let ends = subst (λ s. all_over s ≡ true) (sym c.self-2.view_is) begins.1 in
-    let stands = drained_stands (books c.self-2.inside.members.items) c.self-2.inside.ledger c.drain.new.self c.self-2.invariant.0 (c.self-2.invariant.1 whole) c.history.ensures.legal ends c.drain.ensures.history.0 c.drain.ensures.history.1 in
+    let stands = drained_stands (cores c.self-2.inside.members.items) c.self-2.inside.ledger c.drain.new.self c.self-2.invariant.0 (c.self-2.invariant.1 whole) c.history.ensures.legal ends c.drain.ensures.history.0 c.drain.ensures.history.1 in
     (stands.2, whole)
 
 pub returns-clause-plans : goal.returns-clause-plans
@@ -51,7 +51,7 @@ returns-clause-runs g c =
     let begins = subst (λ o. BeginsMove o c.loop-agent.self c.begin_move.new.self) c.in_default.is c.in_ok-agent.ensures.begins in (
       c.begin_move.new.self,
       runs_out c.args.self.now c.loop-agent.self c.begin_move.new.self c.loop-agent.invariant.runs begins,
-      as_drained (record { agents = books c.self-2.inside.members.items; ledger = c.self-2.inside.ledger; failed = c.self-2.inside.failed }) c.drain.new.self c.drain.ensures.history.0 c.drain.ensures.history.1 ∙ ap with_drained c.self-2.view_is,
+      as_drained (record { agents = cores c.self-2.inside.members.items; ledger = c.self-2.inside.ledger; failed = c.self-2.inside.failed }) c.drain.new.self c.drain.ensures.history.0 c.drain.ensures.history.1 ∙ ap with_drained c.self-2.view_is,
     )
 
 pub returns-clause-watched : goal.returns-clause-watched
@@ -63,5 +63,5 @@ returns-clause-watched g c =
       runs = runs_out c.args.self.now c.loop-agent.self c.begin_move.new.self c.loop-agent.invariant.runs begins;
       told = kept.told;
       known = kept.known;
-      drained = as_drained (record { agents = books c.self-2.inside.members.items; ledger = c.self-2.inside.ledger; failed = c.self-2.inside.failed }) c.drain.new.self c.drain.ensures.history.0 c.drain.ensures.history.1 ∙ ap with_drained c.self-2.view_is;
+      drained = as_drained (record { agents = cores c.self-2.inside.members.items; ledger = c.self-2.inside.ledger; failed = c.self-2.inside.failed }) c.drain.new.self c.drain.ensures.history.0 c.drain.ensures.history.1 ∙ ap with_drained c.self-2.view_is;
     }

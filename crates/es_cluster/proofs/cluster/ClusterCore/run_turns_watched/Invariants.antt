@@ -1,6 +1,6 @@
 use Rattle.std.proofs.Common.{◌≡◌, false}
 use Rattle.es_cluster.specs.Moves.{RunsOut}
-use Rattle.es_cluster.specs.State.{Cluster, plans}
+use Rattle.es_cluster.specs.State.{ClusterView, plans}
 use Rattle.es_cluster.proofs.Finishing.{total_left}
 use Rattle.es_cluster.specs.Watching.{IsKept}
 use Rattle.es_cluster.proofs.cluster.ClusterCore.run_turns_watched.Given as goal
@@ -10,7 +10,7 @@ invariant-loop-agent g l = record {
   whole : l.self.failed ≡ false;
   plans : plans l.self.agents ≡ plans l.fn.self.agents;
   watched : IsKept g.W.Watcher.knows g.W.Watcher.tells l.fn.self l.self l.fn.watcher l.watcher;
-  runs : (end : Cluster) → RunsOut l.self end → RunsOut l.fn.self end;
+  runs : (end : ClusterView) → RunsOut l.self end → RunsOut l.fn.self end;
 }
 
 abbrev pub decreases-loop-agent : goal.decreases-loop-agent

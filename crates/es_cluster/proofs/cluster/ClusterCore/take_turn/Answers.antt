@@ -1,5 +1,5 @@
 use Rattle.std.proofs.Common.{sym, ◌∙◌, ap, Some}
-use Rattle.es_member.specs.Seats.{Seat}
+use Rattle.es_member.specs.Members.{MemberView}
 use Rattle.es_cluster.proofs.Standing.{found_at}
 use Rattle.es_cluster.proofs.Turning.{stepped}
 use Rattle.es_cluster.proofs.cluster.ClusterCore.take_turn.Goals as goal
@@ -7,7 +7,7 @@ use Rattle.es_cluster.proofs.cluster.ClusterCore.take_turn.Goals as goal
 pub returns-clause-works : goal.returns-clause-works
 returns-clause-works g c =
     let within = rw (← c.self.view_is) at c.requires.known in
-    let here = found_at c.self.inside.members.items c.args.agent _ within ∙ ap (λ (m : Seat). Some m.book) (sym c.index.ensures) ∙ ap Some (sym c.core.ensures) in
+    let here = found_at c.self.inside.members.items c.args.agent _ within ∙ ap (λ (m : MemberView). Some m.core) (sym c.index.ensures) ∙ ap Some (sym c.core.ensures) in
     let whole = rw (← c.self.view_is) at c.requires.whole in
     let quiet = rw (← c.self.view_is) at c.requires.quiet in
     let turned = rw (← c.self.view_is) at c.step.ensures.turned in
@@ -16,7 +16,7 @@ returns-clause-works g c =
 pub returns-clause-hears : goal.returns-clause-hears
 returns-clause-hears g c =
     let within = rw (← c.self.view_is) at c.requires.known in
-    let here = found_at c.self.inside.members.items c.args.agent _ within ∙ ap (λ (m : Seat). Some m.book) (sym c.index.ensures) ∙ ap Some (sym c.core.ensures) in
+    let here = found_at c.self.inside.members.items c.args.agent _ within ∙ ap (λ (m : MemberView). Some m.core) (sym c.index.ensures) ∙ ap Some (sym c.core.ensures) in
     let whole = rw (← c.self.view_is) at c.requires.whole in
     let quiet = rw (← c.self.view_is) at c.requires.quiet in
     let turned = rw (← c.self.view_is) at c.step.ensures.turned in

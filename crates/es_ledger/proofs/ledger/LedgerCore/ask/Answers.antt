@@ -10,7 +10,7 @@ invariant_of-self-2 g c =
     let empty = rw (← c.self.view_is) at c.requires.empty in
     let told = rw (← c.self.view_is) at c.sender_of.ensures.told in
     let nobody = sym told ∙ none_if c.sender_of.result (sym c.is_some.ensures ∙ c.if-is_some.false) in
-    let room = reserved_room _ _ _ _ _ _ _ _ _ _ _ c.make_room.new.history.room c.append.new.self.room 2 c.self.invariant
+    let room = reserved_room _ _ _ _ _ c.make_room.new.history.room c.append.new.self.room 2 c.self.invariant
     refl (ap (λ xs. length xs) c.as_slice-agents.ensures.value) c.in_ok-make_room.ensures.room c.append.ensures.room in
     rw (c.append.ensures.events, c.in_ok-make_room.ensures.same)
-    (waiting_ties _ c.self.inside.history.events _ _ _ _ _ _ _ _ c.args.agent c.args.sender c.self.invariant known.0 known.1 c.requires.other empty nobody going room)
+    (waiting_ties _ c.self.inside.history.events _ _ c.args.agent c.args.sender c.self.invariant known.0 known.1 c.requires.other empty nobody going room)

@@ -1,6 +1,6 @@
 use Rattle.std.proofs.Common.{◌≡◌, ◌+◌, ◌*◌, ⊎_elim, [], ◌∷◌, false, length, length-append, Some, None, sym, ap, ◌∙◌, arith}
 use Rattle.std.specs.Prelude.{slice_get, slice_index_or}
-use Rattle.es_ticket.specs.Shares.{Share}
+use Rattle.es_ticket.specs.Stakes.{StakeView}
 use Rattle.es_ledger.proofs.Beginning.{got_new, still_false, still_none, new_ties}
 use Rattle.es_ledger.proofs.ledger.LedgerCore.new.Goals as goal
 
@@ -11,7 +11,7 @@ loop-preserved g c =
     let p = c.push_reserved.ensures in
     let e = c.push_reserved-in-loop.ensures in
     let w = c.push_reserved-in-loop-2.ensures in
-    let x : Share = c.deal.result in
+    let x : StakeView = c.deal.result in
     record {
       empty = d.table.0;
       dealt = d.table.1 ∙ ap (λ n. n + 1) v.dealt;
@@ -19,7 +19,7 @@ loop-preserved g c =
       stake_room = (let q = p.capacity in let r = v.stake_room in omega arith);
       each = λ i s is. ⊎_elim
           (λ (was : slice_get c.loop.stakes.items i ≡ Some s). v.each i s was)
-          (λ (new : (i ≡ length c.loop.stakes.items) × (x ≡ s)). (sym (ap (λ (y : Share). y.agent) new.1) ∙ d.stake.0 ∙ v.dealt ∙ sym v.stakes ∙ sym new.0, sym (ap (λ (y : Share). y.rows) new.1) ∙ d.stake.1))
+          (λ (new : (i ≡ length c.loop.stakes.items) × (x ≡ s)). (sym (ap (λ (y : StakeView). y.agent) new.1) ∙ d.stake.0 ∙ v.dealt ∙ sym v.stakes ∙ sym new.0, sym (ap (λ (y : StakeView). y.rows) new.1) ∙ d.stake.1))
           (got_new c.loop.stakes.items x s i (sym (ap (λ l. slice_get l i) p.items) ∙ is));
       ends = ap (λ l. length l) e.items ∙ length-append c.loop.ended.items (false ∷ []) ∙ ap (λ n. n + 1) v.ends;
       end_room = (let q = e.capacity in let r = v.end_room in omega arith);
@@ -36,4 +36,4 @@ invariant_of-ledger g c =
     let last = c.loop.auto.counter-end in
     let few = c.requires.few in
     let room = c.in_ok-reserve.ensures.room in
-    new_ties _ _ _ _ _ _ _ _ _ (omega (arith, dealt, last, few)) (c.in_ok-reserve.ensures.same ∙ c.new-history.ensures) v.empty c.new-2.ensures (v.ends ∙ sym v.dealt) v.quiet (v.waits ∙ sym v.dealt) v.nobody (c.in_ok-ports.ensures.size ∙ ap (λ m. m * 8) (let e : c.args.agents ≡ _ = omega (arith, dealt, last) in e)) c.in_ok-ports.ensures.empty c.in_ok-ports.ensures.none (omega (arith, dealt, last, room))
+    new_ties _ _ _ (omega (arith, dealt, last, few)) (c.in_ok-reserve.ensures.same ∙ c.new-history.ensures) v.empty c.new-2.ensures (v.ends ∙ sym v.dealt) v.quiet (v.waits ∙ sym v.dealt) v.nobody (c.in_ok-ports.ensures.size ∙ ap (λ m. m * 8) (let e : c.args.agents ≡ _ = omega (arith, dealt, last) in e)) c.in_ok-ports.ensures.empty c.in_ok-ports.ensures.none (omega (arith, dealt, last, room))

@@ -7,7 +7,7 @@ use Rattle.es_ledger.specs.declared.turn.Turn.{Turn}
 use Rattle.es_ledger.specs.declared.turn.Turn.TheVariants.{Stay, Skip}
 use Rattle.es_member.specs.Midway.{IsHeld}
 use Rattle.es_member.specs.Tied.{GrowsBy}
-use Rattle.es_member.specs.Turned.{Heard, StaysTied}
+use Rattle.es_member.specs.Turned.{WaitsRightly, StaysTied}
 use Rattle.es_member.proofs.Growing.{grows_none}
 use Rattle.es_member.proofs.Hearing.{goes_on, where_ready, where_stay, where_skip, stay_ties, stay_keeps, skipped_ties, skipped_keeps, unskipped_keeps}
 use Rattle.es_member.proofs.Moving.{kept, keeps_on}
@@ -38,7 +38,7 @@ pub returns-in-Ready-clause-told : goal.returns-in-Ready-clause-told
 returns-in-Ready-clause-told g c =
     let same = where_ready c.args.ledger.now.history c.await_message.new.self.history c.args.ledger.now.agents c.number.result c.args.sender (subst (λ (t : Turn). ◌≡◌ {A = Turn × Ledger} (t, c.await_message.new.self.history) (told c.args.ledger.now.history c.args.ledger.now.agents c.number.result c.args.sender)) c.in-Ready.is c.in_ok-await_message.ensures.told) in
     let ledger : c.await_message.new.self ≡ c.args.ledger.now = λ i. record { agents = c.await_message.ensures.agents i; history = same.0 i } in
-    subst (λ l. IfOk c.receive.result (λ p. Heard p c.args.core.now l c.receive.new.ledger)) ledger c.receive.ensures.told
+    subst (λ l. IfOk c.receive.result (λ p. WaitsRightly p c.args.core.now l c.receive.new.ledger)) ledger c.receive.ensures.told
 
 pub returns-in-Ready-clause-tied : goal.returns-in-Ready-clause-tied
 returns-in-Ready-clause-tied g c =

@@ -2,7 +2,7 @@ use Rattle.std.proofs.Common.{arith, ◌∙◌, ap, sym, [], None}
 use Rattle.std.specs.Prelude.{is_some}
 use Rattle.es_event.specs.declared.event.Event.{Event}
 use Rattle.es_event.specs.declared.event.Event.TheVariants.{Did}
-use Rattle.es_record.specs.Book.{Book}
+use Rattle.es_record.specs.AgentView.{AgentView}
 use Rattle.es_tables.specs.Registries.{again_at}
 use Rattle.es_record.proofs.Plain.{opens_none, posts_none, opens_no_later}
 use Rattle.es_record.proofs.Steps.{ties_after, ties_same, can_record, newest_made}
@@ -10,8 +10,8 @@ use Rattle.es_record.proofs.agent_record.AgentRecord.record_plain.Goals as goal
 
 pub advance_done-requires : goal.advance_done-requires
 advance_done-requires c =
-    let book : Book = record { plan = c.self.inside.plan; number = c.self.inside.number; agents = c.self.inside.agents; over = c.self.inside.buffers.rows; history = c.self.inside.events.events } in
-    can_record book _ _ _ c.self.invariant.0 (rw (← c.self.view_is) at c.requires.next)
+    let view : AgentView = record { plan = c.self.inside.plan; number = c.self.inside.number; agents = c.self.inside.agents; over = c.self.inside.buffers.rows; history = c.self.inside.events.events } in
+    can_record view _ _ _ c.self.invariant.0 (rw (← c.self.view_is) at c.requires.next)
 
 -- where there was no memory
 pub invariant_of-self : goal.invariant_of-self
@@ -22,18 +22,18 @@ invariant_of-self c =
 
 pub invariant_of-self-2 : goal.invariant_of-self-2
 invariant_of-self-2 c =
-    let book : Book = record { plan = c.self.inside.plan; number = c.self.inside.number; agents = c.self.inside.agents; over = c.self.inside.buffers.rows; history = c.self.inside.events.events } in
+    let view : AgentView = record { plan = c.self.inside.plan; number = c.self.inside.number; agents = c.self.inside.agents; over = c.self.inside.buffers.rows; history = c.self.inside.events.events } in
     let did = c.args.done in
     let event : Event = Did did in
     let plain = c.requires.plain in
     let next = rw (← c.self.view_is) at c.requires.next in
     let steps = c.in_default.ensures.ok in
     rw (c.append.ensures.events, c.advance_done.ensures.events) (
-      ties_after book _ _ _ _ event c.self.invariant.0 tt next [] tt (steps [] (again_at c.self.inside.events.events))
+      ties_after view _ _ _ _ event c.self.invariant.0 tt next [] tt (steps [] (again_at c.self.inside.events.events))
           (c.pass_command.ensures _ c.self.invariant.0.stands did.0 did.1 did.2),
       c.self.invariant.1,
       (λ open'. omega (arith, c.in_default.ensures.room, c.append.ensures.room)),
-      newest_made None book event c.self.invariant.3 (λ r is. cc),
+      newest_made None view event c.self.invariant.3 (λ r is. cc),
       (let none = opens_none did.0 did.1 did.2 plain in let n = c.self.invariant.4 in omega (arith, none, n)),
       (let none = posts_none did.0 did.1 did.2 plain in let n = c.self.invariant.5 in omega (arith, none, n)),
       c.self.invariant.6,

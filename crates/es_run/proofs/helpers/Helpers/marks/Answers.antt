@@ -8,7 +8,7 @@ use Rattle.es_run.proofs.helpers.Helpers.marks.Goals as goal
 
 pub returns-in-Finish : goal.returns-in-Finish
 returns-in-Finish g c =
-    let book = c.args.member.now.book in
+    let view = c.args.member.now.core in
     IfOk-weaker c.finished.result _ _
-    (λ marks late. subst (λ n. AreAskedFor n book marks) (sym (ap shown c.in-Finish.is) ∙ c.next.ensures ∙ ap need c.core.ensures) (subst (λ b. AreLateMarks b marks) c.core-in-Finish.ensures late))
+    (λ marks late. subst (λ n. AreAskedFor n view marks) (sym (ap shown c.in-Finish.is) ∙ c.next.ensures ∙ ap need c.core.ensures) (subst (λ b. AreLateMarks b marks) c.core-in-Finish.ensures late))
     c.finished.ensures

@@ -1,6 +1,6 @@
 use Rattle.std.proofs.Common.{not, ap, ◌∙◌, arith}
 use Rattle.es_event.specs.Identities.{is_in}
-use Rattle.es_ticket.specs.Shares.{is_rising_from}
+use Rattle.es_ticket.specs.Stakes.{is_rising_from}
 use Rattle.es_ticket.proofs.Parted.{none_picked, rises_picked}
 use Rattle.es_ticket.proofs.rack.Rack.extract.Goals as goal
 

@@ -1,6 +1,6 @@
 use Rattle.std.proofs.Common.{◌≡◌, sym, ap, ◌∙◌, List, ℕ, Bool, true, false, cond, is_ok}
 use Rattle.es_event.specs.declared.row.Row.{Row}
-use Rattle.es_ticket.specs.Shares.{at, is_rising_from}
+use Rattle.es_ticket.specs.Stakes.{at, is_rising_from}
 use Rattle.es_event.specs.Rows.{row}
 use Rattle.es_ticket.proofs.Racked.{rises_placed}
 use Rattle.es_ticket.proofs.rack.Rack.put.Goals as goal

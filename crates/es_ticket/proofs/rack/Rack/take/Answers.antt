@@ -1,5 +1,5 @@
 use Rattle.std.proofs.Common.{sym, ap, ◌∙◌}
-use Rattle.es_ticket.specs.Shares.{is_rising_from}
+use Rattle.es_ticket.specs.Stakes.{is_rising_from}
 use Rattle.es_ticket.proofs.Racked.{rises_removed}
 use Rattle.es_ticket.proofs.rack.Rack.take.Goals as goal
 

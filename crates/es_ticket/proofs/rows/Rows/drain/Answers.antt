@@ -1,6 +1,6 @@
 use Rattle.std.proofs.Common.{[], List, refl, sym, ap, ◌∙◌}
 use Rattle.es_event.specs.Rows.{held, is_agent, is_port, rows_by}
-use Rattle.es_ticket.specs.Shares.{erase}
+use Rattle.es_ticket.specs.Stakes.{erase}
 use Rattle.es_ticket.specs.Views.{ledger_view}
 use Rattle.es_event.specs.declared.row.Entry.{Entry}
 use Rattle.es_event.specs.declared.row.Row.{Row}

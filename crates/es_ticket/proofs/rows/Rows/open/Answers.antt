@@ -1,6 +1,6 @@
 use Rattle.std.proofs.Common.{◌+◌, ◌++◌, ◌∷◌, [], length, sym, ap, ◌∙◌, arith}
 use Rattle.es_event.specs.Rows.{held, is_agent}
-use Rattle.es_ticket.specs.Shares.{has_serial}
+use Rattle.es_ticket.specs.Stakes.{has_serial}
 use Rattle.es_event.specs.Rows.{row}
 use Rattle.es_ticket.specs.Views.{ledger_view}
 use Rattle.es_event.specs.declared.row.Row.{Row}

@@ -1,7 +1,7 @@
 use Rattle.std.proofs.Common.{rules, ◌≡◌, ◌+◌, ◌∷◌, ◌++◌, [], List, cond, refl, sym, ap, ◌∙◌, subst}
 use Rattle.std.specs.List.{count_by}
 use Rattle.es_event.specs.Rows.{held, is_agent}
-use Rattle.es_ticket.specs.Shares.{erase}
+use Rattle.es_ticket.specs.Stakes.{erase}
 use Rattle.es_ticket.specs.Views.{ledger_view}
 use Rattle.es_event.specs.declared.row.Entry.{Entry}
 use Rattle.es_event.specs.declared.row.Row.{Row}

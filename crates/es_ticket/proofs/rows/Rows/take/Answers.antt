@@ -1,7 +1,7 @@
 use Rattle.std.proofs.Common.{rules, ◌≡◌, ◌+◌, ◌++◌, ◌∷◌, [], List, cond, refl, sym, ap, ◌∙◌}
 use Rattle.std.specs.List.{count_by}
 use Rattle.es_event.specs.Rows.{held, is_agent, is_port, rows_by}
-use Rattle.es_ticket.specs.Shares.{erase, has_serial}
+use Rattle.es_ticket.specs.Stakes.{erase, has_serial}
 use Rattle.es_ticket.specs.Views.{ledger_view}
 use Rattle.es_event.specs.declared.row.Entry.{Entry}
 use Rattle.es_event.specs.declared.row.Row.{Row}

@@ -1,5 +1,5 @@
 use Rattle.call_tests.proofs.tests.tickets.extracting.extracted.Given as goal
 
--- the word that was just opened
+-- the proof word that was just opened
 abbrev pub ghosts-parted : goal.ghosts-parted
 ghosts-parted a = record { table = a.opened }

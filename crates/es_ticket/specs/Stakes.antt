@@ -6,12 +6,12 @@ use Rattle.es_event.specs.declared.row.Row.{Row}
 use Rattle.es_event.specs.declared.row.Entry.{Entry}
 
 -- the ledger's table, a line for each serial that was made, and how many agents it has
-pub record Desk : Type 0 where
+pub record RowsView : Type 0 where
   pub rows : List Entry
   pub agents : ℕ
 
 -- an agent, and the rows that it holds, by rising serial
-pub record Share : Type 0 where
+pub record StakeView : Type 0 where
   pub agent : ℕ
   pub rows : List Row
 
@@ -28,7 +28,7 @@ has_serial s (r ∷ rs) = (r.serial == s) || has_serial s rs
 -- Racks
 
 -- the rows of tickets by buffer object, by rising identity, and for how many more there is room
-pub record Racked : Type 0 where
+pub record RackView : Type 0 where
   pub tickets : List (ℕ × Row)
   pub room : ℕ
 

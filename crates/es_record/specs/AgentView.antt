@@ -14,7 +14,7 @@ use Rattle.es_event.specs.Legal.{Lawful}
 use Rattle.es_event.specs.Order.{due}
 use Rattle.es_event.specs.Follows.{Permits}
 
-pub record Book : Type 0 where
+pub record AgentView : Type 0 where
   pub plan : AgentPlan
   -- its place among the agents, counted from 0
   pub number : ℕ
@@ -26,24 +26,24 @@ pub record Book : Type 0 where
   pub history : History
 
 -- none of these values is emptied
-abbrev pub AreThere : Book → List Value → Type 0
+abbrev pub AreThere : AgentView → List Value → Type 0
 AreThere b vs = AllByRecursion (λ v. has_identity_in (gone b.history) v ≡ false) vs
 
 -- the event is one that the rules and the plan give next
-pub record IsNext (b : Book) (e : Event) : Type 0 where
+pub record IsNext (b : AgentView) (e : Event) : Type 0 where
   pub lawful : Lawful b.over (receivers b.plan.jobs) b.history e
   pub permitted : Permits b.over (receivers b.plan.jobs) b.history (due b.plan b.history) e
 
 -- the event was appended, and nothing else changed
-abbrev pub Records : Book → Event → Book → Type 0
+abbrev pub Records : AgentView → Event → AgentView → Type 0
 Records old e new = new ≡ record old { history = e ∷ old.history }
 
 -- the agent with one buffer object more, of the next identity, over the block that the row names
-abbrev pub with_buffer : Row → Book → Book
+abbrev pub with_buffer : Row → AgentView → AgentView
 with_buffer r b = record b { over = (made b.history + 1, r) ∷ b.over }
 
 -- the same, where one comes
-abbrev pub with_row : Option Row → Book → Book
+abbrev pub with_row : Option Row → AgentView → AgentView
 with_row row b = record b { over = option_map_or (λ r. (made b.history + 1, r) ∷ b.over) row b.over }
 
 -- what the newest event emptied

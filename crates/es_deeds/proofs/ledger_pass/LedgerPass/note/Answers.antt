@@ -1,5 +1,5 @@
 use Rattle.es_deeds.proofs.Noted.{noted}
-use Rattle.es_deeds.proofs.tables.Tables.note.Goals as goal
+use Rattle.es_deeds.proofs.ledger_pass.LedgerPass.note.Goals as goal
 
 pub returns : goal.returns
 returns c = λ l says. noted l _ _ _ _ _ says (c.taken-taken.ensures l says) (c.posted-posted.ensures l says)

@@ -1,4 +1,4 @@
--- Internal: the tables that a pass over a ledger's history keeps, and that they say what the history says.
+-- Internal: the pass that a pass over a ledger's history keeps, and that they say what the history says.
 use Rattle.std.specs.Prelude.{ℕ, ◌≡◌, Bool, false, ◌&&◌, ◌==◌, nat_eq, List, [], map, Option, Some, None, unwrap_or, if◌then◌else◌}
 use Rattle.std.specs.Option.{option_and_then, option_map, option_map_or, option_or}
 use Rattle.std.specs.declared.alloc.Global.{Global}
@@ -16,9 +16,9 @@ use Rattle.es_event.specs.declared.row.Holder.{Holder}
 use Rattle.es_event.specs.declared.row.Holder.TheVariants.{Agent, Port, Nobody}
 use Rattle.es_event.specs.Rows.{row, held_by, line_of}
 use Rattle.es_event.specs.Ledger.{Ledger, size, port_of, front, serial_in, table, holder_of, waits}
-use Rattle.es_deeds.specs.declared.tables.Tables.{Tables}
+use Rattle.es_deeds.specs.declared.ledger_pass.LedgerPass.{LedgerPass}
 use Rattle.es_deeds.specs.Deeds.{words_in}
-use Rattle.es_deeds.specs.Patience.{drained}
+use Rattle.es_deeds.specs.Patience.{has_drained}
 
 abbrev pub Map : Type 0 → Type 0 → Type 0
 Map K V = HashMap K V (BuildHasherDefault FoldHasher)
@@ -52,15 +52,15 @@ body_of b = option_map (λ x. x.now) b
 pub record HoldsStill (l : Ledger) (p : ℕ × ℕ) : Type 0 where
   pub holder : option_map (λ q. q.0) (holder_of l p.0) ≡ Some p.1
   pub waits : waits l p.1 ≡ None
-  pub drains : drained l ≡ false
+  pub drains : has_drained l ≡ false
 
--- the tables say what the history says
-pub record Says (l : Ledger) (t : Tables) : Type 0 where
+-- the pass say what the history says
+pub record Says (l : Ledger) (t : LedgerPass) : Type 0 where
   pub lines : (s : ℕ) → line_in t.lines s ≡ line_of s (table l)
   pub sizes : (b : ℕ) → size_in t.sizes b ≡ size l b
   pub mail : (s r : ℕ) → port_in t.mail s r ≡ port_of l s r
   pub waiting : (a : ℕ) → waits_in t.waiting a ≡ waits l a
-  pub drains : t.drained ≡ drained l
+  pub drains : t.drained ≡ has_drained l
 
 -- One serial's line
 

@@ -2,7 +2,7 @@
 
 ghost use Rattle.std.specs.Prelude.{◌≡◌, ℕ, [], ◌∷◌, OnOk, ◌||◌};
 ghost use Rattle.es_event.specs.Ledger.{Ledger, awaited, newest_size, opens};
-ghost use Rattle.es_deeds.specs.Tables.{Says, body_of, size_in, taken_by, waits_in, words_by};
+ghost use Rattle.es_deeds.specs.LedgerPass.{Says, body_of, size_in, taken_by, waits_in, words_by};
 ghost use Rattle.es_deeds.specs.Deeds.{words_in};
 ghost use Rattle.es_event.specs.Totals.{is_drained};
 
@@ -15,7 +15,7 @@ use std::collections::HashMap;
 
 /// What a pass over a ledger's history keeps.
 #[derive(Drop)]
-pub(crate) struct Tables<'a> {
+pub(crate) struct LedgerPass<'a> {
     /// For each serial its line.
     pub lines: Lines,
     /// For each block how many words it has.
@@ -28,12 +28,12 @@ pub(crate) struct Tables<'a> {
     pub drained: bool,
 }
 
-impl<'a> Tables<'a> {
+impl<'a> LedgerPass<'a> {
     /// Those of the empty history; they take no memory.
-    pub fn new(alloc: Global) -> Tables<'a>
+    pub fn new(alloc: Global) -> LedgerPass<'a>
         ensures { Says [] result }
     {
-        Tables {
+        LedgerPass {
             lines: HashMap::new(alloc),
             sizes: HashMap::new(alloc),
             mail: HashMap::new(alloc),
