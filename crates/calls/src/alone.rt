@@ -104,7 +104,11 @@ fn end_one<L: LedgerName>(ledger: &mut LedgerCore<L>, agent: usize)
 }
 
 /// Spends all tickets of a rack, the newest buffer object's first. It takes no memory.
-pub(crate) fn spend_all<L: LedgerName>(ledger: &mut LedgerCore<L>, stake: &mut Stake<L>, mut rack: Rack<L>)
+pub(crate) fn spend_all<L: LedgerName>(
+    ledger: &mut LedgerCore<L>,
+    stake: &mut Stake<L>,
+    mut rack: Rack<L>,
+)
     requires { Owns stake.old.rows rack.tickets }
     ensures agents { ledger.new.agents ≡ ledger.old.agents }
     ensures agent { stake.new.agent ≡ stake.old.agent }

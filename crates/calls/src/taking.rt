@@ -82,7 +82,11 @@ fn admit<L: LedgerName>(
 }
 
 /// A value, of which the agent gets a copy.
-fn receive<L: LedgerName>(core: &mut AgentCore<L>, stake: &Stake<L>, value: Value) -> Result<(), Given<L>>
+fn receive<L: LedgerName>(
+    core: &mut AgentCore<L>,
+    stake: &Stake<L>,
+    value: Value,
+) -> Result<(), Given<L>>
     requires comes { Comes value core.old }
     requires held { Holds core.old stake.now }
     ensures ok { OnOk result (Holds core.new stake.now) }
@@ -98,7 +102,11 @@ fn receive<L: LedgerName>(core: &mut AgentCore<L>, stake: &Stake<L>, value: Valu
 }
 
 /// A word.
-fn answer_word<L: LedgerName>(core: &mut AgentCore<L>, stake: &Stake<L>, word: u32) -> Result<(), Given<L>>
+fn answer_word<L: LedgerName>(
+    core: &mut AgentCore<L>,
+    stake: &Stake<L>,
+    word: u32,
+) -> Result<(), Given<L>>
     requires takes { TakesWord (need core.old) }
     requires held { Holds core.old stake.now }
     ensures ok { OnOk result (Holds core.new stake.now) }

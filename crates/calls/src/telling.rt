@@ -20,7 +20,10 @@ fn blocks_made(history: &[LedgerEvent]) -> u64 {
 }
 
 /// How many tickets there are of each block, each number after a space.
-fn write_counts<L: LedgerName, W: Write>(ledger: &LedgerCore<L>, writer: &mut W) -> Result<(), Fault> {
+fn write_counts<L: LedgerName, W: Write>(
+    ledger: &LedgerCore<L>,
+    writer: &mut W,
+) -> Result<(), Fault> {
     for block in 0..blocks_made(ledger.history()) {
         write!(writer, " {}", ledger.count(block + 1))?;
     }

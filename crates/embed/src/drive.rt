@@ -155,7 +155,10 @@ fn keep(outbox: &mut Vec<Value>, value: &Value) -> Result<(), NoMemory> {
 }
 
 /// Hands a ticket to the agent that asked for it. One that comes back is owed to the ledger.
-pub fn admit<L: LedgerName>(agent: &mut AgentCore<L>, ticket: Ticket<L>) -> Option<(Ticket<L>, AdmitFault)>
+pub fn admit<L: LedgerName>(
+    agent: &mut AgentCore<L>,
+    ticket: Ticket<L>,
+) -> Option<(Ticket<L>, AdmitFault)>
     requires { TakesTicket (need agent.old) ticket }
     ensures taken { IfNone result (Admits agent.old ticket agent.new) }
     ensures back { IfSome result (λ r. r.0 ≡ ticket) }

@@ -122,7 +122,11 @@ fn an_agent_ends_alone(rt: HostRuntime) -> Result<(), Fail> {
 }
 
 /// What a letter carries: 1 for a value, and for a block 10 and its ticket's serial, which is spent.
-fn content<L: LedgerName>(ledger: &mut LedgerCore<L>, stake: &mut Stake<L>, letter: Letter<L>) -> u64
+fn content<L: LedgerName>(
+    ledger: &mut LedgerCore<L>,
+    stake: &mut Stake<L>,
+    letter: Letter<L>,
+) -> u64
     requires { LiesIn stake.old.rows letter }
     ensures agents { ledger.new.agents ≡ ledger.old.agents }
     ensures agent { stake.new.agent ≡ stake.old.agent }
@@ -327,7 +331,10 @@ fn what_an_ended_agent_posted_is_taken(rt: HostRuntime) -> Result<(), Fail> {
 
 /// The first agent posts a block and a value, and spends its own ticket; then all is drained. How many
 /// tickets the block had before and has afterwards, and how many events there were.
-fn unread<L: LedgerName>(ledger: &mut LedgerCore<L>, first: &mut Stake<L>) -> Result<[u64; 2], NoMemory>
+fn unread<L: LedgerName>(
+    ledger: &mut LedgerCore<L>,
+    first: &mut Stake<L>,
+) -> Result<[u64; 2], NoMemory>
     requires two { ledger.old.agents ≡ 2 }
     requires first { first.old.agent ≡ 0 }
     ensures { ledger.new.agents ≡ ledger.old.agents }

@@ -68,7 +68,10 @@ fn reasons_after(alloc: Global, plan: AgentPlan, steps: usize) -> Result<Reasons
 }
 
 /// Takes so many steps, each if the agent takes it alone.
-pub(super) fn step_often<L: LedgerName>(core: &mut AgentCore<L>, steps: usize) -> Result<(), NoMemory>
+pub(super) fn step_often<L: LedgerName>(
+    core: &mut AgentCore<L>,
+    steps: usize,
+) -> Result<(), NoMemory>
     requires { core.old.over ≡ [] }
     ensures { core.new.over ≡ [] }
 {

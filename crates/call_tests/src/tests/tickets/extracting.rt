@@ -53,7 +53,11 @@ fn fill<L: LedgerName>(
 
 /// Spends all tickets of a rack: their serials, that of the newest buffer object first, and 0 after
 /// the last.
-fn spend_all<L: LedgerName>(rows: &mut Rows<L>, stake: &mut Stake<L>, rack: &mut Rack<L>) -> [u64; 4]
+fn spend_all<L: LedgerName>(
+    rows: &mut Rows<L>,
+    stake: &mut Stake<L>,
+    rack: &mut Rack<L>,
+) -> [u64; 4]
     requires owns { Owns stake.old.rows rack.old.tickets }
     requires few { length rack.old.tickets ≤ 4 }
     ensures empty { rack.new.tickets ≡ [] }
@@ -97,7 +101,11 @@ fn told_of<L: LedgerName>(
 }
 
 /// The same of a rack that was just filled.
-fn parted<L: LedgerName>(alloc: Global, opened: Opened, ids: &[Id]) -> Result<[[u64; 4]; 2], NoMemory>
+fn parted<L: LedgerName>(
+    alloc: Global,
+    opened: Opened,
+    ids: &[Id],
+) -> Result<[[u64; 4]; 2], NoMemory>
     requires opened { opened ≡ L.table }
 {
     let mut rows = opened.named::<L>(alloc);
