@@ -14,8 +14,8 @@ use es_ledger::LedgerCore;
 use es_member::Beforehand;
 use es_value::NoMemory;
 use std::alloc::Global;
-use std::sync::Wait;
 use std::sync::atomic::{AtomicBool, AtomicU32, Ordering};
+use std::sync::{RwLock, Wait};
 use std::thread;
 use std::thread::{Scope, Threads};
 
@@ -347,13 +347,19 @@ pub(crate) fn run_all<L: Planned + Send + Sync, G: Gate + Sync, R: Threads + Wai
 ) -> Option<u32> {
     let flag = AtomicBool::new(false);
     let count = AtomicU32::new(0);
-    let (stopped, made) = (&flag, &count);
+    // no agent begins before each has its thread: it would take its time from the making of the others
+    let start = RwLock::new(());
+    let (stopped, made, begins) = (&flag, &count, &start);
     thread::scope(thread::scope_env(), rt, |scope| {
+        let not_yet = begins.write(rt);
         for agent in 1..cluster.agents.len() {
             let served = move ||
                 requires place { agent < vec_len cluster.now.agents }
                 requires shared { IsSync L.row × IsSync R.row }
-            { cluster.serve(rt, agent, scope, helpers, stopped, gate) };
+            {
+                drop(begins.read(rt));
+                cluster.serve(rt, agent, scope, helpers, stopped, gate);
+            };
             if scope.spawn(served).is_err() {
                 cluster.stop(rt, stopped);
             }
@@ -364,6 +370,7 @@ pub(crate) fn run_all<L: Planned + Send + Sync, G: Gate + Sync, R: Threads + Wai
                 cluster.stop(rt, stopped);
             }
         }
+        drop(not_yet);
         // the caller would only wait: a single agent needs no thread more
         if !cluster.agents.is_empty() {
             cluster.serve(rt, 0, scope, helpers, stopped, gate);
