@@ -1,6 +1,6 @@
 -- Tests of a history and two lists that show what is late: the one list is closed, has what derefs gave, and is reached from these and the
 -- roots; the other is the rest of what was there.
-use Rattle.std.proofs.Common.{◌≡◌, ℕ, ◌+◌, ◌<◌, ◌≤◌, ◌==◌, ◌&&◌, ◌||◌, not, Bool, true, false, sym, ◌∙◌, refl, subst, nat_lt, nat_le, List, [], ◌∷◌, Some, inl, inr}
+use Rattle.std.proofs.Common.{◌≡◌, ℕ, ◌==◌, ◌&&◌, ◌||◌, not, Bool, true, false, sym, ◌∙◌, refl, subst, nat_lt, nat_le, List, [], ◌∷◌, Some, inl, inr}
 use Rattle.std.specs.List.{list_all}
 use Rattle.std.proofs.lemmas.Bool.{cases_Bool, false≢true, and_parts, ltb-true, leb-true, eqb-true, not-true}
 use Rattle.es_value.specs.declared.value.Value.{Value}

@@ -22,44 +22,12 @@ use Rattle.es_event.specs.Follows.{FollowsWhole}
 use Rattle.es_event.specs.Runs.{IsWholeRun}
 use Rattle.es_event.specs.Report.{agent_text, line}
 use Rattle.es_event.proofs.Examples.{load, store, add, job_of, job_on, plan_of, plan_with, plan_waiting}
+use Rattle.es_examples.proofs.Letters.{b, m, n, o, p, r, s, u, w, x, y, z}
 
 -- Variables
 
-abbrev pub b : List ℕ
-b = codes "b"
-
-abbrev pub m : List ℕ
-m = codes "m"
-
-abbrev pub n : List ℕ
-n = codes "n"
-
-abbrev pub o : List ℕ
-o = codes "o"
-
 -- a property's key
-abbrev pub p : List ℕ
-p = codes "p"
-
-abbrev pub s : List ℕ
-s = codes "s"
-
 -- one that is never assigned
-abbrev pub u : List ℕ
-u = codes "u"
-
-abbrev pub w : List ℕ
-w = codes "w"
-
-abbrev pub x : List ℕ
-x = codes "x"
-
-abbrev pub y : List ℕ
-y = codes "y"
-
-abbrev pub z : List ℕ
-z = codes "z"
-
 -- Events
 
 abbrev pub said : List ℕ → Value → Event
@@ -362,9 +330,6 @@ unfolding digits
 reported_object = refl
 
 -- No object of another kind is a buffer
-
-abbrev pub r : List ℕ
-r = codes "r"
 
 abbrev pub plan_kinds : AgentPlan
 plan_kinds = plan_with [] ((WeakMap m ∷ Length n m ∷ []) ∷ (WeakSet s ∷ Length n s ∷ []) ∷ (FinalizationRegistry r 1 ∷ Length n r ∷ []) ∷ [])

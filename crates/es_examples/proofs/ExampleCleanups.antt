@@ -19,7 +19,8 @@ use Rattle.es_event.specs.Report.{agent_text}
 use Rattle.es_event.proofs.Examples.{job_of, callback_of, plan_with}
 use Rattle.es_event.proofs.Deciding.{dead_by, by_variable, by_registry, by_cell}
 use Rattle.es_event.proofs.Dead.{not_live}
-use Rattle.es_examples.proofs.ExampleRegistries.{r, q, x, y, h, i, t, b, n, registry, number, forget, made_registry, made_new, let_number, forgot}
+use Rattle.es_examples.proofs.ExampleRegistries.{registry, number, forget, made_registry, made_new, let_number, forgot}
+use Rattle.es_examples.proofs.Letters.{b, h, i, n, p, q, r, t, x, y}
 
 -- A registry that no variable holds stays, and cleans up; its cleanup job comes before the plan's next job
 
@@ -304,7 +305,7 @@ reported_awaiting = refl
 abbrev pub plan_two : AgentPlan
 plan_two = record {
   name = codes "a";
-  callbacks = callback_of (Set (codes "held") (codes "p") x ∷ []) ∷ callback_of (Say (codes "held") ∷ []) ∷ [];
+  callbacks = callback_of (Set (codes "held") p x ∷ []) ∷ callback_of (Say (codes "held") ∷ []) ∷ [];
   jobs = job_of (registry r ∷ FinalizationRegistry q 2 ∷ New x ∷ number h 1 ∷ Register r x h None ∷ Register r x h None ∷ Register q x h None ∷ forget x ∷ Collect ∷ []) ∷ [];
 }
 

@@ -23,31 +23,17 @@ use Rattle.es_event.specs.Report.{agent_text}
 use Rattle.es_event.proofs.Examples.{plan_of, IsUnlawful, IsOutOfPlace}
 use Rattle.es_event.proofs.Deciding.{dead_by, other_set, by_variable, by_entry}
 use Rattle.es_event.proofs.Dead.{not_live}
+use Rattle.es_examples.proofs.Letters.{a, b, f, k, l, m, n, p, s, t, u, v, x, y}
 
 abbrev pub forget : List ℕ → Command
 forget x = Let x NoLiteral
-
-abbrev pub set_m_k_v : Command
-set_m_k_v = WeakMapSet (codes "m") (codes "k") (codes "v")
-
-abbrev pub get_x_m_k : Command
-get_x_m_k = WeakMapGet (codes "x") (codes "m") (codes "k")
-
-abbrev pub has_x_m_k : Command
-has_x_m_k = WeakMapHas (codes "x") (codes "m") (codes "k")
-
-abbrev pub delete_x_m_k : Command
-delete_x_m_k = WeakMapDelete (codes "x") (codes "m") (codes "k")
-
-abbrev pub say_x : Command
-say_x = Say (codes "x")
 
 -- A key leads to the next key, and that to a value: all go with the first key, and the WeakMap stays
 
 abbrev pub plan_chain : AgentPlan
 plan_chain = plan_of (
-    (New (codes "k1") ∷ New (codes "k2") ∷ New (codes "v") ∷ WeakMap (codes "m") ∷ WeakMapSet (codes "m") (codes "k1") (codes "k2") ∷ WeakMapSet (codes "m") (codes "k2") (codes "v")
-    ∷ forget (codes "k2") ∷ forget (codes "v") ∷ Collect ∷ forget (codes "k1") ∷ Collect ∷ [])
+    (New (codes "k1") ∷ New (codes "k2") ∷ New v ∷ WeakMap m ∷ WeakMapSet m (codes "k1") (codes "k2") ∷ WeakMapSet m (codes "k2") v
+    ∷ forget (codes "k2") ∷ forget v ∷ Collect ∷ forget (codes "k1") ∷ Collect ∷ [])
     ∷ []
     )
 
@@ -56,8 +42,8 @@ into_chain = receivers plan_chain.jobs
 
 abbrev pub made_chain : History
 made_chain =
-    Did (WeakMap (codes "m"), [], Gives (Object 4))
-    ∷ Did (New (codes "v"), [], Gives (Object 3))
+    Did (WeakMap m, [], Gives (Object 4))
+    ∷ Did (New v, [], Gives (Object 3))
     ∷ Did (New (codes "k2"), [], Gives (Object 2))
     ∷ Did (New (codes "k1"), [], Gives (Object 1))
     ∷ JobBegun 1
@@ -65,12 +51,12 @@ made_chain =
 
 abbrev pub linked_chain : History
 linked_chain =
-    Did (WeakMapSet (codes "m") (codes "k2") (codes "v"), Object 4 ∷ Object 2 ∷ Object 3 ∷ [], Nothing)
-    ∷ Did (WeakMapSet (codes "m") (codes "k1") (codes "k2"), Object 4 ∷ Object 1 ∷ Object 2 ∷ [], Nothing)
+    Did (WeakMapSet m (codes "k2") v, Object 4 ∷ Object 2 ∷ Object 3 ∷ [], Nothing)
+    ∷ Did (WeakMapSet m (codes "k1") (codes "k2"), Object 4 ∷ Object 1 ∷ Object 2 ∷ [], Nothing)
     ∷ made_chain
 
 abbrev pub first_key_held : History
-first_key_held = Did (forget (codes "v"), [], Gives Undefined) ∷ Did (forget (codes "k2"), [], Gives Undefined) ∷ linked_chain
+first_key_held = Did (forget v, [], Gives Undefined) ∷ Did (forget (codes "k2"), [], Gives Undefined) ∷ linked_chain
 
 abbrev pub no_key_held : History
 no_key_held = Did (forget (codes "k1"), [], Gives Undefined) ∷ Emptied [] ∷ first_key_held
@@ -80,14 +66,14 @@ closed_chain = Closed ∷ JobEnded ∷ Emptied (1 ∷ 2 ∷ 3 ∷ []) ∷ no_key
 
 pub reached_along_the_chain : AreDead into_chain first_key_held []
 reached_along_the_chain =
-    let map = by_variable into_chain first_key_held (codes "m") 4 refl in
+    let map = by_variable into_chain first_key_held m 4 refl in
     let first = by_variable into_chain first_key_held (codes "k1") 1 refl in
     let second = by_entry into_chain first_key_held 4 1 (Object 2) 2 map first refl refl in
     let third = by_entry into_chain first_key_held 4 2 (Object 3) 3 map second refl refl in
     dead_by into_chain first_key_held (1 ∷ 2 ∷ 3 ∷ 4 ∷ []) [] refl (first, (second, (third, (map, tt))))
 
 pub dead_chain : AreDead into_chain no_key_held (1 ∷ 2 ∷ 3 ∷ [])
-dead_chain = dead_by into_chain no_key_held (4 ∷ []) (1 ∷ 2 ∷ 3 ∷ []) refl (by_variable into_chain no_key_held (codes "m") 4 refl, tt)
+dead_chain = dead_by into_chain no_key_held (4 ∷ []) (1 ∷ 2 ∷ 3 ∷ []) refl (by_variable into_chain no_key_held m 4 refl, tt)
 
 follows_chain : Follows [] plan_chain first_key_held
 follows_chain = search rules
@@ -103,7 +89,7 @@ reported_chain = refl
 
 abbrev pub plan_own_key : AgentPlan
 plan_own_key = plan_of (
-    (New (codes "k") ∷ New (codes "v") ∷ WeakMap (codes "m") ∷ Set (codes "v") (codes "p") (codes "k") ∷ set_m_k_v ∷ forget (codes "k") ∷ forget (codes "v") ∷ Collect ∷ [])
+    (New k ∷ New v ∷ WeakMap m ∷ Set v p k ∷ WeakMapSet m k v ∷ forget k ∷ forget v ∷ Collect ∷ [])
     ∷ []
     )
 
@@ -112,13 +98,13 @@ into_own_key = receivers plan_own_key.jobs
 
 abbrev pub leads_back : History
 leads_back =
-    Did (forget (codes "v"), [], Gives Undefined)
-    ∷ Did (forget (codes "k"), [], Gives Undefined)
-    ∷ Did (set_m_k_v, Object 3 ∷ Object 1 ∷ Object 2 ∷ [], Nothing)
-    ∷ Did (Set (codes "v") (codes "p") (codes "k"), Object 2 ∷ Object 1 ∷ [], Nothing)
-    ∷ Did (WeakMap (codes "m"), [], Gives (Object 3))
-    ∷ Did (New (codes "v"), [], Gives (Object 2))
-    ∷ Did (New (codes "k"), [], Gives (Object 1))
+    Did (forget v, [], Gives Undefined)
+    ∷ Did (forget k, [], Gives Undefined)
+    ∷ Did (WeakMapSet m k v, Object 3 ∷ Object 1 ∷ Object 2 ∷ [], Nothing)
+    ∷ Did (Set v p k, Object 2 ∷ Object 1 ∷ [], Nothing)
+    ∷ Did (WeakMap m, [], Gives (Object 3))
+    ∷ Did (New v, [], Gives (Object 2))
+    ∷ Did (New k, [], Gives (Object 1))
     ∷ JobBegun 1
     ∷ []
 
@@ -126,7 +112,7 @@ abbrev pub closed_own_key : History
 closed_own_key = Closed ∷ JobEnded ∷ Emptied (1 ∷ 2 ∷ []) ∷ leads_back
 
 pub dead_with_its_key : AreDead into_own_key leads_back (1 ∷ 2 ∷ [])
-dead_with_its_key = dead_by into_own_key leads_back (3 ∷ []) (1 ∷ 2 ∷ []) refl (by_variable into_own_key leads_back (codes "m") 3 refl, tt)
+dead_with_its_key = dead_by into_own_key leads_back (3 ∷ []) (1 ∷ 2 ∷ []) refl (by_variable into_own_key leads_back m 3 refl, tt)
 
 follows_own_key : Follows [] plan_own_key leads_back
 follows_own_key = search rules
@@ -141,10 +127,10 @@ reported_own_key = refl
 -- An entry's value where both its WeakMap and its key are held, where only the key is, and where only the WeakMap is
 
 abbrev pub plan_key : AgentPlan
-plan_key = plan_of ((New (codes "k") ∷ New (codes "v") ∷ WeakMap (codes "m") ∷ set_m_k_v ∷ forget (codes "v") ∷ Collect ∷ forget (codes "m") ∷ Collect ∷ []) ∷ [])
+plan_key = plan_of ((New k ∷ New v ∷ WeakMap m ∷ WeakMapSet m k v ∷ forget v ∷ Collect ∷ forget m ∷ Collect ∷ []) ∷ [])
 
 abbrev pub plan_map : AgentPlan
-plan_map = plan_of ((New (codes "k") ∷ New (codes "v") ∷ WeakMap (codes "m") ∷ set_m_k_v ∷ forget (codes "v") ∷ get_x_m_k ∷ forget (codes "x") ∷ forget (codes "k") ∷ Collect ∷ []) ∷ [])
+plan_map = plan_of ((New k ∷ New v ∷ WeakMap m ∷ WeakMapSet m k v ∷ forget v ∷ WeakMapGet x m k ∷ forget x ∷ forget k ∷ Collect ∷ []) ∷ [])
 
 abbrev pub into_key : Receivers
 into_key = receivers plan_key.jobs
@@ -154,24 +140,24 @@ into_map = receivers plan_map.jobs
 
 abbrev pub entered : History
 entered =
-    Did (set_m_k_v, Object 3 ∷ Object 1 ∷ Object 2 ∷ [], Nothing)
-    ∷ Did (WeakMap (codes "m"), [], Gives (Object 3))
-    ∷ Did (New (codes "v"), [], Gives (Object 2))
-    ∷ Did (New (codes "k"), [], Gives (Object 1))
+    Did (WeakMapSet m k v, Object 3 ∷ Object 1 ∷ Object 2 ∷ [], Nothing)
+    ∷ Did (WeakMap m, [], Gives (Object 3))
+    ∷ Did (New v, [], Gives (Object 2))
+    ∷ Did (New k, [], Gives (Object 1))
     ∷ JobBegun 1
     ∷ []
 
 abbrev pub both_held : History
-both_held = Did (forget (codes "v"), [], Gives Undefined) ∷ entered
+both_held = Did (forget v, [], Gives Undefined) ∷ entered
 
 abbrev pub key_held : History
-key_held = Did (forget (codes "m"), [], Gives Undefined) ∷ Emptied [] ∷ both_held
+key_held = Did (forget m, [], Gives Undefined) ∷ Emptied [] ∷ both_held
 
 abbrev pub map_held : History
 map_held =
-    Did (forget (codes "k"), [], Gives Undefined)
-    ∷ Did (forget (codes "x"), [], Gives Undefined)
-    ∷ Did (get_x_m_k, Object 3 ∷ Object 1 ∷ [], Gives (Object 2))
+    Did (forget k, [], Gives Undefined)
+    ∷ Did (forget x, [], Gives Undefined)
+    ∷ Did (WeakMapGet x m k, Object 3 ∷ Object 1 ∷ [], Gives (Object 2))
     ∷ both_held
 
 abbrev pub closed_key : History
@@ -183,17 +169,17 @@ closed_map = Closed ∷ JobEnded ∷ Emptied (1 ∷ 2 ∷ []) ∷ map_held
 -- both: the value is reached
 pub reached_by_both : AreDead into_key both_held []
 reached_by_both =
-    let map = by_variable into_key both_held (codes "m") 3 refl in
-    let key = by_variable into_key both_held (codes "k") 1 refl in
+    let map = by_variable into_key both_held m 3 refl in
+    let key = by_variable into_key both_held k 1 refl in
     dead_by into_key both_held (1 ∷ 2 ∷ 3 ∷ []) [] refl (key, (by_entry into_key both_held 3 1 (Object 2) 2 map key refl refl, (map, tt)))
 
 -- the key alone: the value is dead, and the WeakMap
 pub dead_without_its_map : AreDead into_key key_held (2 ∷ 3 ∷ [])
-dead_without_its_map = dead_by into_key key_held (1 ∷ []) (2 ∷ 3 ∷ []) refl (by_variable into_key key_held (codes "k") 1 refl, tt)
+dead_without_its_map = dead_by into_key key_held (1 ∷ []) (2 ∷ 3 ∷ []) refl (by_variable into_key key_held k 1 refl, tt)
 
 -- the WeakMap alone: the value is dead, and the key, also in the job of a get, which keeps nothing
 pub dead_without_its_key : AreDead into_map map_held (1 ∷ 2 ∷ [])
-dead_without_its_key = dead_by into_map map_held (3 ∷ []) (1 ∷ 2 ∷ []) refl (by_variable into_map map_held (codes "m") 3 refl, tt)
+dead_without_its_key = dead_by into_map map_held (3 ∷ []) (1 ∷ 2 ∷ []) refl (by_variable into_map map_held m 3 refl, tt)
 
 follows_both : Follows [] plan_key both_held
 follows_both = search rules
@@ -209,10 +195,10 @@ whole_map = ([], search rules, ((tt, (tt, ((refl, dead_without_its_key), follows
 
 -- so it is held and live where both are, since a get can give it, and dead where one alone is
 pub held_by_both : IsHeld into_key both_held (Object 2)
-held_by_both = in_entry 3 1 (Object 1) (Object 2) (in_variable (codes "m") (Object 3) refl) (in_variable (codes "k") (Object 1) refl) refl refl
+held_by_both = in_entry 3 1 (Object 1) (Object 2) (in_variable m (Object 3) refl) (in_variable k (Object 1) refl) refl refl
 
 pub entry_is_live : Live into_key both_held (2 ∷ [])
-entry_is_live = inr (record { over = []; other = into_key; agree = search rules; before = []; event = Did (get_x_m_k, Object 3 ∷ Object 1 ∷ [], Gives (Object 2)); oblivious = search rules; observed = refl })
+entry_is_live = inr (record { over = []; other = into_key; agree = search rules; before = []; event = Did (WeakMapGet x m k, Object 3 ∷ Object 1 ∷ [], Gives (Object 2)); oblivious = search rules; observed = refl })
 
 pub not_live_without_its_map : Live into_key key_held (2 ∷ 3 ∷ []) → ⊥
 not_live_without_its_map = not_live into_key key_held (2 ∷ 3 ∷ []) dead_without_its_map
@@ -231,8 +217,8 @@ entry_goes_with_its_key = refl
 
 abbrev pub plan_members : AgentPlan
 plan_members = plan_of (
-    (New (codes "a") ∷ New (codes "b") ∷ WeakSet (codes "s") ∷ WeakSetAdd (codes "s") (codes "a") ∷ WeakSetAdd (codes "s") (codes "b") ∷ forget (codes "a") ∷ Collect
-    ∷ WeakSetHas (codes "x") (codes "s") (codes "b") ∷ say_x ∷ WeakSetHas (codes "x") (codes "s") (codes "a") ∷ say_x ∷ [])
+    (New a ∷ New b ∷ WeakSet s ∷ WeakSetAdd s a ∷ WeakSetAdd s b ∷ forget a ∷ Collect
+    ∷ WeakSetHas x s b ∷ Say x ∷ WeakSetHas x s a ∷ Say x ∷ [])
     ∷ []
     )
 
@@ -241,16 +227,16 @@ into_members = receivers plan_members.jobs
 
 abbrev pub joined : History
 joined =
-    Did (WeakSetAdd (codes "s") (codes "b"), Object 3 ∷ Object 2 ∷ [], Nothing)
-    ∷ Did (WeakSetAdd (codes "s") (codes "a"), Object 3 ∷ Object 1 ∷ [], Nothing)
-    ∷ Did (WeakSet (codes "s"), [], Gives (Object 3))
-    ∷ Did (New (codes "b"), [], Gives (Object 2))
-    ∷ Did (New (codes "a"), [], Gives (Object 1))
+    Did (WeakSetAdd s b, Object 3 ∷ Object 2 ∷ [], Nothing)
+    ∷ Did (WeakSetAdd s a, Object 3 ∷ Object 1 ∷ [], Nothing)
+    ∷ Did (WeakSet s, [], Gives (Object 3))
+    ∷ Did (New b, [], Gives (Object 2))
+    ∷ Did (New a, [], Gives (Object 1))
     ∷ JobBegun 1
     ∷ []
 
 abbrev pub forgot_member : History
-forgot_member = Did (forget (codes "a"), [], Gives Undefined) ∷ joined
+forgot_member = Did (forget a, [], Gives Undefined) ∷ joined
 
 abbrev pub emptied_member : History
 emptied_member = Emptied (1 ∷ []) ∷ forgot_member
@@ -259,14 +245,14 @@ abbrev pub closed_members : History
 closed_members =
     Closed
     ∷ JobEnded
-    ∷ Did (say_x, Boolean false ∷ [], Nothing)
-    ∷ Did (WeakSetHas (codes "x") (codes "s") (codes "a"), Object 3 ∷ Undefined ∷ [], Gives (Boolean false))
-    ∷ Did (say_x, Boolean true ∷ [], Nothing)
-    ∷ Did (WeakSetHas (codes "x") (codes "s") (codes "b"), Object 3 ∷ Object 2 ∷ [], Gives (Boolean true))
+    ∷ Did (Say x, Boolean false ∷ [], Nothing)
+    ∷ Did (WeakSetHas x s a, Object 3 ∷ Undefined ∷ [], Gives (Boolean false))
+    ∷ Did (Say x, Boolean true ∷ [], Nothing)
+    ∷ Did (WeakSetHas x s b, Object 3 ∷ Object 2 ∷ [], Gives (Boolean true))
     ∷ emptied_member
 
 pub dead_member : AreDead into_members forgot_member (1 ∷ [])
-dead_member = dead_by into_members forgot_member (2 ∷ 3 ∷ []) (1 ∷ []) refl (by_variable into_members forgot_member (codes "b") 2 refl, (by_variable into_members forgot_member (codes "s") 3 refl, tt))
+dead_member = dead_by into_members forgot_member (2 ∷ 3 ∷ []) (1 ∷ []) refl (by_variable into_members forgot_member b 2 refl, (by_variable into_members forgot_member s 3 refl, tt))
 
 follows_members : Follows [] plan_members forgot_member
 follows_members = search rules
@@ -289,66 +275,54 @@ pub other_member_stays : is_member emptied_member 3 2 ≡ true
 other_member_stays = refl
 
 -- so the answer is false even to one who still had the value
-emptied_is_no_member : completion [] emptied_member (WeakSetHas (codes "x") (codes "s") (codes "a")) (Object 3 ∷ Object 1 ∷ []) 0 ≡ Ok (Gives (Boolean false))
+emptied_is_no_member : completion [] emptied_member (WeakSetHas x s a) (Object 3 ∷ Object 1 ∷ []) 0 ≡ Ok (Gives (Boolean false))
 emptied_is_no_member = refl
 
 -- What can't be held weakly is no key and no member; what is no WeakMap or no WeakSet is refused first
 
-abbrev pub set_m_n_n : Command
-set_m_n_n = WeakMapSet (codes "m") (codes "n") (codes "n")
-
-abbrev pub set_s_n_n : Command
-set_s_n_n = WeakMapSet (codes "s") (codes "n") (codes "n")
-
-abbrev pub add_s_n : Command
-add_s_n = WeakSetAdd (codes "s") (codes "n")
-
-abbrev pub add_m_n : Command
-add_m_n = WeakSetAdd (codes "m") (codes "n")
-
 abbrev pub plan_refusals : AgentPlan
 plan_refusals = plan_of (
-    (WeakMap (codes "m") ∷ WeakSet (codes "s") ∷ Let (codes "n") (NumberLiteral (pos 1)) ∷ SymbolFor (codes "f") (codes "t") ∷ Symbol (codes "y")
-    ∷ WeakMapGet (codes "x") (codes "m") (codes "n") ∷ say_x ∷ WeakMapHas (codes "x") (codes "m") (codes "n") ∷ say_x ∷ WeakMapDelete (codes "x") (codes "m") (codes "f") ∷ say_x
-    ∷ WeakSetHas (codes "x") (codes "s") (codes "n") ∷ say_x ∷ WeakSetDelete (codes "x") (codes "s") (codes "f") ∷ say_x
-    ∷ WeakMapHas (codes "x") (codes "m") (codes "y") ∷ WeakSetHas (codes "x") (codes "s") (codes "y") ∷ set_m_n_n ∷ say_x ∷ [])
-    ∷ (WeakMapSet (codes "m") (codes "f") (codes "m") ∷ [])
-    ∷ (add_s_n ∷ [])
-    ∷ (WeakSetAdd (codes "s") (codes "f") ∷ [])
-    ∷ (set_s_n_n ∷ [])
-    ∷ (add_m_n ∷ [])
-    ∷ (WeakMapGet (codes "x") (codes "n") (codes "m") ∷ [])
-    ∷ (WeakMapHas (codes "x") (codes "s") (codes "m") ∷ [])
-    ∷ (WeakMapDelete (codes "x") (codes "s") (codes "m") ∷ [])
-    ∷ (WeakSetHas (codes "x") (codes "m") (codes "s") ∷ [])
-    ∷ (WeakSetDelete (codes "x") (codes "n") (codes "s") ∷ [])
+    (WeakMap m ∷ WeakSet s ∷ Let n (NumberLiteral (pos 1)) ∷ SymbolFor f t ∷ Symbol y
+    ∷ WeakMapGet x m n ∷ Say x ∷ WeakMapHas x m n ∷ Say x ∷ WeakMapDelete x m f ∷ Say x
+    ∷ WeakSetHas x s n ∷ Say x ∷ WeakSetDelete x s f ∷ Say x
+    ∷ WeakMapHas x m y ∷ WeakSetHas x s y ∷ WeakMapSet m n n ∷ Say x ∷ [])
+    ∷ (WeakMapSet m f m ∷ [])
+    ∷ (WeakSetAdd s n ∷ [])
+    ∷ (WeakSetAdd s f ∷ [])
+    ∷ (WeakMapSet s n n ∷ [])
+    ∷ (WeakSetAdd m n ∷ [])
+    ∷ (WeakMapGet x n m ∷ [])
+    ∷ (WeakMapHas x s m ∷ [])
+    ∷ (WeakMapDelete x s m ∷ [])
+    ∷ (WeakSetHas x m s ∷ [])
+    ∷ (WeakSetDelete x n s ∷ [])
     ∷ []
     )
 
 abbrev pub made_kinds : History
 made_kinds =
-    Did (Symbol (codes "y"), [], Gives (SymbolValue 3))
-    ∷ Did (SymbolFor (codes "f") (codes "t"), [], Gives (Registered (codes "t")))
-    ∷ Did (Let (codes "n") (NumberLiteral (pos 1)), [], Gives (Number (pos 1)))
-    ∷ Did (WeakSet (codes "s"), [], Gives (Object 2))
-    ∷ Did (WeakMap (codes "m"), [], Gives (Object 1))
+    Did (Symbol y, [], Gives (SymbolValue 3))
+    ∷ Did (SymbolFor f t, [], Gives (Registered t))
+    ∷ Did (Let n (NumberLiteral (pos 1)), [], Gives (Number (pos 1)))
+    ∷ Did (WeakSet s, [], Gives (Object 2))
+    ∷ Did (WeakMap m, [], Gives (Object 1))
     ∷ JobBegun 1
     ∷ []
 
 abbrev pub asked_in_vain : History
 asked_in_vain =
-    Did (WeakSetHas (codes "x") (codes "s") (codes "y"), Object 2 ∷ SymbolValue 3 ∷ [], Gives (Boolean false))
-    ∷ Did (WeakMapHas (codes "x") (codes "m") (codes "y"), Object 1 ∷ SymbolValue 3 ∷ [], Gives (Boolean false))
-    ∷ Did (say_x, Boolean false ∷ [], Nothing)
-    ∷ Did (WeakSetDelete (codes "x") (codes "s") (codes "f"), Object 2 ∷ Registered (codes "t") ∷ [], Gives (Boolean false))
-    ∷ Did (say_x, Boolean false ∷ [], Nothing)
-    ∷ Did (WeakSetHas (codes "x") (codes "s") (codes "n"), Object 2 ∷ Number (pos 1) ∷ [], Gives (Boolean false))
-    ∷ Did (say_x, Boolean false ∷ [], Nothing)
-    ∷ Did (WeakMapDelete (codes "x") (codes "m") (codes "f"), Object 1 ∷ Registered (codes "t") ∷ [], Gives (Boolean false))
-    ∷ Did (say_x, Boolean false ∷ [], Nothing)
-    ∷ Did (WeakMapHas (codes "x") (codes "m") (codes "n"), Object 1 ∷ Number (pos 1) ∷ [], Gives (Boolean false))
-    ∷ Did (say_x, Undefined ∷ [], Nothing)
-    ∷ Did (WeakMapGet (codes "x") (codes "m") (codes "n"), Object 1 ∷ Number (pos 1) ∷ [], Gives Undefined)
+    Did (WeakSetHas x s y, Object 2 ∷ SymbolValue 3 ∷ [], Gives (Boolean false))
+    ∷ Did (WeakMapHas x m y, Object 1 ∷ SymbolValue 3 ∷ [], Gives (Boolean false))
+    ∷ Did (Say x, Boolean false ∷ [], Nothing)
+    ∷ Did (WeakSetDelete x s f, Object 2 ∷ Registered t ∷ [], Gives (Boolean false))
+    ∷ Did (Say x, Boolean false ∷ [], Nothing)
+    ∷ Did (WeakSetHas x s n, Object 2 ∷ Number (pos 1) ∷ [], Gives (Boolean false))
+    ∷ Did (Say x, Boolean false ∷ [], Nothing)
+    ∷ Did (WeakMapDelete x m f, Object 1 ∷ Registered t ∷ [], Gives (Boolean false))
+    ∷ Did (Say x, Boolean false ∷ [], Nothing)
+    ∷ Did (WeakMapHas x m n, Object 1 ∷ Number (pos 1) ∷ [], Gives (Boolean false))
+    ∷ Did (Say x, Undefined ∷ [], Nothing)
+    ∷ Did (WeakMapGet x m n, Object 1 ∷ Number (pos 1) ∷ [], Gives Undefined)
     ∷ made_kinds
 
 abbrev pub not_held_weakly : History
@@ -407,43 +381,43 @@ reported_refusals = refl
 
 abbrev pub plan_entries : AgentPlan
 plan_entries = plan_of (
-    (New (codes "k") ∷ New (codes "v") ∷ WeakMap (codes "m") ∷ set_m_k_v ∷ get_x_m_k ∷ WeakMapSet (codes "m") (codes "k") (codes "k") ∷ get_x_m_k ∷ has_x_m_k
-    ∷ delete_x_m_k ∷ delete_x_m_k ∷ has_x_m_k ∷ get_x_m_k ∷ set_m_k_v ∷ get_x_m_k ∷ WeakMapSet (codes "m") (codes "k") (codes "u") ∷ get_x_m_k ∷ has_x_m_k ∷ delete_x_m_k ∷ [])
+    (New k ∷ New v ∷ WeakMap m ∷ WeakMapSet m k v ∷ WeakMapGet x m k ∷ WeakMapSet m k k ∷ WeakMapGet x m k ∷ WeakMapHas x m k
+    ∷ WeakMapDelete x m k ∷ WeakMapDelete x m k ∷ WeakMapHas x m k ∷ WeakMapGet x m k ∷ WeakMapSet m k v ∷ WeakMapGet x m k ∷ WeakMapSet m k u ∷ WeakMapGet x m k ∷ WeakMapHas x m k ∷ WeakMapDelete x m k ∷ [])
     ∷ []
     )
 
 abbrev pub overwritten : History
 overwritten =
-    Did (has_x_m_k, Object 3 ∷ Object 1 ∷ [], Gives (Boolean true))
-    ∷ Did (get_x_m_k, Object 3 ∷ Object 1 ∷ [], Gives (Object 1))
-    ∷ Did (WeakMapSet (codes "m") (codes "k") (codes "k"), Object 3 ∷ Object 1 ∷ Object 1 ∷ [], Nothing)
-    ∷ Did (get_x_m_k, Object 3 ∷ Object 1 ∷ [], Gives (Object 2))
+    Did (WeakMapHas x m k, Object 3 ∷ Object 1 ∷ [], Gives (Boolean true))
+    ∷ Did (WeakMapGet x m k, Object 3 ∷ Object 1 ∷ [], Gives (Object 1))
+    ∷ Did (WeakMapSet m k k, Object 3 ∷ Object 1 ∷ Object 1 ∷ [], Nothing)
+    ∷ Did (WeakMapGet x m k, Object 3 ∷ Object 1 ∷ [], Gives (Object 2))
     ∷ entered
 
 abbrev pub deleted : History
-deleted = Did (delete_x_m_k, Object 3 ∷ Object 1 ∷ [], Gives (Boolean true)) ∷ overwritten
+deleted = Did (WeakMapDelete x m k, Object 3 ∷ Object 1 ∷ [], Gives (Boolean true)) ∷ overwritten
 
 abbrev pub deleted_again : History
-deleted_again = Did (delete_x_m_k, Object 3 ∷ Object 1 ∷ [], Gives (Boolean false)) ∷ deleted
+deleted_again = Did (WeakMapDelete x m k, Object 3 ∷ Object 1 ∷ [], Gives (Boolean false)) ∷ deleted
 
 abbrev pub entered_again : History
 entered_again =
-    Did (get_x_m_k, Object 3 ∷ Object 1 ∷ [], Gives (Object 2))
-    ∷ Did (set_m_k_v, Object 3 ∷ Object 1 ∷ Object 2 ∷ [], Nothing)
-    ∷ Did (get_x_m_k, Object 3 ∷ Object 1 ∷ [], Gives Undefined)
-    ∷ Did (has_x_m_k, Object 3 ∷ Object 1 ∷ [], Gives (Boolean false))
+    Did (WeakMapGet x m k, Object 3 ∷ Object 1 ∷ [], Gives (Object 2))
+    ∷ Did (WeakMapSet m k v, Object 3 ∷ Object 1 ∷ Object 2 ∷ [], Nothing)
+    ∷ Did (WeakMapGet x m k, Object 3 ∷ Object 1 ∷ [], Gives Undefined)
+    ∷ Did (WeakMapHas x m k, Object 3 ∷ Object 1 ∷ [], Gives (Boolean false))
     ∷ deleted_again
 
 abbrev pub undefined_entered : History
-undefined_entered = Did (WeakMapSet (codes "m") (codes "k") (codes "u"), Object 3 ∷ Object 1 ∷ Undefined ∷ [], Nothing) ∷ entered_again
+undefined_entered = Did (WeakMapSet m k u, Object 3 ∷ Object 1 ∷ Undefined ∷ [], Nothing) ∷ entered_again
 
 abbrev pub closed_entries : History
 closed_entries =
     Closed
     ∷ JobEnded
-    ∷ Did (delete_x_m_k, Object 3 ∷ Object 1 ∷ [], Gives (Boolean true))
-    ∷ Did (has_x_m_k, Object 3 ∷ Object 1 ∷ [], Gives (Boolean true))
-    ∷ Did (get_x_m_k, Object 3 ∷ Object 1 ∷ [], Gives Undefined)
+    ∷ Did (WeakMapDelete x m k, Object 3 ∷ Object 1 ∷ [], Gives (Boolean true))
+    ∷ Did (WeakMapHas x m k, Object 3 ∷ Object 1 ∷ [], Gives (Boolean true))
+    ∷ Did (WeakMapGet x m k, Object 3 ∷ Object 1 ∷ [], Gives Undefined)
     ∷ undefined_entered
 
 pub legal_entries : LegalBy [] (receivers plan_entries.jobs) closed_entries
@@ -457,42 +431,33 @@ whole_entries = ([], legal_entries, follows_entries)
 
 -- The same of members: one that was deleted can be added again, and one that is added twice is deleted once
 
-abbrev pub add_s_y : Command
-add_s_y = WeakSetAdd (codes "s") (codes "y")
-
-abbrev pub has_x_s_y : Command
-has_x_s_y = WeakSetHas (codes "x") (codes "s") (codes "y")
-
-abbrev pub delete_x_s_y : Command
-delete_x_s_y = WeakSetDelete (codes "x") (codes "s") (codes "y")
-
 abbrev pub plan_adding : AgentPlan
-plan_adding = plan_of ((New (codes "y") ∷ WeakSet (codes "s") ∷ has_x_s_y ∷ add_s_y ∷ add_s_y ∷ has_x_s_y ∷ delete_x_s_y ∷ delete_x_s_y ∷ has_x_s_y ∷ add_s_y ∷ has_x_s_y ∷ []) ∷ [])
+plan_adding = plan_of ((New y ∷ WeakSet s ∷ WeakSetHas x s y ∷ WeakSetAdd s y ∷ WeakSetAdd s y ∷ WeakSetHas x s y ∷ WeakSetDelete x s y ∷ WeakSetDelete x s y ∷ WeakSetHas x s y ∷ WeakSetAdd s y ∷ WeakSetHas x s y ∷ []) ∷ [])
 
 abbrev pub added_twice : History
 added_twice =
-    Did (add_s_y, Object 2 ∷ Object 1 ∷ [], Nothing)
-    ∷ Did (add_s_y, Object 2 ∷ Object 1 ∷ [], Nothing)
-    ∷ Did (has_x_s_y, Object 2 ∷ Object 1 ∷ [], Gives (Boolean false))
-    ∷ Did (WeakSet (codes "s"), [], Gives (Object 2))
-    ∷ Did (New (codes "y"), [], Gives (Object 1))
+    Did (WeakSetAdd s y, Object 2 ∷ Object 1 ∷ [], Nothing)
+    ∷ Did (WeakSetAdd s y, Object 2 ∷ Object 1 ∷ [], Nothing)
+    ∷ Did (WeakSetHas x s y, Object 2 ∷ Object 1 ∷ [], Gives (Boolean false))
+    ∷ Did (WeakSet s, [], Gives (Object 2))
+    ∷ Did (New y, [], Gives (Object 1))
     ∷ JobBegun 1
     ∷ []
 
 abbrev pub deleted_member : History
 deleted_member =
-    Did (delete_x_s_y, Object 2 ∷ Object 1 ∷ [], Gives (Boolean true))
-    ∷ Did (has_x_s_y, Object 2 ∷ Object 1 ∷ [], Gives (Boolean true))
+    Did (WeakSetDelete x s y, Object 2 ∷ Object 1 ∷ [], Gives (Boolean true))
+    ∷ Did (WeakSetHas x s y, Object 2 ∷ Object 1 ∷ [], Gives (Boolean true))
     ∷ added_twice
 
 abbrev pub closed_adding : History
 closed_adding =
     Closed
     ∷ JobEnded
-    ∷ Did (has_x_s_y, Object 2 ∷ Object 1 ∷ [], Gives (Boolean true))
-    ∷ Did (add_s_y, Object 2 ∷ Object 1 ∷ [], Nothing)
-    ∷ Did (has_x_s_y, Object 2 ∷ Object 1 ∷ [], Gives (Boolean false))
-    ∷ Did (delete_x_s_y, Object 2 ∷ Object 1 ∷ [], Gives (Boolean false))
+    ∷ Did (WeakSetHas x s y, Object 2 ∷ Object 1 ∷ [], Gives (Boolean true))
+    ∷ Did (WeakSetAdd s y, Object 2 ∷ Object 1 ∷ [], Nothing)
+    ∷ Did (WeakSetHas x s y, Object 2 ∷ Object 1 ∷ [], Gives (Boolean false))
+    ∷ Did (WeakSetDelete x s y, Object 2 ∷ Object 1 ∷ [], Gives (Boolean false))
     ∷ deleted_member
 
 pub legal_adding : LegalBy [] (receivers plan_adding.jobs) closed_adding
@@ -508,17 +473,17 @@ whole_adding = ([], legal_adding, follows_adding)
 
 abbrev pub plan_apart : AgentPlan
 plan_apart = plan_of (
-    (New (codes "k") ∷ WeakMap (codes "m") ∷ WeakMap (codes "l") ∷ WeakMapSet (codes "m") (codes "k") (codes "l") ∷ WeakMapHas (codes "x") (codes "l") (codes "k") ∷ WeakMapHas (codes "x") (codes "m") (codes "l")
-    ∷ WeakMapDelete (codes "x") (codes "l") (codes "k") ∷ get_x_m_k ∷ WeakMapSet (codes "m") (codes "m") (codes "k") ∷ WeakMapGet (codes "x") (codes "m") (codes "m") ∷ [])
+    (New k ∷ WeakMap m ∷ WeakMap l ∷ WeakMapSet m k l ∷ WeakMapHas x l k ∷ WeakMapHas x m l
+    ∷ WeakMapDelete x l k ∷ WeakMapGet x m k ∷ WeakMapSet m m k ∷ WeakMapGet x m m ∷ [])
     ∷ []
     )
 
 abbrev pub entered_in_one : History
 entered_in_one =
-    Did (WeakMapSet (codes "m") (codes "k") (codes "l"), Object 2 ∷ Object 1 ∷ Object 3 ∷ [], Nothing)
-    ∷ Did (WeakMap (codes "l"), [], Gives (Object 3))
-    ∷ Did (WeakMap (codes "m"), [], Gives (Object 2))
-    ∷ Did (New (codes "k"), [], Gives (Object 1))
+    Did (WeakMapSet m k l, Object 2 ∷ Object 1 ∷ Object 3 ∷ [], Nothing)
+    ∷ Did (WeakMap l, [], Gives (Object 3))
+    ∷ Did (WeakMap m, [], Gives (Object 2))
+    ∷ Did (New k, [], Gives (Object 1))
     ∷ JobBegun 1
     ∷ []
 
@@ -526,12 +491,12 @@ abbrev pub closed_apart : History
 closed_apart =
     Closed
     ∷ JobEnded
-    ∷ Did (WeakMapGet (codes "x") (codes "m") (codes "m"), Object 2 ∷ Object 2 ∷ [], Gives (Object 1))
-    ∷ Did (WeakMapSet (codes "m") (codes "m") (codes "k"), Object 2 ∷ Object 2 ∷ Object 1 ∷ [], Nothing)
-    ∷ Did (get_x_m_k, Object 2 ∷ Object 1 ∷ [], Gives (Object 3))
-    ∷ Did (WeakMapDelete (codes "x") (codes "l") (codes "k"), Object 3 ∷ Object 1 ∷ [], Gives (Boolean false))
-    ∷ Did (WeakMapHas (codes "x") (codes "m") (codes "l"), Object 2 ∷ Object 3 ∷ [], Gives (Boolean false))
-    ∷ Did (WeakMapHas (codes "x") (codes "l") (codes "k"), Object 3 ∷ Object 1 ∷ [], Gives (Boolean false))
+    ∷ Did (WeakMapGet x m m, Object 2 ∷ Object 2 ∷ [], Gives (Object 1))
+    ∷ Did (WeakMapSet m m k, Object 2 ∷ Object 2 ∷ Object 1 ∷ [], Nothing)
+    ∷ Did (WeakMapGet x m k, Object 2 ∷ Object 1 ∷ [], Gives (Object 3))
+    ∷ Did (WeakMapDelete x l k, Object 3 ∷ Object 1 ∷ [], Gives (Boolean false))
+    ∷ Did (WeakMapHas x m l, Object 2 ∷ Object 3 ∷ [], Gives (Boolean false))
+    ∷ Did (WeakMapHas x l k, Object 3 ∷ Object 1 ∷ [], Gives (Boolean false))
     ∷ entered_in_one
 
 pub legal_apart : LegalBy [] (receivers plan_apart.jobs) closed_apart
@@ -543,65 +508,65 @@ follows_apart = search rules
 -- Wrong neighbours: reading
 
 -- a get gives a value after its key was emptied
-gives_after_its_key : IsUnlawful plan_key (Emptied (1 ∷ []) ∷ entered) (Did (get_x_m_k, Object 3 ∷ Object 1 ∷ [], Gives (Object 2)))
+gives_after_its_key : IsUnlawful plan_key (Emptied (1 ∷ []) ∷ entered) (Did (WeakMapGet x m k, Object 3 ∷ Object 1 ∷ [], Gives (Object 2)))
 gives_after_its_key l = cc
 
 -- or there is an entry still
-has_after_its_key : IsUnlawful plan_key (Emptied (1 ∷ []) ∷ entered) (Did (has_x_m_k, Object 3 ∷ Object 1 ∷ [], Gives (Boolean true)))
+has_after_its_key : IsUnlawful plan_key (Emptied (1 ∷ []) ∷ entered) (Did (WeakMapHas x m k, Object 3 ∷ Object 1 ∷ [], Gives (Boolean true)))
 has_after_its_key l = cc
 
 -- a deleted entry is there
-has_the_deleted : IsUnlawful plan_entries deleted (Did (has_x_m_k, Object 3 ∷ Object 1 ∷ [], Gives (Boolean true)))
+has_the_deleted : IsUnlawful plan_entries deleted (Did (WeakMapHas x m k, Object 3 ∷ Object 1 ∷ [], Gives (Boolean true)))
 has_the_deleted l = cc
 
 -- or is given
-gives_the_deleted : IsUnlawful plan_entries deleted (Did (get_x_m_k, Object 3 ∷ Object 1 ∷ [], Gives (Object 1)))
+gives_the_deleted : IsUnlawful plan_entries deleted (Did (WeakMapGet x m k, Object 3 ∷ Object 1 ∷ [], Gives (Object 1)))
 gives_the_deleted l = cc
 
 -- or what it had replaced comes back
-gives_the_replaced : IsUnlawful plan_entries deleted (Did (get_x_m_k, Object 3 ∷ Object 1 ∷ [], Gives (Object 2)))
+gives_the_replaced : IsUnlawful plan_entries deleted (Did (WeakMapGet x m k, Object 3 ∷ Object 1 ∷ [], Gives (Object 2)))
 gives_the_replaced l = cc
 
 -- a delete gives true again
-deletes_twice : IsUnlawful plan_entries deleted (Did (delete_x_m_k, Object 3 ∷ Object 1 ∷ [], Gives (Boolean true)))
+deletes_twice : IsUnlawful plan_entries deleted (Did (WeakMapDelete x m k, Object 3 ∷ Object 1 ∷ [], Gives (Boolean true)))
 deletes_twice l = cc
 
 -- the first value is given after a second set
-gives_the_first : IsUnlawful plan_entries overwritten (Did (get_x_m_k, Object 3 ∷ Object 1 ∷ [], Gives (Object 2)))
+gives_the_first : IsUnlawful plan_entries overwritten (Did (WeakMapGet x m k, Object 3 ∷ Object 1 ∷ [], Gives (Object 2)))
 gives_the_first l = cc
 
 -- an entry of undefined is none
-lacks_undefined : IsUnlawful plan_entries undefined_entered (Did (has_x_m_k, Object 3 ∷ Object 1 ∷ [], Gives (Boolean false)))
+lacks_undefined : IsUnlawful plan_entries undefined_entered (Did (WeakMapHas x m k, Object 3 ∷ Object 1 ∷ [], Gives (Boolean false)))
 lacks_undefined l = cc
 
 -- an entry is one of another WeakMap too
-in_another_map : IsUnlawful plan_apart entered_in_one (Did (WeakMapHas (codes "x") (codes "l") (codes "k"), Object 3 ∷ Object 1 ∷ [], Gives (Boolean true)))
+in_another_map : IsUnlawful plan_apart entered_in_one (Did (WeakMapHas x l k, Object 3 ∷ Object 1 ∷ [], Gives (Boolean true)))
 in_another_map l = cc
 
 -- the value of an entry is a key
-value_for_key : IsUnlawful plan_apart entered_in_one (Did (WeakMapHas (codes "x") (codes "m") (codes "l"), Object 2 ∷ Object 3 ∷ [], Gives (Boolean true)))
+value_for_key : IsUnlawful plan_apart entered_in_one (Did (WeakMapHas x m l, Object 2 ∷ Object 3 ∷ [], Gives (Boolean true)))
 value_for_key l = cc
 
 -- an emptied member is one still
-has_the_emptied : IsUnlawful plan_members (Emptied (1 ∷ []) ∷ joined) (Did (WeakSetHas (codes "x") (codes "s") (codes "a"), Object 3 ∷ Object 1 ∷ [], Gives (Boolean true)))
+has_the_emptied : IsUnlawful plan_members (Emptied (1 ∷ []) ∷ joined) (Did (WeakSetHas x s a, Object 3 ∷ Object 1 ∷ [], Gives (Boolean true)))
 has_the_emptied l = cc
 
 -- a deleted member is one
-has_the_deleted_member : IsUnlawful plan_adding deleted_member (Did (has_x_s_y, Object 2 ∷ Object 1 ∷ [], Gives (Boolean true)))
+has_the_deleted_member : IsUnlawful plan_adding deleted_member (Did (WeakSetHas x s y, Object 2 ∷ Object 1 ∷ [], Gives (Boolean true)))
 has_the_deleted_member l = cc
 
 -- Wrong neighbours: refusals
 
 -- a number becomes a key
-number_as_key : IsUnlawful plan_refusals asked_in_vain (Did (set_m_n_n, Object 1 ∷ Number (pos 1) ∷ Number (pos 1) ∷ [], Nothing))
+number_as_key : IsUnlawful plan_refusals asked_in_vain (Did (WeakMapSet m n n, Object 1 ∷ Number (pos 1) ∷ Number (pos 1) ∷ [], Nothing))
 number_as_key l = cc
 
 -- or a registered symbol does
-registered_as_key : IsUnlawful plan_refusals asked_in_vain (Did (WeakMapSet (codes "m") (codes "f") (codes "m"), Object 1 ∷ Registered (codes "t") ∷ Object 1 ∷ [], Nothing))
+registered_as_key : IsUnlawful plan_refusals asked_in_vain (Did (WeakMapSet m f m, Object 1 ∷ Registered t ∷ Object 1 ∷ [], Nothing))
 registered_as_key l = cc
 
 -- or a member
-registered_as_member : IsUnlawful plan_refusals asked_in_vain (Did (WeakSetAdd (codes "s") (codes "f"), Object 2 ∷ Registered (codes "t") ∷ [], Nothing))
+registered_as_member : IsUnlawful plan_refusals asked_in_vain (Did (WeakSetAdd s f, Object 2 ∷ Registered t ∷ [], Nothing))
 registered_as_member l = cc
 
 -- a get of such a key is refused

@@ -1,12 +1,11 @@
 -- Later collections: what died since stays, a deref revives its target and what that reaches, a WeakMap's entry comes back with its key, a cell's
 -- target goes, a refused job still finishes, and while one is open another is refused.
-use Rattle.std.proofs.Common.{◌≡◌, ℕ, true, false, refl, List, [], ◌∷◌, reverse, None, codes, rules}
+use Rattle.std.proofs.Common.{◌≡◌, true, false, refl, [], ◌∷◌, reverse, None, codes, rules}
 use Rattle.std.specs.Prelude.{pos}
 use Rattle.std.specs.Fmt.{digits}
 use Rattle.es_value.specs.declared.value.Value.TheVariants.{Undefined, Number, Object}
 use Rattle.es_event.specs.declared.literal.Literal.TheVariants.{Number as NumberLiteral}
-use Rattle.es_event.specs.declared.command.Command.TheVariants.{Let, New, Set, Say, WeakRef, Deref, WeakMap, WeakMapSet, FinalizationRegistry, Register, Collect, CollectLater}
-use Rattle.es_event.specs.declared.command.Command.{Command}
+use Rattle.es_event.specs.declared.command.Command.TheVariants.{Let, Set, Say, WeakRef, Deref, WeakMap, WeakMapSet, FinalizationRegistry, Register, Collect, CollectLater}
 use Rattle.es_event.specs.declared.event.Answer.TheVariants.{Nothing, Gives}
 use Rattle.es_event.specs.declared.event.Event.{Event}
 use Rattle.es_event.specs.declared.event.Event.TheVariants.{JobBegun, CleanupBegun, Did, Refused, Emptied, Taken, JobEnded, Closed}
@@ -16,13 +15,14 @@ use Rattle.es_event.specs.History.{History}
 use Rattle.es_event.specs.Jobs.{Receivers, receivers}
 use Rattle.es_event.specs.Late.{AreLate}
 use Rattle.es_event.specs.Reach.{AreDead}
-use Rattle.es_event.specs.Follows.{Follows, FollowsWhole}
+use Rattle.es_event.specs.Follows.{Follows}
 use Rattle.es_event.specs.Runs.{IsWholeRun}
 use Rattle.es_event.specs.Report.{agent_text}
 use Rattle.es_event.proofs.Examples.{plan_of, plan_with, IsUnlawful, IsOutOfPlace}
 use Rattle.es_examples.proofs.ExampleCollect.{new, forget}
 use Rattle.es_event.proofs.Deciding.{dead_by, by_variable, by_registry, by_cell}
 use Rattle.es_examples.proofs.DecidingLate.{late_by, other_late, by_root, by_deref, on_by_property, on_by_entry}
+use Rattle.es_examples.proofs.Letters.{a, h, k, m, p, q, r, v, w, x, y, z}
 
 -- the event by which a later collection is opened
 abbrev pub opening : Event
@@ -32,8 +32,8 @@ opening = Did (CollectLater, [], Nothing)
 
 abbrev pub plan_revived : AgentPlan
 plan_revived = plan_of (
-    (new (codes "a") ∷ new (codes "q") ∷ Set (codes "a") (codes "p") (codes "q") ∷ WeakRef (codes "w") (codes "a") ∷ new (codes "z") ∷ forget (codes "a") ∷ forget (codes "q") ∷ forget (codes "z") ∷ [])
-    ∷ (CollectLater ∷ Deref (codes "x") (codes "w") ∷ forget (codes "x") ∷ [])
+    (new a ∷ new q ∷ Set a p q ∷ WeakRef w a ∷ new z ∷ forget a ∷ forget q ∷ forget z ∷ [])
+    ∷ (CollectLater ∷ Deref x w ∷ forget x ∷ [])
     ∷ (Collect ∷ [])
     ∷ []
     )
@@ -43,14 +43,14 @@ into_revived = receivers plan_revived.jobs
 
 abbrev pub all_made : History
 all_made =
-    Did (forget (codes "z"), [], Gives Undefined)
-    ∷ Did (forget (codes "q"), [], Gives Undefined)
-    ∷ Did (forget (codes "a"), [], Gives Undefined)
-    ∷ Did (new (codes "z"), [], Gives (Object 4))
-    ∷ Did (WeakRef (codes "w") (codes "a"), Object 1 ∷ [], Gives (Object 3))
-    ∷ Did (Set (codes "a") (codes "p") (codes "q"), Object 1 ∷ Object 2 ∷ [], Nothing)
-    ∷ Did (new (codes "q"), [], Gives (Object 2))
-    ∷ Did (new (codes "a"), [], Gives (Object 1))
+    Did (forget z, [], Gives Undefined)
+    ∷ Did (forget q, [], Gives Undefined)
+    ∷ Did (forget a, [], Gives Undefined)
+    ∷ Did (new z, [], Gives (Object 4))
+    ∷ Did (WeakRef w a, Object 1 ∷ [], Gives (Object 3))
+    ∷ Did (Set a p q, Object 1 ∷ Object 2 ∷ [], Nothing)
+    ∷ Did (new q, [], Gives (Object 2))
+    ∷ Did (new a, [], Gives (Object 1))
     ∷ JobBegun 1
     ∷ []
 
@@ -58,10 +58,10 @@ abbrev pub copied : History
 copied = opening ∷ JobBegun 2 ∷ JobEnded ∷ all_made
 
 abbrev pub derefed : History
-derefed = Did (Deref (codes "x") (codes "w"), Object 3 ∷ [], Gives (Object 1)) ∷ copied
+derefed = Did (Deref x w, Object 3 ∷ [], Gives (Object 1)) ∷ copied
 
 abbrev pub to_finish : History
-to_finish = Did (forget (codes "x"), [], Gives Undefined) ∷ derefed
+to_finish = Did (forget x, [], Gives Undefined) ∷ derefed
 
 abbrev pub finished : History
 finished = Emptied (4 ∷ []) ∷ to_finish
@@ -75,11 +75,11 @@ closed = Closed ∷ JobEnded ∷ Emptied (1 ∷ 2 ∷ []) ∷ next_job
 pub late_without_the_revived : AreLate into_revived copied (1 ∷ []) (4 ∷ [])
 late_without_the_revived = late_by into_revived copied (1 ∷ []) (1 ∷ 2 ∷ 3 ∷ []) (4 ∷ []) refl (
   by_deref into_revived copied (1 ∷ []) 1 refl,
-  (on_by_property into_revived copied (1 ∷ []) 1 (codes "p") (Object 2) 2 (by_deref into_revived copied (1 ∷ []) 1 refl) refl refl, (by_root into_revived copied (1 ∷ []) 3 (by_variable into_revived copied (codes "w") 3 refl), tt)),
+  (on_by_property into_revived copied (1 ∷ []) 1 p (Object 2) 2 (by_deref into_revived copied (1 ∷ []) 1 refl) refl refl, (by_root into_revived copied (1 ∷ []) 3 (by_variable into_revived copied w 3 refl), tt)),
 )
 
 pub dead_in_the_next_job : AreDead into_revived next_job (1 ∷ 2 ∷ [])
-dead_in_the_next_job = dead_by into_revived next_job (3 ∷ []) (1 ∷ 2 ∷ []) refl (by_variable into_revived next_job (codes "w") 3 refl, tt)
+dead_in_the_next_job = dead_by into_revived next_job (3 ∷ []) (1 ∷ 2 ∷ []) refl (by_variable into_revived next_job w 3 refl, tt)
 
 follows_to_finish : Follows [] plan_revived to_finish
 follows_to_finish = search rules
@@ -124,7 +124,7 @@ finishes_at_once p = let clash : false ≡ true = p.0 in cc
 -- What died since stays: the late are fewer than the dead
 
 abbrev pub plan_since : AgentPlan
-plan_since = plan_of ((CollectLater ∷ new (codes "a") ∷ forget (codes "a") ∷ []) ∷ (Collect ∷ []) ∷ [])
+plan_since = plan_of ((CollectLater ∷ new a ∷ forget a ∷ []) ∷ (Collect ∷ []) ∷ [])
 
 abbrev pub into_since : Receivers
 into_since = receivers plan_since.jobs
@@ -133,7 +133,7 @@ abbrev pub copied_first : History
 copied_first = opening ∷ JobBegun 1 ∷ []
 
 abbrev pub made_since : History
-made_since = Did (forget (codes "a"), [], Gives Undefined) ∷ Did (new (codes "a"), [], Gives (Object 1)) ∷ copied_first
+made_since = Did (forget a, [], Gives Undefined) ∷ Did (new a, [], Gives (Object 1)) ∷ copied_first
 
 abbrev pub closed_since : History
 closed_since = Closed ∷ JobEnded ∷ Emptied (1 ∷ []) ∷ JobBegun 2 ∷ JobEnded ∷ Emptied [] ∷ made_since
@@ -208,8 +208,8 @@ refuses_the_first p = cc
 
 abbrev pub plan_stopped : AgentPlan
 plan_stopped = plan_of (
-    (new (codes "a") ∷ WeakRef (codes "w") (codes "a") ∷ forget (codes "a") ∷ [])
-    ∷ (CollectLater ∷ Let (codes "y") (NumberLiteral (pos 1)) ∷ Set (codes "y") (codes "p") (codes "y") ∷ [])
+    (new a ∷ WeakRef w a ∷ forget a ∷ [])
+    ∷ (CollectLater ∷ Let y (NumberLiteral (pos 1)) ∷ Set y p y ∷ [])
     ∷ []
     )
 
@@ -221,20 +221,20 @@ copied_after =
     opening
     ∷ JobBegun 2
     ∷ JobEnded
-    ∷ Did (forget (codes "a"), [], Gives Undefined)
-    ∷ Did (WeakRef (codes "w") (codes "a"), Object 1 ∷ [], Gives (Object 2))
-    ∷ Did (new (codes "a"), [], Gives (Object 1))
+    ∷ Did (forget a, [], Gives Undefined)
+    ∷ Did (WeakRef w a, Object 1 ∷ [], Gives (Object 2))
+    ∷ Did (new a, [], Gives (Object 1))
     ∷ JobBegun 1
     ∷ []
 
 abbrev pub stopped : History
-stopped = Refused NotAnObject ∷ Did (Let (codes "y") (NumberLiteral (pos 1)), [], Gives (Number (pos 1))) ∷ copied_after
+stopped = Refused NotAnObject ∷ Did (Let y (NumberLiteral (pos 1)), [], Gives (Number (pos 1))) ∷ copied_after
 
 abbrev pub closed_stopped : History
 closed_stopped = Closed ∷ JobEnded ∷ Emptied (1 ∷ []) ∷ stopped
 
 late_stopped : AreLate into_stopped copied_after [] (1 ∷ [])
-late_stopped = late_by into_stopped copied_after [] (2 ∷ []) (1 ∷ []) refl (by_root into_stopped copied_after [] 2 (by_variable into_stopped copied_after (codes "w") 2 refl), tt)
+late_stopped = late_by into_stopped copied_after [] (2 ∷ []) (1 ∷ []) refl (by_root into_stopped copied_after [] 2 (by_variable into_stopped copied_after w 2 refl), tt)
 
 follows_stopped : Follows [] plan_stopped stopped
 follows_stopped = search rules
@@ -250,8 +250,8 @@ reported_stopped = refl
 
 abbrev pub plan_entry : AgentPlan
 plan_entry = plan_of (
-    (WeakMap (codes "m") ∷ new (codes "k") ∷ new (codes "v") ∷ WeakMapSet (codes "m") (codes "k") (codes "v") ∷ WeakRef (codes "w") (codes "k") ∷ forget (codes "k") ∷ forget (codes "v") ∷ [])
-    ∷ (CollectLater ∷ Deref (codes "x") (codes "w") ∷ [])
+    (WeakMap m ∷ new k ∷ new v ∷ WeakMapSet m k v ∷ WeakRef w k ∷ forget k ∷ forget v ∷ [])
+    ∷ (CollectLater ∷ Deref x w ∷ [])
     ∷ []
     )
 
@@ -260,13 +260,13 @@ into_entry = receivers plan_entry.jobs
 
 abbrev pub entered : History
 entered =
-    Did (forget (codes "v"), [], Gives Undefined)
-    ∷ Did (forget (codes "k"), [], Gives Undefined)
-    ∷ Did (WeakRef (codes "w") (codes "k"), Object 2 ∷ [], Gives (Object 4))
-    ∷ Did (WeakMapSet (codes "m") (codes "k") (codes "v"), Object 1 ∷ Object 2 ∷ Object 3 ∷ [], Nothing)
-    ∷ Did (new (codes "v"), [], Gives (Object 3))
-    ∷ Did (new (codes "k"), [], Gives (Object 2))
-    ∷ Did (WeakMap (codes "m"), [], Gives (Object 1))
+    Did (forget v, [], Gives Undefined)
+    ∷ Did (forget k, [], Gives Undefined)
+    ∷ Did (WeakRef w k, Object 2 ∷ [], Gives (Object 4))
+    ∷ Did (WeakMapSet m k v, Object 1 ∷ Object 2 ∷ Object 3 ∷ [], Nothing)
+    ∷ Did (new v, [], Gives (Object 3))
+    ∷ Did (new k, [], Gives (Object 2))
+    ∷ Did (WeakMap m, [], Gives (Object 1))
     ∷ JobBegun 1
     ∷ []
 
@@ -274,7 +274,7 @@ abbrev pub copied_entry : History
 copied_entry = opening ∷ JobBegun 2 ∷ JobEnded ∷ entered
 
 abbrev pub key_given : History
-key_given = Did (Deref (codes "x") (codes "w"), Object 4 ∷ [], Gives (Object 2)) ∷ copied_entry
+key_given = Did (Deref x w, Object 4 ∷ [], Gives (Object 2)) ∷ copied_entry
 
 abbrev pub closed_entry : History
 closed_entry = Closed ∷ JobEnded ∷ Emptied [] ∷ key_given
@@ -282,17 +282,17 @@ closed_entry = Closed ∷ JobEnded ∷ Emptied [] ∷ key_given
 -- without the deref both were late
 late_unless_given : AreLate into_entry copied_entry [] (2 ∷ 3 ∷ [])
 late_unless_given = late_by into_entry copied_entry [] (1 ∷ 4 ∷ []) (2 ∷ 3 ∷ []) refl (
-  by_root into_entry copied_entry [] 1 (by_variable into_entry copied_entry (codes "m") 1 refl),
-  (by_root into_entry copied_entry [] 4 (by_variable into_entry copied_entry (codes "w") 4 refl), tt),
+  by_root into_entry copied_entry [] 1 (by_variable into_entry copied_entry m 1 refl),
+  (by_root into_entry copied_entry [] 4 (by_variable into_entry copied_entry w 4 refl), tt),
 )
 
 pub nothing_late_with_the_key : AreLate into_entry copied_entry (2 ∷ []) []
 nothing_late_with_the_key =
-    let map = by_root into_entry copied_entry (2 ∷ []) 1 (by_variable into_entry copied_entry (codes "m") 1 refl) in
+    let map = by_root into_entry copied_entry (2 ∷ []) 1 (by_variable into_entry copied_entry m 1 refl) in
     let key = by_deref into_entry copied_entry (2 ∷ []) 2 refl in
     late_by into_entry copied_entry (2 ∷ []) (1 ∷ 2 ∷ 3 ∷ 4 ∷ []) [] refl (
       map,
-      (key, (on_by_entry into_entry copied_entry (2 ∷ []) 1 2 (Object 3) 3 map key refl refl, (by_root into_entry copied_entry (2 ∷ []) 4 (by_variable into_entry copied_entry (codes "w") 4 refl), tt))),
+      (key, (on_by_entry into_entry copied_entry (2 ∷ []) 1 2 (Object 3) 3 map key refl refl, (by_root into_entry copied_entry (2 ∷ []) 4 (by_variable into_entry copied_entry w 4 refl), tt))),
     )
 
 follows_entry : Follows [] plan_entry key_given
@@ -309,7 +309,7 @@ forgets_the_entry p = other_late into_entry copied_entry (2 ∷ []) (3 ∷ []) [
 
 abbrev pub plan_cell : AgentPlan
 plan_cell = plan_with (Say (codes "held") ∷ []) (
-    (FinalizationRegistry (codes "r") 1 ∷ new (codes "x") ∷ new (codes "h") ∷ Register (codes "r") (codes "x") (codes "h") None ∷ forget (codes "x") ∷ forget (codes "h") ∷ CollectLater ∷ [])
+    (FinalizationRegistry r 1 ∷ new x ∷ new h ∷ Register r x h None ∷ forget x ∷ forget h ∷ CollectLater ∷ [])
     ∷ []
     )
 
@@ -319,12 +319,12 @@ into_cell = receivers plan_cell.jobs
 abbrev pub copied_cell : History
 copied_cell =
     opening
-    ∷ Did (forget (codes "h"), [], Gives Undefined)
-    ∷ Did (forget (codes "x"), [], Gives Undefined)
-    ∷ Did (Register (codes "r") (codes "x") (codes "h") None, Object 1 ∷ Object 2 ∷ Object 3 ∷ [], Nothing)
-    ∷ Did (new (codes "h"), [], Gives (Object 3))
-    ∷ Did (new (codes "x"), [], Gives (Object 2))
-    ∷ Did (FinalizationRegistry (codes "r") 1, [], Gives (Object 1))
+    ∷ Did (forget h, [], Gives Undefined)
+    ∷ Did (forget x, [], Gives Undefined)
+    ∷ Did (Register r x h None, Object 1 ∷ Object 2 ∷ Object 3 ∷ [], Nothing)
+    ∷ Did (new h, [], Gives (Object 3))
+    ∷ Did (new x, [], Gives (Object 2))
+    ∷ Did (FinalizationRegistry r 1, [], Gives (Object 1))
     ∷ JobBegun 1
     ∷ []
 

@@ -1,5 +1,5 @@
 -- Wrong neighbours of the histories of buffers and messages, each of which the definitions refuse.
-use Rattle.std.proofs.Common.{◌≡◌, ℕ, Bool, true, false, refl, ap, arith, List, [], ◌∷◌, Some, None, Result, Ok, codes, rules}
+use Rattle.std.proofs.Common.{◌≡◌, ℕ, Bool, true, false, refl, ap, arith, List, [], ◌∷◌, Some, None, Result, Ok, rules}
 use Rattle.std.specs.Prelude.{pos, negsuc, ◌==◌}
 use Rattle.std.specs.List.{list_all}
 use Rattle.std.proofs.lemmas.Bool.{false≢true}
@@ -25,9 +25,10 @@ use Rattle.es_event.specs.Runs.{ComesNext, a_word, silence, heard}
 use Rattle.es_event.proofs.Examples.{load, store, add, plan_with, IsUnlawful, IsOutOfPlace, IsUnlawfulOver, IsOutOfPlaceOver}
 use Rattle.es_examples.proofs.ExampleDeref as Deref
 use Rattle.es_examples.proofs.ExampleBuffers as Buffers
-use Rattle.es_examples.proofs.ExampleBuffers.{b, m, n, o, p, s, u, w, x, y, said, made_buffer, made_new, loaded}
+use Rattle.es_examples.proofs.ExampleBuffers.{said, made_buffer, made_new, loaded}
 use Rattle.es_examples.proofs.ExampleMessages as Messages
 use Rattle.es_examples.proofs.ExampleMessages.{posted}
+use Rattle.es_examples.proofs.Letters.{b, k, m, n, o, p, u, w, x, y}
 
 -- Words
 
@@ -295,7 +296,7 @@ assigns_another : var Messages.into_two Messages.received_two m ≡ Undefined
 assigns_another = refl
 
 -- to that of its own job it does
-assigns_its_own : var Messages.into_two Messages.received_two n ≡ Text (codes "k")
+assigns_its_own : var Messages.into_two Messages.received_two n ≡ Text k
 assigns_its_own = refl
 
 -- it is read before it is received

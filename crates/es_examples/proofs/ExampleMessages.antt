@@ -5,7 +5,6 @@ use Rattle.std.specs.Fmt.{digits}
 use Rattle.es_value.specs.declared.value.Value.{Value}
 use Rattle.es_value.specs.declared.value.Value.TheVariants.{Undefined, Boolean, Number, Text, Registered, Object, Symbol as SymbolValue}
 use Rattle.es_event.specs.declared.literal.Literal.TheVariants.{Undefined as NoLiteral, Boolean as BooleanLiteral, Number as NumberLiteral, Text as TextLiteral}
-use Rattle.es_event.specs.declared.command.Command.{Command}
 use Rattle.es_event.specs.declared.command.Command.TheVariants.{Let, New, Symbol, SymbolFor, Say, WeakRef, Deref, FinalizationRegistry, Register, SharedArrayBuffer, Length, Post, Collect}
 use Rattle.es_event.specs.declared.event.Answer.TheVariants.{Nothing, Gives}
 use Rattle.es_event.specs.declared.event.Event.{Event}
@@ -29,22 +28,11 @@ use Rattle.es_event.specs.Report.{agent_text}
 use Rattle.es_event.proofs.Examples.{job_of, job_on, plan_of, plan_waiting, callback_of}
 use Rattle.es_event.proofs.Deciding.{dead_by, other_set, by_variable}
 use Rattle.es_event.proofs.Dead.{not_live}
-use Rattle.es_examples.proofs.ExampleBuffers.{one_word, b, m, n, o, r, s, u, w, x, said, made_buffer, made_new}
-
-abbrev pub f : List ℕ
-f = codes "f"
-
-abbrev pub t : List ℕ
-t = codes "t"
-
-abbrev pub forget_m : Command
-forget_m = Let m NoLiteral
+use Rattle.es_examples.proofs.ExampleBuffers.{one_word, said, made_buffer, made_new}
+use Rattle.es_examples.proofs.Letters.{b, e, f, h, k, m, n, o, r, s, t, u, w, x}
 
 abbrev pub posted : List ℕ → Value → Event
 posted from v = Did (Post 1 from, v ∷ [], Nothing)
-
-abbrev pub forget_x : Command
-forget_x = Let x NoLiteral
 
 -- A number is received, and the job of its variable begins
 
@@ -110,16 +98,16 @@ abbrev pub into_two : Receivers
 into_two = receivers plan_two.jobs
 
 abbrev pub received_two : History
-received_two = Received 2 (Text (codes "k")) ∷ Skipped 1 1 ∷ []
+received_two = Received 2 (Text k) ∷ Skipped 1 1 ∷ []
 
 abbrev pub begun_two : History
 begun_two = JobBegun 2 ∷ received_two
 
 abbrev pub ended_two : History
-ended_two = JobEnded ∷ said m Undefined ∷ said n (Text (codes "k")) ∷ begun_two
+ended_two = JobEnded ∷ said m Undefined ∷ said n (Text k) ∷ begun_two
 
 abbrev pub closed_two : History
-closed_two = Closed ∷ JobEnded ∷ said n (Text (codes "k")) ∷ JobBegun 3 ∷ ended_two
+closed_two = Closed ∷ JobEnded ∷ said n (Text k) ∷ JobBegun 3 ∷ ended_two
 
 pub legal_two : LegalBy [] into_two closed_two
 legal_two = search rules
@@ -146,7 +134,7 @@ abbrev pub ended_once : History
 ended_once = JobEnded ∷ said m (Boolean true) ∷ JobBegun 1 ∷ Received 1 (Boolean true) ∷ []
 
 abbrev pub closed_twice : History
-closed_twice = Closed ∷ JobEnded ∷ said m (Registered (codes "k")) ∷ JobBegun 2 ∷ Received 1 (Registered (codes "k")) ∷ ended_once
+closed_twice = Closed ∷ JobEnded ∷ said m (Registered k) ∷ JobBegun 2 ∷ Received 1 (Registered k) ∷ ended_once
 
 pub legal_twice : LegalBy [] into_twice closed_twice
 legal_twice = search rules
@@ -167,7 +155,7 @@ abbrev pub four_words : Buffers
 four_words = (1, row 3 2 4) ∷ []
 
 abbrev pub plan_buffer : AgentPlan
-plan_buffer = plan_waiting (job_on 1 m (Length n m ∷ Say n ∷ []) ∷ job_of (Collect ∷ Say m ∷ forget_m ∷ Collect ∷ []) ∷ [])
+plan_buffer = plan_waiting (job_on 1 m (Length n m ∷ Say n ∷ []) ∷ job_of (Collect ∷ Say m ∷ Let m NoLiteral ∷ Collect ∷ []) ∷ [])
 
 abbrev pub into_buffer : Receivers
 into_buffer = receivers plan_buffer.jobs
@@ -185,7 +173,7 @@ abbrev pub begun_collecting : History
 begun_collecting = JobBegun 2 ∷ ended_buffer
 
 abbrev pub forgot : History
-forgot = Did (forget_m, [], Gives Undefined) ∷ said m (Object 1) ∷ Emptied [] ∷ begun_collecting
+forgot = Did (Let m NoLiteral, [], Gives Undefined) ∷ said m (Object 1) ∷ Emptied [] ∷ begun_collecting
 
 abbrev pub closed_buffer : History
 closed_buffer = Closed ∷ JobEnded ∷ Emptied (1 ∷ []) ∷ forgot
@@ -325,13 +313,13 @@ reported_posted = refl
 -- A cleanup job comes before a message
 
 abbrev pub plan_cleanup : AgentPlan
-plan_cleanup = record { name = codes "a"; callbacks = callback_of [] ∷ []; jobs = job_of (FinalizationRegistry r 1 ∷ New x ∷ Register r x u None ∷ forget_x ∷ Collect ∷ []) ∷ job_on 1 m (Say m ∷ []) ∷ [] }
+plan_cleanup = record { name = codes "a"; callbacks = callback_of [] ∷ []; jobs = job_of (FinalizationRegistry r 1 ∷ New x ∷ Register r x u None ∷ Let x NoLiteral ∷ Collect ∷ []) ∷ job_on 1 m (Say m ∷ []) ∷ [] }
 
 abbrev pub into_cleanup : Receivers
 into_cleanup = receivers plan_cleanup.jobs
 
 abbrev pub forgot_x : History
-forgot_x = Did (forget_x, [], Gives Undefined) ∷ Did (Register r x u None, Object 1 ∷ Object 2 ∷ Undefined ∷ [], Nothing) ∷ made_new x 2 ∷ Did (FinalizationRegistry r 1, [], Gives (Object 1)) ∷ JobBegun 1 ∷ []
+forgot_x = Did (Let x NoLiteral, [], Gives Undefined) ∷ Did (Register r x u None, Object 1 ∷ Object 2 ∷ Undefined ∷ [], Nothing) ∷ made_new x 2 ∷ Did (FinalizationRegistry r 1, [], Gives (Object 1)) ∷ JobBegun 1 ∷ []
 
 abbrev pub ended_cleanup : History
 ended_cleanup = JobEnded ∷ Emptied (2 ∷ []) ∷ forgot_x
@@ -377,7 +365,7 @@ reported_cleanup_skipped = refl
 abbrev pub plan_posts : AgentPlan
 plan_posts =
     plan_of
-    ((Post 1 u ∷ Let b (BooleanLiteral true) ∷ Post 1 b ∷ Let n (NumberLiteral (pos 1)) ∷ Post 1 n ∷ Let t (TextLiteral (codes "k")) ∷ Post 1 t ∷ SymbolFor f (codes "k") ∷ Post 1 f ∷ SharedArrayBuffer s 1 ∷ Post 1 s ∷ Post 1 s ∷ [])
+    ((Post 1 u ∷ Let b (BooleanLiteral true) ∷ Post 1 b ∷ Let n (NumberLiteral (pos 1)) ∷ Post 1 n ∷ Let t (TextLiteral k) ∷ Post 1 t ∷ SymbolFor f k ∷ Post 1 f ∷ SharedArrayBuffer s 1 ∷ Post 1 s ∷ Post 1 s ∷ [])
     ∷ (New o ∷ Post 1 o ∷ [])
     ∷ (WeakRef w o ∷ Post 1 w ∷ [])
     ∷ (Symbol s ∷ Post 1 s ∷ [])
@@ -396,10 +384,10 @@ abbrev pub posted_number : History
 posted_number = posted n (Number (pos 1)) ∷ Did (Let n (NumberLiteral (pos 1)), [], Gives (Number (pos 1))) ∷ posted_boolean
 
 abbrev pub posted_text : History
-posted_text = posted t (Text (codes "k")) ∷ Did (Let t (TextLiteral (codes "k")), [], Gives (Text (codes "k"))) ∷ posted_number
+posted_text = posted t (Text k) ∷ Did (Let t (TextLiteral k), [], Gives (Text k)) ∷ posted_number
 
 abbrev pub posted_registered : History
-posted_registered = posted f (Registered (codes "k")) ∷ Did (SymbolFor f (codes "k"), [], Gives (Registered (codes "k"))) ∷ posted_text
+posted_registered = posted f (Registered k) ∷ Did (SymbolFor f k, [], Gives (Registered k)) ∷ posted_text
 
 abbrev pub posted_buffer : History
 posted_buffer = posted s (Object 1) ∷ made_buffer s 1 1 ∷ posted_registered

@@ -22,49 +22,11 @@ use Rattle.es_event.specs.Report.{agent_text}
 use Rattle.es_event.proofs.Examples.{plan_with}
 use Rattle.es_event.proofs.Deciding.{dead_by, by_variable, by_cell, by_property}
 use Rattle.es_event.proofs.Dead.{not_live}
+use Rattle.es_examples.proofs.Letters.{a, b, c, h, i, n, p, q, r, t, w, x, y}
 
 -- Variables
 
-abbrev pub r : List ℕ
-r = codes "r"
-
-abbrev pub q : List ℕ
-q = codes "q"
-
-abbrev pub x : List ℕ
-x = codes "x"
-
-abbrev pub y : List ℕ
-y = codes "y"
-
-abbrev pub h : List ℕ
-h = codes "h"
-
-abbrev pub i : List ℕ
-i = codes "i"
-
-abbrev pub t : List ℕ
-t = codes "t"
-
-abbrev pub b : List ℕ
-b = codes "b"
-
-abbrev pub c : List ℕ
-c = codes "c"
-
-abbrev pub w : List ℕ
-w = codes "w"
-
-abbrev pub a : List ℕ
-a = codes "a"
-
-abbrev pub n : List ℕ
-n = codes "n"
-
 -- a property's key
-abbrev pub p : List ℕ
-p = codes "p"
-
 -- the one to which the held value of a cell that is taken goes
 abbrev pub held : List ℕ
 held = codes "held"

@@ -17,8 +17,9 @@ use Rattle.es_event.specs.Report.{line, end_line}
 use Rattle.es_event.proofs.Examples.{plan_with, IsUnlawful, IsOutOfPlace}
 use Rattle.es_event.proofs.Deciding.{other_set}
 use Rattle.es_examples.proofs.ExampleRegistries as Registries
-use Rattle.es_examples.proofs.ExampleRegistries.{r, q, x, t, b, n, p, held, a}
+use Rattle.es_examples.proofs.ExampleRegistries.{held}
 use Rattle.es_examples.proofs.ExampleCleanups as Cleanups
+use Rattle.es_examples.proofs.Letters.{a, b, c, n, p, q, r, t, x}
 
 -- Cells
 
@@ -157,7 +158,7 @@ taken_is_found : IsUnlawful Cleanups.plan_late Cleanups.begun_late (Did (Unregis
 taken_is_found l = cc
 
 -- or was unregistered before
-unregistered_is_found : IsUnlawful Registries.plan_unregistered Registries.unregistered_once (Did (Unregister (codes "c") r t, Object 1 ∷ Object 3 ∷ [], Gives (Boolean true)))
+unregistered_is_found : IsUnlawful Registries.plan_unregistered Registries.unregistered_once (Did (Unregister c r t, Object 1 ∷ Object 3 ∷ [], Gives (Boolean true)))
 unregistered_is_found l = cc
 
 -- or is of another registry

@@ -20,47 +20,9 @@ use Rattle.es_event.specs.Runs.{IsWholeRun}
 use Rattle.es_event.specs.Report.{agent_text}
 use Rattle.es_event.proofs.Examples.{plan_of, plan_with, IsUnlawful}
 use Rattle.es_event.proofs.Deciding.{dead_by, other_set, by_variable, by_keeping, by_entry}
+use Rattle.es_examples.proofs.Letters.{f, h, k, m, p, r, s, t, u, v, w, x, y}
 
 -- Variables, and a property's key
-
-abbrev pub s : List ℕ
-s = codes "s"
-
-abbrev pub f : List ℕ
-f = codes "f"
-
-abbrev pub h : List ℕ
-h = codes "h"
-
-abbrev pub k : List ℕ
-k = codes "k"
-
-abbrev pub m : List ℕ
-m = codes "m"
-
-abbrev pub p : List ℕ
-p = codes "p"
-
-abbrev pub r : List ℕ
-r = codes "r"
-
-abbrev pub t : List ℕ
-t = codes "t"
-
-abbrev pub u : List ℕ
-u = codes "u"
-
-abbrev pub v : List ℕ
-v = codes "v"
-
-abbrev pub w : List ℕ
-w = codes "w"
-
-abbrev pub x : List ℕ
-x = codes "x"
-
-abbrev pub y : List ℕ
-y = codes "y"
 
 -- Events
 
