@@ -63,23 +63,17 @@ made_words = made_buffer b 1 1 ∷ begun_words
 abbrev pub stored : History
 stored = Did (store b (pos 0) (negsuc 0), Object 1 ∷ [], Nothing) ∷ made_words
 
-abbrev pub loaded_first : History
-loaded_first = loaded x b (pos 0) 1 4294967295 ∷ stored
-
 abbrev pub said_first : History
-said_first = said x (Number (pos 4294967295)) ∷ loaded_first
-
-abbrev pub added : History
-added = Did (add y b (pos 0) (pos 2), Object 1 ∷ [], Gives (Number (pos 4294967295))) ∷ said_first
-
-abbrev pub said_before : History
-said_before = said y (Number (pos 4294967295)) ∷ added
-
-abbrev pub loaded_again : History
-loaded_again = loaded z b (pos 0) 1 1 ∷ said_before
+said_first =
+    said x (Number (pos 4294967295))
+    ∷ loaded x b (pos 0) 1 4294967295 ∷ stored
 
 abbrev pub closed_words : History
-closed_words = Closed ∷ JobEnded ∷ said z (Number (pos 1)) ∷ loaded_again
+closed_words =
+    Closed ∷ JobEnded ∷ said z (Number (pos 1))
+    ∷ loaded z b (pos 0) 1 1
+    ∷ said y (Number (pos 4294967295))
+    ∷ Did (add y b (pos 0) (pos 2), Object 1 ∷ [], Gives (Number (pos 4294967295))) ∷ said_first
 
 pub legal_words : LegalBy one_word into_words closed_words
 legal_words = search rules
@@ -141,11 +135,10 @@ plan_same = plan_waiting (job_of (SharedArrayBuffer b 3 ∷ []) ∷ job_on 1 m (
 abbrev pub into_same : Receivers
 into_same = receivers plan_same.jobs
 
-abbrev pub received_other : History
-received_other = Received 1 (Object 2) ∷ JobEnded ∷ made_buffer b 3 1 ∷ JobBegun 1 ∷ []
-
 abbrev pub begun_other : History
-begun_other = JobBegun 2 ∷ received_other
+begun_other =
+    JobBegun 2
+    ∷ Received 1 (Object 2) ∷ JobEnded ∷ made_buffer b 3 1 ∷ JobBegun 1 ∷ []
 
 abbrev pub compared : Value → History
 compared v = said x v ∷ Did (SameBlock x b m, Object 1 ∷ Object 2 ∷ [], Gives v) ∷ begun_other
@@ -210,11 +203,10 @@ into_refused = receivers plan_refused.jobs
 abbrev pub made_ordinary : History
 made_ordinary = made_new o 1 ∷ JobBegun 1 ∷ []
 
-abbrev pub refused_ordinary : History
-refused_ordinary = JobEnded ∷ Refused NotASharedArrayBuffer ∷ made_ordinary
-
 abbrev pub refused_undefined : History
-refused_undefined = JobEnded ∷ Refused NotASharedArrayBuffer ∷ JobBegun 2 ∷ refused_ordinary
+refused_undefined =
+    JobEnded ∷ Refused NotASharedArrayBuffer ∷ JobBegun 2
+    ∷ JobEnded ∷ Refused NotASharedArrayBuffer ∷ made_ordinary
 
 abbrev pub made_second : History
 made_second = made_buffer b 2 2 ∷ JobBegun 3 ∷ refused_undefined
@@ -226,23 +218,17 @@ refused_below = JobEnded ∷ Refused IndexOutOfRange ∷ made_second
 abbrev pub loaded_last : History
 loaded_last = loaded x b (pos 1) 2 9 ∷ JobBegun 4 ∷ refused_below
 
-abbrev pub refused_store : History
-refused_store = JobEnded ∷ Refused IndexOutOfRange ∷ loaded_last
-
 abbrev pub refused_add : History
-refused_add = JobEnded ∷ Refused IndexOutOfRange ∷ JobBegun 5 ∷ refused_store
-
-abbrev pub refused_length : History
-refused_length = JobEnded ∷ Refused NotASharedArrayBuffer ∷ JobBegun 6 ∷ refused_add
-
-abbrev pub refused_right : History
-refused_right = JobEnded ∷ Refused NotASharedArrayBuffer ∷ JobBegun 7 ∷ refused_length
-
-abbrev pub refused_left : History
-refused_left = JobEnded ∷ Refused NotASharedArrayBuffer ∷ JobBegun 8 ∷ refused_right
+refused_add =
+    JobEnded ∷ Refused IndexOutOfRange ∷ JobBegun 5
+    ∷ JobEnded ∷ Refused IndexOutOfRange ∷ loaded_last
 
 abbrev pub closed_refused : History
-closed_refused = Closed ∷ refused_left
+closed_refused =
+    Closed
+    ∷ JobEnded ∷ Refused NotASharedArrayBuffer ∷ JobBegun 8
+    ∷ JobEnded ∷ Refused NotASharedArrayBuffer ∷ JobBegun 7
+    ∷ JobEnded ∷ Refused NotASharedArrayBuffer ∷ JobBegun 6 ∷ refused_add
 
 pub legal_refused : LegalBy two_words into_refused closed_refused
 legal_refused = search rules
@@ -283,14 +269,11 @@ made_object = made_buffer b 3 1 ∷ JobBegun 1 ∷ []
 abbrev pub has_property : History
 has_property = Did (Set b p b, Object 1 ∷ Object 1 ∷ [], Nothing) ∷ made_object
 
-abbrev pub said_property : History
-said_property = said y (Object 1) ∷ Did (Keys b, Object 1 ∷ [], Listed (p ∷ [])) ∷ Did (Get y b p, Object 1 ∷ [], Gives (Object 1)) ∷ has_property
-
-abbrev pub derefed : History
-derefed = Did (Deref x w, Object 2 ∷ [], Gives (Object 1)) ∷ Did (WeakRef w b, Object 1 ∷ [], Gives (Object 2)) ∷ said_property
-
 abbrev pub said_same : History
-said_same = JobEnded ∷ said z (Boolean true) ∷ Did (Same z x b, Object 1 ∷ Object 1 ∷ [], Gives (Boolean true)) ∷ derefed
+said_same =
+    JobEnded ∷ said z (Boolean true) ∷ Did (Same z x b, Object 1 ∷ Object 1 ∷ [], Gives (Boolean true))
+    ∷ Did (Deref x w, Object 2 ∷ [], Gives (Object 1)) ∷ Did (WeakRef w b, Object 1 ∷ [], Gives (Object 2))
+    ∷ said y (Object 1) ∷ Did (Keys b, Object 1 ∷ [], Listed (p ∷ [])) ∷ Did (Get y b p, Object 1 ∷ [], Gives (Object 1)) ∷ has_property
 
 abbrev pub begun_weakmap : History
 begun_weakmap = JobBegun 2 ∷ said_same
@@ -307,14 +290,11 @@ begun_register = JobBegun 5 ∷ JobEnded ∷ Refused NotAWeakSet ∷ begun_weaks
 abbrev pub begun_length : History
 begun_length = JobBegun 6 ∷ JobEnded ∷ Refused NotAFinalizationRegistry ∷ begun_register
 
-abbrev pub made_map : History
-made_map = Did (WeakMap m, [], Gives (Object 3)) ∷ JobBegun 7 ∷ JobEnded ∷ Refused NotASharedArrayBuffer ∷ begun_length
-
-abbrev pub has_entry : History
-has_entry = Did (WeakMapHas y m b, Object 3 ∷ Object 1 ∷ [], Gives (Boolean true)) ∷ Did (WeakMapSet m b b, Object 3 ∷ Object 1 ∷ Object 1 ∷ [], Nothing) ∷ made_map
-
 abbrev pub closed_object : History
-closed_object = Closed ∷ JobEnded ∷ said y (Boolean true) ∷ has_entry
+closed_object =
+    Closed ∷ JobEnded ∷ said y (Boolean true)
+    ∷ Did (WeakMapHas y m b, Object 3 ∷ Object 1 ∷ [], Gives (Boolean true)) ∷ Did (WeakMapSet m b b, Object 3 ∷ Object 1 ∷ Object 1 ∷ [], Nothing)
+    ∷ Did (WeakMap m, [], Gives (Object 3)) ∷ JobBegun 7 ∷ JobEnded ∷ Refused NotASharedArrayBuffer ∷ begun_length
 
 pub legal_object : LegalBy three_words into_object closed_object
 legal_object = search rules
@@ -334,17 +314,12 @@ reported_object = refl
 abbrev pub plan_kinds : AgentPlan
 plan_kinds = plan_with [] ((WeakMap m ∷ Length n m ∷ []) ∷ (WeakSet s ∷ Length n s ∷ []) ∷ (FinalizationRegistry r 1 ∷ Length n r ∷ []) ∷ [])
 
-abbrev pub made_weakmap : History
-made_weakmap = Did (WeakMap m, [], Gives (Object 1)) ∷ JobBegun 1 ∷ []
-
-abbrev pub made_weakset : History
-made_weakset = Did (WeakSet s, [], Gives (Object 2)) ∷ JobBegun 2 ∷ JobEnded ∷ Refused NotASharedArrayBuffer ∷ made_weakmap
-
-abbrev pub made_registry : History
-made_registry = Did (FinalizationRegistry r 1, [], Gives (Object 3)) ∷ JobBegun 3 ∷ JobEnded ∷ Refused NotASharedArrayBuffer ∷ made_weakset
-
 abbrev pub closed_kinds : History
-closed_kinds = Closed ∷ JobEnded ∷ Refused NotASharedArrayBuffer ∷ made_registry
+closed_kinds =
+    Closed ∷ JobEnded ∷ Refused NotASharedArrayBuffer
+    ∷ Did (FinalizationRegistry r 1, [], Gives (Object 3)) ∷ JobBegun 3 ∷ JobEnded ∷ Refused NotASharedArrayBuffer
+    ∷ Did (WeakSet s, [], Gives (Object 2)) ∷ JobBegun 2 ∷ JobEnded ∷ Refused NotASharedArrayBuffer
+    ∷ Did (WeakMap m, [], Gives (Object 1)) ∷ JobBegun 1 ∷ []
 
 pub legal_kinds : LegalBy [] (receivers plan_kinds.jobs) closed_kinds
 legal_kinds = search rules

@@ -40,23 +40,17 @@ plan_chain = plan_of (
 abbrev pub into_chain : Receivers
 into_chain = receivers plan_chain.jobs
 
-abbrev pub made_chain : History
-made_chain =
-    Did (WeakMap m, [], Gives (Object 4))
+abbrev pub first_key_held : History
+first_key_held =
+    Did (forget v, [], Gives Undefined) ∷ Did (forget (codes "k2"), [], Gives Undefined)
+    ∷ Did (WeakMapSet m (codes "k2") v, Object 4 ∷ Object 2 ∷ Object 3 ∷ [], Nothing)
+    ∷ Did (WeakMapSet m (codes "k1") (codes "k2"), Object 4 ∷ Object 1 ∷ Object 2 ∷ [], Nothing)
+    ∷ Did (WeakMap m, [], Gives (Object 4))
     ∷ Did (New v, [], Gives (Object 3))
     ∷ Did (New (codes "k2"), [], Gives (Object 2))
     ∷ Did (New (codes "k1"), [], Gives (Object 1))
     ∷ JobBegun 1
     ∷ []
-
-abbrev pub linked_chain : History
-linked_chain =
-    Did (WeakMapSet m (codes "k2") v, Object 4 ∷ Object 2 ∷ Object 3 ∷ [], Nothing)
-    ∷ Did (WeakMapSet m (codes "k1") (codes "k2"), Object 4 ∷ Object 1 ∷ Object 2 ∷ [], Nothing)
-    ∷ made_chain
-
-abbrev pub first_key_held : History
-first_key_held = Did (forget v, [], Gives Undefined) ∷ Did (forget (codes "k2"), [], Gives Undefined) ∷ linked_chain
 
 abbrev pub no_key_held : History
 no_key_held = Did (forget (codes "k1"), [], Gives Undefined) ∷ Emptied [] ∷ first_key_held
@@ -325,9 +319,10 @@ asked_in_vain =
     ∷ Did (WeakMapGet x m n, Object 1 ∷ Number (pos 1) ∷ [], Gives Undefined)
     ∷ made_kinds
 
-abbrev pub not_held_weakly : History
-not_held_weakly =
-    JobEnded
+abbrev pub begun_wrong_map : History
+begun_wrong_map =
+    JobBegun 5
+    ∷ JobEnded
     ∷ Refused NotHeldWeakly
     ∷ JobBegun 4
     ∷ JobEnded
@@ -340,15 +335,13 @@ not_held_weakly =
     ∷ Refused NotHeldWeakly
     ∷ asked_in_vain
 
-abbrev pub begun_wrong_map : History
-begun_wrong_map = JobBegun 5 ∷ not_held_weakly
-
 abbrev pub begun_wrong_set : History
 begun_wrong_set = JobBegun 6 ∷ JobEnded ∷ Refused NotAWeakMap ∷ begun_wrong_map
 
-abbrev pub not_maps : History
-not_maps =
-    JobEnded
+abbrev pub closed_refusals : History
+closed_refusals =
+    Closed ∷ JobEnded ∷ Refused NotAWeakSet ∷ JobBegun 11 ∷ JobEnded ∷ Refused NotAWeakSet ∷ JobBegun 10
+    ∷ JobEnded
     ∷ Refused NotAWeakMap
     ∷ JobBegun 9
     ∷ JobEnded
@@ -360,9 +353,6 @@ not_maps =
     ∷ JobEnded
     ∷ Refused NotAWeakSet
     ∷ begun_wrong_set
-
-abbrev pub closed_refusals : History
-closed_refusals = Closed ∷ JobEnded ∷ Refused NotAWeakSet ∷ JobBegun 11 ∷ JobEnded ∷ Refused NotAWeakSet ∷ JobBegun 10 ∷ not_maps
 
 pub legal_refusals : LegalBy [] (receivers plan_refusals.jobs) closed_refusals
 legal_refusals = search rules
@@ -397,19 +387,14 @@ overwritten =
 abbrev pub deleted : History
 deleted = Did (WeakMapDelete x m k, Object 3 ∷ Object 1 ∷ [], Gives (Boolean true)) ∷ overwritten
 
-abbrev pub deleted_again : History
-deleted_again = Did (WeakMapDelete x m k, Object 3 ∷ Object 1 ∷ [], Gives (Boolean false)) ∷ deleted
-
-abbrev pub entered_again : History
-entered_again =
-    Did (WeakMapGet x m k, Object 3 ∷ Object 1 ∷ [], Gives (Object 2))
+abbrev pub undefined_entered : History
+undefined_entered =
+    Did (WeakMapSet m k u, Object 3 ∷ Object 1 ∷ Undefined ∷ [], Nothing)
+    ∷ Did (WeakMapGet x m k, Object 3 ∷ Object 1 ∷ [], Gives (Object 2))
     ∷ Did (WeakMapSet m k v, Object 3 ∷ Object 1 ∷ Object 2 ∷ [], Nothing)
     ∷ Did (WeakMapGet x m k, Object 3 ∷ Object 1 ∷ [], Gives Undefined)
     ∷ Did (WeakMapHas x m k, Object 3 ∷ Object 1 ∷ [], Gives (Boolean false))
-    ∷ deleted_again
-
-abbrev pub undefined_entered : History
-undefined_entered = Did (WeakMapSet m k u, Object 3 ∷ Object 1 ∷ Undefined ∷ [], Nothing) ∷ entered_again
+    ∷ Did (WeakMapDelete x m k, Object 3 ∷ Object 1 ∷ [], Gives (Boolean false)) ∷ deleted
 
 abbrev pub closed_entries : History
 closed_entries =
@@ -434,21 +419,17 @@ whole_entries = ([], legal_entries, follows_entries)
 abbrev pub plan_adding : AgentPlan
 plan_adding = plan_of ((New y ∷ WeakSet s ∷ WeakSetHas x s y ∷ WeakSetAdd s y ∷ WeakSetAdd s y ∷ WeakSetHas x s y ∷ WeakSetDelete x s y ∷ WeakSetDelete x s y ∷ WeakSetHas x s y ∷ WeakSetAdd s y ∷ WeakSetHas x s y ∷ []) ∷ [])
 
-abbrev pub added_twice : History
-added_twice =
-    Did (WeakSetAdd s y, Object 2 ∷ Object 1 ∷ [], Nothing)
+abbrev pub deleted_member : History
+deleted_member =
+    Did (WeakSetDelete x s y, Object 2 ∷ Object 1 ∷ [], Gives (Boolean true))
+    ∷ Did (WeakSetHas x s y, Object 2 ∷ Object 1 ∷ [], Gives (Boolean true))
+    ∷ Did (WeakSetAdd s y, Object 2 ∷ Object 1 ∷ [], Nothing)
     ∷ Did (WeakSetAdd s y, Object 2 ∷ Object 1 ∷ [], Nothing)
     ∷ Did (WeakSetHas x s y, Object 2 ∷ Object 1 ∷ [], Gives (Boolean false))
     ∷ Did (WeakSet s, [], Gives (Object 2))
     ∷ Did (New y, [], Gives (Object 1))
     ∷ JobBegun 1
     ∷ []
-
-abbrev pub deleted_member : History
-deleted_member =
-    Did (WeakSetDelete x s y, Object 2 ∷ Object 1 ∷ [], Gives (Boolean true))
-    ∷ Did (WeakSetHas x s y, Object 2 ∷ Object 1 ∷ [], Gives (Boolean true))
-    ∷ added_twice
 
 abbrev pub closed_adding : History
 closed_adding =

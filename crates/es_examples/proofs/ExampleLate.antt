@@ -258,9 +258,10 @@ plan_entry = plan_of (
 abbrev pub into_entry : Receivers
 into_entry = receivers plan_entry.jobs
 
-abbrev pub entered : History
-entered =
-    Did (forget v, [], Gives Undefined)
+abbrev pub copied_entry : History
+copied_entry =
+    opening ∷ JobBegun 2 ∷ JobEnded
+    ∷ Did (forget v, [], Gives Undefined)
     ∷ Did (forget k, [], Gives Undefined)
     ∷ Did (WeakRef w k, Object 2 ∷ [], Gives (Object 4))
     ∷ Did (WeakMapSet m k v, Object 1 ∷ Object 2 ∷ Object 3 ∷ [], Nothing)
@@ -269,9 +270,6 @@ entered =
     ∷ Did (WeakMap m, [], Gives (Object 1))
     ∷ JobBegun 1
     ∷ []
-
-abbrev pub copied_entry : History
-copied_entry = opening ∷ JobBegun 2 ∷ JobEnded ∷ entered
 
 abbrev pub key_given : History
 key_given = Did (Deref x w, Object 4 ∷ [], Gives (Object 2)) ∷ copied_entry

@@ -100,14 +100,11 @@ into_two = receivers plan_two.jobs
 abbrev pub received_two : History
 received_two = Received 2 (Text k) ∷ Skipped 1 1 ∷ []
 
-abbrev pub begun_two : History
-begun_two = JobBegun 2 ∷ received_two
-
-abbrev pub ended_two : History
-ended_two = JobEnded ∷ said m Undefined ∷ said n (Text k) ∷ begun_two
-
 abbrev pub closed_two : History
-closed_two = Closed ∷ JobEnded ∷ said n (Text k) ∷ JobBegun 3 ∷ ended_two
+closed_two =
+    Closed ∷ JobEnded ∷ said n (Text k) ∷ JobBegun 3
+    ∷ JobEnded ∷ said m Undefined ∷ said n (Text k)
+    ∷ JobBegun 2 ∷ received_two
 
 pub legal_two : LegalBy [] into_two closed_two
 legal_two = search rules
@@ -130,11 +127,10 @@ plan_twice = plan_waiting (job_on 1 m (Say m ∷ []) ∷ job_on 1 m (Say m ∷ [
 abbrev pub into_twice : Receivers
 into_twice = receivers plan_twice.jobs
 
-abbrev pub ended_once : History
-ended_once = JobEnded ∷ said m (Boolean true) ∷ JobBegun 1 ∷ Received 1 (Boolean true) ∷ []
-
 abbrev pub closed_twice : History
-closed_twice = Closed ∷ JobEnded ∷ said m (Registered k) ∷ JobBegun 2 ∷ Received 1 (Registered k) ∷ ended_once
+closed_twice =
+    Closed ∷ JobEnded ∷ said m (Registered k) ∷ JobBegun 2 ∷ Received 1 (Registered k)
+    ∷ JobEnded ∷ said m (Boolean true) ∷ JobBegun 1 ∷ Received 1 (Boolean true) ∷ []
 
 pub legal_twice : LegalBy [] into_twice closed_twice
 legal_twice = search rules
@@ -374,45 +370,28 @@ plan_posts =
 abbrev pub into_posts : Receivers
 into_posts = receivers plan_posts.jobs
 
-abbrev pub posted_undefined : History
-posted_undefined = posted u Undefined ∷ JobBegun 1 ∷ []
-
-abbrev pub posted_boolean : History
-posted_boolean = posted b (Boolean true) ∷ Did (Let b (BooleanLiteral true), [], Gives (Boolean true)) ∷ posted_undefined
-
-abbrev pub posted_number : History
-posted_number = posted n (Number (pos 1)) ∷ Did (Let n (NumberLiteral (pos 1)), [], Gives (Number (pos 1))) ∷ posted_boolean
-
-abbrev pub posted_text : History
-posted_text = posted t (Text k) ∷ Did (Let t (TextLiteral k), [], Gives (Text k)) ∷ posted_number
-
-abbrev pub posted_registered : History
-posted_registered = posted f (Registered k) ∷ Did (SymbolFor f k, [], Gives (Registered k)) ∷ posted_text
-
-abbrev pub posted_buffer : History
-posted_buffer = posted s (Object 1) ∷ made_buffer s 1 1 ∷ posted_registered
-
 -- a buffer that was posted can be posted again
 abbrev pub ended_posts : History
-ended_posts = JobEnded ∷ posted s (Object 1) ∷ posted_buffer
-
-abbrev pub made_object : History
-made_object = made_new o 2 ∷ JobBegun 2 ∷ ended_posts
+ended_posts =
+    JobEnded ∷ posted s (Object 1)
+    ∷ posted s (Object 1) ∷ made_buffer s 1 1
+    ∷ posted f (Registered k) ∷ Did (SymbolFor f k, [], Gives (Registered k))
+    ∷ posted t (Text k) ∷ Did (Let t (TextLiteral k), [], Gives (Text k))
+    ∷ posted n (Number (pos 1)) ∷ Did (Let n (NumberLiteral (pos 1)), [], Gives (Number (pos 1)))
+    ∷ posted b (Boolean true) ∷ Did (Let b (BooleanLiteral true), [], Gives (Boolean true))
+    ∷ posted u Undefined ∷ JobBegun 1 ∷ []
 
 abbrev pub refused_object : History
-refused_object = JobEnded ∷ Refused NotPostable ∷ made_object
-
-abbrev pub made_weakref : History
-made_weakref = Did (WeakRef w o, Object 2 ∷ [], Gives (Object 3)) ∷ JobBegun 3 ∷ refused_object
-
-abbrev pub refused_weakref : History
-refused_weakref = JobEnded ∷ Refused NotPostable ∷ made_weakref
-
-abbrev pub made_symbol : History
-made_symbol = Did (Symbol s, [], Gives (SymbolValue 4)) ∷ JobBegun 4 ∷ refused_weakref
+refused_object =
+    JobEnded ∷ Refused NotPostable
+    ∷ made_new o 2 ∷ JobBegun 2 ∷ ended_posts
 
 abbrev pub closed_posts : History
-closed_posts = Closed ∷ JobEnded ∷ Refused NotPostable ∷ made_symbol
+closed_posts =
+    Closed ∷ JobEnded ∷ Refused NotPostable
+    ∷ Did (Symbol s, [], Gives (SymbolValue 4)) ∷ JobBegun 4
+    ∷ JobEnded ∷ Refused NotPostable
+    ∷ Did (WeakRef w o, Object 2 ∷ [], Gives (Object 3)) ∷ JobBegun 3 ∷ refused_object
 
 pub legal_posts : LegalBy one_word into_posts closed_posts
 legal_posts = search rules

@@ -105,18 +105,16 @@ plan_held = plan_with [] ((registry r ∷ New x ∷ New h ∷ Set h p x ∷ Regi
 abbrev pub into_held : Receivers
 into_held = receivers plan_held.jobs
 
-abbrev pub registered_held : History
-registered_held =
-    Did (Register r x h None, Object 1 ∷ Object 2 ∷ Object 3 ∷ [], Nothing)
+abbrev pub forgot_held : History
+forgot_held =
+    forgot h ∷ forgot x
+    ∷ Did (Register r x h None, Object 1 ∷ Object 2 ∷ Object 3 ∷ [], Nothing)
     ∷ Did (Set h p x, Object 3 ∷ Object 2 ∷ [], Nothing)
     ∷ made_new h 3
     ∷ made_new x 2
     ∷ made_registry r 1
     ∷ JobBegun 1
     ∷ []
-
-abbrev pub forgot_held : History
-forgot_held = forgot h ∷ forgot x ∷ registered_held
 
 abbrev pub closed_held : History
 closed_held = Closed ∷ JobEnded ∷ Emptied [] ∷ forgot_held

@@ -64,11 +64,10 @@ forgot_again = forgot x ∷ said_symbol x 1 ∷ Did (Deref x w, Object 2 ∷ [],
 abbrev pub begun_third : History
 begun_third = JobBegun 3 ∷ JobEnded ∷ Emptied [] ∷ forgot_again
 
-abbrev pub emptied_target : History
-emptied_target = Emptied (1 ∷ []) ∷ begun_third
-
 abbrev pub closed_target : History
-closed_target = Closed ∷ JobEnded ∷ Did (Say x, Undefined ∷ [], Nothing) ∷ Did (Deref x w, Object 2 ∷ [], Gives Undefined) ∷ emptied_target
+closed_target =
+    Closed ∷ JobEnded ∷ Did (Say x, Undefined ∷ [], Nothing) ∷ Did (Deref x w, Object 2 ∷ [], Gives Undefined)
+    ∷ Emptied (1 ∷ []) ∷ begun_third
 
 pub kept_target : AreDead into_target forgot_target []
 kept_target = dead_by into_target forgot_target (1 ∷ 2 ∷ []) [] refl (by_keeping into_target forgot_target 1 refl, (by_variable into_target forgot_target w 2 refl, tt))
@@ -116,11 +115,10 @@ forgot_value =
     ∷ JobBegun 1
     ∷ []
 
-abbrev pub got_value : History
-got_value = Did (WeakMapGet x m k, Object 3 ∷ SymbolValue 1 ∷ [], Gives (Object 2)) ∷ Emptied [] ∷ forgot_value
-
 abbrev pub forgot_key : History
-forgot_key = forgot k ∷ forgot x ∷ said_true y ∷ Did (WeakMapHas y m k, Object 3 ∷ SymbolValue 1 ∷ [], Gives (Boolean true)) ∷ got_value
+forgot_key =
+    forgot k ∷ forgot x ∷ said_true y ∷ Did (WeakMapHas y m k, Object 3 ∷ SymbolValue 1 ∷ [], Gives (Boolean true))
+    ∷ Did (WeakMapGet x m k, Object 3 ∷ SymbolValue 1 ∷ [], Gives (Object 2)) ∷ Emptied [] ∷ forgot_value
 
 abbrev pub emptied_key : History
 emptied_key = Emptied (1 ∷ 2 ∷ []) ∷ forgot_key
@@ -171,17 +169,15 @@ into_member = receivers plan_member.jobs
 abbrev pub joined : History
 joined = Did (WeakSetAdd w s, Object 2 ∷ SymbolValue 1 ∷ [], Nothing) ∷ Did (WeakSet w, [], Gives (Object 2)) ∷ made_symbol s 1 ∷ JobBegun 1 ∷ []
 
-abbrev pub said_member : History
-said_member =
-    said_symbol y 1
+abbrev pub forgot_member : History
+forgot_member =
+    forgot y ∷ forgot s ∷ JobBegun 2 ∷ JobEnded
+    ∷ said_symbol y 1
     ∷ Did (Deref y u, Object 3 ∷ [], Gives (SymbolValue 1))
     ∷ Did (WeakRef u s, SymbolValue 1 ∷ [], Gives (Object 3))
     ∷ said_true x
     ∷ Did (WeakSetHas x w s, Object 2 ∷ SymbolValue 1 ∷ [], Gives (Boolean true))
     ∷ joined
-
-abbrev pub forgot_member : History
-forgot_member = forgot y ∷ forgot s ∷ JobBegun 2 ∷ JobEnded ∷ said_member
 
 abbrev pub emptied_member : History
 emptied_member = Emptied (1 ∷ []) ∷ forgot_member
