@@ -17,12 +17,11 @@ use Rattle.es_event.specs.Identities.{made}
 use Rattle.es_event.specs.Jobs.{Receivers, receivers}
 use Rattle.es_event.specs.Sharing.{Buffers, row_at, words_of, block_of, AgreeSoFar, blocks_opened, messages_posted}
 use Rattle.es_event.specs.Rules.{refusal}
-use Rattle.es_event.specs.Legal.{LegalBy}
-use Rattle.es_event.specs.Follows.{FollowsWhole}
 use Rattle.es_event.specs.Runs.{IsWholeRun}
 use Rattle.es_event.specs.Report.{agent_text, line}
 use Rattle.es_event.proofs.Examples.{load, store, add, job_of, job_on, plan_of, plan_with, plan_waiting}
 use Rattle.es_examples.proofs.Letters.{b, m, n, o, p, r, s, u, w, x, y, z}
+use Rattle.es_examples.proofs.Worked.{IsWorked}
 
 -- Variables
 
@@ -75,18 +74,9 @@ closed_words =
     ∷ said y (Number (pos 4294967295))
     ∷ Did (add y b (pos 0) (pos 2), Object 1 ∷ [], Gives (Number (pos 4294967295))) ∷ said_first
 
-pub legal_words : LegalBy one_word into_words closed_words
-legal_words = search rules
-
-pub follows_words : FollowsWhole one_word plan_words closed_words
-follows_words = search rules
-
-pub whole_words : IsWholeRun plan_words closed_words
-whole_words = (one_word, legal_words, follows_words)
-
-pub reported_words : agent_text plan_words.name (reverse closed_words) ≡ codes "agent a\nsay 4294967295\nsay 4294967295\nsay 1\nend live 0 awaiting 0 unregistered 0 taken 0\n"
+pub worked_words : IsWorked one_word plan_words closed_words (codes "agent a\nsay 4294967295\nsay 4294967295\nsay 1\nend live 0 awaiting 0 unregistered 0 taken 0\n")
 unfolding digits
-reported_words = refl
+worked_words = record { whole = (search rules, search rules); report = refl }
 
 -- A block of no words
 
@@ -108,18 +98,9 @@ said_length = said n (Number (pos 0)) ∷ Did (Length n b, Object 1 ∷ [], Give
 abbrev pub closed_empty : History
 closed_empty = Closed ∷ JobEnded ∷ Refused IndexOutOfRange ∷ said_length
 
-pub legal_empty : LegalBy no_word into_empty closed_empty
-legal_empty = search rules
-
-pub follows_empty : FollowsWhole no_word plan_empty closed_empty
-follows_empty = search rules
-
-pub whole_empty : IsWholeRun plan_empty closed_empty
-whole_empty = (no_word, legal_empty, follows_empty)
-
-pub reported_empty : agent_text plan_empty.name (reverse closed_empty) ≡ codes "agent a\nsay 0\nerror RangeError: index\nend live 0 awaiting 0 unregistered 0 taken 0\n"
+pub worked_empty : IsWorked no_word plan_empty closed_empty (codes "agent a\nsay 0\nerror RangeError: index\nend live 0 awaiting 0 unregistered 0 taken 0\n")
 unfolding digits
-reported_empty = refl
+worked_empty = record { whole = (search rules, search rules); report = refl }
 
 -- A buffer, and one that is received: over one block, or over two
 
@@ -153,31 +134,13 @@ closed_one = closed_same (Boolean true)
 abbrev pub closed_two : History
 closed_two = closed_same (Boolean false)
 
-pub legal_one : LegalBy one_block into_same closed_one
-legal_one = search rules
-
-pub follows_one : FollowsWhole one_block plan_same closed_one
-follows_one = search rules
-
-pub whole_one : IsWholeRun plan_same closed_one
-whole_one = (one_block, legal_one, follows_one)
-
-pub reported_one : agent_text plan_same.name (reverse closed_one) ≡ codes "agent a\nsay true\nsay true\nend live 0 awaiting 0 unregistered 0 taken 0\n"
+pub worked_one : IsWorked one_block plan_same closed_one (codes "agent a\nsay true\nsay true\nend live 0 awaiting 0 unregistered 0 taken 0\n")
 unfolding digits
-reported_one = refl
+worked_one = record { whole = (search rules, search rules); report = refl }
 
-pub legal_two : LegalBy two_blocks into_same closed_two
-legal_two = search rules
-
-pub follows_two : FollowsWhole two_blocks plan_same closed_two
-follows_two = search rules
-
-pub whole_two : IsWholeRun plan_same closed_two
-whole_two = (two_blocks, legal_two, follows_two)
-
-pub reported_two : agent_text plan_same.name (reverse closed_two) ≡ codes "agent a\nsay false\nsay true\nend live 0 awaiting 0 unregistered 0 taken 0\n"
+pub worked_two : IsWorked two_blocks plan_same closed_two (codes "agent a\nsay false\nsay true\nend live 0 awaiting 0 unregistered 0 taken 0\n")
 unfolding digits
-reported_two = refl
+worked_two = record { whole = (search rules, search rules); report = refl }
 
 -- What is refused: an object that is no buffer, undefined, an index below 0, and one that is the number of words
 
@@ -230,14 +193,8 @@ closed_refused =
     ∷ JobEnded ∷ Refused NotASharedArrayBuffer ∷ JobBegun 7
     ∷ JobEnded ∷ Refused NotASharedArrayBuffer ∷ JobBegun 6 ∷ refused_add
 
-pub legal_refused : LegalBy two_words into_refused closed_refused
-legal_refused = search rules
-
-pub follows_refused : FollowsWhole two_words plan_refused closed_refused
-follows_refused = search rules
-
 pub whole_refused : IsWholeRun plan_refused closed_refused
-whole_refused = (two_words, legal_refused, follows_refused)
+whole_refused = (two_words, search rules, search rules)
 
 pub reported_refused : agent_text plan_refused.name (reverse refused_below) ≡ codes "agent a\nerror TypeError: not a SharedArrayBuffer\nerror TypeError: not a SharedArrayBuffer\nerror RangeError: index\nend live 0 awaiting 0 unregistered 0 taken 0\n"
 unfolding digits
@@ -296,14 +253,8 @@ closed_object =
     ∷ Did (WeakMapHas y m b, Object 3 ∷ Object 1 ∷ [], Gives (Boolean true)) ∷ Did (WeakMapSet m b b, Object 3 ∷ Object 1 ∷ Object 1 ∷ [], Nothing)
     ∷ Did (WeakMap m, [], Gives (Object 3)) ∷ JobBegun 7 ∷ JobEnded ∷ Refused NotASharedArrayBuffer ∷ begun_length
 
-pub legal_object : LegalBy three_words into_object closed_object
-legal_object = search rules
-
-pub follows_object : FollowsWhole three_words plan_object closed_object
-follows_object = search rules
-
 pub whole_object : IsWholeRun plan_object closed_object
-whole_object = (three_words, legal_object, follows_object)
+whole_object = (three_words, search rules, search rules)
 
 pub reported_object : agent_text plan_object.name (reverse said_same) ≡ codes "agent a\nkeys p\nsay object 1\nsay true\nend live 0 awaiting 0 unregistered 0 taken 0\n"
 unfolding digits
@@ -321,14 +272,8 @@ closed_kinds =
     ∷ Did (WeakSet s, [], Gives (Object 2)) ∷ JobBegun 2 ∷ JobEnded ∷ Refused NotASharedArrayBuffer
     ∷ Did (WeakMap m, [], Gives (Object 1)) ∷ JobBegun 1 ∷ []
 
-pub legal_kinds : LegalBy [] (receivers plan_kinds.jobs) closed_kinds
-legal_kinds = search rules
-
-pub follows_kinds : FollowsWhole [] plan_kinds closed_kinds
-follows_kinds = search rules
-
 pub whole_kinds : IsWholeRun plan_kinds closed_kinds
-whole_kinds = ([], legal_kinds, follows_kinds)
+whole_kinds = ([], search rules, search rules)
 
 -- Tables
 

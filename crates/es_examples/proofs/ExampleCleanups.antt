@@ -21,6 +21,7 @@ use Rattle.es_event.proofs.Deciding.{dead_by, by_variable, by_registry, by_cell}
 use Rattle.es_event.proofs.Dead.{not_live}
 use Rattle.es_examples.proofs.ExampleRegistries.{registry, number, forget, made_registry, made_new, let_number, forgot}
 use Rattle.es_examples.proofs.Letters.{b, h, i, n, p, q, r, t, x, y}
+use Rattle.es_examples.proofs.Worked.{IsWorked}
 
 -- A registry that no variable holds stays, and cleans up; its cleanup job comes before the plan's next job
 
@@ -62,12 +63,9 @@ registry_stays = dead_by into_forgotten forgot_both (1 ∷ []) (2 ∷ []) refl (
 follows_forgotten : Follows [] plan_forgotten forgot_both
 follows_forgotten = search rules
 
-pub whole_forgotten : IsWholeRun plan_forgotten closed_forgotten
-whole_forgotten = ([], search rules, ((tt, (tt, (refl, (refl, (tt, (refl, (refl, (refl, (tt, ((refl, registry_stays), follows_forgotten)))))))))), refl))
-
-pub reported_forgotten : agent_text plan_forgotten.name (reverse closed_forgotten) ≡ codes "agent a\nemptied 1\ncleanup 1 held 1\nsay 1\nsay 1\nend live 0 awaiting 0 unregistered 0 taken 1\n"
+pub worked_forgotten : IsWorked [] plan_forgotten closed_forgotten (codes "agent a\nemptied 1\ncleanup 1 held 1\nsay 1\nsay 1\nend live 0 awaiting 0 unregistered 0 taken 1\n")
 unfolding digits
-reported_forgotten = refl
+worked_forgotten = record { whole = (search rules, ((tt, (tt, (refl, (refl, (tt, (refl, (refl, (refl, (tt, ((refl, registry_stays), follows_forgotten)))))))))), refl)); report = refl }
 
 -- until it is taken the registration awaits its cleanup
 pub awaits_its_cleanup : tally ended_forgotten awaiting ≡ 1
@@ -161,12 +159,9 @@ dead_late = dead_by into_late forgot_late (1 ∷ 3 ∷ []) (2 ∷ []) refl (by_v
 follows_late : Follows [] plan_late forgot_late
 follows_late = search rules
 
-pub whole_late : IsWholeRun plan_late closed_late
-whole_late = ([], search rules, ((tt, (tt, (refl, (refl, (refl, (tt, (refl, (refl, (tt, ((refl, dead_late), follows_late)))))))))), refl))
-
-pub reported_late : agent_text plan_late.name (reverse closed_late) ≡ codes "agent a\nemptied 1\ncleanup 1 held 1\nsay false\nend live 0 awaiting 0 unregistered 0 taken 1\n"
+pub worked_late : IsWorked [] plan_late closed_late (codes "agent a\nemptied 1\ncleanup 1 held 1\nsay false\nend live 0 awaiting 0 unregistered 0 taken 1\n")
 unfolding digits
-reported_late = refl
+worked_late = record { whole = (search rules, ((tt, (tt, (refl, (refl, (refl, (tt, (refl, (refl, (tt, ((refl, dead_late), follows_late)))))))))), refl)); report = refl }
 
 pub taken_for_good : fate closed_late 1 ≡ taken
 taken_for_good = refl
@@ -428,9 +423,6 @@ closed_allowed =
     ∷ Did (Say b, Boolean false ∷ [], Nothing)
     ∷ looked_in_another
 
-pub whole_allowed : IsWholeRun plan_allowed closed_allowed
-whole_allowed = ([], search rules, search rules)
-
-pub reported_allowed : agent_text plan_allowed.name (reverse closed_allowed) ≡ codes "agent a\nsay false\nsay true\nsay false\nend live 1 awaiting 0 unregistered 1 taken 0\n"
+pub worked_allowed : IsWorked [] plan_allowed closed_allowed (codes "agent a\nsay false\nsay true\nsay false\nend live 1 awaiting 0 unregistered 1 taken 0\n")
 unfolding digits
-reported_allowed = refl
+worked_allowed = record { whole = (search rules, search rules); report = refl }

@@ -1,5 +1,5 @@
 -- Entries of WeakMaps and members of WeakSets: what they hold, what they keep, and what goes with their keys.
-use Rattle.std.proofs.Common.{◌≡◌, ℕ, true, false, refl, List, [], ◌∷◌, Some, None, inr, Ok, reverse, codes, rules}
+use Rattle.std.proofs.Common.{◌≡◌, ℕ, true, false, refl, List, [], ◌∷◌, Some, None, inr, Ok, codes, rules}
 use Rattle.std.specs.Prelude.{pos}
 use Rattle.std.specs.Fmt.{digits}
 use Rattle.es_value.specs.declared.value.Value.TheVariants.{Undefined, Boolean, Number, Registered, Object, Symbol as SymbolValue}
@@ -19,11 +19,11 @@ use Rattle.es_event.specs.Reach.{AreDead, IsHeld, in_variable, in_entry}
 use Rattle.es_event.specs.Live.{Live}
 use Rattle.es_event.specs.Follows.{Follows, FollowsWhole}
 use Rattle.es_event.specs.Runs.{IsWholeRun}
-use Rattle.es_event.specs.Report.{agent_text}
 use Rattle.es_event.proofs.Examples.{plan_of, IsUnlawful, IsOutOfPlace}
 use Rattle.es_event.proofs.Deciding.{dead_by, other_set, by_variable, by_entry}
 use Rattle.es_event.proofs.Dead.{not_live}
 use Rattle.es_examples.proofs.Letters.{a, b, f, k, l, m, n, p, s, t, u, v, x, y}
+use Rattle.es_examples.proofs.Worked.{IsWorked}
 
 abbrev pub forget : List ℕ → Command
 forget x = Let x NoLiteral
@@ -72,12 +72,9 @@ dead_chain = dead_by into_chain no_key_held (4 ∷ []) (1 ∷ 2 ∷ 3 ∷ []) re
 follows_chain : Follows [] plan_chain first_key_held
 follows_chain = search rules
 
-pub whole_chain : IsWholeRun plan_chain closed_chain
-whole_chain = ([], search rules, ((tt, (tt, ((refl, dead_chain), (refl, ((refl, reached_along_the_chain), follows_chain))))), refl))
-
-pub reported_chain : agent_text plan_chain.name (reverse closed_chain) ≡ codes "agent a\nemptied 0\nemptied 3\nend live 0 awaiting 0 unregistered 0 taken 0\n"
+pub worked_chain : IsWorked [] plan_chain closed_chain (codes "agent a\nemptied 0\nemptied 3\nend live 0 awaiting 0 unregistered 0 taken 0\n")
 unfolding digits
-reported_chain = refl
+worked_chain = record { whole = (search rules, ((tt, (tt, ((refl, dead_chain), (refl, ((refl, reached_along_the_chain), follows_chain))))), refl)); report = refl }
 
 -- A value that leads to its own key does not keep the key
 
@@ -111,12 +108,9 @@ dead_with_its_key = dead_by into_own_key leads_back (3 ∷ []) (1 ∷ 2 ∷ []) 
 follows_own_key : Follows [] plan_own_key leads_back
 follows_own_key = search rules
 
-pub whole_own_key : IsWholeRun plan_own_key closed_own_key
-whole_own_key = ([], search rules, ((tt, (tt, ((refl, dead_with_its_key), follows_own_key))), refl))
-
-pub reported_own_key : agent_text plan_own_key.name (reverse closed_own_key) ≡ codes "agent a\nemptied 2\nend live 0 awaiting 0 unregistered 0 taken 0\n"
+pub worked_own_key : IsWorked [] plan_own_key closed_own_key (codes "agent a\nemptied 2\nend live 0 awaiting 0 unregistered 0 taken 0\n")
 unfolding digits
-reported_own_key = refl
+worked_own_key = record { whole = (search rules, ((tt, (tt, ((refl, dead_with_its_key), follows_own_key))), refl)); report = refl }
 
 -- An entry's value where both its WeakMap and its key are held, where only the key is, and where only the WeakMap is
 
@@ -251,12 +245,9 @@ dead_member = dead_by into_members forgot_member (2 ∷ 3 ∷ []) (1 ∷ []) ref
 follows_members : Follows [] plan_members forgot_member
 follows_members = search rules
 
-pub whole_members : IsWholeRun plan_members closed_members
-whole_members = ([], search rules, ((tt, (tt, (refl, (refl, (refl, (refl, ((refl, dead_member), follows_members))))))), refl))
-
-pub reported_members : agent_text plan_members.name (reverse closed_members) ≡ codes "agent a\nemptied 1\nsay true\nsay false\nend live 0 awaiting 0 unregistered 0 taken 0\n"
+pub worked_members : IsWorked [] plan_members closed_members (codes "agent a\nemptied 1\nsay true\nsay false\nend live 0 awaiting 0 unregistered 0 taken 0\n")
 unfolding digits
-reported_members = refl
+worked_members = record { whole = (search rules, ((tt, (tt, (refl, (refl, (refl, (refl, ((refl, dead_member), follows_members))))))), refl)); report = refl }
 
 -- what was emptied was a member before and is none afterwards; the other member is one
 pub member_before : is_member forgot_member 3 1 ≡ true
@@ -354,18 +345,9 @@ closed_refusals =
     ∷ Refused NotAWeakSet
     ∷ begun_wrong_set
 
-pub legal_refusals : LegalBy [] (receivers plan_refusals.jobs) closed_refusals
-legal_refusals = search rules
-
-pub follows_refusals : FollowsWhole [] plan_refusals closed_refusals
-follows_refusals = search rules
-
-pub whole_refusals : IsWholeRun plan_refusals closed_refusals
-whole_refusals = ([], legal_refusals, follows_refusals)
-
-pub reported_refusals : agent_text plan_refusals.name (reverse closed_refusals) ≡ codes "agent a\nsay undefined\nsay false\nsay false\nsay false\nsay false\nerror TypeError: cannot be held weakly\nerror TypeError: cannot be held weakly\nerror TypeError: cannot be held weakly\nerror TypeError: cannot be held weakly\nerror TypeError: not a WeakMap\nerror TypeError: not a WeakSet\nerror TypeError: not a WeakMap\nerror TypeError: not a WeakMap\nerror TypeError: not a WeakMap\nerror TypeError: not a WeakSet\nerror TypeError: not a WeakSet\nend live 0 awaiting 0 unregistered 0 taken 0\n"
+pub worked_refusals : IsWorked [] plan_refusals closed_refusals (codes "agent a\nsay undefined\nsay false\nsay false\nsay false\nsay false\nerror TypeError: cannot be held weakly\nerror TypeError: cannot be held weakly\nerror TypeError: cannot be held weakly\nerror TypeError: cannot be held weakly\nerror TypeError: not a WeakMap\nerror TypeError: not a WeakSet\nerror TypeError: not a WeakMap\nerror TypeError: not a WeakMap\nerror TypeError: not a WeakMap\nerror TypeError: not a WeakSet\nerror TypeError: not a WeakSet\nend live 0 awaiting 0 unregistered 0 taken 0\n")
 unfolding digits
-reported_refusals = refl
+worked_refusals = record { whole = (search rules, search rules); report = refl }
 
 -- The newest set or delete of a key says what is under it; an entry of undefined is an entry
 
@@ -405,14 +387,8 @@ closed_entries =
     ∷ Did (WeakMapGet x m k, Object 3 ∷ Object 1 ∷ [], Gives Undefined)
     ∷ undefined_entered
 
-pub legal_entries : LegalBy [] (receivers plan_entries.jobs) closed_entries
-legal_entries = search rules
-
-pub follows_entries : FollowsWhole [] plan_entries closed_entries
-follows_entries = search rules
-
 pub whole_entries : IsWholeRun plan_entries closed_entries
-whole_entries = ([], legal_entries, follows_entries)
+whole_entries = ([], search rules, search rules)
 
 -- The same of members: one that was deleted can be added again, and one that is added twice is deleted once
 
@@ -441,14 +417,8 @@ closed_adding =
     ∷ Did (WeakSetDelete x s y, Object 2 ∷ Object 1 ∷ [], Gives (Boolean false))
     ∷ deleted_member
 
-pub legal_adding : LegalBy [] (receivers plan_adding.jobs) closed_adding
-legal_adding = search rules
-
-pub follows_adding : FollowsWhole [] plan_adding closed_adding
-follows_adding = search rules
-
 pub whole_adding : IsWholeRun plan_adding closed_adding
-whole_adding = ([], legal_adding, follows_adding)
+whole_adding = ([], search rules, search rules)
 
 -- Two WeakMaps, a WeakMap and a WeakSet: an entry or a member is one of its own alone, and no property
 

@@ -1,6 +1,6 @@
 -- Later collections: what died since stays, a deref revives its target and what that reaches, a WeakMap's entry comes back with its key, a cell's
 -- target goes, a refused job still finishes, and while one is open another is refused.
-use Rattle.std.proofs.Common.{◌≡◌, true, false, refl, [], ◌∷◌, reverse, None, codes, rules}
+use Rattle.std.proofs.Common.{◌≡◌, true, false, refl, [], ◌∷◌, None, codes, rules}
 use Rattle.std.specs.Prelude.{pos}
 use Rattle.std.specs.Fmt.{digits}
 use Rattle.es_value.specs.declared.value.Value.TheVariants.{Undefined, Number, Object}
@@ -17,12 +17,12 @@ use Rattle.es_event.specs.Late.{AreLate}
 use Rattle.es_event.specs.Reach.{AreDead}
 use Rattle.es_event.specs.Follows.{Follows}
 use Rattle.es_event.specs.Runs.{IsWholeRun}
-use Rattle.es_event.specs.Report.{agent_text}
 use Rattle.es_event.proofs.Examples.{plan_of, plan_with, IsUnlawful, IsOutOfPlace}
 use Rattle.es_examples.proofs.ExampleCollect.{new, forget}
 use Rattle.es_event.proofs.Deciding.{dead_by, by_variable, by_registry, by_cell}
 use Rattle.es_examples.proofs.DecidingLate.{late_by, other_late, by_root, by_deref, on_by_property, on_by_entry}
 use Rattle.es_examples.proofs.Letters.{a, h, k, m, p, q, r, v, w, x, y, z}
+use Rattle.es_examples.proofs.Worked.{IsWorked}
 
 -- the event by which a later collection is opened
 abbrev pub opening : Event
@@ -84,12 +84,9 @@ dead_in_the_next_job = dead_by into_revived next_job (3 ∷ []) (1 ∷ 2 ∷ [])
 follows_to_finish : Follows [] plan_revived to_finish
 follows_to_finish = search rules
 
-pub whole_revived : IsWholeRun plan_revived closed
-whole_revived = ([], search rules, ((tt, (tt, ((refl, dead_in_the_next_job), (refl, (tt, (late_without_the_revived, follows_to_finish)))))), refl))
-
-pub reported_revived : agent_text plan_revived.name (reverse closed) ≡ codes "agent a\nemptied 1\nemptied 2\nend live 0 awaiting 0 unregistered 0 taken 0\n"
+pub worked_revived : IsWorked [] plan_revived closed (codes "agent a\nemptied 1\nemptied 2\nend live 0 awaiting 0 unregistered 0 taken 0\n")
 unfolding digits
-reported_revived = refl
+worked_revived = record { whole = (search rules, ((tt, (tt, ((refl, dead_in_the_next_job), (refl, (tt, (late_without_the_revived, follows_to_finish)))))), refl)); report = refl }
 
 -- Wrong neighbours
 
@@ -150,12 +147,9 @@ dead_later = dead_by into_since (JobBegun 2 ∷ JobEnded ∷ Emptied [] ∷ made
 follows_since : Follows [] plan_since made_since
 follows_since = search rules
 
-pub whole_since : IsWholeRun plan_since closed_since
-whole_since = ([], search rules, ((tt, (tt, ((refl, dead_later), (refl, (tt, (nothing_late, follows_since)))))), refl))
-
-pub reported_since : agent_text plan_since.name (reverse closed_since) ≡ codes "agent a\nemptied 0\nemptied 1\nend live 0 awaiting 0 unregistered 0 taken 0\n"
+pub worked_since : IsWorked [] plan_since closed_since (codes "agent a\nemptied 0\nemptied 1\nend live 0 awaiting 0 unregistered 0 taken 0\n")
 unfolding digits
-reported_since = refl
+worked_since = record { whole = (search rules, ((tt, (tt, ((refl, dead_later), (refl, (tt, (nothing_late, follows_since)))))), refl)); report = refl }
 
 -- what was made since is emptied
 empties_what_was_made_since : IsOutOfPlace plan_since made_since (Emptied (1 ∷ []))
@@ -181,12 +175,9 @@ late_twice = late_by into_twice copied_first [] [] [] refl tt
 follows_twice : Follows [] plan_twice refused_second
 follows_twice = search rules
 
-pub whole_twice : IsWholeRun plan_twice closed_twice
-whole_twice = ([], search rules, ((tt, (tt, (late_twice, follows_twice))), refl))
-
-pub reported_twice : agent_text plan_twice.name (reverse closed_twice) ≡ codes "agent a\nerror a collection is open\nemptied 0\nend live 0 awaiting 0 unregistered 0 taken 0\n"
+pub worked_twice : IsWorked [] plan_twice closed_twice (codes "agent a\nerror a collection is open\nemptied 0\nend live 0 awaiting 0 unregistered 0 taken 0\n")
 unfolding digits
-reported_twice = refl
+worked_twice = record { whole = (search rules, ((tt, (tt, (late_twice, follows_twice))), refl)); report = refl }
 
 -- a collection is made while one is open
 collects_while_open : IsOutOfPlace plan_twice copied_first (Emptied [])
@@ -239,12 +230,9 @@ late_stopped = late_by into_stopped copied_after [] (2 ∷ []) (1 ∷ []) refl (
 follows_stopped : Follows [] plan_stopped stopped
 follows_stopped = search rules
 
-pub whole_stopped : IsWholeRun plan_stopped closed_stopped
-whole_stopped = ([], search rules, ((tt, (tt, (late_stopped, follows_stopped))), refl))
-
-pub reported_stopped : agent_text plan_stopped.name (reverse closed_stopped) ≡ codes "agent a\nerror TypeError: not an object\nemptied 1\nend live 0 awaiting 0 unregistered 0 taken 0\n"
+pub worked_stopped : IsWorked [] plan_stopped closed_stopped (codes "agent a\nerror TypeError: not an object\nemptied 1\nend live 0 awaiting 0 unregistered 0 taken 0\n")
 unfolding digits
-reported_stopped = refl
+worked_stopped = record { whole = (search rules, ((tt, (tt, (late_stopped, follows_stopped))), refl)); report = refl }
 
 -- A WeakMap's entry comes back with its key
 
@@ -338,12 +326,9 @@ late_target = late_by into_cell copied_cell [] (1 ∷ 3 ∷ []) (2 ∷ []) refl 
 follows_cell : Follows [] plan_cell copied_cell
 follows_cell = search rules
 
-pub whole_cell : IsWholeRun plan_cell closed_cell
-whole_cell = ([], search rules, ((tt, (tt, (refl, (refl, (refl, (tt, (late_target, follows_cell))))))), refl))
-
-pub reported_cell : agent_text plan_cell.name (reverse closed_cell) ≡ codes "agent a\nemptied 1\ncleanup 1 held object 3\nsay object 3\nend live 0 awaiting 0 unregistered 0 taken 1\n"
+pub worked_cell : IsWorked [] plan_cell closed_cell (codes "agent a\nemptied 1\ncleanup 1 held object 3\nsay object 3\nend live 0 awaiting 0 unregistered 0 taken 1\n")
 unfolding digits
-reported_cell = refl
+worked_cell = record { whole = (search rules, ((tt, (tt, (refl, (refl, (refl, (tt, (late_target, follows_cell))))))), refl)); report = refl }
 
 -- what the cell holds is emptied
 empties_the_held : IsOutOfPlace plan_cell copied_cell (Emptied (2 ∷ 3 ∷ []))

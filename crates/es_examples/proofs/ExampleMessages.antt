@@ -18,7 +18,6 @@ use Rattle.es_event.specs.Jobs.{Receivers, receivers}
 use Rattle.es_event.specs.Variables.{var}
 use Rattle.es_event.specs.Sharing.{Buffers}
 use Rattle.es_event.specs.Rules.{refusal}
-use Rattle.es_event.specs.Legal.{LegalBy}
 use Rattle.es_event.specs.Reach.{AreDead}
 use Rattle.es_event.specs.Live.{Oblivious, Live}
 use Rattle.es_event.specs.Order.{begin, receive, end_job, due}
@@ -30,6 +29,7 @@ use Rattle.es_event.proofs.Deciding.{dead_by, other_set, by_variable}
 use Rattle.es_event.proofs.Dead.{not_live}
 use Rattle.es_examples.proofs.ExampleBuffers.{one_word, said, made_buffer, made_new}
 use Rattle.es_examples.proofs.Letters.{b, e, f, h, k, m, n, o, r, s, t, u, w, x}
+use Rattle.es_examples.proofs.Worked.{IsWorked}
 
 abbrev pub posted : List ℕ → Value → Event
 posted from v = Did (Post 1 from, v ∷ [], Nothing)
@@ -51,18 +51,9 @@ begun = JobBegun 1 ∷ received
 abbrev pub closed : History
 closed = Closed ∷ JobEnded ∷ said m (Number (pos 1)) ∷ begun
 
-pub legal : LegalBy [] into_number closed
-legal = search rules
-
-pub follows : FollowsWhole [] plan_number closed
-follows = search rules
-
-pub whole : IsWholeRun plan_number closed
-whole = ([], legal, follows)
-
-pub reported : agent_text plan_number.name (reverse closed) ≡ codes "agent a\nsay 1\nend live 0 awaiting 0 unregistered 0 taken 0\n"
+pub worked : IsWorked [] plan_number closed (codes "agent a\nsay 1\nend live 0 awaiting 0 unregistered 0 taken 0\n")
 unfolding digits
-reported = refl
+worked = record { whole = (search rules, search rules); report = refl }
 
 -- The same plan where no message comes
 
@@ -72,18 +63,9 @@ skipped = Skipped 1 1 ∷ []
 abbrev pub closed_skipped : History
 closed_skipped = Closed ∷ skipped
 
-pub legal_skipped : LegalBy [] into_number closed_skipped
-legal_skipped = search rules
-
-pub follows_skipped : FollowsWhole [] plan_number closed_skipped
-follows_skipped = search rules
-
-pub whole_skipped : IsWholeRun plan_number closed_skipped
-whole_skipped = ([], legal_skipped, follows_skipped)
-
-pub reported_skipped : agent_text plan_number.name (reverse closed_skipped) ≡ codes "agent a\nskipped 1\nend live 0 awaiting 0 unregistered 0 taken 0\n"
+pub worked_skipped : IsWorked [] plan_number closed_skipped (codes "agent a\nskipped 1\nend live 0 awaiting 0 unregistered 0 taken 0\n")
 unfolding digits
-reported_skipped = refl
+worked_skipped = record { whole = (search rules, search rules); report = refl }
 
 -- the variable stays undefined
 stays_undefined : var into_number closed_skipped m ≡ Undefined
@@ -106,18 +88,9 @@ closed_two =
     ∷ JobEnded ∷ said m Undefined ∷ said n (Text k)
     ∷ JobBegun 2 ∷ received_two
 
-pub legal_two : LegalBy [] into_two closed_two
-legal_two = search rules
-
-pub follows_two : FollowsWhole [] plan_two closed_two
-follows_two = search rules
-
-pub whole_two : IsWholeRun plan_two closed_two
-whole_two = ([], legal_two, follows_two)
-
-pub reported_two : agent_text plan_two.name (reverse closed_two) ≡ codes "agent a\nskipped 1\nsay \"k\"\nsay undefined\nsay \"k\"\nend live 0 awaiting 0 unregistered 0 taken 0\n"
+pub worked_two : IsWorked [] plan_two closed_two (codes "agent a\nskipped 1\nsay \"k\"\nsay undefined\nsay \"k\"\nend live 0 awaiting 0 unregistered 0 taken 0\n")
 unfolding digits
-reported_two = refl
+worked_two = record { whole = (search rules, search rules); report = refl }
 
 -- Two messages of one sender, one job each: the second replaces the first
 
@@ -132,18 +105,9 @@ closed_twice =
     Closed ∷ JobEnded ∷ said m (Registered k) ∷ JobBegun 2 ∷ Received 1 (Registered k)
     ∷ JobEnded ∷ said m (Boolean true) ∷ JobBegun 1 ∷ Received 1 (Boolean true) ∷ []
 
-pub legal_twice : LegalBy [] into_twice closed_twice
-legal_twice = search rules
-
-pub follows_twice : FollowsWhole [] plan_twice closed_twice
-follows_twice = search rules
-
-pub whole_twice : IsWholeRun plan_twice closed_twice
-whole_twice = ([], legal_twice, follows_twice)
-
-pub reported_twice : agent_text plan_twice.name (reverse closed_twice) ≡ codes "agent a\nsay true\nsay symbolfor \"k\"\nend live 0 awaiting 0 unregistered 0 taken 0\n"
+pub worked_twice : IsWorked [] plan_twice closed_twice (codes "agent a\nsay true\nsay symbolfor \"k\"\nend live 0 awaiting 0 unregistered 0 taken 0\n")
 unfolding digits
-reported_twice = refl
+worked_twice = record { whole = (search rules, search rules); report = refl }
 
 -- A buffer is received: it stays as long as its variable holds it
 
@@ -188,21 +152,15 @@ not_dead_before d = other_set into_buffer begun_collecting (1 ∷ []) [] 1 d non
 not_left_afterwards : AreDead into_buffer forgot [] → ⊥
 not_left_afterwards d = other_set into_buffer forgot (1 ∷ []) [] 1 dead_once_forgotten d refl refl
 
-pub legal_buffer : LegalBy four_words into_buffer closed_buffer
-legal_buffer = search rules
-
 follows_first : Follows four_words plan_buffer begun_collecting
 follows_first = search rules
 
 pub follows_buffer : FollowsWhole four_words plan_buffer closed_buffer
 follows_buffer = ((tt, (tt, ((refl, dead_once_forgotten), (refl, (refl, ((refl, none_dead), follows_first)))))), refl)
 
-pub whole_buffer : IsWholeRun plan_buffer closed_buffer
-whole_buffer = (four_words, legal_buffer, follows_buffer)
-
-pub reported_buffer : agent_text plan_buffer.name (reverse closed_buffer) ≡ codes "agent a\nsay 4\nemptied 0\nsay object 1\nemptied 1\nend live 0 awaiting 0 unregistered 0 taken 0\n"
+pub worked_buffer : IsWorked four_words plan_buffer closed_buffer (codes "agent a\nsay 4\nemptied 0\nsay object 1\nemptied 1\nend live 0 awaiting 0 unregistered 0 taken 0\n")
 unfolding digits
-reported_buffer = refl
+worked_buffer = record { whole = (search rules, follows_buffer); report = refl }
 
 -- Liveness: a buffer that a variable holds is live, as any object is
 
@@ -258,12 +216,9 @@ dead_replaced = dead_by into_replaced begun_replaced [] (1 ∷ []) refl tt
 follows_begun_replaced : Follows [] plan_replaced begun_replaced
 follows_begun_replaced = search rules
 
-pub whole_replaced : IsWholeRun plan_replaced closed_replaced
-whole_replaced = ([], search rules, ((tt, (tt, (refl, ((refl, dead_replaced), follows_begun_replaced)))), refl))
-
-pub reported_replaced : agent_text plan_replaced.name (reverse closed_replaced) ≡ codes "agent a\nemptied 1\nsay 1\nend live 0 awaiting 0 unregistered 0 taken 0\n"
+pub worked_replaced : IsWorked [] plan_replaced closed_replaced (codes "agent a\nemptied 1\nsay 1\nend live 0 awaiting 0 unregistered 0 taken 0\n")
 unfolding digits
-reported_replaced = refl
+worked_replaced = record { whole = (search rules, ((tt, (tt, (refl, ((refl, dead_replaced), follows_begun_replaced)))), refl)); report = refl }
 
 -- A skip replaces nothing
 
@@ -299,12 +254,9 @@ dead_posted = dead_by into_posted begun_posted (2 ∷ []) (1 ∷ []) refl (by_va
 follows_begun_posted : Follows one_word plan_posted begun_posted
 follows_begun_posted = search rules
 
-pub whole_posted : IsWholeRun plan_posted closed_posted
-whole_posted = (one_word, search rules, ((tt, (tt, (refl, (refl, ((refl, dead_posted), follows_begun_posted))))), refl))
-
-pub reported_posted : agent_text plan_posted.name (reverse closed_posted) ≡ codes "agent a\nemptied 1\nsay undefined\nend live 0 awaiting 0 unregistered 0 taken 0\n"
+pub worked_posted : IsWorked one_word plan_posted closed_posted (codes "agent a\nemptied 1\nsay undefined\nend live 0 awaiting 0 unregistered 0 taken 0\n")
 unfolding digits
-reported_posted = refl
+worked_posted = record { whole = (search rules, ((tt, (tt, (refl, (refl, ((refl, dead_posted), follows_begun_posted))))), refl)); report = refl }
 
 -- A cleanup job comes before a message
 
@@ -341,21 +293,15 @@ follows_forgot_x = search rules
 pub follows_cleaned : Follows [] plan_cleanup cleaned
 follows_cleaned = (tt, (refl, (refl, (tt, ((refl, dead_cleanup), follows_forgot_x)))))
 
-pub whole_cleanup : IsWholeRun plan_cleanup closed_cleanup
-whole_cleanup = ([], search rules, ((tt, (tt, (refl, (refl, ((refl, tt), follows_cleaned))))), refl))
-
-pub whole_cleanup_skipped : IsWholeRun plan_cleanup closed_cleanup_skipped
-whole_cleanup_skipped = ([], search rules, ((tt, ((refl, refl), follows_cleaned)), refl))
-
-pub reported_cleanup : agent_text plan_cleanup.name (reverse closed_cleanup) ≡ codes "agent a\nemptied 1\ncleanup 1 held undefined\nsay true\nend live 0 awaiting 0 unregistered 0 taken 1\n"
+pub worked_cleanup : IsWorked [] plan_cleanup closed_cleanup (codes "agent a\nemptied 1\ncleanup 1 held undefined\nsay true\nend live 0 awaiting 0 unregistered 0 taken 1\n")
 unfolding digits
-reported_cleanup = refl
+worked_cleanup = record { whole = (search rules, ((tt, (tt, (refl, (refl, ((refl, tt), follows_cleaned))))), refl)); report = refl }
+
+pub worked_cleanup_skipped : IsWorked [] plan_cleanup closed_cleanup_skipped (codes "agent a\nemptied 1\ncleanup 1 held undefined\nskipped 2\nend live 0 awaiting 0 unregistered 0 taken 1\n")
+unfolding digits
+worked_cleanup_skipped = record { whole = (search rules, ((tt, ((refl, refl), follows_cleaned)), refl)); report = refl }
 
 -- the line of a skip has the number of the job, not the sender's
-pub reported_cleanup_skipped : agent_text plan_cleanup.name (reverse closed_cleanup_skipped) ≡ codes "agent a\nemptied 1\ncleanup 1 held undefined\nskipped 2\nend live 0 awaiting 0 unregistered 0 taken 1\n"
-unfolding digits
-reported_cleanup_skipped = refl
-
 -- What is posted, and what is not
 
 abbrev pub plan_posts : AgentPlan
@@ -393,14 +339,8 @@ closed_posts =
     ∷ JobEnded ∷ Refused NotPostable
     ∷ Did (WeakRef w o, Object 2 ∷ [], Gives (Object 3)) ∷ JobBegun 3 ∷ refused_object
 
-pub legal_posts : LegalBy one_word into_posts closed_posts
-legal_posts = search rules
-
-pub follows_posts : FollowsWhole one_word plan_posts closed_posts
-follows_posts = search rules
-
 pub whole_posts : IsWholeRun plan_posts closed_posts
-whole_posts = (one_word, legal_posts, follows_posts)
+whole_posts = (one_word, search rules, search rules)
 
 pub reported_posts : agent_text plan_posts.name (reverse refused_object) ≡ codes "agent a\nerror DataCloneError: value cannot be posted\nend live 0 awaiting 0 unregistered 0 taken 0\n"
 unfolding digits

@@ -23,6 +23,7 @@ use Rattle.es_event.proofs.Examples.{plan_with}
 use Rattle.es_event.proofs.Deciding.{dead_by, by_variable, by_cell, by_property}
 use Rattle.es_event.proofs.Dead.{not_live}
 use Rattle.es_examples.proofs.Letters.{a, b, c, h, i, n, p, q, r, t, w, x, y}
+use Rattle.es_examples.proofs.Worked.{IsWorked}
 
 -- Variables
 
@@ -86,12 +87,9 @@ dead_own_token = dead_by into_own_token forgot_own_token (1 ∷ []) (2 ∷ []) r
 follows_own_token : Follows [] plan_own_token forgot_own_token
 follows_own_token = search rules
 
-pub whole_own_token : IsWholeRun plan_own_token closed_own_token
-whole_own_token = ([], search rules, ((tt, (tt, (refl, (refl, (tt, ((refl, dead_own_token), follows_own_token)))))), refl))
-
-pub reported_own_token : agent_text plan_own_token.name (reverse closed_own_token) ≡ codes "agent a\nemptied 1\ncleanup 1 held 5\nend live 0 awaiting 0 unregistered 0 taken 1\n"
+pub worked_own_token : IsWorked [] plan_own_token closed_own_token (codes "agent a\nemptied 1\ncleanup 1 held 5\nend live 0 awaiting 0 unregistered 0 taken 1\n")
 unfolding digits
-reported_own_token = refl
+worked_own_token = record { whole = (search rules, ((tt, (tt, (refl, (refl, (tt, ((refl, dead_own_token), follows_own_token)))))), refl)); report = refl }
 
 -- so the target is not live, though its cell is in the registry
 pub target_is_not_live : Live into_own_token forgot_own_token (2 ∷ []) → ⊥
@@ -131,12 +129,9 @@ reached_by_a_cell =
 follows_held : Follows [] plan_held forgot_held
 follows_held = search rules
 
-pub whole_held : IsWholeRun plan_held closed_held
-whole_held = ([], search rules, ((tt, (tt, ((refl, reached_by_a_cell), follows_held))), refl))
-
-pub reported_held : agent_text plan_held.name (reverse closed_held) ≡ codes "agent a\nemptied 0\nend live 1 awaiting 0 unregistered 0 taken 0\n"
+pub worked_held : IsWorked [] plan_held closed_held (codes "agent a\nemptied 0\nend live 1 awaiting 0 unregistered 0 taken 0\n")
 unfolding digits
-reported_held = refl
+worked_held = record { whole = (search rules, ((tt, (tt, ((refl, reached_by_a_cell), follows_held))), refl)); report = refl }
 
 -- it is live: its target may be emptied, and then a cleanup job takes the cell
 pub held_is_live : Live into_held forgot_held (3 ∷ [])
@@ -187,12 +182,9 @@ dead_shared_token =
 follows_shared_token : Follows [] plan_shared_token forgot_shared_token
 follows_shared_token = search rules
 
-pub whole_shared_token : IsWholeRun plan_shared_token closed_shared_token
-whole_shared_token = ([], search rules, ((tt, (tt, (refl, (tt, (refl, (refl, ((refl, dead_shared_token), follows_shared_token))))))), refl))
-
-pub reported_shared_token : agent_text plan_shared_token.name (reverse closed_shared_token) ≡ codes "agent a\nemptied 1\nsay true\nend live 0 awaiting 0 unregistered 2 taken 0\n"
+pub worked_shared_token : IsWorked [] plan_shared_token closed_shared_token (codes "agent a\nemptied 1\nsay true\nend live 0 awaiting 0 unregistered 2 taken 0\n")
 unfolding digits
-reported_shared_token = refl
+worked_shared_token = record { whole = (search rules, ((tt, (tt, (refl, (tt, (refl, (refl, ((refl, dead_shared_token), follows_shared_token))))))), refl)); report = refl }
 
 -- A callback that is refused ends its cleanup job, and another begins for the cells that are left
 
@@ -310,12 +302,9 @@ dead_unregistered =
 follows_unregistered : Follows [] plan_unregistered forgot_unregistered
 follows_unregistered = search rules
 
-pub whole_unregistered : IsWholeRun plan_unregistered closed_unregistered
-whole_unregistered = ([], search rules, ((tt, (tt, ((refl, dead_unregistered), follows_unregistered))), refl))
-
-pub reported_unregistered : agent_text plan_unregistered.name (reverse closed_unregistered) ≡ codes "agent a\nsay true\nsay false\nemptied 1\nend live 0 awaiting 0 unregistered 1 taken 0\n"
+pub worked_unregistered : IsWorked [] plan_unregistered closed_unregistered (codes "agent a\nsay true\nsay false\nemptied 1\nend live 0 awaiting 0 unregistered 1 taken 0\n")
 unfolding digits
-reported_unregistered = refl
+worked_unregistered = record { whole = (search rules, ((tt, (tt, ((refl, dead_unregistered), follows_unregistered))), refl)); report = refl }
 
 -- The callback reads the held value in the variable held, and a WeakRef to the target gives undefined by then
 
@@ -415,9 +404,6 @@ dead_order =
 follows_order : Follows [] plan_order forgot_order
 follows_order = search rules
 
-pub whole_order : IsWholeRun plan_order closed_order
-whole_order = ([], search rules, ((tt, (tt, (refl, (refl, (tt, (refl, (refl, (tt, ((refl, dead_order), follows_order))))))))), refl))
-
-pub reported_order : agent_text plan_order.name (reverse closed_order) ≡ codes "agent a\nemptied 1\ncleanup 2 held 1\ncleanup 1 held 2\nend live 0 awaiting 0 unregistered 0 taken 2\n"
+pub worked_order : IsWorked [] plan_order closed_order (codes "agent a\nemptied 1\ncleanup 2 held 1\ncleanup 1 held 2\nend live 0 awaiting 0 unregistered 0 taken 2\n")
 unfolding digits
-reported_order = refl
+worked_order = record { whole = (search rules, ((tt, (tt, (refl, (refl, (tt, (refl, (refl, (tt, ((refl, dead_order), follows_order))))))))), refl)); report = refl }

@@ -21,6 +21,7 @@ use Rattle.es_event.specs.Report.{agent_text}
 use Rattle.es_event.proofs.Examples.{plan_of, plan_with, IsUnlawful}
 use Rattle.es_event.proofs.Deciding.{dead_by, other_set, by_variable, by_keeping, by_entry}
 use Rattle.es_examples.proofs.Letters.{f, h, k, m, p, r, s, t, u, v, w, x, y}
+use Rattle.es_examples.proofs.Worked.{IsWorked}
 
 -- Variables, and a property's key
 
@@ -141,12 +142,9 @@ dead_key = dead_by into_key forgot_key (3 ∷ []) (1 ∷ 2 ∷ []) refl (by_vari
 follows_key : Follows [] plan_key forgot_value
 follows_key = search rules
 
-pub whole_key : IsWholeRun plan_key closed_key
-whole_key = ([], search rules, ((tt, (tt, ((refl, dead_key), (refl, (refl, (refl, (refl, (refl, ((refl, reached_by_key), follows_key))))))))), refl))
-
-pub reported_key : agent_text plan_key.name (reverse closed_key) ≡ codes "agent a\nemptied 0\nsay true\nemptied 2\nend live 0 awaiting 0 unregistered 0 taken 0\n"
+pub worked_key : IsWorked [] plan_key closed_key (codes "agent a\nemptied 0\nsay true\nemptied 2\nend live 0 awaiting 0 unregistered 0 taken 0\n")
 unfolding digits
-reported_key = refl
+worked_key = record { whole = (search rules, ((tt, (tt, ((refl, dead_key), (refl, (refl, (refl, (refl, (refl, ((refl, reached_by_key), follows_key))))))))), refl)); report = refl }
 
 pub entry_of_the_symbol : entry forgot_value 3 1 ≡ Some (Object 2)
 entry_of_the_symbol = refl
@@ -191,12 +189,9 @@ dead_member = dead_by into_member forgot_member (2 ∷ 3 ∷ []) (1 ∷ []) refl
 follows_member : Follows [] plan_member forgot_member
 follows_member = search rules
 
-pub whole_member : IsWholeRun plan_member closed_member
-whole_member = ([], search rules, ((tt, (tt, ((refl, dead_member), follows_member))), refl))
-
-pub reported_member : agent_text plan_member.name (reverse closed_member) ≡ codes "agent a\nsay true\nsay symbol 1\nemptied 1\nend live 0 awaiting 0 unregistered 0 taken 0\n"
+pub worked_member : IsWorked [] plan_member closed_member (codes "agent a\nsay true\nsay symbol 1\nemptied 1\nend live 0 awaiting 0 unregistered 0 taken 0\n")
 unfolding digits
-reported_member = refl
+worked_member = record { whole = (search rules, ((tt, (tt, ((refl, dead_member), follows_member))), refl)); report = refl }
 
 pub member_before : is_member forgot_member 2 1 ≡ true
 member_before = refl
@@ -239,12 +234,9 @@ dead_token = dead_by into_token forgot_token (1 ∷ 3 ∷ []) (2 ∷ []) refl (b
 follows_token : Follows [] plan_token forgot_token
 follows_token = search rules
 
-pub whole_token : IsWholeRun plan_token closed_token
-whole_token = ([], search rules, ((tt, (tt, (refl, (refl, (tt, ((refl, dead_token), follows_token)))))), refl))
-
-pub reported_token : agent_text plan_token.name (reverse closed_token) ≡ codes "agent a\nsay true\nemptied 1\ncleanup 1 held 5\nend live 0 awaiting 0 unregistered 1 taken 1\n"
+pub worked_token : IsWorked [] plan_token closed_token (codes "agent a\nsay true\nemptied 1\ncleanup 1 held 5\nend live 0 awaiting 0 unregistered 1 taken 1\n")
 unfolding digits
-reported_token = refl
+worked_token = record { whole = (search rules, ((tt, (tt, (refl, (refl, (tt, ((refl, dead_token), follows_token)))))), refl)); report = refl }
 
 -- A symbol is not its own held value; a registered one is no target and no token
 

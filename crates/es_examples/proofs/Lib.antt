@@ -1,4 +1,5 @@
 pub mod Letters
+pub mod Worked
 pub mod Steps
 pub mod DecidingLate
 pub mod ExampleDeref
