@@ -20,12 +20,10 @@ const { Agent, Refused, hasMessages, runsOf } = Plans;
 // Out of a callback that the engine calls.
 process.on("uncaughtException", (e) => { if (!(e instanceof Refused)) throw e; });
 
-const operands = {
-  let: 2, new: 1, symbol: 1, symbolfor: 2, copy: 2, same: 3, say: 1, set: 3, get: 3, delete: 3, keys: 1, weakref: 2,
-  deref: 2, weakmap: 1, wmset: 3, wmget: 3, wmhas: 3, wmdelete: 3, weakset: 1, wsadd: 2, wshas: 3, wsdelete: 3,
-  registry: 2, register: 3, unregister: 3, collect: 0, buffer: 2, length: 2, sameblock: 3, load: 3, store: 3, add: 4,
-  post: 2,
-};
+// How many operands each command has; a later collection is no engine's.
+const commands = JSON.parse(readFileSync(new URL("../tests/commands.json", import.meta.url), "utf8"));
+const operands = Object.fromEntries(
+  Object.entries(commands).filter(([, row]) => !row.since).map(([word, row]) => [word, row.operands.length]));
 const task = () => new Promise((go) => setImmediate(go));
 const wait = async () => {
   await task();

@@ -70,28 +70,28 @@ globalThis.Plans = (function () {
   const { hasOwnProperty } = Object.prototype;
   const mostValues = 1000000, mostBlocks = 256, mostPosts = 10000;
 
-  // What a command is tested for, in order: the test, and the place of the operand. Each test throws where it fails.
+  // What an operand is tested for. Each test throws where it fails.
   const heldWeakly = { text: "TypeError: cannot be held weakly", test: (value) => new WeakSet().add(value) };
   const aWeakRef = { text: "TypeError: not a WeakRef", test: (value) => deref.call(value) };
   const aWeakMap = { text: "TypeError: not a WeakMap", test: (value) => mapHas.call(value, value) };
   const aWeakSet = { text: "TypeError: not a WeakSet", test: (value) => setHas.call(value, value) };
   const aRegistry = { text: "TypeError: not a FinalizationRegistry", test: (value) => unregister.call(value, {}) };
   const aBuffer = { text: "TypeError: not a SharedArrayBuffer", test: (value) => Shared.wordsOf(value) };
-  const tests = {
-    weakref: [[heldWeakly, 2]], deref: [[aWeakRef, 2]],
-    wmset: [[aWeakMap, 1], [heldWeakly, 2]], wmget: [[aWeakMap, 2]], wmhas: [[aWeakMap, 2]], wmdelete: [[aWeakMap, 2]],
-    wsadd: [[aWeakSet, 1], [heldWeakly, 2]], wshas: [[aWeakSet, 2]], wsdelete: [[aWeakSet, 2]],
-    unregister: [[aRegistry, 2], [heldWeakly, 3]],
-    length: [[aBuffer, 2]], sameblock: [[aBuffer, 2], [aBuffer, 3]],
+  // What a command is tested for, in order: the test, and the place of the operand. Of one that `gives`, the answer is told
+  // at once, so that a wrong one is seen where it was given.
+  const asks = (...tests) => ({ tests, gives: false });
+  const gives = (...tests) => ({ tests, gives: true });
+  // One on a word of a block, with the place of the buffer: where that is the second, the word is given.
+  const onWord = (at) => ({ tests: [[aBuffer, at]], gives: at === 2, onWord: true });
+  const rules = {
+    same: gives(), get: gives(), delete: gives(), weakref: asks([heldWeakly, 2]), deref: asks([aWeakRef, 2]),
+    wmset: asks([aWeakMap, 1], [heldWeakly, 2]),
+    wmget: gives([aWeakMap, 2]), wmhas: gives([aWeakMap, 2]), wmdelete: gives([aWeakMap, 2]),
+    wsadd: asks([aWeakSet, 1], [heldWeakly, 2]), wshas: gives([aWeakSet, 2]), wsdelete: gives([aWeakSet, 2]),
+    unregister: gives([aRegistry, 2], [heldWeakly, 3]),
+    length: gives([aBuffer, 2]), sameblock: gives([aBuffer, 2], [aBuffer, 3]),
+    load: onWord(2), store: onWord(1), add: onWord(2),
   };
-  // The commands on a word of a block, with the place of the buffer: where that is the second, the word is given.
-  const onWords = { load: 2, store: 1, add: 2 };
-  for (const word in onWords) tests[word] = [[aBuffer, onWords[word]]];
-  // The commands whose answer is told at once, so that a wrong one is seen where it was given.
-  const giving = new Set([
-    "same", "get", "delete", "wmget", "wmhas", "wmdelete", "wshas", "wsdelete", "unregister", "length", "sameblock",
-    ...Object.keys(onWords).filter((word) => onWords[word] === 2),
-  ]);
 
   class Agent {
     vars = new Map();
@@ -273,7 +273,7 @@ globalThis.Plans = (function () {
     // The report's words for the engine's error.
     named(e, c) {
       if (e instanceof Refused) return e.message;
-      if (e instanceof RangeError && c[0] in onWords) return "RangeError: index";
+      if (e instanceof RangeError && rules[c[0]]?.onWord) return "RangeError: index";
       if (e instanceof TypeError && c !== undefined) {
         const failed = this.failed(c);
         if (failed !== undefined) return failed;
@@ -284,7 +284,7 @@ globalThis.Plans = (function () {
     failed(c) {
       const values = c.map((name) => this.vars.get(name));
       if (c[0] === "register") return this.notRegistered(values);
-      const failing = (tests[c[0]] || []).find(([{ test }, at]) => throws(test, values[at]));
+      const failing = rules[c[0]]?.tests.find(([{ test }, at]) => throws(test, values[at]));
       return failing && failing[0].text;
     }
     notRegistered([, registry, target, held, token]) {
@@ -300,7 +300,7 @@ globalThis.Plans = (function () {
         if (x !== undefined) this.vars.set(x, this.value(message));
         for (command of commands) {
           this.perform(command);
-          if (this.tells && giving.has(command[0])) this.note(`gave ${this.show(this.vars.get(command[1]))}`);
+          if (this.tells && rules[command[0]]?.gives) this.note(`gave ${this.show(this.vars.get(command[1]))}`);
         }
       } catch (e) {
         const text = this.named(e, command);

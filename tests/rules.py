@@ -5,26 +5,21 @@ Used by random_plans.py and by engines/, among others. It knows the commands of 
 
 import collections
 import json
+import os
 import re
 
 NAME = re.compile(r"[A-Za-z_][A-Za-z0-9_]{0,31}\Z")
 LARGEST = 9007199254740991
 
-# what the operands of each command are for: x is assigned, k a property's key, l a literal, t a text, z a number of
-# words, i an index, n a number, and the others are read: v as any value, o as an object, h as what can be held weakly,
-# w as a WeakRef, m as a WeakMap, s as a WeakSet, r as a FinalizationRegistry, b as a shared buffer; c names a callback,
-# and a another agent
-USES = {
-    "let": "xl", "new": "x", "symbol": "x", "symbolfor": "xt", "copy": "xv", "same": "xvv", "say": "v",
-    "set": "okv", "get": "xok", "delete": "xok", "keys": "o", "weakref": "xh", "deref": "xw",
-    "weakmap": "x", "wmset": "mhv", "wmget": "xmh", "wmhas": "xmh", "wmdelete": "xmh",
-    "weakset": "x", "wsadd": "sh", "wshas": "xsh", "wsdelete": "xsh",
-    "registry": "xc", "register": "rhv", "unregister": "xrh",
-    "buffer": "xz", "length": "xb", "sameblock": "xbb", "load": "xbi", "store": "bin", "add": "xbin", "post": "av",
-    "collect": "", "collectlater": "",
-}
+# the commands of the language, and what the tests have to know of each: README.md, "The table of commands"
+with open(os.path.join(os.path.dirname(os.path.abspath(__file__)), "commands.json")) as table:
+    COMMANDS = json.load(table)
+# what the operands of each are for: x is assigned, k a property's key, l a literal, t a text, z a number of words, i an
+# index, n a number, and the others are read: v as any value, o as an object, h as what can be held weakly, w as a WeakRef,
+# m as a WeakMap, s as a WeakSet, r as a FinalizationRegistry, b as a shared buffer; c names a callback, and a another agent
+USES = {word: row["operands"] for word, row in COMMANDS.items()}
 # an operand that may stand after these
-ONE_MORE_USE = {"register": "h"}
+ONE_MORE_USE = {word: row["and"] for word, row in COMMANDS.items() if "and" in row}
 READ = "vohwmsrb"
 # of what kind the operand for a use is: n a name, l a literal, t a text, c the name of a callback, a that of another
 # agent, i a number, w a number of words
@@ -37,7 +32,7 @@ ON_WORDS = [word for word, uses in USES.items() if "i" in uses]
 WRITES = {"store": lambda old, number: number, "add": lambda old, number: old + number}
 VERSIONS = [1, 2]
 # what version 1 has not
-SINCE_TWO = ["collectlater"]
+SINCE_TWO = [word for word, row in COMMANDS.items() if row.get("since") == 2]
 # what no callback may have
 COLLECTING = ["collect", "collectlater"]
 

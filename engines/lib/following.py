@@ -13,10 +13,7 @@ from verdicts import ANSWERED_IN, Broken, Kind
 
 EMPTIED = "# deref undefined"
 # The words of which the engine tells at once what they gave; a deref tells it too, in a note of its own.
-GIVING = {
-    "same", "get", "delete", "wmget", "wmhas", "wmdelete", "wshas", "wsdelete", "unregister", "length", "sameblock",
-    *(rules.ASSIGNING & {*rules.ON_WORDS}),
-}
+GIVING = {word for word, row in rules.COMMANDS.items() if row.get("tells")}
 
 
 class Contradiction(Exception):

@@ -146,46 +146,21 @@ def variable(name):
     return f"v.{name}"
 
 
+def operand(use, arg):
+    """An operand in ECMAScript: a literal, a name or number as it is written, or a variable."""
+    if use in "lt":
+        return literal(arg)
+    return arg if use in "kcizn" else variable(arg)
+
+
 def statement(command):
     """A command in ECMAScript, but for what it says."""
     word, args = command[0], command[1:]
-    names = [variable(arg) if isinstance(arg, str) else arg for arg in args]
-    x = names[0] if names else None
-    written = {
-        "let": lambda: f"{x} = {literal(args[1])};",
-        "new": lambda: f"{x} = make(Object.create(null));",
-        "symbol": lambda: f"{x} = Symbol(String(made += 1));",
-        "symbolfor": lambda: f"{x} = Symbol.for({literal(args[1])});",
-        "copy": lambda: f"{x} = {names[1]};",
-        "same": lambda: f"{x} = Object.is({names[1]}, {names[2]});",
-        "set": lambda: f"object({x}).{args[1]} = {names[2]};",
-        "get": lambda: f"{x} = object({names[1]}).{args[2]};",
-        "delete": lambda: f"{x} = delete object({names[1]}).{args[2]};",
-        "weakref": lambda: f"{x} = weakref({names[1]});",
-        "deref": lambda: f"{x} = deref({names[1]});",
-        "weakmap": lambda: f"{x} = make(new WeakMap());",
-        "wmset": lambda: f"WeakMap.prototype.set.call({x}, {names[1]}, {names[2]});",
-        "wmget": lambda: f"{x} = WeakMap.prototype.get.call({names[1]}, {names[2]});",
-        "wmhas": lambda: f"{x} = WeakMap.prototype.has.call({names[1]}, {names[2]});",
-        "wmdelete": lambda: f"{x} = WeakMap.prototype.delete.call({names[1]}, {names[2]});",
-        "weakset": lambda: f"{x} = make(new WeakSet());",
-        "wsadd": lambda: f"WeakSet.prototype.add.call({x}, {names[1]});",
-        "wshas": lambda: f"{x} = WeakSet.prototype.has.call({names[1]}, {names[2]});",
-        "wsdelete": lambda: f"{x} = WeakSet.prototype.delete.call({names[1]}, {names[2]});",
-        "registry": lambda: f"{x} = registry({args[1]});",
-        "register": lambda: f"register({', '.join(names)});",
-        "unregister": lambda: f"{x} = FinalizationRegistry.prototype.unregister.call({names[1]}, {names[2]});",
-        "buffer": lambda: f"{x} = make(new SharedArrayBuffer(4 * {args[1]}));",
-        "length": lambda: f"{x} = words({names[1]}).length;",
-        "sameblock": lambda: f"{x} = words({names[1]}).buffer === words({names[2]}).buffer;",
-        "load": lambda: f"{x} = Atomics.load(words({names[1]}), {args[2]});",
-        "store": lambda: f"Atomics.store(words({x}), {args[1]}, {args[2]});",
-        "add": lambda: f"{x} = Atomics.add(words({names[1]}), {args[2]}, {args[3]});",
-        "collect": lambda: COLLECTION,
-    }
-    if word not in written:
+    row = rules.COMMANDS[word]
+    if "statement" not in row:
         raise Unfit(f"{word} is of several agents")
-    return written[word]()
+    names = [operand(use, arg) for use, arg in zip(row["operands"] + row.get("and", ""), args)]
+    return row["statement"].format(*names, all=", ".join(map(str, names)))
 
 
 def line(command, place, seen):
@@ -213,7 +188,7 @@ def body(run, where, seen, indent):
     return [indent + written for written in lines if written]
 
 
-COLLECTION = "$262.gc();"
+COLLECTION = rules.COMMANDS["collect"]["statement"]
 
 
 def steps(run, where, seen):

@@ -32,13 +32,8 @@ MESSAGES = "Agent Clusters: messages between agents"
 
 # the section of what a command answers, and of what it refuses
 ANSWERED_IN = {
-    "let": TYPES, "new": TYPES, "copy": TYPES, "say": TYPES, "symbol": SYMBOLS, "symbolfor": SYMBOLS, "same": SAME_VALUE,
-    "set": PROPERTIES, "get": PROPERTIES, "delete": PROPERTIES, "keys": KEYS, "weakref": WEAKREF, "deref": DEREF,
-    **dict.fromkeys(["weakmap", "wmset", "wmget", "wmhas", "wmdelete"], WEAKMAP),
-    **dict.fromkeys(["weakset", "wsadd", "wshas", "wsdelete"], WEAKSET),
-    "registry": REGISTRY, "register": REGISTER, "unregister": UNREGISTER, "collect": EXECUTION,
-    "buffer": BUFFER, "length": BUFFER, "sameblock": BLOCKS, **dict.fromkeys(rules.ON_WORDS, ATOMICS),
-    "post": MESSAGES, "on": MESSAGES, "held": CLEANUP,
+    **{word: globals()[row["section"]] for word, row in rules.COMMANDS.items() if "section" in row},
+    "on": MESSAGES, "held": CLEANUP,
 }
 
 

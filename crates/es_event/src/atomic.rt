@@ -102,20 +102,10 @@ impl Operation {
     pub fn access(&self) -> Access
         ensures { result ≡ access_of self.now }
     {
+        let (change, to) = self.effect();
         Access {
-            change: self.change(),
-            gives_word: self.assigns().is_some(),
-        }
-    }
-
-    /// What becomes of the word: a number is written and added modulo 2^32.
-    fn change(&self) -> Change
-        ensures { result ≡ change_of self.now }
-    {
-        match self {
-            Operation::Load { .. } => Change::Keep,
-            Operation::Store { number } => Change::Write(to_uint32(*number)),
-            Operation::Add { number, .. } => Change::Add(to_uint32(*number)),
+            change,
+            gives_word: to.is_some(),
         }
     }
 
@@ -123,9 +113,20 @@ impl Operation {
     pub fn assigns(&self) -> Option<&Name>
         ensures { option_copied result ≡ given_to self.now }
     {
+        self.effect().1
+    }
+
+    /// What becomes of the word, where a number is written and added modulo 2^32, and the variable that the word is
+    /// assigned that was there, if one is.
+    #[inline(always)]
+    fn effect(&self) -> (Change, Option<&Name>)
+        ensures changed { result.0 ≡ change_of self.now }
+        ensures given { option_copied result.1 ≡ given_to self.now }
+    {
         match self {
-            Operation::Load { to } | Operation::Add { to, .. } => Some(to),
-            Operation::Store { .. } => None,
+            Operation::Load { to } => (Change::Keep, Some(to)),
+            Operation::Store { number } => (Change::Write(to_uint32(*number)), None),
+            Operation::Add { to, number } => (Change::Add(to_uint32(*number)), Some(to)),
         }
     }
 }

@@ -3,9 +3,8 @@ use Rattle.std.specs.Prelude.{ℕ, ℤ, pos, negsuc, ◌==◌, ◌&&◌, not, na
 use Rattle.std.specs.Str.{bytes_eq}
 use Rattle.serde_json.specs.Data.{Data, number, string, array, object, Items, no_items, item}
 use Rattle.es_event.specs.declared.literal.Literal.{Literal}
-use Rattle.es_event.specs.declared.atomic.Operation.TheVariants.{Load, Store, Add}
+use Rattle.es_event.specs.declared.atomic.Operation.{Operation}
 use Rattle.es_event.specs.declared.command.Command.{Command}
-use Rattle.es_event.specs.declared.command.Command.TheVariants.{Let, New, Symbol, SymbolFor, Copy, Same, Say, Set, Get, Delete, Keys, WeakRef, Deref, WeakMap, WeakMapSet, WeakMapGet, WeakMapHas, WeakMapDelete, WeakSet, WeakSetAdd, WeakSetHas, WeakSetDelete, FinalizationRegistry, Register, Unregister, SharedArrayBuffer, Length, SameBlock, Post, Collect, CollectLater}
 use Rattle.es_event.specs.Commands.{atomic}
 use Rattle.es_reading.specs.declared.version.Version.{Version}
 use Rattle.es_reading.specs.declared.version.Version.TheVariants.{One, Two}
@@ -56,66 +55,66 @@ is_allowed in_callback f = not (f.only_in_jobs && in_callback)
 -- of register: its fourth operand, where there is one, is the token
 abbrev pub register_form : ℕ → Option Form
 register_form n =
-    if n == 4 then takes (name ∷ name ∷ name ∷ name ∷ []) (λ registry target held token. Register registry target held (Some token))
-    else takes (name ∷ name ∷ name ∷ []) (λ registry target held. Register registry target held None)
+    if n == 4 then takes (name ∷ name ∷ name ∷ name ∷ []) (λ registry target held token. Command.Register registry target held (Some token))
+    else takes (name ∷ name ∷ name ∷ []) (λ registry target held. Command.Register registry target held None)
 
 -- of FinalizationRegistries; only the form of register depends on how many operands there are
 abbrev pub registry_form : List ℕ → ℕ → Option Form
 registry_form w n =
-    if bytes_eq w (codes "registry") then takes (name ∷ callback ∷ []) FinalizationRegistry else
+    if bytes_eq w (codes "registry") then takes (name ∷ callback ∷ []) Command.FinalizationRegistry else
     (if bytes_eq w (codes "register") then register_form n else
-    (if bytes_eq w (codes "unregister") then takes (name ∷ name ∷ name ∷ []) Unregister else
+    (if bytes_eq w (codes "unregister") then takes (name ∷ name ∷ name ∷ []) Command.Unregister else
     None))
 
 -- of buffers and messages, and then those of FinalizationRegistries
 abbrev pub shared_form : List ℕ → ℕ → Option Form
 shared_form w n =
-    if bytes_eq w (codes "buffer") then takes (name ∷ words ∷ []) SharedArrayBuffer else
-    (if bytes_eq w (codes "length") then takes (name ∷ name ∷ []) Length else
-    (if bytes_eq w (codes "sameblock") then takes (name ∷ name ∷ name ∷ []) SameBlock else
-    (if bytes_eq w (codes "load") then takes (name ∷ name ∷ whole ∷ []) (λ to b i. atomic b i (Load to)) else
-    (if bytes_eq w (codes "store") then takes (name ∷ whole ∷ whole ∷ []) (λ b i n. atomic b i (Store n)) else
-    (if bytes_eq w (codes "add") then takes (name ∷ name ∷ whole ∷ whole ∷ []) (λ to b i n. atomic b i (Add to n)) else
-    (if bytes_eq w (codes "post") then takes (agent ∷ name ∷ []) Post else
+    if bytes_eq w (codes "buffer") then takes (name ∷ words ∷ []) Command.SharedArrayBuffer else
+    (if bytes_eq w (codes "length") then takes (name ∷ name ∷ []) Command.Length else
+    (if bytes_eq w (codes "sameblock") then takes (name ∷ name ∷ name ∷ []) Command.SameBlock else
+    (if bytes_eq w (codes "load") then takes (name ∷ name ∷ whole ∷ []) (λ to b i. atomic b i (Operation.Load to)) else
+    (if bytes_eq w (codes "store") then takes (name ∷ whole ∷ whole ∷ []) (λ b i n. atomic b i (Operation.Store n)) else
+    (if bytes_eq w (codes "add") then takes (name ∷ name ∷ whole ∷ whole ∷ []) (λ to b i n. atomic b i (Operation.Add to n)) else
+    (if bytes_eq w (codes "post") then takes (agent ∷ name ∷ []) Command.Post else
     registry_form w n))))))
 
 -- of WeakRefs, WeakMaps and WeakSets, and then those of buffers, messages and FinalizationRegistries
 abbrev pub weak_form : List ℕ → ℕ → Option Form
 weak_form w n =
-    if bytes_eq w (codes "weakref") then takes (name ∷ name ∷ []) WeakRef else
-    (if bytes_eq w (codes "deref") then takes (name ∷ name ∷ []) Deref else
-    (if bytes_eq w (codes "weakmap") then takes (name ∷ []) WeakMap else
-    (if bytes_eq w (codes "wmset") then takes (name ∷ name ∷ name ∷ []) WeakMapSet else
-    (if bytes_eq w (codes "wmget") then takes (name ∷ name ∷ name ∷ []) WeakMapGet else
-    (if bytes_eq w (codes "wmhas") then takes (name ∷ name ∷ name ∷ []) WeakMapHas else
-    (if bytes_eq w (codes "wmdelete") then takes (name ∷ name ∷ name ∷ []) WeakMapDelete else
-    (if bytes_eq w (codes "weakset") then takes (name ∷ []) WeakSet else
-    (if bytes_eq w (codes "wsadd") then takes (name ∷ name ∷ []) WeakSetAdd else
-    (if bytes_eq w (codes "wshas") then takes (name ∷ name ∷ name ∷ []) WeakSetHas else
-    (if bytes_eq w (codes "wsdelete") then takes (name ∷ name ∷ name ∷ []) WeakSetDelete else
+    if bytes_eq w (codes "weakref") then takes (name ∷ name ∷ []) Command.WeakRef else
+    (if bytes_eq w (codes "deref") then takes (name ∷ name ∷ []) Command.Deref else
+    (if bytes_eq w (codes "weakmap") then takes (name ∷ []) Command.WeakMap else
+    (if bytes_eq w (codes "wmset") then takes (name ∷ name ∷ name ∷ []) Command.WeakMapSet else
+    (if bytes_eq w (codes "wmget") then takes (name ∷ name ∷ name ∷ []) Command.WeakMapGet else
+    (if bytes_eq w (codes "wmhas") then takes (name ∷ name ∷ name ∷ []) Command.WeakMapHas else
+    (if bytes_eq w (codes "wmdelete") then takes (name ∷ name ∷ name ∷ []) Command.WeakMapDelete else
+    (if bytes_eq w (codes "weakset") then takes (name ∷ []) Command.WeakSet else
+    (if bytes_eq w (codes "wsadd") then takes (name ∷ name ∷ []) Command.WeakSetAdd else
+    (if bytes_eq w (codes "wshas") then takes (name ∷ name ∷ name ∷ []) Command.WeakSetHas else
+    (if bytes_eq w (codes "wsdelete") then takes (name ∷ name ∷ name ∷ []) Command.WeakSetDelete else
     shared_form w n))))))))))
 
 -- of a later collection, which version 1 has not
 abbrev pub later_form : Version → Option Form
 later_form One = None
-later_form Two = takes_in_jobs [] CollectLater
+later_form Two = takes_in_jobs [] Command.CollectLater
 
 -- the form of a version's command with this word and so many operands: of values, variables, objects and collections, and then
 -- the others
 abbrev pub form : Version → List ℕ → ℕ → Option Form
 form v w n =
-    if bytes_eq w (codes "let") then takes (name ∷ literal ∷ []) Let else
-    (if bytes_eq w (codes "new") then takes (name ∷ []) New else
-    (if bytes_eq w (codes "symbol") then takes (name ∷ []) Symbol else
-    (if bytes_eq w (codes "symbolfor") then takes (name ∷ text ∷ []) SymbolFor else
-    (if bytes_eq w (codes "copy") then takes (name ∷ name ∷ []) Copy else
-    (if bytes_eq w (codes "same") then takes (name ∷ name ∷ name ∷ []) Same else
-    (if bytes_eq w (codes "say") then takes (name ∷ []) Say else
-    (if bytes_eq w (codes "set") then takes (name ∷ name ∷ name ∷ []) Set else
-    (if bytes_eq w (codes "get") then takes (name ∷ name ∷ name ∷ []) Get else
-    (if bytes_eq w (codes "delete") then takes (name ∷ name ∷ name ∷ []) Delete else
-    (if bytes_eq w (codes "keys") then takes (name ∷ []) Keys else
-    (if bytes_eq w (codes "collect") then takes_in_jobs [] Collect else
+    if bytes_eq w (codes "let") then takes (name ∷ literal ∷ []) Command.Let else
+    (if bytes_eq w (codes "new") then takes (name ∷ []) Command.New else
+    (if bytes_eq w (codes "symbol") then takes (name ∷ []) Command.Symbol else
+    (if bytes_eq w (codes "symbolfor") then takes (name ∷ text ∷ []) Command.SymbolFor else
+    (if bytes_eq w (codes "copy") then takes (name ∷ name ∷ []) Command.Copy else
+    (if bytes_eq w (codes "same") then takes (name ∷ name ∷ name ∷ []) Command.Same else
+    (if bytes_eq w (codes "say") then takes (name ∷ []) Command.Say else
+    (if bytes_eq w (codes "set") then takes (name ∷ name ∷ name ∷ []) Command.Set else
+    (if bytes_eq w (codes "get") then takes (name ∷ name ∷ name ∷ []) Command.Get else
+    (if bytes_eq w (codes "delete") then takes (name ∷ name ∷ name ∷ []) Command.Delete else
+    (if bytes_eq w (codes "keys") then takes (name ∷ []) Command.Keys else
+    (if bytes_eq w (codes "collect") then takes_in_jobs [] Command.Collect else
     (if bytes_eq w (codes "collectlater") then later_form v else
     weak_form w n))))))))))))
 

@@ -15,12 +15,10 @@ ghost use Rattle.es_record.specs.AgentView.{IsNext, AreThere};
 ghost use Rattle.es_rules.specs.Completion.{Completes};
 ghost use Rattle.es_rules.specs.Needs.{asks_nobody, need, request};
 
-use crate::buffers::{access, length, new_buffer, post, same_block};
-use crate::ephemerons::{weakmap_get, weakmap_has, weakmap_set, weakset_add, weakset_has};
 use crate::need::asks_somebody;
 use crate::operand::{four, held_weakly, object_in, one, three, two};
-use crate::registries::{cleaning, register, taking, unregister};
 use crate::stop::Stop;
+use crate::{buffers, ephemerons, registries};
 use es_cursor::Due;
 use es_event::{Answer, Command, Done, Event, Refusal, Sequence, SharedList};
 use es_record::AgentRecord;
@@ -49,8 +47,8 @@ pub fn next_event(agent: &AgentRecord) -> Result<Event, NoMemory>
 {
     match agent.due() {
         Due::Begin(job) => Ok(Event::JobBegun { job }),
-        Due::Clean(_) => cleaning(agent),
-        Due::Take(registration) => taking(agent, registration),
+        Due::Clean(_) => registries::cleaning(agent),
+        Due::Take(registration) => registries::taking(agent, registration),
         Due::EndJob => Ok(Event::JobEnded),
         Due::Run(_) | Due::Receive { .. } | Due::Close | Due::Nothing => unreachable!(),
     }
@@ -110,46 +108,46 @@ fn completion(agent: &AgentRecord, command: &Command, values: &[Value]) -> Resul
             new_object(agent),
         Command::WeakMapSet { .. } => {
             let (map, key, _) = three(values);
-            weakmap_set(agent, map, key)
+            ephemerons::weakmap_set(agent, map, key)
         }
         Command::WeakMapGet { .. } => {
             let (map, key) = two(values);
-            weakmap_get(agent, map, key)
+            ephemerons::weakmap_get(agent, map, key)
         }
         Command::WeakMapHas { .. } | Command::WeakMapDelete { .. } => {
             let (map, key) = two(values);
-            weakmap_has(agent, map, key)
+            ephemerons::weakmap_has(agent, map, key)
         }
         Command::WeakSetAdd { .. } => {
             let (set, member) = two(values);
-            weakset_add(agent, set, member)
+            ephemerons::weakset_add(agent, set, member)
         }
         Command::WeakSetHas { .. } | Command::WeakSetDelete { .. } => {
             let (set, member) = two(values);
-            weakset_has(agent, set, member)
+            ephemerons::weakset_has(agent, set, member)
         }
         Command::Register { token, .. } => match token.get() {
             None => {
                 let (registry, target, held) = three(values);
-                register(agent, registry, target, held, &Value::Undefined)
+                registries::register(agent, registry, target, held, &Value::Undefined)
             }
             Some(_) => {
                 let (registry, target, held, token) = four(values);
-                register(agent, registry, target, held, token)
+                registries::register(agent, registry, target, held, token)
             }
         },
         Command::Unregister { .. } => {
             let (registry, token) = two(values);
-            unregister(agent, registry, token)
+            registries::unregister(agent, registry, token)
         }
-        Command::SharedArrayBuffer { .. } => new_buffer(agent),
-        Command::Length { .. } => length(agent, one(values)),
+        Command::SharedArrayBuffer { .. } => buffers::new_buffer(agent),
+        Command::Length { .. } => buffers::length(agent, one(values)),
         Command::SameBlock { .. } => {
             let (left, right) = two(values);
-            same_block(agent, left, right)
+            buffers::same_block(agent, left, right)
         }
-        Command::Atomic(atomic) => access(agent, one(values), atomic),
-        Command::Post { .. } => post(agent, one(values)),
+        Command::Atomic(atomic) => buffers::access(agent, one(values), atomic),
+        Command::Post { .. } => buffers::post(agent, one(values)),
     }
 }
 

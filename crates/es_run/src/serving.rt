@@ -14,8 +14,8 @@ use es_ledger::LedgerCore;
 use es_member::Beforehand;
 use es_value::NoMemory;
 use std::alloc::Global;
+use std::sync::Wait;
 use std::sync::atomic::{AtomicBool, AtomicU32, Ordering};
-use std::sync::{RwLock, Wait};
 use std::thread;
 use std::thread::{Scope, Threads};
 
@@ -334,6 +334,17 @@ fn wakes<L: Planned>(ledger: &LedgerCore<L>, before: usize) -> bool {
     })
 }
 
+// Waits until the agents may begin. None does before each has its thread, whose making takes longer beside work. Who waits
+// here keeps its place on a processor: of those that sleep and are woken together, several come to one.
+fn wait_until<R: Wait>(rt: &R, begun: &AtomicBool) {
+    for _ in rt.forever() {
+        if begun.load(Ordering::SeqCst) {
+            return;
+        }
+        thread::yield_now();
+    }
+}
+
 /// Runs each agent in a thread, the first in that of the caller and each other in one of its own, and a watcher that
 /// makes so many audits in one more, until all have ended. How many audits were made; none where a thread ran out of
 /// memory or could not be made.
@@ -347,17 +358,15 @@ pub(crate) fn run_all<L: Planned + Send + Sync, G: Gate + Sync, R: Threads + Wai
 ) -> Option<u32> {
     let flag = AtomicBool::new(false);
     let count = AtomicU32::new(0);
-    // no agent begins before each has its thread: it would take its time from the making of the others
-    let start = RwLock::new(());
-    let (stopped, made, begins) = (&flag, &count, &start);
+    let start = AtomicBool::new(false);
+    let (stopped, made, begun) = (&flag, &count, &start);
     thread::scope(thread::scope_env(), rt, |scope| {
-        let not_yet = begins.write(rt);
         for agent in 1..cluster.agents.len() {
             let served = move ||
                 requires place { agent < vec_len cluster.now.agents }
                 requires shared { IsSync L.row × IsSync R.row }
             {
-                drop(begins.read(rt));
+                wait_until(rt, begun);
                 cluster.serve(rt, agent, scope, helpers, stopped, gate);
             };
             if scope.spawn(served).is_err() {
@@ -370,7 +379,7 @@ pub(crate) fn run_all<L: Planned + Send + Sync, G: Gate + Sync, R: Threads + Wai
                 cluster.stop(rt, stopped);
             }
         }
-        drop(not_yet);
+        begun.store(true, Ordering::SeqCst);
         // the caller would only wait: a single agent needs no thread more
         if !cluster.agents.is_empty() {
             cluster.serve(rt, 0, scope, helpers, stopped, gate);

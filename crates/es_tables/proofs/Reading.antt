@@ -8,7 +8,6 @@ use Rattle.es_event.specs.declared.event.Answer.TheVariants.{Nothing, Gives, Lis
 use Rattle.es_event.specs.declared.event.Event.{Event}
 use Rattle.es_event.specs.declared.event.Event.TheVariants.{Received, Did}
 use Rattle.es_event.specs.declared.command.Command.{Command}
-use Rattle.es_event.specs.declared.command.Command.TheVariants.{New, Set, WeakRef, Deref, WeakMap, WeakMapSet, WeakSet, WeakSetAdd, FinalizationRegistry, SharedArrayBuffer}
 use Rattle.es_event.specs.Commands.{first, Kind, shared_buffer}
 use Rattle.es_event.specs.Identities.{identity, object_of, object_given}
 use Rattle.es_event.specs.Properties.{put, put_by}
@@ -21,7 +20,7 @@ use Rattle.es_tables.specs.Registries.{change, change_by}
 use Rattle.es_tags.specs.Tags.{tag_made, tag_made_at}
 
 put_did : (c : Command) (vs : List Value) (r : Answer) → put_of (table_change_by c vs r) ≡ put_by c vs
-put_did (Set o k y) vs r = refl
+put_did (Command.Set o k y) vs r = refl
 put_did c vs r = refl
 
 put_read : (again : Option ℕ) (e : Event) → put_of (table_change again e) ≡ put e
@@ -49,12 +48,12 @@ received_object None = refl
 received_object (Some i) = refl
 
 born_did : (c : Command) (vs : List Value) (r : Answer) → born_of (table_change_by c vs r) ≡ object_born (Did (c, vs, r))
-born_did (New to) vs r = of_a_kind _ (object_given r)
-born_did (WeakRef to y) vs r = of_a_kind _ (object_given r)
-born_did (WeakMap to) vs r = of_a_kind _ (object_given r)
-born_did (WeakSet to) vs r = of_a_kind _ (object_given r)
-born_did (FinalizationRegistry to n) vs r = of_a_kind _ (object_given r)
-born_did (SharedArrayBuffer to n) vs r = of_a_kind _ (object_given r)
+born_did (Command.New to) vs r = of_a_kind _ (object_given r)
+born_did (Command.WeakRef to y) vs r = of_a_kind _ (object_given r)
+born_did (Command.WeakMap to) vs r = of_a_kind _ (object_given r)
+born_did (Command.WeakSet to) vs r = of_a_kind _ (object_given r)
+born_did (Command.FinalizationRegistry to n) vs r = of_a_kind _ (object_given r)
+born_did (Command.SharedArrayBuffer to n) vs r = of_a_kind _ (object_given r)
 born_did c vs r = of_none (object_given r)
 
 born_read : (again : Option ℕ) (e : Event) → born_of (table_change again e) ≡ object_born e
@@ -68,12 +67,12 @@ paired : (w : ℕ) (t : Option ℕ) → with_option (pointing (Some w) t) ≡ op
 paired w None = refl
 paired w (Some t) = refl
 
-aimed : (to y : List ℕ) (vs : List Value) (r : Answer) → with_option (pointing (object_given r) (identity (first vs))) ≡ points_by (WeakRef to y) vs r
+aimed : (to y : List ℕ) (vs : List Value) (r : Answer) → with_option (pointing (object_given r) (identity (first vs))) ≡ points_by (Command.WeakRef to y) vs r
 aimed to y vs (Gives (Object w)) = paired w (identity (first vs))
 aimed to y vs r = refl
 
 points_did : (c : Command) (vs : List Value) (r : Answer) → points_of (table_change_by c vs r) ≡ points_by c vs r
-points_did (WeakRef to y) vs r = aimed to y vs r
+points_did (Command.WeakRef to y) vs r = aimed to y vs r
 points_did c vs r = refl
 
 points_read : (again : Option ℕ) (e : Event) → points_of (table_change again e) ≡ points e
@@ -81,7 +80,7 @@ points_read again (Did (c, vs, r)) = points_did c vs r
 points_read again e = refl
 
 entered_did : (c : Command) (vs : List Value) (r : Answer) → entered_of (table_change_by c vs r) ≡ entered_by c vs
-entered_did (WeakMapSet m k y) vs r = refl
+entered_did (Command.WeakMapSet m k y) vs r = refl
 entered_did c vs r = refl
 
 entered_read : (again : Option ℕ) (e : Event) → entered_of (table_change again e) ≡ entered e
@@ -89,7 +88,7 @@ entered_read again (Did (c, vs, r)) = entered_did c vs r
 entered_read again e = refl
 
 joined_did : (c : Command) (vs : List Value) (r : Answer) → joined_of (table_change_by c vs r) ≡ joined_by c vs
-joined_did (WeakSetAdd s y) vs r = refl
+joined_did (Command.WeakSetAdd s y) vs r = refl
 joined_did c vs r = refl
 
 joined_read : (again : Option ℕ) (e : Event) → joined_of (table_change again e) ≡ joined e
@@ -97,7 +96,7 @@ joined_read again (Did (c, vs, r)) = joined_did c vs r
 joined_read again e = refl
 
 registry_did : (c : Command) (vs : List Value) (r : Answer) → registry_of (table_change_by c vs r) ≡ change_by c vs r
-registry_did (FinalizationRegistry to n) vs r = refl
+registry_did (Command.FinalizationRegistry to n) vs r = refl
 registry_did c vs r = refl
 
 registry_read : (again : Option ℕ) (e : Event) → registry_of (table_change again e) ≡ change again e
@@ -110,7 +109,7 @@ given_kept (Gives v) = refl
 given_kept (Listed ks) = refl
 
 kept_did : (c : Command) (vs : List Value) (r : Answer) → kept_of (table_change_by c vs r) ≡ keeps_by c vs r
-kept_did (Deref to w) vs r = given_kept r
+kept_did (Command.Deref to w) vs r = given_kept r
 kept_did c vs r = refl
 
 kept_read : (again : Option ℕ) (e : Event) → kept_of (table_change again e) ≡ keeps e
@@ -118,7 +117,7 @@ kept_read again (Did (c, vs, r)) = kept_did c vs r
 kept_read again e = refl
 
 clears_did : (c : Command) (vs : List Value) (r : Answer) → clears (table_change_by c vs r) ≡ ends_job (Did (c, vs, r))
-clears_did (New to) vs r = refl
+clears_did (Command.New to) vs r = refl
 clears_did c vs r = refl
 
 clears_read : (again : Option ℕ) (e : Event) → clears (table_change again e) ≡ ends_job e
@@ -126,7 +125,7 @@ clears_read again (Did (c, vs, r)) = clears_did c vs r
 clears_read again e = refl
 
 makes_did : (c : Command) (vs : List Value) (r : Answer) → makes_of (table_change_by c vs r) ≡ tag_made c
-makes_did (New to) vs r = refl
+makes_did (Command.New to) vs r = refl
 makes_did c vs r = refl
 
 makes_read : (again : Option ℕ) (e : Event) → makes_of (table_change again e) ≡ tag_made_at e

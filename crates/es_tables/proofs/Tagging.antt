@@ -9,7 +9,6 @@ use Rattle.es_value.specs.declared.value.Value.TheVariants.{Object}
 use Rattle.es_event.specs.declared.event.Event.{Event}
 use Rattle.es_event.specs.declared.event.Event.TheVariants.{Received, Did}
 use Rattle.es_event.specs.declared.command.Command.{Command}
-use Rattle.es_event.specs.declared.command.Command.TheVariants.{New, Symbol, WeakRef, WeakMap, WeakSet, FinalizationRegistry, SharedArrayBuffer}
 use Rattle.es_event.specs.Commands.{Kind, makes, kind_made}
 use Rattle.es_event.specs.Sharing.{Buffers}
 use Rattle.es_event.specs.History.{History, at_key}
@@ -43,13 +42,13 @@ tag_at_more ks t i positive =
 -- What an event makes
 
 counted : (c : Command) → option_map_or (λ t. 1) (tag_made c) 0 ≡ makes c
-counted (New to) = refl
-counted (Symbol to) = refl
-counted (WeakRef to y) = refl
-counted (WeakMap to) = refl
-counted (WeakSet to) = refl
-counted (FinalizationRegistry to c) = refl
-counted (SharedArrayBuffer to n) = refl
+counted (Command.New to) = refl
+counted (Command.Symbol to) = refl
+counted (Command.WeakRef to y) = refl
+counted (Command.WeakMap to) = refl
+counted (Command.WeakSet to) = refl
+counted (Command.FinalizationRegistry to c) = refl
+counted (Command.SharedArrayBuffer to n) = refl
 counted _ = refl
 
 counted_received : (v : Value) → ◌≡◌ {A = ℕ} (option_map_or (λ t. 1) (tag_received v) 0) (option_map_or (λ i. 1) (object_of v) 0)
@@ -63,12 +62,12 @@ counted_at _ = refl
 
 -- an object is of a kind that its command makes
 kind_counted : (c : Command) (vs : List Value) (kd : Kind) → kind_made c vs ≡ Some kd → makes c ≡ 1
-kind_counted (New to) vs kd e = refl
-kind_counted (WeakRef to y) vs kd e = refl
-kind_counted (WeakMap to) vs kd e = refl
-kind_counted (WeakSet to) vs kd e = refl
-kind_counted (FinalizationRegistry to c) vs kd e = refl
-kind_counted (SharedArrayBuffer to n) vs kd e = refl
+kind_counted (Command.New to) vs kd e = refl
+kind_counted (Command.WeakRef to y) vs kd e = refl
+kind_counted (Command.WeakMap to) vs kd e = refl
+kind_counted (Command.WeakSet to) vs kd e = refl
+kind_counted (Command.FinalizationRegistry to c) vs kd e = refl
+kind_counted (Command.SharedArrayBuffer to n) vs kd e = refl
 kind_counted _ vs kd e = cc
 
 born_counted : (e : Event) (q : ℕ × Option Kind) → born e ≡ Some q → makes_at e ≡ 1
@@ -95,13 +94,13 @@ given : (n : ℕ) (k before : Option Kind) → unwrap_or (at_key (λ i j. i == j
 given n k before = ap (λ b. unwrap_or (cond b (Some k) None) before) (eq-eqb n n refl)
 
 tag_new : (over : Buffers) (h : History) (c : Command) (vs : List Value) (w : ℕ) (t : Tag) → tag_made c ≡ Some t → kind h (made h + 1) ≡ None → tag_of (kind (Did (c, vs, result over h c vs w) ∷ h) (made h + 1)) ≡ t
-tag_new over h (New to) vs w t e none = ap tag_of (given (made h + 1) _ (kind h (made h + 1))) ∙ cc
-tag_new over h (Symbol to) vs w t e none = ap tag_of none ∙ cc
-tag_new over h (WeakRef to y) vs w t e none = ap tag_of (given (made h + 1) _ (kind h (made h + 1))) ∙ cc
-tag_new over h (WeakMap to) vs w t e none = ap tag_of (given (made h + 1) _ (kind h (made h + 1))) ∙ cc
-tag_new over h (WeakSet to) vs w t e none = ap tag_of (given (made h + 1) _ (kind h (made h + 1))) ∙ cc
-tag_new over h (FinalizationRegistry to c) vs w t e none = ap tag_of (given (made h + 1) _ (kind h (made h + 1))) ∙ cc
-tag_new over h (SharedArrayBuffer to n) vs w t e none = ap tag_of (given (made h + 1) _ (kind h (made h + 1))) ∙ cc
+tag_new over h (Command.New to) vs w t e none = ap tag_of (given (made h + 1) _ (kind h (made h + 1))) ∙ cc
+tag_new over h (Command.Symbol to) vs w t e none = ap tag_of none ∙ cc
+tag_new over h (Command.WeakRef to y) vs w t e none = ap tag_of (given (made h + 1) _ (kind h (made h + 1))) ∙ cc
+tag_new over h (Command.WeakMap to) vs w t e none = ap tag_of (given (made h + 1) _ (kind h (made h + 1))) ∙ cc
+tag_new over h (Command.WeakSet to) vs w t e none = ap tag_of (given (made h + 1) _ (kind h (made h + 1))) ∙ cc
+tag_new over h (Command.FinalizationRegistry to c) vs w t e none = ap tag_of (given (made h + 1) _ (kind h (made h + 1))) ∙ cc
+tag_new over h (Command.SharedArrayBuffer to n) vs w t e none = ap tag_of (given (made h + 1) _ (kind h (made h + 1))) ∙ cc
 tag_new over h _ vs w t e none = cc
 
 tag_next : (over : Buffers) (into : Receivers) (h : History) (e : Event) (t : Tag) (i : ℕ) → LegalBy over into h → Lawful over into h e → tag_made_at e ≡ Some t → i ≡ made h + 1 → tag_of (kind (e ∷ h) i) ≡ t

@@ -7,7 +7,6 @@ use Rattle.es_event.specs.declared.event.Answer.TheVariants.{Nothing, Gives, Lis
 use Rattle.es_event.specs.declared.event.Event.{Event}
 use Rattle.es_event.specs.declared.event.Event.TheVariants.{JobBegun, CleanupBegun, Received, Did, Refused, Emptied, Taken, JobEnded, Skipped, Closed}
 use Rattle.es_event.specs.declared.command.Command.{Command}
-use Rattle.es_event.specs.declared.command.Command.TheVariants.{New, Symbol, Set, Delete, WeakRef, Deref, WeakMap, WeakMapSet, WeakMapDelete, WeakSet, WeakSetAdd, WeakSetDelete, FinalizationRegistry, Register, Unregister, SharedArrayBuffer}
 use Rattle.es_event.specs.Commands.{first}
 use Rattle.es_event.specs.Identities.{identity, object_of, object_given}
 use Rattle.es_event.specs.Properties.{put_by}
@@ -37,22 +36,22 @@ with_option p = option_map (λ p. (p.0, Some p.1)) p
 
 -- what a command does to the tables; no other command does anything
 abbrev pub table_change_by : Command → List Value → Answer → TableChange
-table_change_by (New to) vs r = Birth (tag_made (New to)) (object_given r)
-table_change_by (Symbol to) vs r = Birth (tag_made (Symbol to)) None
-table_change_by (Set o k y) vs r = Property (put_by (Set o k y) vs)
-table_change_by (Delete to o k) vs r = Property (put_by (Delete to o k) vs)
-table_change_by (WeakRef to y) vs r = WeakRefBirth (object_given r) (pointing (object_given r) (identity (first vs))) (identity (first vs))
-table_change_by (Deref to w) vs r = Keeping (identity_kept r)
-table_change_by (WeakMap to) vs r = Birth (tag_made (WeakMap to)) (object_given r)
-table_change_by (WeakMapSet m k y) vs r = Entry (entered_by (WeakMapSet m k y) vs)
-table_change_by (WeakMapDelete to m k) vs r = Entry (entered_by (WeakMapDelete to m k) vs)
-table_change_by (WeakSet to) vs r = Birth (tag_made (WeakSet to)) (object_given r)
-table_change_by (WeakSetAdd s y) vs r = Member (joined_by (WeakSetAdd s y) vs)
-table_change_by (WeakSetDelete to s y) vs r = Member (joined_by (WeakSetDelete to s y) vs)
-table_change_by (FinalizationRegistry to c) vs r = RegistryBirth (object_given r) (made_by c r)
-table_change_by (Register q y v t) vs r = Registry (change_by (Register q y v t) vs r)
-table_change_by (Unregister to q t) vs r = Registry (change_by (Unregister to q t) vs r)
-table_change_by (SharedArrayBuffer to n) vs r = Birth (tag_made (SharedArrayBuffer to n)) (object_given r)
+table_change_by (Command.New to) vs r = Birth (tag_made (Command.New to)) (object_given r)
+table_change_by (Command.Symbol to) vs r = Birth (tag_made (Command.Symbol to)) None
+table_change_by (Command.Set o k y) vs r = Property (put_by (Command.Set o k y) vs)
+table_change_by (Command.Delete to o k) vs r = Property (put_by (Command.Delete to o k) vs)
+table_change_by (Command.WeakRef to y) vs r = WeakRefBirth (object_given r) (pointing (object_given r) (identity (first vs))) (identity (first vs))
+table_change_by (Command.Deref to w) vs r = Keeping (identity_kept r)
+table_change_by (Command.WeakMap to) vs r = Birth (tag_made (Command.WeakMap to)) (object_given r)
+table_change_by (Command.WeakMapSet m k y) vs r = Entry (entered_by (Command.WeakMapSet m k y) vs)
+table_change_by (Command.WeakMapDelete to m k) vs r = Entry (entered_by (Command.WeakMapDelete to m k) vs)
+table_change_by (Command.WeakSet to) vs r = Birth (tag_made (Command.WeakSet to)) (object_given r)
+table_change_by (Command.WeakSetAdd s y) vs r = Member (joined_by (Command.WeakSetAdd s y) vs)
+table_change_by (Command.WeakSetDelete to s y) vs r = Member (joined_by (Command.WeakSetDelete to s y) vs)
+table_change_by (Command.FinalizationRegistry to c) vs r = RegistryBirth (object_given r) (made_by c r)
+table_change_by (Command.Register q y v t) vs r = Registry (change_by (Command.Register q y v t) vs r)
+table_change_by (Command.Unregister to q t) vs r = Registry (change_by (Command.Unregister to q t) vs r)
+table_change_by (Command.SharedArrayBuffer to n) vs r = Birth (tag_made (Command.SharedArrayBuffer to n)) (object_given r)
 table_change_by _ vs r = NoChange
 
 -- what an event does to the tables; an emptying is done by a call of its own

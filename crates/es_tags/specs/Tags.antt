@@ -1,7 +1,6 @@
 -- Internal: what each identity is, its tag: a symbol, or an object of some kind.
 use Rattle.std.specs.Prelude.{ℕ, ◌-◌, Bool, true, false, List, Option, Some, None, slice_index_or, if◌then◌else◌}
 use Rattle.es_event.specs.declared.command.Command.{Command}
-use Rattle.es_event.specs.declared.command.Command.TheVariants.{New, Symbol, WeakRef, WeakMap, WeakSet, FinalizationRegistry, SharedArrayBuffer}
 use Rattle.es_value.specs.declared.value.Value.{Value}
 use Rattle.es_value.specs.declared.value.Value.TheVariants.{Object}
 use Rattle.es_event.specs.declared.event.Event.{Event}
@@ -66,13 +65,13 @@ tag_said h i = if is_there h i then Some (tag_of (kind h i)) else None
 
 -- the tag of what the command makes; no other makes anything
 abbrev pub tag_made : Command → Option Tag
-tag_made (New to) = Some Ordinary
-tag_made (Symbol to) = Some SymbolTag
-tag_made (WeakRef to y) = Some WeakRefTag
-tag_made (WeakMap to) = Some WeakMapTag
-tag_made (WeakSet to) = Some WeakSetTag
-tag_made (FinalizationRegistry to c) = Some RegistryTag
-tag_made (SharedArrayBuffer to n) = Some BufferTag
+tag_made (Command.New to) = Some Ordinary
+tag_made (Command.Symbol to) = Some SymbolTag
+tag_made (Command.WeakRef to y) = Some WeakRefTag
+tag_made (Command.WeakMap to) = Some WeakMapTag
+tag_made (Command.WeakSet to) = Some WeakSetTag
+tag_made (Command.FinalizationRegistry to c) = Some RegistryTag
+tag_made (Command.SharedArrayBuffer to n) = Some BufferTag
 tag_made _ = None
 
 -- a received object is a new buffer

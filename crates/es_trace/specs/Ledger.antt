@@ -3,7 +3,6 @@ use Rattle.std.specs.Prelude.{ℕ, Bool, true, false, List, [], ◌++◌, codes,
 use Rattle.std.specs.List.{flat_map}
 use Rattle.es_value.specs.Printed.{value_text}
 use Rattle.es_event.specs.declared.access.Change.{Change}
-use Rattle.es_event.specs.declared.access.Change.TheVariants.{Keep, Write, Add}
 use Rattle.es_event.specs.declared.ledger_event.Body.{Body}
 use Rattle.es_event.specs.declared.ledger_event.Body.TheVariants.{Plain, Block}
 use Rattle.es_event.specs.declared.ledger_event.LedgerEvent.{LedgerEvent}
@@ -22,9 +21,9 @@ abbrev pub word_text : ℕ → ℕ → List ℕ → List ℕ
 word_text i s what = codes "word " ++ (decimal i ++ (what ++ (codes " by ticket " ++ decimal s)))
 
 abbrev pub change_text : Change → List ℕ
-change_text Keep = codes " loaded"
-change_text (Write w) = codes " stored"
-change_text (Add n) = codes " added to"
+change_text Change.Keep = codes " loaded"
+change_text (Change.Write w) = codes " stored"
+change_text (Change.Add n) = codes " added to"
 
 abbrev pub ledger_text : List (List ℕ) → LedgerEvent → List ℕ
 ledger_text names (Opened b w s a) = codes "block " ++ (decimal b ++ codes " opened")
@@ -56,9 +55,9 @@ body_text (Block b s) = codes "block " ++ (decimal b ++ (codes ", ticket " ++ (d
 
 -- the word that was read or written, or what was there before and what was added
 abbrev pub told_of : Change → ℕ → List ℕ
-told_of Keep old = decimal old ++ codes "\n"
-told_of (Write w) old = decimal w ++ codes "\n"
-told_of (Add n) old = decimal old ++ (codes " + " ++ (decimal n ++ codes "\n"))
+told_of Change.Keep old = decimal old ++ codes "\n"
+told_of (Change.Write w) old = decimal w ++ codes "\n"
+told_of (Change.Add n) old = decimal old ++ (codes " + " ++ (decimal n ++ codes "\n"))
 
 -- the ticket that was made and the block's number of words, what a message carries, or the word; of an added number, what was there before
 abbrev pub told_text : List (List ℕ) → LedgerEvent → List ℕ

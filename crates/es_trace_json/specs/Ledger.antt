@@ -3,7 +3,6 @@ use Rattle.std.specs.Prelude.{ℕ, List, ◌++◌, codes, decimal}
 use Rattle.std.specs.List.{flat_map}
 use Rattle.es_value.specs.Printed.{quoted}
 use Rattle.es_event.specs.declared.access.Change.{Change}
-use Rattle.es_event.specs.declared.access.Change.TheVariants.{Keep, Write, Add}
 use Rattle.es_event.specs.declared.ledger_event.Body.{Body}
 use Rattle.es_event.specs.declared.ledger_event.Body.TheVariants.{Plain, Block}
 use Rattle.es_event.specs.declared.ledger_event.LedgerEvent.{LedgerEvent}
@@ -29,9 +28,9 @@ abbrev pub place_json : ℕ → ℕ → List ℕ
 place_json s i = codes ",\"ticket\":" ++ (decimal s ++ (codes ",\"index\":" ++ decimal i))
 
 abbrev pub change_members : ℕ → ℕ → ℕ → Change → List ℕ
-change_members s i old Keep = codes "\"loaded\"" ++ (place_json s i ++ (codes ",\"word\":" ++ decimal old))
-change_members s i old (Write w) = codes "\"stored\"" ++ (place_json s i ++ (codes ",\"word\":" ++ decimal w))
-change_members s i old (Add n) = codes "\"added\"" ++ (place_json s i ++ (codes ",\"old\":" ++ (decimal old ++ (codes ",\"addend\":" ++ decimal n))))
+change_members s i old Change.Keep = codes "\"loaded\"" ++ (place_json s i ++ (codes ",\"word\":" ++ decimal old))
+change_members s i old (Change.Write w) = codes "\"stored\"" ++ (place_json s i ++ (codes ",\"word\":" ++ decimal w))
+change_members s i old (Change.Add n) = codes "\"added\"" ++ (place_json s i ++ (codes ",\"old\":" ++ (decimal old ++ (codes ",\"addend\":" ++ decimal n))))
 
 abbrev pub ledger_members : List (List ℕ) → LedgerEvent → List ℕ
 ledger_members names (Opened b w s a) = codes "\"opened\",\"block\":" ++ (decimal b ++ (codes ",\"words\":" ++ (decimal w ++ (codes ",\"ticket\":" ++ (decimal s ++ (codes ",\"agent\":" ++ name_json names a))))))
