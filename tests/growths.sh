@@ -358,7 +358,7 @@ while [ "$number" -lt "$last" ]; do
         echo "FAILED: eight long histories: growth $number of $last refused: status $got"
     fi
 done
-if [ "$without" -lt 40 ]; then
+if [ "$without" -lt 35 ]; then
     failed=$((failed + 1))
     echo "FAILED: eight long histories: $without of the last growths were done without"
 fi
