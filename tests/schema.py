@@ -8,6 +8,7 @@ Usage: schema.py PROGRAM. Prints what differs, and `N passed, M failed` last.
   number wrong, the schema accepts it.
 - The commands of the schema are those of the program's table, with the same operands; its limits are the program's; and
   what it says of each command begins as the row of docs/PLANS.md does.
+- What the schemas of plans and traces say of each command is what command_schemas.py writes.
 - Of small plans with one command, whole and spoiled, the program accepts those that the schema accepts.
 
 A schema sees values and not how they are written, so 1.0 and -0 are whole numbers to it. Texts are judged by `Schema`,
@@ -22,6 +23,7 @@ import re
 import subprocess
 import sys
 
+import command_schemas
 import refusals
 import scripts
 
@@ -329,6 +331,12 @@ def test_limits(count, root):
         count.test(found == limit, f"{what}: {found} in the schema, {limit} in the program")
 
 
+def test_written(count):
+    for name in command_schemas.SCHEMAS:
+        found, wanted = command_schemas.written(name)
+        count.test(found == wanted, f"docs/{name} is not what tests/command_schemas.py --write makes of it")
+
+
 def test_program(count, root, judges, program):
     for plan in small_plans(root):
         text = json.dumps(plan).encode()
@@ -349,6 +357,7 @@ def main():
     test_texts(count, judges)
     test_table(count, root)
     test_limits(count, root)
+    test_written(count)
     test_program(count, root, judges, program)
     print(f"{count.passed} passed, {count.failed} failed")
     return 1 if count.failed else 0
