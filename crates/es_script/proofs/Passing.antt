@@ -1,8 +1,7 @@
 -- What holds of each command of a plan that is read, by the table of commands, holds of all its commands.
-use Rattle.std.proofs.Common.{ℕ, ◌≡◌, ◌==◌, Bool, true, false, List, [], ◌∷◌, Option, Some, None, refl, sym, subst}
-use Rattle.std.specs.Prelude.{if◌then◌else◌, codes}
+use Rattle.std.proofs.Common.{ℕ, ◌≡◌, Bool, true, false, List, [], ◌∷◌, Option, Some, None, refl, sym, subst}
+use Rattle.std.specs.Prelude.{if◌then◌else◌}
 use Rattle.std.specs.List.{list_all}
-use Rattle.std.specs.Str.{bytes_eq}
 use Rattle.serde_json.specs.Data.{Data, string, array, object, Items, no_items, item, Members, no_members, member}
 use Rattle.serde_json.specs.Events.{items_len}
 use Rattle.es_event.specs.declared.command.Command.{Command}
@@ -10,7 +9,7 @@ use Rattle.es_event.specs.declared.plan.Callback.{Callback}
 use Rattle.es_event.specs.Commands.{opens_or_collects}
 use Rattle.es_event.specs.Others.{posts_where}
 use Rattle.es_reading.specs.Scope.{Numbers, Scope}
-use Rattle.es_reading.specs.Forms.{OperandType, name, literal, text, callback, agent, whole, words, Meaning, Makes, Form, form, later_form, weak_form, shared_form, registry_form, is_allowed}
+use Rattle.es_reading.specs.Forms.{OperandType, name, literal, text, callback, agent, whole, words, Meaning, Makes, Form, form, later_form, weak_form, shared_form, registry_form, is_allowed, takes, takes_in_jobs}
 use Rattle.es_script.specs.Grammar.{IsReference, Means, AreOperands, IsCommand, AreCommands, IsBody, AreCallbacks, HasCallbacks}
 use Rattle.es_reading.specs.Reading.{Meanings, made}
 use Rattle.es_script.proofs.Sound.{both_true}
@@ -59,59 +58,28 @@ harmless_if : (b : Bool) (o p : Option Form) → Harmless o → Harmless p → H
 harmless_if true o p h k = h
 harmless_if false o p h k = k
 
-registry_harmless : (w : List ℕ) (n : ℕ) → Harmless (registry_form w n)
-registry_harmless w n =
-    harmless_if (bytes_eq w (codes "registry")) _ _ (λ xs. (λ a. refl, λ t p. refl))
-    (harmless_if (bytes_eq w (codes "register")) _ _ (harmless_if (n == 4) _ _ (λ xs. (λ a. refl, λ t p. refl)) (λ xs. (λ a. refl, λ t p. refl)))
-    (harmless_if (bytes_eq w (codes "unregister")) _ _ (λ xs. (λ a. refl, λ t p. refl))
-    tt))
-
-shared_harmless : (w : List ℕ) (n : ℕ) → Harmless (shared_form w n)
-shared_harmless w n =
-    harmless_if (bytes_eq w (codes "buffer")) _ _ (λ xs. (λ a. refl, λ t p. refl))
-    (harmless_if (bytes_eq w (codes "length")) _ _ (λ xs. (λ a. refl, λ t p. refl))
-    (harmless_if (bytes_eq w (codes "sameblock")) _ _ (λ xs. (λ a. refl, λ t p. refl))
-    (harmless_if (bytes_eq w (codes "load")) _ _ (λ xs. (λ a. refl, λ t p. refl))
-    (harmless_if (bytes_eq w (codes "store")) _ _ (λ xs. (λ a. refl, λ t p. refl))
-    (harmless_if (bytes_eq w (codes "add")) _ _ (λ xs. (λ a. refl, λ t p. refl))
-    (harmless_if (bytes_eq w (codes "post")) _ _ (λ xs. (λ a. refl, λ t p. p.0))
-    (registry_harmless w n)))))))
-
-weak_harmless : (w : List ℕ) (n : ℕ) → Harmless (weak_form w n)
-weak_harmless w n =
-    harmless_if (bytes_eq w (codes "weakref")) _ _ (λ xs. (λ a. refl, λ t p. refl))
-    (harmless_if (bytes_eq w (codes "deref")) _ _ (λ xs. (λ a. refl, λ t p. refl))
-    (harmless_if (bytes_eq w (codes "weakmap")) _ _ (λ xs. (λ a. refl, λ t p. refl))
-    (harmless_if (bytes_eq w (codes "wmset")) _ _ (λ xs. (λ a. refl, λ t p. refl))
-    (harmless_if (bytes_eq w (codes "wmget")) _ _ (λ xs. (λ a. refl, λ t p. refl))
-    (harmless_if (bytes_eq w (codes "wmhas")) _ _ (λ xs. (λ a. refl, λ t p. refl))
-    (harmless_if (bytes_eq w (codes "wmdelete")) _ _ (λ xs. (λ a. refl, λ t p. refl))
-    (harmless_if (bytes_eq w (codes "weakset")) _ _ (λ xs. (λ a. refl, λ t p. refl))
-    (harmless_if (bytes_eq w (codes "wsadd")) _ _ (λ xs. (λ a. refl, λ t p. refl))
-    (harmless_if (bytes_eq w (codes "wshas")) _ _ (λ xs. (λ a. refl, λ t p. refl))
-    (harmless_if (bytes_eq w (codes "wsdelete")) _ _ (λ xs. (λ a. refl, λ t p. refl))
-    (shared_harmless w n)))))))))))
+-- of those that collect or post; of all others it shows by computing
+collect_harmless : Harmless (takes_in_jobs [] Command.Collect)
+collect_harmless = λ xs. (λ a. sym a, λ t p. refl)
 
 later_harmless : (v : Version) → Harmless (later_form v)
 later_harmless One = tt
 later_harmless Two = λ xs. (λ a. sym a, λ t p. refl)
 
+post_harmless : Harmless (takes (agent ∷ name ∷ []) Command.Post)
+post_harmless = λ xs. (λ a. refl, λ t p. p.0)
+
+registry_harmless : (w : List ℕ) (n : ℕ) → Harmless (registry_form w n)
+registry_harmless w n = search harmless_if depth 40
+
+shared_harmless : (w : List ℕ) (n : ℕ) → Harmless (shared_form w n)
+shared_harmless w n = search (harmless_if, post_harmless, registry_harmless) depth 40
+
+weak_harmless : (w : List ℕ) (n : ℕ) → Harmless (weak_form w n)
+weak_harmless w n = search (harmless_if, shared_harmless) depth 40
+
 form_harmless : (v : Version) (w : List ℕ) (n : ℕ) → Harmless (form v w n)
-form_harmless v w n =
-    harmless_if (bytes_eq w (codes "let")) _ _ (λ xs. (λ a. refl, λ t p. refl))
-    (harmless_if (bytes_eq w (codes "new")) _ _ (λ xs. (λ a. refl, λ t p. refl))
-    (harmless_if (bytes_eq w (codes "symbol")) _ _ (λ xs. (λ a. refl, λ t p. refl))
-    (harmless_if (bytes_eq w (codes "symbolfor")) _ _ (λ xs. (λ a. refl, λ t p. refl))
-    (harmless_if (bytes_eq w (codes "copy")) _ _ (λ xs. (λ a. refl, λ t p. refl))
-    (harmless_if (bytes_eq w (codes "same")) _ _ (λ xs. (λ a. refl, λ t p. refl))
-    (harmless_if (bytes_eq w (codes "say")) _ _ (λ xs. (λ a. refl, λ t p. refl))
-    (harmless_if (bytes_eq w (codes "set")) _ _ (λ xs. (λ a. refl, λ t p. refl))
-    (harmless_if (bytes_eq w (codes "get")) _ _ (λ xs. (λ a. refl, λ t p. refl))
-    (harmless_if (bytes_eq w (codes "delete")) _ _ (λ xs. (λ a. refl, λ t p. refl))
-    (harmless_if (bytes_eq w (codes "keys")) _ _ (λ xs. (λ a. refl, λ t p. refl))
-    (harmless_if (bytes_eq w (codes "collect")) _ _ (λ xs. (λ a. sym a, λ t p. refl))
-    (harmless_if (bytes_eq w (codes "collectlater")) _ _ (later_harmless v)
-    (weak_harmless w n)))))))))))))
+form_harmless v w n = search (harmless_if, collect_harmless, later_harmless, weak_harmless) depth 40
 
 -- Commands
 
