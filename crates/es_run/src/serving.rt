@@ -224,7 +224,8 @@ impl<L: Planned + Sync> Cluster<L> {
             if pause.ends() || gate.holds() || !is_at_word(member) {
                 break;
             }
-            pause = turn_with(member, core)?;
+            // it lets nobody go on who waits
+            pause.progress = member.turn_beside(core)?;
         }
         Ok(pause)
     }
