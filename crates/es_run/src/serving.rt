@@ -335,8 +335,8 @@ fn wakes<L: Planned>(ledger: &LedgerCore<L>, before: usize) -> bool {
     })
 }
 
-// Waits until the agents may begin. None does before each has its thread, whose making takes longer beside work. Who waits
-// here keeps its place on a processor: of those that sleep and are woken together, several come to one.
+// Waits until the agents may begin. None does before each has its thread, whose making takes longer beside work. The wait is
+// short, so who waits looks again, and lets others run in between.
 fn wait_until<R: Wait>(rt: &R, begun: &AtomicBool) {
     for _ in rt.forever() {
         if begun.load(Ordering::SeqCst) {
