@@ -1,5 +1,6 @@
 -- To believe: what a turn of an agent, and a list of turns, make of a cluster.
 use Rattle.std.specs.Prelude.{ℕ, ◌≡◌, true, false, List, [], ◌∷◌, ◌++◌, Some, slice_get, slice_set}
+use Rattle.es_event.specs.LegalLedger.{LegalLedger}
 use Rattle.es_member.specs.Tied.{GrowsBy}
 use Rattle.es_member.specs.Turned.{WaitsRightly, IsSeated, IsTiedAfter, GrowsByOne}
 use Rattle.es_member.specs.declared.member.Progress.{Progress}
@@ -24,6 +25,8 @@ pub record Turned (p : Progress) (n : ℕ) (old new : ClusterView) : Type 0 wher
   pub told : WaitsRightly p before old.ledger new.ledger
   pub ledger : GrowsBy n old.ledger.history new.ledger.history
   pub number : new.ledger.agents ≡ old.ledger.agents
+  -- what it did there the ledger's rules allow
+  pub legal : LegalLedger new.ledger.agents new.ledger.history
   -- the agent and its part in the ledger go together; where it has one event more it waits for nobody yet, whatever its next job waits for
   pub tied : IsTiedAfter p after new.ledger.history
   -- it has ended in the ledger where it has closed

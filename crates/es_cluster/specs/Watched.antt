@@ -1,7 +1,8 @@
 -- To believe: what a watcher of a run by turns is told.
-use Rattle.std.specs.Prelude.{ℕ, ◌≡◌, List, [], ◌∷◌}
+use Rattle.std.specs.Prelude.{ℕ, ◌≡◌, List, [], ◌∷◌, Option, Some, None, if◌then◌else◌}
 use Rattle.es_member.specs.declared.member.Progress.{Progress}
-use Rattle.es_cluster.specs.Moves.{RunsOut, with_drained}
+use Rattle.es_member.specs.declared.member.Progress.TheVariants.{Moved, Waiting, Ended}
+use Rattle.es_cluster.specs.Moves.{RunsOut, mover, rests_at, with_drained}
 use Rattle.es_cluster.specs.State.{ClusterView}
 use Rattle.es_cluster.specs.Turns.{Turned}
 
@@ -17,20 +18,41 @@ abbrev pub AreTurns : List TakenTurn → ClusterView → ClusterView → Type 0
 AreTurns [] old new = new ≡ old
 AreTurns (t ∷ ts) old new = (t.before ≡ old) × Turned t.progress t.agent t.before t.after × AreTurns ts t.after new
 
+-- whose move is under way after a turn of agent n: its own until it rests
+abbrev pub busy : ℕ → ClusterView → Option ℕ
+busy n c = if rests_at n c then None else Some n
+
+-- the same after any turn: nobody's where the agent waits on, or has ended
+abbrev pub busy_after : Progress → ℕ → ClusterView → Option ℕ
+busy_after Moved n c = busy n c
+busy_after Waiting n c = None
+busy_after Ended n c = None
+
+-- a turn among moves: while a move is under way its agent moves; between two moves the mover begins its own, or an agent is asked that waits
+-- on, or that has ended
+abbrev pub FitsIn : Option ℕ → TakenTurn → Type 0
+FitsIn (Some n) t = (t.progress ≡ Moved) × (t.agent ≡ n)
+FitsIn None t = t.progress ≡ Moved → mover t.before ≡ Some t.agent
+
+-- these turns are those of moves, of which the one was under way before them, and the other is after them
+abbrev pub AreMoves : Option ℕ → List TakenTurn → Option ℕ → Type 0
+AreMoves first [] last = last ≡ first
+AreMoves first (t ∷ ts) last = FitsIn first t × AreMoves (busy_after t.progress t.agent t.after) ts last
+
 -- a watcher was told of these turns, of each once and in this order; what it says of a turn is of itself before and after it was told
 abbrev pub IsToldOf : {W : Type 0} → (TakenTurn → W → W → Type 0) → List TakenTurn → W → W → Type 0
 IsToldOf tells [] was now = now ≡ was
 IsToldOf {W} tells (t ∷ ts) was now = (mid : W) × tells t was mid × IsToldOf tells ts mid now
 
--- it was told of the turns that led from the one cluster to the other, and of nothing else
-abbrev pub IsTold : {W : Type 0} → (TakenTurn → W → W → Type 0) → ClusterView → ClusterView → W → W → Type 0
-IsTold tells old new was now = (ts : List TakenTurn) × AreTurns ts old new × IsToldOf tells ts was now
+-- it was told of the turns that led from the one cluster to the other, which are those of moves, and of nothing else
+abbrev pub IsTold : {W : Type 0} → (TakenTurn → W → W → Type 0) → (first last : Option ℕ) → ClusterView → ClusterView → W → W → Type 0
+IsTold tells first last old new was now = (ts : List TakenTurn) × AreTurns ts old new × AreMoves first ts last × IsToldOf tells ts was now
 
--- a run of moves to its end, of which it was told from the first turn to the last. What it knows then is the cluster before the messages that
--- nobody took are taken out
+-- a run of moves to its end, of which it was told from the first turn to the last: no move is under way before and after. What it knows then
+-- is the cluster before the messages that nobody took are taken out
 pub record IsWatched {W : Type 0} (knows : ClusterView → W → Type 0) (tells : TakenTurn → W → W → Type 0) (old new : ClusterView) (was now : W) : Type 0 where
   pub end : ClusterView
   pub runs : RunsOut old end
-  pub told : IsTold tells old end was now
+  pub told : IsTold tells None None old end was now
   pub known : knows end now
   pub drained : new ≡ with_drained end

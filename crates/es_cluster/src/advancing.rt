@@ -5,7 +5,6 @@ ghost use Rattle.es_cluster.specs.Asked.{Hears, Works};
 ghost use Rattle.es_cluster.specs.Moves.{cleans_quietly};
 ghost use Rattle.es_cluster.specs.State.{plans};
 ghost use Rattle.es_cluster.specs.Turns.{Turned};
-ghost use Rattle.es_cluster.specs.Watching.{IsKept};
 
 use crate::cluster::ClusterCore;
 use crate::watcher::Watcher;
@@ -27,7 +26,8 @@ impl<L: Planned> ClusterCore<L> {
         ensures turned { IfOk result (λ p. Turned p agent self.old self.new) }
         ensures works { IfOk result (λ p. Works p agent self.old self.new) }
         ensures hears { IfOk result (λ p. Hears p agent self.old self.new) }
-        ensures watched { OnOk result (IsKept W.knows W.tells self.old self.new watcher.old watcher.new) }
+        ensures told { IfOk result (λ p. W.tells (record { progress = p; agent = agent; before = self.old; after = self.new }) watcher.old watcher.new) }
+        ensures known { OnOk result (W.knows self.new watcher.new) }
         ensures err { OnErr result (self.new.failed ≡ true) }
         ensures plans { plans self.new.agents ≡ plans self.old.agents }
         ensures agents { length self.new.agents ≡ length self.old.agents }

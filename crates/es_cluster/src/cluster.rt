@@ -2,6 +2,7 @@
 
 ghost use Rattle.std.specs.Prelude.{◌≡◌, ◌<◌, ◌≤◌, ℕ, [], vec_capacity, ◌&&◌, not, true, false, Some, length, reverse, slice_get, slice_index_or, IfOk, IfSome, OnOk, OnErr, is_err, is_some};
 ghost use Rattle.es_event.specs.Ledger.{count};
+ghost use Rattle.es_event.specs.LegalLedger.{LegalLedger};
 ghost use Rattle.es_event.specs.Others.{all_name_others};
 ghost use Rattle.es_match.specs.Cluster.{IsClusterOf};
 ghost use Rattle.es_cluster.specs.Ends.{EndsIn};
@@ -105,7 +106,11 @@ impl<L: Planned> ClusterCore<L> {
             return Err(NoMemory);
         }
         match self.members[agent].step(&mut self.ledger) {
-            Ok(progress) => Ok(progress),
+            Ok(progress) => {
+                // It tells that the ledger's history is legal.
+                let _ = self.ledger.history();
+                Ok(progress)
+            }
             Err(error) => {
                 self.failed = true;
                 Err(error)
@@ -224,10 +229,11 @@ impl<L: Planned> ClusterCore<L> {
         })
     }
 
-    /// What happened in the ledger, the oldest first. With the agents' histories it is that of one
-    /// cluster, unless a step failed.
+    /// What happened in the ledger, the oldest first. It is legal, and with the agents' histories it is that
+    /// of one cluster, unless a step failed.
     pub fn ledger(&self) -> &[LedgerEvent]
         ensures events { reverse result.now ≡ self.now.ledger.history }
+        ensures legal { LegalLedger self.now.ledger.agents self.now.ledger.history }
         ensures cluster { self.now.failed ≡ false → IsClusterOf (accounts self.now.agents) self.now.ledger.history }
     {
         self.ledger.history()

@@ -1,11 +1,11 @@
 //! Agents move in order, each until it rests.
 
-ghost use Rattle.std.specs.Prelude.{◌≡◌, ◌≤◌, ◌<◌, false, true, length, reverse, IfOk, IfSome, OnOk, OnErr, is_err};
+ghost use Rattle.std.specs.Prelude.{◌≡◌, ◌≤◌, ◌<◌, false, true, None, length, reverse, IfOk, IfSome, OnOk, OnErr, is_err};
 ghost use Rattle.es_cluster.specs.Asked.{AskedEach, BeginsMove, GoesOn, cleans_at, plan_left};
 ghost use Rattle.es_cluster.specs.Moves.{Rest, RunsToEnd, all_over, cleans_quietly, is_between as is_between_said, rests_at};
 ghost use Rattle.es_cluster.specs.State.{plans};
-ghost use Rattle.es_cluster.specs.Watched.{IsWatched};
-ghost use Rattle.es_cluster.specs.Watching.{IsKept};
+ghost use Rattle.es_cluster.specs.Watched.{IsWatched, busy};
+ghost use Rattle.es_cluster.specs.Watching.{IsKept, begun};
 
 use crate::cluster::ClusterCore;
 use crate::watcher::{Nobody, Watcher};
@@ -61,7 +61,7 @@ impl<L: Planned> ClusterCore<L> {
         requires whole { self.old.failed ≡ false }
         requires knows { W.knows self.old watcher.old }
         ensures begins { IfOk result (λ r. BeginsMove r self.old self.new) }
-        ensures watched { OnOk result (IsKept W.knows W.tells self.old self.new watcher.old watcher.new) }
+        ensures watched { IfOk result (λ r. IsKept W.knows W.tells None (begun r self.new) self.old self.new watcher.old watcher.new) }
         ensures known { IfOk result (λ r. IfSome r (λ n. n < length self.new.agents)) }
         ensures err { OnErr result (self.new.failed ≡ true) }
         ensures plans { plans self.new.agents ≡ plans self.old.agents }
@@ -79,7 +79,7 @@ impl<L: Planned> ClusterCore<L> {
         requires whole { self.old.failed ≡ false }
         requires knows { W.knows self.old watcher.old }
         ensures asked { IfOk result (λ r. AskedEach r self.old self.new) }
-        ensures watched { OnOk result (IsKept W.knows W.tells self.old self.new watcher.old watcher.new) }
+        ensures watched { IfOk result (λ r. IsKept W.knows W.tells None (begun r self.new) self.old self.new watcher.old watcher.new) }
         ensures known { IfOk result (λ r. IfSome r (λ n. n < length self.new.agents)) }
         ensures err { OnErr result (self.new.failed ≡ true) }
         ensures plans { plans self.new.agents ≡ plans self.old.agents }
@@ -101,7 +101,7 @@ impl<L: Planned> ClusterCore<L> {
         requires whole { self.old.failed ≡ false }
         requires knows { W.knows self.old watcher.old }
         ensures rests { OnOk result (Rest agent self.old self.new) }
-        ensures watched { OnOk result (IsKept W.knows W.tells self.old self.new watcher.old watcher.new) }
+        ensures watched { OnOk result (IsKept W.knows W.tells (busy agent self.old) None self.old self.new watcher.old watcher.new) }
         ensures less { OnOk result ((plan_left agent self.new ≤ plan_left agent self.old) × (self.new.failed ≡ false)) }
         ensures err { OnErr result (self.new.failed ≡ true) }
         ensures plans { plans self.new.agents ≡ plans self.old.agents }
@@ -122,7 +122,7 @@ impl<L: Planned> ClusterCore<L> {
         requires whole { self.old.failed ≡ false }
         requires knows { W.knows self.old watcher.old }
         ensures goes { OnOk result (GoesOn agent self.old self.new) }
-        ensures watched { OnOk result (IsKept W.knows W.tells self.old self.new watcher.old watcher.new) }
+        ensures watched { OnOk result (IsKept W.knows W.tells (busy agent self.old) (busy agent self.new) self.old self.new watcher.old watcher.new) }
         ensures done { OnOk result (cleans_at agent self.new ≡ false) }
         ensures less { OnOk result ((plan_left agent self.new ≡ plan_left agent self.old) × (self.new.failed ≡ false)) }
         ensures err { OnErr result (self.new.failed ≡ true) }

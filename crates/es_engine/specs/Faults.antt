@@ -1,4 +1,4 @@
--- Internal: the fault of a run whose plan was not read, or whose threads did not end well.
+-- To believe: the fault of a run whose plan was not read, or whose threads did not end well.
 use Rattle.es_reading.specs.declared.fault.ReadFault.{ReadFault}
 use Rattle.es_reading.specs.declared.fault.ReadFault.TheVariants.{Script as ReadScript, NoMemory as ReadNoMemory}
 use Rattle.es_outcome.specs.declared.stop.RunStop.{RunStop}

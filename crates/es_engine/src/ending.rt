@@ -8,10 +8,10 @@ use crate::RunFault;
 /// How the program ended.
 #[derive(Clone, Copy, Debug, PartialEq, Eq)]
 pub enum Ending {
-    /// The run ended well, after so many audits beside it, and what it wrote has reached standard
-    /// output.
+    /// What was asked for ended well, after so many audits beside it. Its caller says so once what was
+    /// written has reached standard output.
     Done(u32),
-    /// The words asked for help, and it has reached standard output.
+    /// The words asked for help, and its caller has shown it.
     Helped,
     /// The words are none of the program's.
     Mistaken,

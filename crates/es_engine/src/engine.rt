@@ -6,7 +6,7 @@ ghost use Rattle.es_event.specs.Others.{all_name_others};
 ghost use Rattle.es_event.specs.Report.{report};
 ghost use Rattle.es_count.specs.Counts.{IsCountsOf};
 ghost use Rattle.es_script.specs.Grammar.{no_callback_collects};
-ghost use Rattle.es_engine.specs.Engine.{Answers, IsAnswerFault, ReadsPlan, RunsTo, audits_of, runs_threads};
+ghost use Rattle.es_engine.specs.Engine.{Answers, IsAnswerFault, ReadsPlan, RunsAsByTurns, RunsTo, audits_of, runs_threads};
 
 use crate::cluster::run_plan;
 use crate::input::read_all;
@@ -23,11 +23,11 @@ use std::sync::Wait;
 use std::thread::Threads;
 
 /// Reads a plan to the reader's end, runs it, or only checks it, and writes the answer. Its agents are
-/// threads, or run by turns in this one. Gives the number of audits that were made beside the agents: as
-/// many as the options ask for, and none by turns or where the plan is only checked.
+/// threads, or run by turns in this one. Gives the number of audits that the watcher counted beside the
+/// agents: as many as the options ask for, and none by turns or where the plan is only checked.
 ///
 /// The report is written only after the run has ended well. On every fault but `Write` nothing is
-/// written.
+/// written. Where the agents read and write no word of a shared block, it is the report by turns, however they ran.
 pub fn run<H: AllocGlobal + Threads + Wait + Sync, R: Read, W: Write>(
     rt: &H,
     reader: &mut R,
@@ -35,6 +35,7 @@ pub fn run<H: AllocGlobal + Threads + Wait + Sync, R: Read, W: Write>(
     options: Options,
 ) -> Result<u32, RunFault>
     ensures runs { RunsTo options (R.remaining reader.old) (R.remaining reader.new) (W.contents writer.old) (W.contents writer.new) result }
+    ensures turns { IfOk result (λ n. RunsAsByTurns options (R.remaining reader.old) (R.remaining reader.new) (W.contents writer.old) (W.contents writer.new)) }
     ensures unwritten { IfErr result (λ e. e ≢ RunFault.Write → writer.new ≡ writer.old) }
 {
     let plan = plan_from(rt.alloc(), reader)?;
@@ -50,6 +51,7 @@ pub fn run_last<H: AllocGlobal + Threads + Wait + Sync, R: Read, W: Write>(
     options: Options,
 ) -> Result<u32, RunFault>
     ensures runs { RunsTo options (R.remaining reader.old) (R.remaining reader.new) (W.contents writer.old) (W.contents writer.new) result }
+    ensures turns { IfOk result (λ n. RunsAsByTurns options (R.remaining reader.old) (R.remaining reader.new) (W.contents writer.old) (W.contents writer.new)) }
     ensures unwritten { IfErr result (λ e. e ≢ RunFault.Write → writer.new ≡ writer.old) }
 {
     let plan = plan_from(rt.alloc(), reader)?;
@@ -68,8 +70,8 @@ fn plan_from<R: Read>(alloc: Global, reader: &mut R) -> Result<Plan, RunFault>
     Ok(plan)
 }
 
-/// Writes what there is to say of a plan, and gives how many audits were made beside its agents. What the run came to is
-/// let go, but where the program ends with it.
+/// Writes what there is to say of a plan, and gives how many audits were counted beside its agents. What the run
+/// came to is let go, but where the program ends with it.
 fn answer<H: AllocGlobal + Threads + Wait + Sync, W: Write>(
     rt: &H,
     plan: Plan,

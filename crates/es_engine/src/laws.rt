@@ -2,8 +2,8 @@
 
 ghost use Rattle.es_engine.specs.Laws.{APlanHasOneAnswer};
 
-/// A plan whose agents stay alone has one answer, in threads and by turns: where a run ends well, what it
-/// wrote is the one report of its plan.
+/// A plan whose agents share no word has one answer, in threads and by turns, whatever they post, wait for and
+/// skip: where a run ends well, what it wrote is the one report of its plan.
 pub fn a_plan_has_one_answer()
     ensures { APlanHasOneAnswer }
 {}

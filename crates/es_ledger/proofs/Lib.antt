@@ -1,17 +1,17 @@
 pub mod Lines
-mod Numbered
+pub mod Numbered
 mod Queues
 pub mod Lying
 pub mod Mailed
-mod Untouched
+pub mod Untouched
 mod After
-mod Made
+pub mod Made
 mod Tallies
 mod Within
 pub mod Sums
 pub mod Auditing
 mod InOrder
-mod Plain
+pub mod Plain
 mod ExampleBlocks
 mod ExamplePorts
 pub mod Columns

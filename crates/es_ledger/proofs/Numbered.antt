@@ -101,9 +101,13 @@ none_from k i (suc m) (e ∷ es) is more =
 pub only_by : (l : Ledger) (k : ℕ) (who : Holder) → IsNumbered l → holder_at k (table l) ≡ Some who → OnlyBy k who (table l)
 only_by l k who is at = only_from k 1 (serials l) who (table l) is at
 
--- what is numbered next has no line yet
+-- what is numbered later has no line yet
+pub none_later : (l : Ledger) (k : ℕ) → IsNumbered l → serials l < k → holder_at k (table l) ≡ None
+none_later l k is more = none_from k 1 (serials l) (table l) is (omega (arith, more))
+
+-- nor has what is numbered next
 pub none_next : (l : Ledger) (k : ℕ) → IsNumbered l → k ≡ serials l + 1 → holder_at k (table l) ≡ None
-none_next l k is next = none_from k 1 (serials l) (table l) is (omega arith)
+none_next l k is next = none_later l k is (omega (arith, next))
 
 -- what has no line is held by whomever
 pub none_only : (k : ℕ) (who : Holder) (t : List Entry) → line_of k t ≡ None → OnlyBy k who t

@@ -1,4 +1,4 @@
--- Internal: how a cluster that is kept is laid out and owned, in the logic's words.
+-- To believe: how a cluster that is kept is laid out and owned, in the logic's words.
 use denote.RattleType.{RattleType}
 use Rattle.core.specs.contracts.mem.manually_drop.ManuallyDrop.{the_row as manual_row}
 use Rattle.core.specs.declared.mem.manually_drop.ManuallyDrop.{ManuallyDrop}

@@ -142,7 +142,7 @@ ties-go (e ∷ h) p c (q, ds, b, split, ties, a) es rest =
 
 -- The other way
 
-chained : {A B : Type 0} (f : A → Option B) (o : Option A) (b : B) → option_and_then f o ≡ Some b → (a : A) × (o ≡ Some a) × (f a ≡ Some b)
+pub chained : {A B : Type 0} (f : A → Option B) (o : Option A) (b : B) → option_and_then f o ≡ Some b → (a : A) × (o ≡ Some a) × (f a ≡ Some b)
 chained f None b e = cc
 chained f (Some a) b e = (a, refl, e)
 

@@ -9,7 +9,7 @@ use Rattle.es_event.specs.Ledger.{Ledger, waits, ended, holder_of}
 use Rattle.es_deeds.specs.Deeds.{Deed, Owned, deed, is_wait, part, part_of, by_holder}
 use Rattle.es_member.specs.Tied.{AreDeedsOf, GrowsBy}
 
-apart : (n a : ℕ) → (a ≡ n → ⊥) → (n == a) ≡ false
+pub apart : (n a : ℕ) → (a ≡ n → ⊥) → (n == a) ≡ false
 apart n a other = elim (cases_Bool (n == a)) [
   | inl e ↦ absurd (other (sym (eqb-true n a e)))
   | inr e ↦ e
@@ -34,7 +34,7 @@ part_waits l e n a d is w =
     and_false true = refl
     and_false false = refl
 
-part_other : (l : Ledger) (e : LedgerEvent) (n a : ℕ) (d : Deed) → deed l e ≡ Some (n, d) → (a ≡ n → ⊥) → part (e ∷ l) a ≡ part l a
+pub part_other : (l : Ledger) (e : LedgerEvent) (n a : ℕ) (d : Deed) → deed l e ≡ Some (n, d) → (a ≡ n → ⊥) → part (e ∷ l) a ≡ part l a
 part_other l e n a d is other =
     ap (λ o. part l a ++ part_of a o) is
     ∙ ap (λ b. part l a ++ cond (b && not (is_wait d)) (d ∷ []) []) (apart n a other)
@@ -42,13 +42,13 @@ part_other l e n a d is other =
 
 -- Waits and ends
 
-doer : (o : Owned) (n m : ℕ) (d : Deed) → o ≡ Some (n, d) → option_map_or (λ p. p.0) o m ≡ n
+pub doer : (o : Owned) (n m : ℕ) (d : Deed) → o ≡ Some (n, d) → option_map_or (λ p. p.0) o m ≡ n
 doer o n m d is = ap (λ o. option_map_or (λ p. p.0) o m) is
 
-other_than : (r n a : ℕ) → r ≡ n → (a ≡ n → ⊥) → (r == a) ≡ false
+pub other_than : (r n a : ℕ) → r ≡ n → (a ≡ n → ⊥) → (r == a) ≡ false
 other_than r n a same other = ap (λ m. m == a) same ∙ apart n a other
 
-waits_other : (l : Ledger) (e : LedgerEvent) (n a : ℕ) (d : Deed) → deed l e ≡ Some (n, d) → (a ≡ n → ⊥) → waits (e ∷ l) a ≡ waits l a
+pub waits_other : (l : Ledger) (e : LedgerEvent) (n a : ℕ) (d : Deed) → deed l e ≡ Some (n, d) → (a ≡ n → ⊥) → waits (e ∷ l) a ≡ waits l a
 waits_other l (Taken s r) n a d is other = ap (λ b. cond b None (waits l a)) (other_than r n a (doer (deed l (Taken s r)) n r d is) other)
 waits_other l (Waiting r s) n a d is other = ap (λ b. cond b (Some s) (waits l a)) (other_than r n a (doer (deed l (Waiting r s)) n r d is) other)
 waits_other l (Passed r s) n a d is other = ap (λ b. cond b None (waits l a)) (other_than r n a (doer (deed l (Passed r s)) n r d is) other)
@@ -59,7 +59,7 @@ waits_other l (Accessed s i m old) n a d is other = refl
 waits_other l (Ended r) n a d is other = refl
 waits_other l (Drained s r) n a d is other = refl
 
-ended_other : (l : Ledger) (e : LedgerEvent) (n a : ℕ) (d : Deed) → deed l e ≡ Some (n, d) → (a ≡ n → ⊥) → ended (e ∷ l) a ≡ ended l a
+pub ended_other : (l : Ledger) (e : LedgerEvent) (n a : ℕ) (d : Deed) → deed l e ≡ Some (n, d) → (a ≡ n → ⊥) → ended (e ∷ l) a ≡ ended l a
 ended_other l (Ended r) n a d is other = ap (λ b. b || ended l a) (other_than r n a (doer (deed l (Ended r)) n r d is) other)
 ended_other l (Taken s r) n a d is other = refl
 ended_other l (Waiting r s) n a d is other = refl

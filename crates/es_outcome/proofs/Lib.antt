@@ -6,3 +6,4 @@ pub mod Telling
 pub mod Silent
 mod Waiting
 mod ExampleOutcome
+pub mod Honest

@@ -75,12 +75,22 @@ pub fn outcome_of<R: Threads + Sync, L: Planned>(
         }
     };
     let outcome = finish(parts);
-    if is_told(rt, alloc, &outcome, &calm, &said)? {
-        let counts = Counts::of_ended(&outcome, tallies);
-        Ok(Counted { outcome, counts })
-    } else {
-        Err(RunStop::Mismatch)
+    let told = is_told(rt, alloc, &outcome, &calm, &said)?;
+    match judge(told) {
+        Ok(()) => {
+            let counts = Counts::of_ended(&outcome, tallies);
+            Ok(Counted { outcome, counts })
+        }
+        Err(stop) => Err(stop),
     }
+}
+
+/// Histories that are not those of one cluster are a mismatch, and nothing else.
+fn judge(told: bool) -> Result<(), RunStop>
+    ensures told { IfOk result (λ _. told ≡ true) }
+    ensures mismatch { IfErr result (λ e. (e ≡ RunStop.Mismatch) × (told ≡ false)) }
+{
+    if told { Ok(()) } else { Err(RunStop::Mismatch) }
 }
 
 /// Whether the histories are those of one cluster, and what each agent says came to it came to it.

@@ -6,10 +6,12 @@ mod auditing;
 mod calm;
 mod counting;
 mod ending;
+mod laws;
 mod said;
 mod stop;
 
 pub use auditing::audit_of;
 pub use counting::tallies_of;
 pub use ending::{Counted, abandon, outcome_of};
+pub use laws::nothing_that_an_agent_emptied_was_live;
 pub use stop::RunStop;

@@ -13,9 +13,10 @@ use Rattle.es_ledger.specs.Draining.{after_drain, drained_below, drained_each, d
 use Rattle.es_cluster.specs.Ends.{EndsIn}
 use Rattle.es_cluster.specs.Moves.{RunsToEnd}
 use Rattle.es_cluster.specs.State.{ClusterView, first_state, names_of}
+use Rattle.es_cluster.specs.Turns.{AllTurned}
 use Rattle.es_replay.specs.Alike.{Alike, SameEnd}
-use Rattle.es_replay.specs.Together.{Same}
-use Rattle.es_replay.proofs.Running.{runs_same, stands_first}
+use Rattle.es_replay.specs.Together.{Same, Stands}
+use Rattle.es_replay.proofs.Running.{runs_same, stands_after, stands_first}
 use Rattle.es_replay.proofs.Telling.{after_one, same}
 
 -- What nobody took is taken out of both alike
@@ -57,8 +58,8 @@ legal_under : (k : ℕ) (l : Ledger) (n m : ℕ) → LegalSoFar k (drained_below
 legal_under k l n zero legal = legal
 legal_under k l n (suc m) legal = legal_under k l n m (legal_for k (drained_below l n m) m n legal)
 
-legal_before : (p : Plan) (c : ClusterView) (o : Outcome) (run : RunsToEnd (first_state p) c) → EndsIn c o → LegalSoFar c.ledger.agents run.0.ledger.history
-legal_before p c o run end =
+legal_before : (from c : ClusterView) (o : Outcome) (run : RunsToEnd from c) → EndsIn c o → LegalSoFar c.ledger.agents run.0.ledger.history
+legal_before from c o run end =
     let k = c.ledger.agents in
     let all : LegalSoFar k (after_drain c.ledger.history c.ledger.agents) = subst (LegalSoFar k) end.ledger end.legal.0 in
     let once : LegalSoFar k (after_drain run.0.ledger.history run.0.ledger.agents) = subst (LegalSoFar k) (ap (λ c. c.ledger.history) run.2) (legal_under k c.ledger.history c.ledger.agents c.ledger.agents all) in
@@ -70,15 +71,16 @@ reversed_twice : (hs : List (List Event)) → map reverse (map reverse hs) ≡ h
 reversed_twice [] = refl
 reversed_twice (h ∷ hs) = ap (λ k. k ∷ map reverse (map reverse hs)) (reverse-reverse h) ∙ ap (λ ks. h ∷ ks) (reversed_twice hs)
 
-ledger_is : (p : Plan) (c : ClusterView) (o : Outcome) (run : RunsToEnd (first_state p) c) → EndsIn c o
+ledger_is : (from c : ClusterView) (o : Outcome) (run : RunsToEnd from c) → EndsIn c o
     → reverse o.ledger ≡ after_drain (after_drain run.0.ledger.history run.0.ledger.agents) run.0.ledger.agents
-ledger_is p c o run end = end.ledger ∙ ap (λ c. after_drain c.ledger.history c.ledger.agents) run.2
+ledger_is from c o run end = end.ledger ∙ ap (λ c. after_drain c.ledger.history c.ledger.agents) run.2
 
-pub one_end : (p : Plan) (c d : ClusterView) (o q : Outcome) → RunsToEnd (first_state p) c → EndsIn c o → RunsToEnd (first_state p) d → EndsIn d q → SameEnd o q
-one_end p c d o q left a right b = record {
+-- from any state in which the agents have their places and their parts in the ledger
+pub one_end_from : (from c d : ClusterView) (o q : Outcome) → Stands from → RunsToEnd from c → EndsIn c o → RunsToEnd from d → EndsIn d q → SameEnd o q
+one_end_from from c d o q stands left a right b = record {
   names = a.names ∙ ap names_of agents ∙ sym b.names;
   histories = sym (reversed_twice o.histories) ∙ ap (map reverse) (a.agents.are ∙ ap (map (λ b. b.history)) agents ∙ sym b.agents.are) ∙ reversed_twice q.histories;
-  ledgers = subst (Alike (reverse o.ledger)) (sym (ledger_is p d q right b)) (subst (λ l. Alike l (after_drain (after_drain f.ledger.history f.ledger.agents) f.ledger.agents)) (sym (ledger_is p c o left a)) alike);
+  ledgers = subst (Alike (reverse o.ledger)) (sym (ledger_is from d q right b)) (subst (λ l. Alike l (after_drain (after_drain f.ledger.history f.ledger.agents) f.ledger.agents)) (sym (ledger_is from c o left a)) alike);
 }
   where
     e : ClusterView
@@ -88,9 +90,8 @@ one_end p c d o q left a right b = record {
     f = right.0
 
     both : Same e f
-    both = runs_same c.ledger.agents d.ledger.agents (first_state p) (first_state p) e f
-        (record { left = stands_first p; right = stands_first p; same = record { agents = refl; number = refl; ledgers = same [] } })
-        left.1 right.1 (legal_before p c o left a) (legal_before p d q right b)
+    both = runs_same c.ledger.agents d.ledger.agents from from e f (record { left = stands; right = stands; same = record { agents = refl; number = refl; ledgers = same from.ledger.history } })
+        left.1 right.1 (legal_before from c o left a) (legal_before from d q right b)
 
     agents : c.agents ≡ d.agents
     agents = ap (λ c. c.agents) left.2 ∙ both.agents ∙ sym (ap (λ c. c.agents) right.2)
@@ -98,3 +99,15 @@ one_end p c d o q left a right b = record {
     alike : Alike (after_drain (after_drain e.ledger.history e.ledger.agents) e.ledger.agents) (after_drain (after_drain f.ledger.history f.ledger.agents) f.ledger.agents)
     alike = subst (λ n. Alike (after_drain (after_drain e.ledger.history e.ledger.agents) e.ledger.agents) (after_drain (after_drain f.ledger.history n) n)) both.number
         (drained_under (after_drain e.ledger.history e.ledger.agents) (after_drain f.ledger.history e.ledger.agents) e.ledger.agents e.ledger.agents (drained_under e.ledger.history f.ledger.history e.ledger.agents e.ledger.agents both.ledgers))
+
+pub one_end : (p : Plan) (c d : ClusterView) (o q : Outcome) → RunsToEnd (first_state p) c → EndsIn c o → RunsToEnd (first_state p) d → EndsIn d q → SameEnd o q
+one_end p c d o q left a right b = one_end_from (first_state p) c d o q (stands_first p) left a right b
+
+-- from a state that turns led to
+
+pub stands_later : (ns : List ℕ) (c d : ClusterView) → Stands c → AllTurned ns c d → Stands d
+stands_later [] c d stands turned = subst Stands (sym turned) stands
+stands_later (n ∷ ns) c d stands turned = stands_later ns turned.1 d (stands_after turned.0 n c turned.1 stands turned.2) turned.3
+
+pub rest_has_one_end : (p : Plan) (ns : List ℕ) (from c d : ClusterView) (o q : Outcome) → AllTurned ns (first_state p) from → RunsToEnd from c → EndsIn c o → RunsToEnd from d → EndsIn d q → SameEnd o q
+rest_has_one_end p ns from c d o q turned left a right b = one_end_from from c d o q (stands_later ns (first_state p) from (stands_first p) turned) left a right b

@@ -200,7 +200,7 @@ turn_same k j n c d x y both left right a b =
       ledgers = met.ledgers;
     }
 
-turn_together : (k j n : ℕ) (c d x y : ClusterView) → Together c d → Turned Moved n c x → Turned Moved n d y → LegalSoFar k x.ledger.history → LegalSoFar j y.ledger.history → Together x y
+pub turn_together : (k j n : ℕ) (c d x y : ClusterView) → Together c d → Turned Moved n c x → Turned Moved n d y → LegalSoFar k x.ledger.history → LegalSoFar j y.ledger.history → Together x y
 turn_together k j n c d x y both left right a b = record {
   left = stands_after Moved n c x both.left left;
   right = stands_after Moved n d y both.right right;
@@ -234,16 +234,16 @@ waited n c d stands turn =
       ledgers = subst (λ l. Alike l c.ledger.history) (sym stays.history) (by_asked (λ l. Alike l c.ledger.history) c.ledger.history b.number turn.told.0 (same c.ledger.history) (after_wait c.ledger.history b.number turn.told.0));
     }
 
-same_through : (c d e : ClusterView) → Same c d → Same d e → Same c e
+pub same_through : (c d e : ClusterView) → Same c d → Same d e → Same c e
 same_through c d e a b = record { agents = a.agents ∙ b.agents; number = a.number ∙ b.number; ledgers = through c.ledger.history d.ledger.history e.ledger.history a.ledgers b.ledgers }
 
-same_turned : (c d : ClusterView) → Same c d → Same d c
+pub same_turned : (c d : ClusterView) → Same c d → Same d c
 same_turned c d a = record { agents = sym a.agents; number = sym a.number; ledgers = turned c.ledger.history d.ledger.history a.ledgers }
 
-left_waits : (n : ℕ) (c d x : ClusterView) → Together c d → Turned Waiting n c x → Together x d
+pub left_waits : (n : ℕ) (c d x : ClusterView) → Together c d → Turned Waiting n c x → Together x d
 left_waits n c d x both turn = record { left = stands_after Waiting n c x both.left turn; right = both.right; same = same_through x c d (waited n c x both.left turn) both.same }
 
-right_waits : (n : ℕ) (c d y : ClusterView) → Together c d → Turned Waiting n d y → Together c y
+pub right_waits : (n : ℕ) (c d y : ClusterView) → Together c d → Turned Waiting n d y → Together c y
 right_waits n c d y both turn = record { left = both.left; right = stands_after Waiting n d y both.right turn; same = same_through c d y both.same (same_turned y d (waited n d y both.right turn)) }
 
 -- Who moves
@@ -265,7 +265,7 @@ same_position : {X : Type 0} (f g : X → Bool) (k : ℕ) (xs : List X) → ((x 
 same_position f g k [] same = refl
 same_position f g k (x ∷ xs) same = ap (λ b. cond b (Some k) (position_from f (k + 1) xs)) (same x) ∙ ap (cond (g x) (Some k)) (same_position f g (k + 1) xs same)
 
-same_mover : (c d : ClusterView) → Same c d → mover c ≡ mover d
+pub same_mover : (c d : ClusterView) → Same c d → mover c ≡ mover d
 same_mover c d both =
     ap (λ o. or_else o (position_from (λ b. not (is_over b)) 0 c.agents))
     (same_position (goes_on c.ledger.history) (goes_on d.ledger.history) 0 c.agents (λ b. same_goes c.ledger.history d.ledger.history b both.ledgers))
@@ -275,7 +275,7 @@ same_ended : (l m : Ledger) (n : ℕ) → Alike l m → all_ended l n ≡ all_en
 same_ended l m zero alike = refl
 same_ended l m (suc n) alike = ap (λ b. b && all_ended l n) (alike.ends n) ∙ ap (λ b. has_ended m n && b) (same_ended l m n alike)
 
-same_over : (c d : ClusterView) → Same c d → all_over c ≡ all_over d
+pub same_over : (c d : ClusterView) → Same c d → all_over c ≡ all_over d
 same_over c d both = same_ended c.ledger.history d.ledger.history c.ledger.agents both.ledgers ∙ ap (all_ended d.ledger.history) both.number
 
 nothing_due : (b : AgentView) (p : Phase) → is_ended p ≡ true → due_at b.plan b.history p ≡ nothing
@@ -286,7 +286,7 @@ nothing_due b stopped is = cc
 nothing_due b ended is = refl
 
 -- where all have ended none moves
-none_moves : (n : ℕ) (c d : ClusterView) → Stands c → all_over c ≡ true → Turned Moved n c d → ⊥
+pub none_moves : (n : ℕ) (c d : ClusterView) → Stands c → all_over c ≡ true → Turned Moved n c d → ⊥
 none_moves n c d stands all turn =
     let b = turn.before in
     let was : StandsAt c n b = stands.each n b turn.agent in

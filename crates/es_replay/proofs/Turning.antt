@@ -35,7 +35,7 @@ pub record Done (n : ℕ) (l m : Ledger) : Type 0 where
   pub alike : Alike m (did n deeds l)
 
 -- no ticket of a drained message is owed after a deed of an agent
-owes_nothing : (l : Ledger) (e : LedgerEvent) (n : ℕ) (d : Deed) → deed l e ≡ Some (n, d) → owed (e ∷ l) ≡ None
+pub owes_nothing : (l : Ledger) (e : LedgerEvent) (n : ℕ) (d : Deed) → deed l e ≡ Some (n, d) → owed (e ∷ l) ≡ None
 owes_nothing l (Drained s r) n d is = cc
 owes_nothing l (Opened b w s a) n d is = refl
 owes_nothing l (Posted a r m) n d is = refl

@@ -1,4 +1,5 @@
 pub mod Alike
+pub mod Moving
 pub mod Laws
 pub mod Doing
 pub mod Settled

@@ -21,8 +21,8 @@ use std::thread::Threads;
 
 /// Runs a plan, the first agent in the caller's thread and each other in one of its own, until all have
 /// ended. Each agent posts to other agents alone, and waits for messages of other agents alone. So many
-/// helpers mark what an agent reaches, at least 1 and at most 8: what they are asked for does not change
-/// the outcome.
+/// helpers mark what an agent reaches, at least 1 and at most 8. However many they are, what the run came to
+/// is an outcome of the plan; a plan with a race has several.
 pub fn run_threads<G: Gate + Sync, R: Threads + Wait + Sync>(
     rt: &R,
     alloc: Global,

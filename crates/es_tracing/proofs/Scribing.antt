@@ -248,7 +248,7 @@ pub chronicled : (v : View) (first new : ClusterView) (was mid now : Chronicle) 
     → now.text.items ≡ mid.text.items ++ told_from mid.view.form mid.names.items mid.written new.ledger.history → IsTraceFrom v first now.text.items
 chronicled v first new was mid now watched known view empty added =
     let ts = watched.told.0 in
-    let turns = told_turns ts was mid watched.told.2 in
+    let turns = told_turns ts was mid watched.told.3 in
     let text = turns.2 in
     let ns = names_of first.agents in
     let old = watched.end.ledger.history in
@@ -257,6 +257,7 @@ chronicled v first new was mid now watched known view empty added =
       turns = ts;
       end = watched.end;
       taken = watched.told.1;
+      moves = watched.told.2;
       runs = watched.runs;
       told = text.0;
       are_told = subst (λ v. AreTurnsTold v ns ts text.0) view (subst (λ ns. AreTurnsTold was.view ns ts text.0) known.names text.1);

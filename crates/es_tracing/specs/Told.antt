@@ -22,7 +22,7 @@ use Rattle.es_trace_json.specs.Kept.{kept_lines}
 use Rattle.es_trace_json.specs.Ledger.{ledger_lines}
 use Rattle.es_cluster.specs.Moves.{RunsOut, with_drained}
 use Rattle.es_cluster.specs.State.{ClusterView, names_of}
-use Rattle.es_cluster.specs.Watched.{TakenTurn, AreTurns}
+use Rattle.es_cluster.specs.Watched.{TakenTurn, AreMoves, AreTurns}
 use Rattle.es_options.specs.declared.view.Form.{Form}
 use Rattle.es_options.specs.declared.view.Form.TheVariants.{Rows, Lines, Pictures}
 use Rattle.es_options.specs.declared.view.View.{View}
@@ -95,11 +95,12 @@ abbrev pub AreTurnsTold : View → List (List ℕ) → List TakenTurn → List �
 AreTurnsTold v names [] text = text ≡ []
 AreTurnsTold v names (t ∷ ts) text = (first rest : List ℕ) × IsTurnTold v names t first × AreTurnsTold v names ts rest × (text ≡ first ++ rest)
 
--- a run from this state to its end, turn by turn, and then the messages that nobody took
+-- a run from this state to its end, turn by turn, which are the turns of its moves, and then the messages that nobody took
 pub record IsTraceFrom (v : View) (first : ClusterView) (text : List ℕ) : Type 0 where
   pub turns : List TakenTurn
   pub end : ClusterView
   pub taken : AreTurns turns first end
+  pub moves : AreMoves None turns None
   pub runs : RunsOut first end
   pub told : List ℕ
   pub are_told : AreTurnsTold v (names_of first.agents) turns told

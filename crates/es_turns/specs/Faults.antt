@@ -1,4 +1,4 @@
--- Internal: the fault of bytes that were not read as a plan.
+-- To believe: the fault of bytes that were not read as a plan.
 use Rattle.es_reading.specs.declared.fault.ReadFault.{ReadFault}
 use Rattle.es_reading.specs.declared.fault.ReadFault.TheVariants.{Script as ReadScript, NoMemory as ReadNoMemory}
 use Rattle.es_turns.specs.declared.fault.TurnsFault.{TurnsFault}

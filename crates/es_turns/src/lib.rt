@@ -5,11 +5,9 @@
 mod answer;
 mod by_turns;
 mod fault;
-mod laws;
 mod stepping;
 
 pub use answer::{answer_to, plan_of};
 pub use by_turns::run_by_turns;
 pub use fault::TurnsFault;
-pub use laws::by_turns_a_plan_has_one_answer;
 pub use stepping::{report_of_rest, write_lines_from};

@@ -20,11 +20,11 @@ returns-then-len-agents-clause-mismatch g c = λ is placed size cluster.
           goes_on_alone (cores c.args.parts.members.items) c.args.parts.ledger (subst (λ ms. SomeGoesOn (cores ms)) w.as_slice-else-not-are_at_places.ensures.value (w.have_closed.ensures.open w.if-not-have_closed.true)) size cluster
     ]
 
-pub returns-then-branch-clause-outcome : goal.returns-then-branch-clause-outcome
-returns-then-branch-clause-outcome g c =
+pub returns-in-Ok-judge-clause-outcome : goal.returns-in-Ok-judge-clause-outcome
+returns-in-Ok-judge-clause-outcome g c =
     let size = cores_length c.args.parts.members.items in
     let all = c.deref-2.ensures.value ∙ c.in-Ok-all_said.ensures ∙ ap (λ ms. map said_by (cores ms)) c.as_slice-3.ensures.value in
-    let told = subst (IsTold (map (λ h. reverse h) c.finish-outcome.result.histories) (reverse c.finish-outcome.result.ledger)) all (c.in_ok-is_told.ensures.0 c.if-branch.true) in
+    let told = subst (IsTold (map (λ h. reverse h) c.finish-outcome.result.histories) (reverse c.finish-outcome.result.ledger)) all (c.in_ok-told.ensures.0 c.in-Ok-judge.ensures.told) in
     comes_to g.L.Planned.plan (cores c.args.parts.members.items) c.args.parts.ledger.agents
     (record { names = c.finish-outcome.result.names; histories = c.finish-outcome.result.histories; ledger = c.finish-outcome.result.ledger })
     (size ∙ c.requires.size)
@@ -35,11 +35,11 @@ returns-then-branch-clause-outcome g c =
     c.finish-outcome.ensures.histories c.finish-outcome.ensures.legal told
     c.finish-outcome.ensures.tickets c.finish-outcome.ensures.messages
 
-pub returns-else-branch-clause-mismatch : goal.returns-else-branch-clause-mismatch
-returns-else-branch-clause-mismatch g c = λ is placed size cluster.
+pub returns-in-Err-judge-clause-mismatch : goal.returns-in-Err-judge-clause-mismatch
+returns-in-Err-judge-clause-mismatch g c = λ is placed size cluster.
     let all = c.deref-2.ensures.value ∙ c.in-Ok-all_said.ensures ∙ ap (λ ms. map said_by (cores ms)) c.as_slice-3.ensures.value in
     let never : IsTold (map (λ h. reverse h) c.finish-outcome.result.histories) (reverse c.finish-outcome.result.ledger) (map said_by (cores c.args.parts.members.items)) → ⊥ =
-    λ told. (let clash : false ≡ true = sym c.if-branch.false ∙ c.in_ok-is_told.ensures.1 (subst (IsTold (map (λ h. reverse h) c.finish-outcome.result.histories) (reverse c.finish-outcome.result.ledger)) (sym all) told) in cc)
+    λ told. (let clash : false ≡ true = sym c.in-Err-judge.ensures.mismatch.1 ∙ c.in_ok-told.ensures.1 (subst (IsTold (map (λ h. reverse h) c.finish-outcome.result.histories) (reverse c.finish-outcome.result.ledger)) (sym all) told) in cc)
     in
     not_told (cores c.args.parts.members.items) c.args.parts.ledger
     (record { names = c.finish-outcome.result.names; histories = c.finish-outcome.result.histories; ledger = c.finish-outcome.result.ledger })

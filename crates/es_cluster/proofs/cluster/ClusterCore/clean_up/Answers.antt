@@ -1,6 +1,6 @@
 use Rattle.std.proofs.Common.{◌<◌, sym, ◌∙◌, subst, true}
 use Rattle.es_cluster.proofs.Finishing.{cleaning_unrested, goes_more, turned_length, unrested_moves, works_moved}
-use Rattle.es_cluster.proofs.Watching.{kept_then}
+use Rattle.es_cluster.proofs.Watching.{kept_on, kept_then}
 use Rattle.es_cluster.proofs.cluster.ClusterCore.clean_up.Goals as goal
 
 pub loop-self-preserved : goal.loop-self-preserved
@@ -14,7 +14,7 @@ loop-self-preserved g c =
       known = subst (λ n. c.args.agent < n) (sym (turned_length p c.args.agent c.loop-self.self c.advance.new.self turned)) c.loop-self.invariant.known;
       whole = turned.whole.1;
       plans = c.in_ok-advance.ensures.plans ∙ c.loop-self.invariant.plans;
-      watched = kept_then _ _ _ _ _ _ _ _ c.loop-self.invariant.watched c.in_ok-advance.ensures.watched;
+      watched = kept_then _ _ _ _ _ _ _ _ _ _ _ c.loop-self.invariant.watched (kept_on _ _ p c.args.agent c.loop-self.self c.advance.new.self c.loop-self.watcher c.advance.new.watcher turned c.in_ok-advance.ensures.told c.in_ok-advance.ensures.known busy moved);
       goes = goes_more p c.args.agent c.args.self.now c.loop-self.self c.advance.new.self c.loop-self.invariant.goes busy moved turned;
       same = (works_moved p c.args.agent c.loop-self.self c.advance.new.self true up moved c.in_ok-advance.ensures.works).0 ∙ c.loop-self.invariant.same;
     }

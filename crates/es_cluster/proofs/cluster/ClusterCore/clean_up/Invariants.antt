@@ -1,6 +1,7 @@
 use Rattle.std.proofs.Common.{◌≡◌, ◌<◌, false, length}
 use Rattle.es_cluster.specs.Asked.{GoesOn, cleanup_left, plan_left}
 use Rattle.es_cluster.specs.State.{plans}
+use Rattle.es_cluster.specs.Watched.{busy}
 use Rattle.es_cluster.specs.Watching.{IsKept}
 use Rattle.es_cluster.proofs.cluster.ClusterCore.clean_up.Given as goal
 
@@ -9,7 +10,7 @@ invariant-loop-self g l = record {
   known : l.agent < length l.self.agents;
   whole : l.self.failed ≡ false;
   plans : plans l.self.agents ≡ plans l.fn.self.agents;
-  watched : IsKept g.W.Watcher.knows g.W.Watcher.tells l.fn.self l.self l.fn.watcher l.watcher;
+  watched : IsKept g.W.Watcher.knows g.W.Watcher.tells (busy l.agent l.fn.self) (busy l.agent l.self) l.fn.self l.self l.fn.watcher l.watcher;
   goes : GoesOn l.agent l.fn.self l.self;
   same : plan_left l.agent l.self ≡ plan_left l.agent l.fn.self;
 }

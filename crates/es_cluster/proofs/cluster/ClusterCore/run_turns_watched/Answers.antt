@@ -1,7 +1,8 @@
-use Rattle.std.proofs.Common.{◌≡◌, true, false, sym, ◌∙◌, ap, subst}
+use Rattle.std.proofs.Common.{◌≡◌, true, false, None, sym, ◌∙◌, ap, subst}
 use Rattle.es_cluster.specs.Asked.{BeginsMove}
 use Rattle.es_cluster.specs.Moves.{all_over, with_drained}
 use Rattle.es_cluster.specs.State.{cores, plans}
+use Rattle.es_cluster.specs.Watching.{IsKept, begun}
 use Rattle.es_cluster.proofs.Draining.{as_drained, drained_stands}
 use Rattle.es_cluster.proofs.Finishing.{move_on, moved_less, runs_out}
 use Rattle.es_cluster.proofs.Watching.{kept_then}
@@ -13,7 +14,8 @@ loop-agent-preserved g c =
     record {
       whole = c.in_ok-finish_move.ensures.less.1;
       plans = c.in_ok-finish_move.ensures.plans ∙ c.in_ok-agent.ensures.plans ∙ c.loop-agent.invariant.plans;
-      watched = kept_then _ _ _ _ _ _ _ _ c.loop-agent.invariant.watched (kept_then _ _ _ _ _ _ _ _ c.in_ok-agent.ensures.watched c.in_ok-finish_move.ensures.watched);
+      watched = kept_then _ _ _ _ _ _ _ _ _ _ _ c.loop-agent.invariant.watched
+          (kept_then _ _ _ _ _ _ _ _ _ _ _ (subst (λ o. IsKept g.W.Watcher.knows g.W.Watcher.tells None (begun o c.begin_move.new.self) c.loop-agent.self c.begin_move.new.self c.loop-agent.watcher c.begin_move.new.watcher) c.in-Some.is c.in_ok-agent.ensures.watched) c.in_ok-finish_move.ensures.watched);
       runs = move_on c.in-Some.agent c.args.self.now c.loop-agent.self c.begin_move.new.self c.finish_move.new.self c.loop-agent.invariant.runs begins c.in_ok-finish_move.ensures.rests;
     }
 
@@ -57,7 +59,8 @@ returns-clause-runs g c =
 pub returns-clause-watched : goal.returns-clause-watched
 returns-clause-watched g c =
     let begins = subst (λ o. BeginsMove o c.loop-agent.self c.begin_move.new.self) c.in_default.is c.in_ok-agent.ensures.begins in
-    let kept = kept_then _ _ _ _ _ _ _ _ c.loop-agent.invariant.watched c.in_ok-agent.ensures.watched in
+    let last = subst (λ o. IsKept g.W.Watcher.knows g.W.Watcher.tells None (begun o c.begin_move.new.self) c.loop-agent.self c.begin_move.new.self c.loop-agent.watcher c.begin_move.new.watcher) c.in_default.is c.in_ok-agent.ensures.watched in
+    let kept = kept_then _ _ _ _ _ _ _ _ _ _ _ c.loop-agent.invariant.watched last in
     record {
       end = c.begin_move.new.self;
       runs = runs_out c.args.self.now c.loop-agent.self c.begin_move.new.self c.loop-agent.invariant.runs begins;

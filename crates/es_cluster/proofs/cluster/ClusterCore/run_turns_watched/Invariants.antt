@@ -1,4 +1,4 @@
-use Rattle.std.proofs.Common.{◌≡◌, false}
+use Rattle.std.proofs.Common.{◌≡◌, false, None}
 use Rattle.es_cluster.specs.Moves.{RunsOut}
 use Rattle.es_cluster.specs.State.{ClusterView, plans}
 use Rattle.es_cluster.proofs.Finishing.{total_left}
@@ -9,7 +9,7 @@ abbrev pub invariant-loop-agent : goal.invariant-loop-agent
 invariant-loop-agent g l = record {
   whole : l.self.failed ≡ false;
   plans : plans l.self.agents ≡ plans l.fn.self.agents;
-  watched : IsKept g.W.Watcher.knows g.W.Watcher.tells l.fn.self l.self l.fn.watcher l.watcher;
+  watched : IsKept g.W.Watcher.knows g.W.Watcher.tells None None l.fn.self l.self l.fn.watcher l.watcher;
   runs : (end : ClusterView) → RunsOut l.self end → RunsOut l.fn.self end;
 }
 

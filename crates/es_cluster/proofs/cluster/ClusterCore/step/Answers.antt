@@ -73,6 +73,7 @@ returns-in-Ok-clause-turned g c =
       told = c.in-Ok.ensures.told;
       ledger = stay.1;
       number = stay.0;
+      legal = c.history.ensures.legal;
       tied = c.in-Ok.ensures.tied;
       seated = c.step.ensures.seated;
       whole = (c.if-self.false, c.if-self.false);

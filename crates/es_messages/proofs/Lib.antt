@@ -1,0 +1,24 @@
+mod Beyond
+mod Certain
+mod Renaming
+mod Weighing
+mod Names
+mod Ports
+mod Others
+mod Opened
+mod Opening
+mod Still
+mod Skipping
+mod Asking
+mod Known
+mod Passing
+mod Letters
+mod Silence
+mod Doing
+mod Receiving
+mod Turning
+mod Along
+mod Composing
+mod Reporting
+pub mod Reports
+mod ExampleWords

@@ -1,0 +1,131 @@
+-- What agents post, what lies in a port, and what buffers are over, are blocks that were opened; and they stay as they are.
+use Rattle.std.proofs.Common.{◌≡◌, ℕ, ◌≤◌, ◌==◌, Bool, true, false, cond, sym, ◌∙◌, subst, arith, List, [], ◌∷◌, ◌++◌, drop, Option, Some, None}
+use Rattle.std.specs.Prelude.{slice_get}
+use Rattle.std.specs.Option.{option_map}
+use Rattle.es_event.specs.declared.ledger_event.Body.{Body}
+use Rattle.es_event.specs.declared.ledger_event.Body.TheVariants.{Plain, Block}
+use Rattle.es_event.specs.declared.ledger_event.LedgerEvent.{LedgerEvent}
+use Rattle.es_event.specs.declared.ledger_event.LedgerEvent.TheVariants.{Opened, Posted, Taken, Spent, Accessed, Waiting, Passed, Ended, Drained}
+use Rattle.es_event.specs.declared.row.Entry.{Entry}
+use Rattle.es_event.specs.declared.row.Row.{Row}
+use Rattle.es_event.specs.Ledger.{Ledger, front, holder_of, is_at, opened, port_of, table}
+use Rattle.es_event.specs.LegalLedger.{LegalSoFar}
+use Rattle.es_event.specs.Sharing.{Buffers, row_at}
+use Rattle.es_deeds.specs.Deeds.{Deed, Opens, Posts, Spends, Accesses, Waits, Passes, Ends, deed, part, part_of, taking}
+use Rattle.es_ledger.proofs.Made.{Each, IsMade, all_made}
+use Rattle.es_messages.specs.Renamed.{AreOpened, AreSent, IsOpened, IsSent}
+use Rattle.es_messages.specs.Steps.{AreOver, IsOver}
+use Rattle.es_messages.proofs.Names.{grown}
+use Rattle.es_messages.proofs.Others.{size_stays}
+
+-- Messages
+
+last_line : (P : Row → Type 0) (t : List Entry) (x : Entry) → Each P (t ++ x ∷ []) → P x.row
+last_line P [] x each = each.0
+last_line P (y ∷ t) x each = last_line P t x each.1
+
+-- what is posted is over a block that was opened
+posted_opened : (n : ℕ) (l : Ledger) (a r : ℕ) (m : Body) → LegalSoFar n (Posted a r m ∷ l) → IsOpened l m
+posted_opened n l a r (Plain v) legal = tt
+posted_opened n l a r (Block b k) legal = let made = last_line (IsMade (Posted a r (Block b k) ∷ l)) (table l) _ (all_made n (Posted a r (Block b k) ∷ l) legal) in (let less = made.1 in omega (arith, less))
+
+opened_later : (l : Ledger) (e : LedgerEvent) (m : Body) → IsOpened l m → IsOpened (e ∷ l) m
+opened_later l e (Plain v) is = tt
+opened_later l e (Block b k) is = omega (arith, is)
+
+-- What was posted
+
+sent_later : (l : Ledger) (e : LedgerEvent) (ds : List Deed) → AreSent l ds → AreSent (e ∷ l) ds
+sent_later l e [] are = tt
+sent_later l e (d ∷ ds) are = (one d are.0, sent_later l e ds are.1)
+  where
+    one : (d : Deed) → IsSent l d → IsSent (e ∷ l) d
+    one (Posts r m) is = opened_later l e m is
+    one _ is = tt
+
+sent_both : (l : Ledger) (ds es : List Deed) → AreSent l ds → AreSent l es → AreSent l (ds ++ es)
+sent_both l [] es are more = more
+sent_both l (d ∷ ds) es are more = (are.0, sent_both l ds es are.1 more)
+
+sent_if : (l : Ledger) (t : Bool) (d : Deed) → IsSent l d → AreSent l (cond t (d ∷ []) [])
+sent_if l true d is = (is, tt)
+sent_if l false d is = tt
+
+sent_by_ticket : (l : Ledger) (a : ℕ) (o : Option (ℕ × Row)) (d : Deed) → IsSent l d → AreSent l (part_of a (option_map (λ p. (p.0, d)) o))
+sent_by_ticket l a None d is = tt
+sent_by_ticket l a (Some p) d is = sent_if l _ d is
+
+sent_newest : (n : ℕ) (l : Ledger) (e : LedgerEvent) (a : ℕ) → LegalSoFar n (e ∷ l) → AreSent (e ∷ l) (part_of a (deed l e))
+sent_newest n l (Posted t u m) a legal = sent_if (Posted t u m ∷ l) _ (Posts u m) (opened_later l (Posted t u m) m (posted_opened n l t u m legal))
+sent_newest n l (Opened b w k c) a legal = sent_if (Opened b w k c ∷ l) _ (Opens b w k) tt
+sent_newest n l (Taken t u) a legal = sent_if (Taken t u ∷ l) _ (taking l t (front l t u)) tt
+sent_newest n l (Spent k) a legal = sent_by_ticket (Spent k ∷ l) a (holder_of l k) (Spends k) tt
+sent_newest n l (Accessed k i m old) a legal = sent_by_ticket (Accessed k i m old ∷ l) a (holder_of l k) (Accesses k i m old) tt
+sent_newest n l (Waiting c s) a legal = sent_if (Waiting c s ∷ l) _ (Waits s) tt
+sent_newest n l (Passed c s) a legal = sent_if (Passed c s ∷ l) _ (Passes s) tt
+sent_newest n l (Ended c) a legal = sent_if (Ended c ∷ l) _ Ends tt
+sent_newest n l (Drained t u) a legal = tt
+
+pub all_sent : (n : ℕ) (l : Ledger) → LegalSoFar n l → (a : ℕ) → AreSent l (part l a)
+all_sent n [] legal a = tt
+all_sent n (e ∷ l) legal a = sent_both (e ∷ l) (part l a) (part_of a (deed l e)) (sent_later l e (part l a) (all_sent n l legal.1 a)) (sent_newest n l e a legal)
+
+-- What lies in a port
+
+abbrev AllOpened : Ledger → List Body → Type 0
+AllOpened l [] = Unit {0}
+AllOpened l (m ∷ ms) = IsOpened l m × AllOpened l ms
+
+lies_later : (l : Ledger) (e : LedgerEvent) (ms : List Body) → AllOpened l ms → AllOpened (e ∷ l) ms
+lies_later l e [] all = tt
+lies_later l e (m ∷ ms) all = (opened_later l e m all.0, lies_later l e ms all.1)
+
+lies_last : (l : Ledger) (ms : List Body) (m : Body) → AllOpened l ms → IsOpened l m → AllOpened l (ms ++ m ∷ [])
+lies_last l [] m all is = (is, tt)
+lies_last l (x ∷ ms) m all is = (all.0, lies_last l ms m all.1 is)
+
+lies_but_first : (l : Ledger) (ms : List Body) → AllOpened l ms → AllOpened l (drop 1 ms)
+lies_but_first l [] all = tt
+lies_but_first l (m ∷ ms) all = all.1
+
+lies_either : (l : Ledger) (t : Bool) (ms ns : List Body) → AllOpened l ms → AllOpened l ns → AllOpened l (cond t ms ns)
+lies_either l true ms ns x y = x
+lies_either l false ms ns x y = y
+
+all_lie : (n : ℕ) (l : Ledger) → LegalSoFar n l → (s r : ℕ) → AllOpened l (port_of l s r)
+all_lie n [] legal s r = tt
+all_lie n (e ∷ l) legal s r = at e legal (lies_later l e (port_of l s r) (all_lie n l legal.1 s r))
+  where
+    at : (e : LedgerEvent) → LegalSoFar n (e ∷ l) → AllOpened (e ∷ l) (port_of l s r) → AllOpened (e ∷ l) (port_of (e ∷ l) s r)
+    at (Posted t u m) legal old = lies_either (Posted t u m ∷ l) (is_at s r t u) _ _ (lies_last (Posted t u m ∷ l) (port_of l s r) m old (opened_later l (Posted t u m) m (posted_opened n l t u m legal))) old
+    at (Taken t u) legal old = lies_either (Taken t u ∷ l) (is_at s r t u) _ _ (lies_but_first (Taken t u ∷ l) (port_of l s r) old) old
+    at (Drained t u) legal old = lies_either (Drained t u ∷ l) (is_at s r t u) _ _ (lies_but_first (Drained t u ∷ l) (port_of l s r) old) old
+    at _ legal old = old
+
+pub front_opened : (n : ℕ) (l : Ledger) (s r b k : ℕ) → LegalSoFar n l → front l s r ≡ Some (Block b k) → b ≤ opened l
+front_opened n l s r b k legal is = at (port_of l s r) (all_lie n l legal s r) is
+  where
+    at : (ms : List Body) → AllOpened l ms → slice_get ms 0 ≡ Some (Block b k) → b ≤ opened l
+    at [] all is = cc
+    at (m ∷ ms) all is = let here : IsOpened l (Block b k) = subst (IsOpened l) (let same : m ≡ Block b k = cc in same) all.0 in here
+
+-- Buffers
+
+pub over_opened : (l : Ledger) (over : Buffers) → AreOver l over → AreOpened l over
+over_opened l [] are = tt
+over_opened l (p ∷ over) are = (are.0.0, over_opened l over are.1)
+
+pub over_later : (n : ℕ) (es : List LedgerEvent) (l : Ledger) → LegalSoFar n (es ++ l) → (over : Buffers) → AreOver l over → AreOver (es ++ l) over
+over_later n es l legal [] are = tt
+over_later n es l legal (p ∷ over) are =
+    let more = grown es l in
+    let less = are.0.0 in
+    ((omega (arith, more, less), are.0.1 ∙ sym (size_stays n es l legal p.1.block less)), over_later n es l legal over are.1)
+
+pub row_over : (l : Ledger) (over : Buffers) (o : ℕ) (r : Row) → AreOver l over → row_at over o ≡ Some r → IsOver l r
+row_over l [] o r are is = cc
+row_over l (p ∷ over) o r are is = at (p.0 == o) is (row_over l over o r are.1)
+  where
+    at : (t : Bool) → cond t (Some p.1) (row_at over o) ≡ Some r → (row_at over o ≡ Some r → IsOver l r) → IsOver l r
+    at true is rest = subst (IsOver l) (let same : p.1 ≡ r = cc in same) are.0
+    at false is rest = rest is

@@ -1,0 +1,5 @@
+pub mod Weights
+pub mod Alone
+pub mod Renamed
+pub mod Messages
+pub mod Steps
