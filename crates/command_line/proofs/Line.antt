@@ -1,9 +1,13 @@
--- What was found for the arguments, by the rows of it; and an option that may not stand beside another.
-use Rattle.std.proofs.Common.{◌≡◌, ◌∙◌, ap, refl, ℕ, List, [], ◌∷◌, length, Bool, true, false, codes, arith, length-append, ne_eqb}
+-- What was found for the arguments, by the rows of it; an option that may not stand beside another; and why words that
+-- are taken fail.
+use Rattle.std.proofs.Common.{◌≡◌, ◌∙◌, ap, refl, ℕ, List, [], ◌∷◌, length, Bool, true, false, codes, arith, length-append, ne_eqb, Result, Ok, Err, IfErr}
+use Rattle.std.specs.Result.{IsErrAnd}
 use Rattle.std.specs.Prelude.{not, ◌&&◌, ◌==◌}
 use Rattle.std.specs.Borrow.{Bor}
 use Rattle.std.proofs.lemmas.Bool.{and_parts}
-use Rattle.clap.specs.Words.{Rule, AddsConflicts, one_of, one_text, rows_of, rule_of}
+use Rattle.clap.specs.Words.{App, Rule, Text, AddsConflicts, kind_of, one_of, one_text, rows_of, rule_of, takes}
+use Rattle.clap.specs.declared.error.Error.{Error}
+use Rattle.clap.specs.declared.error.kind.ErrorKind.TheVariants.{OutOfMemory}
 use Rattle.clap.specs.declared.parser.matches.Found.{Found}
 use Rattle.clap.specs.Walk.{is_free_arg}
 use Rattle.clap.specs.declared.builder.arg.Arg.{Arg}
@@ -45,3 +49,10 @@ lone old new r x adds is free =
     let some : (length new.conflicts.items == 0) ≡ false = ne_eqb (length new.conflicts.items) 0 (λ none. omega (arith, longer, by_one, none)) in
     let bound : is_free_arg (record old { conflicts = new.conflicts }) ≡ false = alone old.exclusive (length new.conflicts.items == 0) _ stands some in
     ap rule_of adds.0 ∙ ap (λ b. record (rule_of old) { is_free = b }) bound ∙ ap (λ (r : Rule). record r { is_free = false }) is
+
+-- words that are taken fail for want of memory alone
+
+pub taken_fails : {A : Type 0} (words : List Text) (a b : App) (r : Result A Error) (e : Error) → a ≡ b → IsErrAnd r (λ d. d ≡ e) → (takes a words ≡ true → kind_of e ≡ OutOfMemory)
+    → IfErr r (λ d. takes b words ≡ true → kind_of d ≡ OutOfMemory)
+taken_fails words a b (Ok x) e same is passes = tt
+taken_fails words a b (Err d) e same is passes = λ takes_it. ap kind_of is ∙ passes (ap (λ (l : App). takes l words) same ∙ takes_it)

@@ -1,5 +1,5 @@
--- An agent that asks for nothing has ended, so its history is a whole run.
-use Rattle.std.proofs.Common.{◌≡◌, ℕ, Bool, true, false, cond, List, [], ◌∷◌, Option, Some, None, refl, subst}
+-- An agent that asks for nothing has ended, so its history is a whole run; and the history of one that has not is a run so long.
+use Rattle.std.proofs.Common.{◌≡◌, ℕ, length, Bool, true, false, cond, List, [], ◌∷◌, Option, Some, None, refl, subst}
 use Rattle.es_event.specs.History.{History}
 use Rattle.es_event.specs.Jobs.{job}
 use Rattle.es_event.specs.Later.{snapshot, collects_now}
@@ -9,6 +9,7 @@ use Rattle.es_event.specs.declared.command.Command.{Command}
 use Rattle.es_event.specs.declared.plan.AgentPlan.{AgentPlan}
 use Rattle.es_event.proofs.Coming.{next_cell}
 use Rattle.es_record.specs.AgentView.{AgentView}
+use Rattle.embed.specs.Steps.{RunsSoLong}
 use Rattle.es_rules.specs.Needs.{Request, request, asks_marks, asks_copy, asks_nothing, ledger_or_nobody, opens_now, need_of, need}
 
 command_asks : {P : Type 0} (collects opens : Bool) (q : Option Request) → cond collects asks_marks (cond opens asks_copy (ledger_or_nobody q)) ≡ asks_nothing → P
@@ -52,3 +53,7 @@ nothing_ended b is = nothing_at b (phase b.history) is
 pub whole_run : (plan : AgentPlan) (b : AgentView) (h : History) → b.plan ≡ plan → b.history ≡ h → IsRunOver b.over b.plan b.history → need b ≡ asks_nothing → IsWholeRun plan h
 whole_run plan b h same is run asks =
     subst (λ p. IsWholeRun p h) same (subst (IsWholeRun b.plan) is (b.over, run.0, (run.1, nothing_ended b asks)))
+
+-- what it did so far is a run of its plan with so many events
+pub so_long : (plan : AgentPlan) (b : AgentView) (n : ℕ) → b.plan ≡ plan → IsRunOver b.over b.plan b.history → length b.history ≡ n → RunsSoLong plan n
+so_long plan b n same run long = subst (λ p. RunsSoLong p n) same (b.history, (b.over, run.0, run.1), long)

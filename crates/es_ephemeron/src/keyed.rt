@@ -89,9 +89,10 @@ impl<V: Drop> Keyed<V> {
     }
 
     /// Adds each holder that has something under this key to `found`.
-    #[tactic(auto, using(crate::proofs::Places::records_of))]
+    #[tactic(auto, using(crate::proofs::Places::records_of, crate::proofs::Held::none_distinct))]
     pub(crate) fn add_holders(&self, key: Id, found: &mut Vec<Id>) -> Result<(), NoMemory>
-        ensures { OnOk result (found.new.items ≡ found.old.items ++ holders (records_at self.now.all key)) }
+        ensures added { OnOk result (found.new.items ≡ found.old.items ++ holders (records_at self.now.all key)) }
+        ensures distinct { OnOk result (IsDistinct nat_eq (holders (records_at self.now.all key))) }
     {
         match self.slots.get(key.number() as usize - 1) {
             Some(slot) => slot.add_holders(found),

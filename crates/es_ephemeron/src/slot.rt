@@ -122,8 +122,10 @@ impl<V: Drop> Slot<V> {
     }
 
     /// Adds each holder to `found`.
+    #[tactic(auto, using(crate::proofs::Held::none_distinct, crate::proofs::Held::one_distinct))]
     pub(crate) fn add_holders(&self, found: &mut Vec<Id>) -> Result<(), NoMemory>
-        ensures { OnOk result (found.new.items ≡ found.old.items ++ holders self.now.records) }
+        ensures added { OnOk result (found.new.items ≡ found.old.items ++ holders self.now.records) }
+        ensures distinct { OnOk result (IsDistinct nat_eq (holders self.now.records)) }
     {
         match &self.held {
             Held::Nothing => Ok(()),

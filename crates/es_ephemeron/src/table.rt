@@ -59,7 +59,8 @@ pub(crate) fn add_holders<V: Drop>(
     table: &HashMap<Id, V>,
     found: &mut Vec<Id>,
 ) -> Result<(), NoMemory>
-    ensures { OnOk result (found.new.items ≡ found.old.items ++ holders table.now.entries) }
+    ensures added { OnOk result (found.new.items ≡ found.old.items ++ holders table.now.entries) }
+    ensures distinct { OnOk result (IsDistinct nat_eq (holders table.now.entries)) }
 {
     found.reserve(table.len())?;
     for (holder, _) in table {

@@ -139,13 +139,14 @@ impl WeakTables {
         self.entries.add_copies(key, found)
     }
 
-    /// Adds each WeakSet that has this member to `found`.
+    /// Adds each WeakSet that has this member to `found`, none twice.
     ///
     /// # Errors
     ///
     /// `NoMemory` where there is none; nothing is said of `found` then.
     pub fn sets_of_member(&self, member: Id, found: &mut Vec<Id>) -> Result<(), NoMemory>
-        ensures { OnOk result (found.new.items ≡ found.old.items ++ holders (records_at self.now.members.all member)) }
+        ensures ok { OnOk result (found.new.items ≡ found.old.items ++ holders (records_at self.now.members.all member)) }
+        ensures distinct { OnOk result (IsDistinct nat_eq (holders (records_at self.now.members.all member))) }
     {
         self.members.add_holders(member, found)
     }

@@ -1,6 +1,7 @@
 -- The parts of a picture, one after the other.
 use Rattle.std.proofs.Common.{◌≡◌, ℕ, ◌==◌, false, List, [], ◌∷◌, ◌++◌, Option, refl, reverse, codes, length}
-use Rattle.std.specs.List.{flat_map}
+use Rattle.std.specs.List.{flat_map, IsDistinct}
+use Rattle.std.specs.Str.{bytes_eq}
 use Rattle.std.specs.Io.KnownBytes.{Appends}
 use Rattle.std.proofs.KnownBytes.{Appends-trans}
 use Rattle.es_event.specs.Identities.{made}
@@ -11,7 +12,7 @@ use Rattle.es_picture.specs.Lines.{head, emptied_line, entry_lines, kept_line, k
 use Rattle.es_picture.specs.Picture.{registrations, things, variable_at, IsPicture}
 use Rattle.es_picture.proofs.Ranged.{WritesEach}
 
-pub drawn : (b : AgentView) (ids : List ℕ) (names : List (List ℕ)) (w0 w1 w2 w3 w4 w5 w6 w7 w8 : Option (List ℕ)) → AreAllNames b names
+pub drawn : (b : AgentView) (ids : List ℕ) (names : List (List ℕ)) (w0 w1 w2 w3 w4 w5 w6 w7 w8 : Option (List ℕ)) → AreAllNames b names → IsDistinct bytes_eq names
     → Appends w0 w1 (head b.plan.name)
     → Appends w1 w2 (flat_map emptied_line ids)
     → Appends w2 w3 (things b.history)
@@ -21,11 +22,11 @@ pub drawn : (b : AgentView) (ids : List ℕ) (names : List (List ℕ)) (w0 w1 w2
     → Appends w6 w7 (registrations b.history)
     → Appends w7 w8 (codes "}\n")
     → (text : List ℕ) × IsPicture b ids text × Appends w0 w8 text
-drawn b ids names w0 w1 w2 w3 w4 w5 w6 w7 w8 all first gone there roots kept_alive around cells last = (
+drawn b ids names w0 w1 w2 w3 w4 w5 w6 w7 w8 all once first gone there roots kept_alive around cells last = (
   head b.plan.name
       ++ (flat_map emptied_line ids
       ++ (things b.history ++ (flat_map (variable_at b) names ++ (kept_lines (reverse (kept b.history)) ++ (around.0 ++ (registrations b.history ++ codes "}\n")))))),
-  record { names = names; edges = around.0; names_all = all; edges_are = around.1; is = refl },
+  record { names = names; edges = around.0; names_all = all; names_once = once; edges_are = around.1; is = refl },
   Appends-trans w0 w1 w8 _ _ first
       (Appends-trans w1 w2 w8 _ _ gone
       (Appends-trans w2 w3 w8 _ _ there

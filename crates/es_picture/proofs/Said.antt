@@ -47,12 +47,12 @@ registered_said h n = registered_in n (fate h n) (cell h n)
 pub added_entries : (h : History) (k : ℕ) (old new : List (ℕ × Value)) → old ≡ [] → AddsUnder h k old new → AreEntries h k new
 added_entries h k old new none a =
     let same : new ≡ a.entries = a.added ∙ ap (λ (l : List (ℕ × Value)). l ++ a.entries) none in
-    subst (AreEntries h k) (sym same) (record { only = a.only; every = a.every })
+    subst (AreEntries h k) (sym same) (record { only = a.only; every = a.every; once = a.once })
 
 pub added_sets : (h : History) (i : ℕ) (old new : List ℕ) → old ≡ [] → AddsSets h i old new → AreSets h i new
 added_sets h i old new none a =
     let same : new ≡ a.sets = a.added ∙ ap (λ (l : List ℕ). l ++ a.sets) none in
-    subst (AreSets h i) (sym same) (record { only = a.only; every = a.every })
+    subst (AreSets h i) (sym same) (record { only = a.only; every = a.every; once = a.once })
 
 -- Around
 

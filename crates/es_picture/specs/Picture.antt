@@ -1,9 +1,10 @@
 -- To believe: the picture of an agent's heap after a collection.
-use Rattle.std.specs.Prelude.{ℕ, ◌≡◌, true, false, List, [], ◌∷◌, ◌++◌, Option, codes, reverse, Some, if◌then◌else◌}
-use Rattle.std.specs.List.{flat_map, range_with_len, AllByRecursion}
+use Rattle.std.specs.Prelude.{ℕ, ◌≡◌, true, false, List, [], ◌∷◌, ◌++◌, Option, codes, nat_eq, reverse, Some, if◌then◌else◌}
+use Rattle.std.specs.List.{flat_map, range_with_len, AllByRecursion, IsDistinct}
 use Rattle.std.specs.Option.{option_and_then, option_map_or}
+use Rattle.std.specs.Str.{bytes_eq}
 use Rattle.es_value.specs.declared.value.Value.{Value}
-use Rattle.es_ephemeron.specs.Ephemerons.{held_by}
+use Rattle.es_ephemeron.specs.Ephemerons.{held_by, holders}
 use Rattle.es_event.specs.History.{History}
 use Rattle.es_event.specs.Identities.{identity, is_in, is_there, is_gone, made, kind}
 use Rattle.es_event.specs.Jobs.{receivers}
@@ -47,15 +48,17 @@ set_at i s = weak_line s i
 abbrev pub around : History → ℕ → List (ℕ × Value) → List ℕ → List ℕ
 around h i es ss = flat_map (property_at h i) (keys h i) ++ (flat_map (entry_at i) es ++ (flat_map (set_at i) ss ++ if_some (weak_line i) (option_and_then identity (target h i))))
 
--- the WeakMaps that have an entry under k, each with the entry's value
+-- the WeakMaps that have an entry under k, each once, with the entry's value
 pub record AreEntries (h : History) (k : ℕ) (es : List (ℕ × Value)) : Type 0 where
   pub only : AllByRecursion (λ e. (is_gone h e.0 ≡ false) × (entry h e.0 k ≡ Some e.1)) es
   pub every : (m : ℕ) (v : Value) → is_gone h m ≡ false → entry h m k ≡ Some v → held_by es m ≡ Some v
+  pub once : IsDistinct nat_eq (holders es)
 
--- the WeakSets that have i as a member
+-- the WeakSets that have i as a member, each once
 pub record AreSets (h : History) (i : ℕ) (ss : List ℕ) : Type 0 where
   pub only : AllByRecursion (λ s. (is_gone h s ≡ false) × (is_member h s i ≡ true)) ss
   pub every : (s : ℕ) → is_gone h s ≡ false → is_member h s i ≡ true → is_in ss s ≡ true
+  pub once : IsDistinct nat_eq ss
 
 -- what is around i, which is there; the entries and the WeakSets come in any order
 pub record IsAround (h : History) (i : ℕ) (text : List ℕ) : Type 0 where
@@ -87,9 +90,10 @@ registrations h = flat_map (registration_at h) (range_with_len 1 (registered h))
 
 -- the picture of what an agent has after it emptied these
 pub record IsPicture (b : AgentView) (ids : List ℕ) (text : List ℕ) : Type 0 where
-  -- the variables, in any order
+  -- the variables, in any order, each once
   pub names : List (List ℕ)
   pub edges : List ℕ
   pub names_all : AreAllNames b names
+  pub names_once : IsDistinct bytes_eq names
   pub edges_are : IsAroundEach b.history (range_with_len 1 (made b.history)) edges
   pub is : text ≡ head b.plan.name ++ (flat_map emptied_line ids ++ (things b.history ++ (flat_map (variable_at b) names ++ (kept_lines (reverse (kept b.history)) ++ (edges ++ (registrations b.history ++ codes "}\n"))))))

@@ -2,6 +2,8 @@
 
 ghost use Rattle.std.specs.Prelude.{◌≡◌, ◌++◌, ℕ, List, codes, OnOk};
 ghost use Rattle.std.specs.Io.KnownBytes.{Appends};
+ghost use Rattle.std.specs.List.{IsDistinct};
+ghost use Rattle.std.specs.Str.{bytes_eq};
 ghost use Rattle.es_picture.specs.Lines.{head};
 ghost use Rattle.es_picture.specs.Picture.{IsPicture};
 ghost use Rattle.es_why.specs.Leads.{AreAllNames};
@@ -19,7 +21,8 @@ use std::io::{ErrorKind, Write};
 /// Writes the picture of what an agent has after it emptied these, as one graph in Graphviz's language: a node
 /// for each object and symbol that is there or was emptied now, and an edge for each variable, for what
 /// KeptAlive has, for each property, for each entry of a WeakMap (by a point that both the WeakMap and the key
-/// lead to), and for what WeakRefs, WeakSets and FinalizationRegistries hold. What is held weakly is dashed.
+/// lead to), and for what WeakRefs, WeakSets and FinalizationRegistries hold. Each is drawn once. What is held weakly
+/// is dashed.
 ///
 /// It takes memory for the names of the variables and for what is around one object. Fails where there is
 /// none, and where the writer fails; then a part of the picture may be written.
@@ -45,7 +48,8 @@ fn write_with_names<W: Write>(
     emptied: &[Id],
     writer: &mut W,
 ) -> Result<(), io::Error>
-    requires { AreAllNames agent.now names.now }
+    requires all { AreAllNames agent.now names.now }
+    requires once { IsDistinct bytes_eq names.now }
     ensures { OnOk result ((text : List ℕ) × IsPicture agent.now emptied.now text × Appends (W.contents writer.old) (W.contents writer.new) text) }
 {
     write_head(&agent.plan().name, writer)?;

@@ -115,6 +115,7 @@ adds_under into h s k old new says distinct is = record {
       all_records-from_each (λ m v. (is_gone h m ≡ false) × (entry h m k ≡ Some v)) s.weak.entries.all k distinct
       (λ m v e. entry_recorded (is_gone h m) (entry h m k) v (sym (says.entries m k) ∙ e));
   every = λ m v here e. says.entries m k ∙ ap (λ (g : Bool). cond g None (entry h m k)) here ∙ e;
+  once = distinct;
 }
 
 -- Members
@@ -128,12 +129,14 @@ member_recorded : (g m : Bool) → cond g false m ≡ true → (g ≡ false) × 
 member_recorded true m e = cc
 member_recorded false m e = (refl, e)
 
-pub adds_sets : (into : Receivers) (h : History) (s : TablesView) (v : ℕ) (old new : List ℕ) → Says into h s → new ≡ old ++ holders (records_at s.weak.members.all v) → AddsSets h v old new
-adds_sets into h s v old new says is = record {
+pub adds_sets : (into : Receivers) (h : History) (s : TablesView) (v : ℕ) (old new : List ℕ) → Says into h s → IsDistinct nat_eq (holders (records_at s.weak.members.all v))
+    → new ≡ old ++ holders (records_at s.weak.members.all v) → AddsSets h v old new
+adds_sets into h s v old new says distinct is = record {
   sets = holders (records_at s.weak.members.all v);
   added = is;
   only =
       all_in (λ m. (is_gone h m ≡ false) × (is_member h m v ≡ true)) (holders (records_at s.weak.members.all v))
       (λ m e. member_recorded (is_gone h m) (is_member h m v) (sym (says.members m v) ∙ recorded_is_holder s.weak.members.all m v ∙ e));
   every = λ m here e. sym (recorded_is_holder s.weak.members.all m v) ∙ says.members m v ∙ ap (λ (g : Bool). cond g false (is_member h m v)) here ∙ e;
+  once = distinct;
 }

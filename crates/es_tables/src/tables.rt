@@ -3,6 +3,7 @@
 ghost use Rattle.std.specs.Prelude.{◌≡◌, ℕ, List, Option, None, Some, true, ◌<◌, ◌&&◌, ◌++◌, not, is_some, length, map, nat_eq, IfOk, OnOk, OnErr, codes, slice_get, unwrap_or};
 ghost use Rattle.std.specs.List.{filter, list_any, range_with_len, IsDistinct};
 ghost use Rattle.std.specs.Option.{option_copied, option_and_then};
+ghost use Rattle.std.specs.Str.{bytes_eq};
 ghost use Rattle.es_value.specs.declared.value.Value.TheVariants.{Undefined};
 ghost use Rattle.es_mark.specs.Marks.{is_marked};
 ghost use Rattle.es_props.specs.Heap.{has, property, keys, HasProperties};
@@ -116,7 +117,8 @@ impl Tables {
 
     /// The names of all variables that were assigned, in no order.
     pub fn assigned(&self, alloc: Global) -> Result<Vec<Name>, NoMemory>
-        ensures { IfOk result (λ ns. ns.items ≡ map (λ e. e.0) self.now.variables.entries) }
+        ensures names { IfOk result (λ ns. ns.items ≡ map (λ e. e.0) self.now.variables.entries) }
+        ensures distinct { IfOk result (λ ns. IsDistinct bytes_eq ns.items) }
     {
         self.variables.names(alloc)
     }
@@ -239,7 +241,8 @@ impl Tables {
     /// Adds each WeakSet that has this member to `found`; where there is no memory, nothing is said of
     /// `found`.
     pub fn sets_with(&self, member: Id, found: &mut Vec<Id>) -> Result<(), NoMemory>
-        ensures { OnOk result (found.new.items ≡ found.old.items ++ holders (records_at self.now.weak.members.all member)) }
+        ensures added { OnOk result (found.new.items ≡ found.old.items ++ holders (records_at self.now.weak.members.all member)) }
+        ensures distinct { OnOk result (IsDistinct nat_eq (holders (records_at self.now.weak.members.all member))) }
     {
         self.weak.sets_of_member(member, found)
     }

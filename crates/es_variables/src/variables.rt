@@ -2,6 +2,7 @@
 
 ghost use Rattle.std.specs.Prelude.{◌≡◌, List, ℕ, [], Some, IfOk, OnOk, OnErr, map, unwrap_or, if◌then◌else◌};
 ghost use Rattle.std.specs.HashMap.{Updates as map_updates};
+ghost use Rattle.std.specs.List.{IsDistinct};
 ghost use Rattle.std.specs.Option.{option_copied};
 ghost use Rattle.std.specs.Str.{bytes_eq};
 ghost use Rattle.es_value.specs.declared.value.Value.TheVariants.{Undefined};
@@ -79,9 +80,10 @@ impl Variables {
         }
     }
 
-    /// The names of all that were assigned, in no order.
+    /// The names of all that were assigned, in no order, none twice.
     pub fn names(&self, alloc: Global) -> Result<Vec<Name>, NoMemory>
-        ensures { IfOk result (λ ns. ns.items ≡ map (λ e. e.0) self.now.entries) }
+        ensures names { IfOk result (λ ns. ns.items ≡ map (λ e. e.0) self.now.entries) }
+        ensures distinct { IfOk result (λ ns. IsDistinct bytes_eq ns.items) }
     {
         let mut names = Vec::new(alloc);
         for (name, _) in &self.values {

@@ -1,4 +1,4 @@
--- Internal: what a run without threads is asked for.
+-- To believe: what a run without threads is asked for.
 use Rattle.std.specs.Prelude.{Bool, true}
 use Rattle.es_options.specs.declared.options.Options.{Options}
 

@@ -133,14 +133,15 @@ impl Gate for Counting {
 }
 
 // The first agent comes to six commands and two of its callback, to one that says and one that is refused, and to one
-// of the job that waited; the second to two, and then its job is skipped. What comes beside commands counts nowhere.
+// of the job that waited; the second to five, of which two on words follow each other, and then its job is skipped. What
+// comes beside commands counts nowhere.
 static NUMBERED: &str = r#"{"version":1,"agents":[
     {"name":"a","callbacks":{"cb":[["let","y",1],["say","held"]]},"jobs":[
         {"run":[["registry","r","cb"],["new","x"],["let","h",5],["register","r","x","h"],["let","x",null],["collect"]]},
         {"run":[["say","h"],["keys","h"],["say","h"]]},
         {"on":["b","m"],"run":[["say","m"]]}]},
     {"name":"b","callbacks":{},"jobs":[
-        {"run":[["let","x",7],["post","a","x"]]},
+        {"run":[["let","x",7],["buffer","w",1],["store","w",0,7],["load","y","w",0],["post","a","x"]]},
         {"on":["a","m"],"run":[["say","m"]]}]}]}"#;
 
 #[test]
@@ -155,6 +156,6 @@ fn commands_are_numbered_as_they_come(rt: HostRuntime) -> Result<(), Fail> {
     );
     assert!(rt; !counting.out_of_turn.load(Ordering::SeqCst));
     assert_eq!(rt; counting.first.load(Ordering::SeqCst), 11);
-    assert_eq!(rt; counting.second.load(Ordering::SeqCst), 2);
+    assert_eq!(rt; counting.second.load(Ordering::SeqCst), 5);
     Ok(())
 }

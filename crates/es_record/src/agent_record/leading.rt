@@ -1,7 +1,9 @@
 //! What leads to an agent's values, one step each, read from the tables.
 
 ghost use Rattle.std.specs.Prelude.{◌≡◌, ◌<◌, ℕ, List, Some, true, is_some, IfOk, OnOk};
+ghost use Rattle.std.specs.List.{IsDistinct};
 ghost use Rattle.std.specs.Option.{option_copied};
+ghost use Rattle.std.specs.Str.{bytes_eq};
 ghost use Rattle.es_value.specs.Values.{identity};
 ghost use Rattle.es_event.specs.Identities.{is_there};
 ghost use Rattle.es_event.specs.Jobs.{receivers};
@@ -17,10 +19,11 @@ use es_tags::Tag;
 use es_value::{Id, Name, NoMemory, Value};
 
 impl AgentRecord {
-    /// The names of all variables that were assigned, in no order; every other one holds undefined. It
-    /// fails for want of memory alone.
+    /// The names of all variables that were assigned, in no order, none twice; every other one holds undefined.
+    /// It fails for want of memory alone.
     pub fn assigned(&self) -> Result<Vec<Name>, NoMemory>
-        ensures { IfOk result (λ ns. (x : List ℕ) (i : ℕ) → identity (var (receivers self.now.plan.jobs) self.now.history x) ≡ Some i → has_key ns.items x ≡ true) }
+        ensures distinct { IfOk result (λ ns. IsDistinct bytes_eq ns.items) }
+        ensures all { IfOk result (λ ns. (x : List ℕ) (i : ℕ) → identity (var (receivers self.now.plan.jobs) self.now.history x) ≡ Some i → has_key ns.items x ≡ true) }
     {
         self.tables.assigned(self.alloc)
     }
@@ -70,14 +73,15 @@ impl AgentRecord {
         self.tables.registration_at(registration - 1)
     }
 
-    /// Adds each WeakMap that has an entry with this key to `found`, with the entry's value; where there is
-    /// no memory, nothing is said of `found`.
+    /// Adds each WeakMap that has an entry with this key to `found`, once, with the entry's value; where there
+    /// is no memory, nothing is said of `found`.
     pub fn entries_under(&self, key: Id, found: &mut Vec<(Id, Value)>) -> Result<(), NoMemory>
         ensures { OnOk result (AddsUnder self.now.history key found.old.items found.new.items) }
     {
         self.tables.entries_under(key, found)
     }
-    /// Adds each WeakSet that has this member to `found`; where there is no memory, nothing is said of
+
+    /// Adds each WeakSet that has this member to `found`, once; where there is no memory, nothing is said of
     /// `found`.
     pub fn sets_with(&self, member: Id, found: &mut Vec<Id>) -> Result<(), NoMemory>
         ensures { OnOk result (AddsSets self.now.history member found.old.items found.new.items) }

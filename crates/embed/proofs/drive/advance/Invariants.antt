@@ -1,6 +1,5 @@
-use Rattle.std.proofs.Common.{◌≡◌, []}
+use Rattle.embed.proofs.Stepping.{Stepped}
 use Rattle.embed.proofs.drive.advance.Given as goal
 
--- its plan is the same, and it has no buffer object
-abbrev pub invariant-loop : goal.invariant-loop
-invariant-loop g l = (l.agent.plan ≡ l.initial.agent.plan) × (l.agent.over ≡ [])
+abbrev pub invariant-loop-taken : goal.invariant-loop-taken
+invariant-loop-taken g l = Stepped l.initial.agent l.initial.outside l.taken l.agent l.outside
