@@ -6,9 +6,10 @@
 // callbacks; and `write(line)`. It may have `clone(buffer)`, another SharedArrayBuffer over the same block, without which
 // no plan with messages is run, and `swallows`, which is true where an error that leaves a callback would end the engine.
 //
-// What the engine is told beside the plan: each held value goes with the number of its registration, so that `cleanup`
-// lines can be written; and all FinalizationRegistries are held to the end of their agent, since an engine may give up
-// one that nothing holds, and its callbacks with it. A refused command throws out of its callback, as in the standard.
+// What the engine is told beside the plan: a held value goes with the number of its registration where another one of the
+// FinalizationRegistry had the same, so that `cleanup` lines can be written, and bare elsewhere; and all
+// FinalizationRegistries are held to the end of their agent, since an engine may give up one that nothing holds, and its
+// callbacks with it. A refused command throws out of its callback, as in the standard.
 //
 // What is refused the engine says itself: its own methods are called on whatever the variables hold. Which of the tests
 // it was that failed is looked up afterwards, since an engine's errors have words of its own.
@@ -37,7 +38,8 @@ globalThis.Plans = (function () {
     constructor(number) { super(); this.#number = number; }
     static numberOf(set) { return set.#number; }
   }
-  class Registry extends FinalizationRegistry {
+  const Cells = globalThis.FinalizationRegistry ?? class { register() {} unregister() {} };
+  class Registry extends Cells {
     #number;
     constructor(number, callback) { super(callback); this.#number = number; }
     static numberOf(registry) { return registry.#number; }
@@ -45,6 +47,7 @@ globalThis.Plans = (function () {
   function given(value) { return value; }
   // A buffer that another agent made can't be made anew, so each SharedArrayBuffer gets these beside what it has. No
   // engine tells whether two of them are the same memory, so each block has a number.
+  const hasBlocks = typeof SharedArrayBuffer === "function";
   class Shared extends given {
     #number;
     #block;
@@ -59,14 +62,14 @@ globalThis.Plans = (function () {
     static blockOf(buffer) { return buffer.#block; }
     static wordsOf(buffer) { return buffer.#words; }
   }
-  const kinds = [
-    [Thing, Thing], [Ref, Ref], [Entries, Entries], [Members, Members], [Registry, Registry], [SharedArrayBuffer, Shared],
-  ];
+  const kinds = [[Thing, Thing], [Ref, Ref], [Entries, Entries], [Members, Members], [Registry, Registry]];
+  if (hasBlocks) kinds.push([SharedArrayBuffer, Shared]);
+  const isBuffer = (value) => hasBlocks && value instanceof SharedArrayBuffer;
   // As the engine has them, since an object may have properties of these names.
   const { deref } = WeakRef.prototype;
   const { get: mapGet, set: mapSet, has: mapHas, delete: mapDelete } = WeakMap.prototype;
   const { add: setAdd, has: setHas, delete: setDelete } = WeakSet.prototype;
-  const { register, unregister } = FinalizationRegistry.prototype;
+  const { register, unregister } = Cells.prototype;
   const { hasOwnProperty } = Object.prototype;
   const mostValues = 1000000, mostBlocks = 256, mostPosts = 10000;
 
@@ -93,12 +96,52 @@ globalThis.Plans = (function () {
     load: onWord(2), store: onWord(1), add: onWord(2),
   };
 
+  // What nothing holds shows that the engine collects. A canary that is made in a job KeptAlive has to its end, so those
+  // that are to show collections in it are made in a job before, and held until the collection that was asked for has
+  // ended. A collection of what is young may pass them by, so young ones stand beside them.
+  class Canaries {
+    ready = [];
+    now = { young: false };
+    called = 0;
+    cells = new Cells((set) => {
+      this.called += 1;
+      (typeof set === "object" ? set : this.now).young = true; // an engine may give another held value
+    });
+
+    // Makes sets for so many collections to come, in a job of its own.
+    prepare(count) {
+      while (this.ready.length < count) {
+        const held = [{}, {}, {}, {}], [before, ...after] = held.map((value) => new WeakRef(value));
+        this.ready.push({ held, before, after, young: false });
+      }
+    }
+    // Lets go of a set, which shows the collections from here on.
+    release() {
+      this.prepare(1);
+      this.now = this.ready.pop();
+      this.now.held.length = 0;
+      this.now.fresh = new WeakRef({});
+      this.cells.register({}, this.now);
+    }
+    // Whether the engine collected since the last set was let go of.
+    show() {
+      const { before, fresh, young } = this.now;
+      return young || (before !== undefined && (isEmpty(before) || isEmpty(fresh)));
+    }
+    // Whether the collection that ended just now took what nothing held, or some of it, since an engine may take what lies
+    // in its stack for held. Of the first one there is nothing to show it.
+    wasComplete() { return this.now.after === undefined || this.now.after.some(isEmpty); }
+  }
+  const isEmpty = (ref) => deref.call(ref) === undefined;
+  const canaries = new Canaries();
+
   class Agent {
     vars = new Map();
     made = 0;
     out = [];
     registries = [];
     registered = 0;
+    numbers = new Map(); // of registrations, by FinalizationRegistry and held value
     unregistered = 0;
     taken = 0;
     opened = 0;
@@ -145,13 +188,20 @@ globalThis.Plans = (function () {
     }
     // What goes to another agent for a value, which would lose a symbol's key and a buffer's block.
     message(value) {
-      if (value instanceof SharedArrayBuffer) return { block: Shared.blockOf(value), buffer: value };
+      if (isBuffer(value)) return { block: Shared.blockOf(value), buffer: value };
       const key = typeof value === "symbol" ? Symbol.keyFor(value) : undefined;
       if (key !== undefined) return { key };
       if (typeof value === "object" || typeof value === "symbol") {
+        this.refuseToClone(value);
         throw new Refused("DataCloneError: value cannot be posted");
       }
       return value;
+    }
+    // Structured clone takes objects without a kind, which no plan may post. All others it refuses, and is asked to.
+    refuseToClone(value) {
+      if (!this.host.clone || value instanceof Thing) return;
+      try { this.host.clone(value); } catch { return; }
+      throw new Refused("none, though the value cannot be posted");
     }
     // The value that came as this message.
     value(message) {
@@ -159,29 +209,43 @@ globalThis.Plans = (function () {
       if ("key" in message) return Symbol.for(message.key);
       return new Shared(message.buffer, this.number(), message.block);
     }
-    // What the engine calls, with the number of a registration and its held value.
-    clean(callback, [number, held]) {
+    // What the engine calls, with a held value or with the number of a registration and its held value. A held value that
+    // no registration of the FinalizationRegistry has is that of number 0.
+    clean({ registry, commands }, cell) {
+      const [number, held] = Array.isArray(cell) ? cell : [this.numbers.get(this.nameOf(registry, cell)) ?? 0, cell];
       this.taken += 1;
       this.out.push(`cleanup ${number} held ${this.show(held)}`);
       this.vars.set("held", held);
       try {
-        this.performAll(callback);
+        this.performAll(commands);
       } catch (e) {
         if (!(e instanceof Refused && this.host.swallows)) throw e;
       } finally {
         this.note(`cleaned ${number}`);
       }
     }
-    // With the number of its registration each held value is another value than the target. So what is refused for
-    // being the same is asked of the engine with the two as they are.
+    nameOf(registry, held) { return `${registry} ${this.show(held)}`; }
+    // What tells a registration in its callback is the held value, where none before it had the same; else its number,
+    // beside the held value. No value of a plan is an array.
     register(registry, target, held, token) {
-      if (!Object.is(target, held)) {
-        register.call(registry, target, [this.registered + 1, held], token);
-        this.registered += 1;
-        return;
+      if (Object.is(target, held)) {
+        register.call(registry, target, held, token);
+        throw new Refused("none, though target and held value are the same");
       }
-      register.call(registry, target, held, token);
-      throw new Refused("none, though target and held value are the same");
+      const number = this.registered + 1, of = registry instanceof Registry ? Registry.numberOf(registry) : 0;
+      const name = this.tells ? this.nameOf(of, held) : undefined;
+      const isBare = this.tells && !this.numbers.has(name);
+      register.call(registry, target, isBare ? held : [number, held], token);
+      this.registered = number;
+      if (isBare) this.numbers.set(name, number);
+    }
+    // A collection that was asked for, and what the canaries show of it.
+    collect() {
+      if (!this.tells) return this.host.collect();
+      if (canaries.show()) this.note("collected");
+      this.host.collect();
+      if (!canaries.wasComplete()) this.note("not complete");
+      canaries.release();
     }
     perform(c) {
       const { vars } = this;
@@ -232,8 +296,8 @@ globalThis.Plans = (function () {
         case "wshas": vars.set(c[1], setHas.call(vars.get(c[2]), vars.get(c[3]))); break;
         case "wsdelete": vars.set(c[1], setDelete.call(vars.get(c[2]), vars.get(c[3]))); break;
         case "registry": {
-          const callback = this.callbacks[c[2]];
-          const made = new Registry(this.number(), (cell) => this.clean(callback, cell));
+          const from = { registry: this.made + 1, commands: this.callbacks[c[2]] };
+          const made = new Registry(this.number(), (cell) => this.clean(from, cell));
           this.registries.push(made);
           vars.set(c[1], made);
           break;
@@ -245,7 +309,7 @@ globalThis.Plans = (function () {
           vars.set(c[1], found);
           break;
         }
-        case "collect": this.host.collect(); break;
+        case "collect": this.collect(); break;
         case "buffer": {
           const number = this.number();
           if (this.opened === mostBlocks) {
@@ -317,25 +381,22 @@ globalThis.Plans = (function () {
         if (!(e instanceof Refused)) throw e;
       }
       this.note("ended");
-      for (let before = -1; this.registries.length > 0 && before !== this.taken;) {
-        before = this.taken;
+      for (let before = -1; this.registries.length > 0 && before !== this.taken + canaries.called;) {
+        before = this.taken + canaries.called;
         await this.host.wait();
       }
     }
-    // Runs a job in one of the engine's own. A canary, which nothing holds, shows that the engine collected in it.
+    // Runs a job in one of the engine's own, and tells whether the engine collected without being asked.
     async run(job, message) {
-      const canary = await this.canary();
+      await this.host.task();
+      canaries.prepare(job.run.filter(([word]) => word === "collect").length + 1);
       await this.host.task();
       await this.runNow(job, message);
-      if (await this.isGone(canary)) this.note("collected");
-    }
-    async canary() {
       await this.host.task();
-      return new WeakRef({});
-    }
-    async isGone(canary) {
-      await this.host.task();
-      return deref.call(canary) === undefined;
+      if (canaries.show()) {
+        this.note("collected");
+        canaries.release();
+      }
     }
     end() {
       const live = this.registered - this.unregistered - this.taken;
@@ -402,14 +463,28 @@ globalThis.Plans = (function () {
   function hasMessages(agents) {
     return agents.length > 1 && agents.some((agent) => agent.jobs.some((job) => job.on) || runsOf(agent).some(posts));
   }
+  // What commands need that an engine may lack.
+  const needed = {
+    buffer: "SharedArrayBuffer", load: "Atomics", store: "Atomics", add: "Atomics",
+    registry: "FinalizationRegistry", register: "FinalizationRegistry", unregister: "FinalizationRegistry",
+  };
+  // Why a plan can't be run here, if it can't.
+  function lacking(agents, host) {
+    if (hasMessages(agents) && !host.clone) return "this host has no messages";
+    const names = agents.flatMap(runsOf).flat().map(([word]) => needed[word]);
+    const absent = names.find((name) => name !== undefined && globalThis[name] === undefined);
+    return absent && `no ${absent}`;
+  }
   // Answers lines of JSON, each a plan, with lines of JSON: the lines of each agent, with what it tells beside them.
   async function answer(lines, host) {
     for (const line of lines) {
-      const { agents } = JSON.parse(line);
-      if (hasMessages(agents) && !host.clone) {
-        host.write(JSON.stringify({ skipped: "this host has no messages" }));
+      const { agents } = JSON.parse(line), skipped = lacking(agents, host);
+      if (skipped) {
+        host.write(JSON.stringify({ skipped }));
         continue;
       }
+      await host.task();
+      if (canaries.show()) canaries.release(); // what shows collections of the plan before is no longer asked
       const cluster = new Cluster(agents, host, true);
       await cluster.run();
       host.write(JSON.stringify({ agents: cluster.agents.map(({ out }) => out) }));

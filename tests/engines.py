@@ -1,7 +1,6 @@
 #!/usr/bin/env python3
 """Comparing engines: what a line of an engine is called, the corpus, and, where node is installed, node itself: the
-corpus and random plans without a contradiction, each planted fault found and called by its rule, exported tests that
-pass, and that fail with each planted fault.
+corpus and random plans without a contradiction, and each planted fault found and called by its rule.
 
 Usage: engines.py PROGRAM. Prints what fails, what was skipped, and `N passed, M failed` last.
 """
@@ -11,7 +10,6 @@ import os
 import random
 import subprocess
 import sys
-import tempfile
 
 TOP = os.path.dirname(os.path.dirname(os.path.abspath(__file__)))
 ENGINES = os.path.join(TOP, "engines")
@@ -20,6 +18,7 @@ sys.path.insert(0, os.path.join(ENGINES, "lib"))
 import comparing
 import corpus
 import drawing
+import given
 import hosts
 import rules
 import session
@@ -41,6 +40,9 @@ FAULTS = {
 MOST_PLANS, AT_ONCE = 200, 10  # a fault must show within so many plans, of which so many are run at once
 MOST_COMMANDS = 8  # the shortest plan of the fault that is shrunk has no more
 
+# A WeakRef that goes in the job in which it gave its target: no collection but one in that job was asked for.
+DROPPED = "registry f c; new a; weakref v a; weakref w a; register f a n; let a null | deref b v; let b null; let v null; collect"
+IN_JOB = ["# job", "# ended", "# job", "# deref object 2"]
 GOES = "registry f c; new a; new b; weakref w a; register f a n; register f b n; let a null; let b null"
 # What an engine may say of a plan, job by job, and what that is.
 ANSWERS = [
@@ -53,13 +55,13 @@ ANSWERS = [
     ("another order of callbacks", f"{GOES} | collect",
      ["# job", "# ended", "# job", "# ended", "cleanup 2 held undefined", "# cleaned 2", "cleanup 1 held undefined",
       "# cleaned 1"], {Kind.ORDER}),
-    ("no callbacks", f"{GOES} | collect", ["# job", "# ended", "# job", "# ended"], {Kind.RETAINED}),
+    ("no callbacks", f"{GOES} | collect", ["# job", "# ended", "# job", "# ended"], {Kind.UNCALLED}),
     ("one callback in a later job", f"{GOES} | collect |",
      ["# job", "# ended", "# job", "# ended", "cleanup 1 held undefined", "# cleaned 1", "# job", "# ended",
       "cleanup 2 held undefined", "# cleaned 2"], {Kind.SAME, Kind.RETAINED}),
     ("emptied, and no callback", f"{GOES} | collect; deref x w; say x",
      ["# job", "# ended", "# job", "# deref undefined", "say undefined", "# ended"],
-     {Kind.SAME, Kind.NOT_OBSERVED, Kind.RETAINED}),
+     {Kind.SAME, Kind.UNCALLED}),
     ("emptied though a variable holds it", "new a; weakref w a | collect; deref b w",
      ["# job", "# ended", "# job", "# deref undefined", "# ended"], Broken.EMPTIED_LIVE),
     ("emptied in the job that keeps it", "new a; weakref w a; let a null; collect; deref b w",
@@ -78,6 +80,20 @@ ANSWERS = [
      ["# job", "# gave true", "# ended", "cleanup 1 held undefined", "# cleaned 1"], Broken.CLEANED_UNREGISTERED),
     ("a callback of nothing", "registry f c; collect",
      ["# job", "# ended", "cleanup 1 held undefined", "# cleaned 1"], Broken.CLEANED_UNKNOWN),
+    ("a callback in the job that keeps its target", f"{DROPPED} |",
+     [*IN_JOB, "# ended", "cleanup 1 held undefined", "# cleaned 1", "# job", "# ended"], Broken.CLEANED_KEPT),
+    ("the same, where canaries show another collection", f"{DROPPED} |",
+     [*IN_JOB, "# ended", "cleanup 1 held undefined", "# cleaned 1", "# collected", "# job", "# ended"], {Kind.EARLIER}),
+    ("the same, where the collection was not complete", f"{DROPPED} |",
+     [*IN_JOB, "# not complete", "# ended", "cleanup 1 held undefined", "# cleaned 1", "# job", "# ended"], {Kind.EARLIER}),
+    ("given nothing in the next job, and no other collection came", f"{DROPPED} | deref b w",
+     [*IN_JOB, "# ended", "# job", "# deref undefined", "# ended"], Broken.EMPTIED_KEPT),
+    ("emptied in the next job, in which it was asked for", f"{DROPPED} | collect; deref b w",
+     [*IN_JOB, "# ended", "# job", "# deref undefined", "# ended", "cleanup 1 held undefined", "# cleaned 1"], {Kind.SAME}),
+    ("another held value", f"{GOES} | collect",
+     ["# job", "# ended", "# job", "# ended", "cleanup 1 held 5", "# cleaned 1"], Broken.HELD_OTHER),
+    ("a held value that nobody gave", f"{GOES} | collect",
+     ["# job", "# ended", "# job", "# ended", "cleanup 0 held 5", "# cleaned 0"], Broken.HELD_OTHER),
     ("a callback within a job", f"{GOES} | collect; say x",
      ["# job", "# ended", "# job", "cleanup 1 held undefined", "# cleaned 1", "say undefined", "# ended"],
      Broken.CLEANED_INSIDE),
@@ -160,7 +176,7 @@ def sound(tests, engine, program):
     """The corpus and random plans, of one agent and of several, are never contradicted."""
     rng, report = random.Random(SEED), session.reporter(program)
     drawn = drawing.draw(rng, RANDOM_PLANS, True, False) + drawing.draw(rng, WITH_AGENTS, False, True)
-    plans = session.plans_in([corpus.FOLDER]) + [(f"random plan {at}", text) for at, text in enumerate(drawn)]
+    plans = given.plans_in([corpus.FOLDER]) + [(f"random plan {at}", text) for at, text in enumerate(drawn)]
     for found in session.compare_all(engine, plans, report).found:
         fault = found.contradiction()
         tests.check(not fault and not found.misreported, f"{found.name}: {fault}: {found.text}")
@@ -192,19 +208,6 @@ def planted(tests, engine):
             tests.check(commands <= MOST_COMMANDS, f"the shortest plan of the fault {fault}: {found.shortest}")
 
 
-def exported(tests, engine):
-    """Exported tests pass on node, and with each planted fault some of those fail that show its rule."""
-    words = [engine.command, "--expose-gc", "--single-threaded", "--single-threaded-gc", os.path.join(ENGINES, "runner.mjs")]
-    with tempfile.TemporaryDirectory() as folder:
-        subprocess.run([os.path.join(ENGINES, "export"), folder], check=True, stdout=subprocess.DEVNULL)
-        modes = [os.path.join(folder, mode) for mode in sorted(os.listdir(folder))]
-        script(tests, *words, *modes)
-        for fault, (_, _, shown) in FAULTS.items():
-            places = [os.path.join(mode, shown) for mode in modes]
-            ran = subprocess.run([*words, "--fault", fault, *places], capture_output=True, text=True, check=False)
-            tests.check(ran.returncode == 1 and "not ok" in ran.stdout, f"tests with the fault {fault}: {ran.stdout[-300:]}")
-
-
 def main():
     program, tests = os.path.abspath(sys.argv[1]), Tests()
     classes(tests)
@@ -215,7 +218,6 @@ def main():
         engine = hosts.engine("node")
         sound(tests, engine, program)
         planted(tests, engine)
-        exported(tests, engine)
     except hosts.Missing as missing:
         print(f"skipped: {missing}")
     print(f"{tests.passed} passed, {tests.failed} failed")

@@ -1,11 +1,14 @@
 // Planted fault: a collection empties WeakRefs, whatever holds their targets.
 (function () {
-  const Sound = WeakRef, { deref } = Sound.prototype, collect = gc, made = new WeakMap();
+  const Sound = WeakRef, { deref } = Sound.prototype, made = new WeakMap();
   let collections = 0;
-  globalThis.gc = function () {
-    collections += 1;
-    collect();
-  };
+  for (const name of ["gc", "fullGC"].filter((name) => globalThis[name])) {
+    const collect = globalThis[name];
+    globalThis[name] = () => {
+      collections += 1;
+      collect();
+    };
+  }
   globalThis.WeakRef = class WeakRef extends Sound {
     constructor(target) {
       super(target);

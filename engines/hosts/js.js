@@ -9,5 +9,5 @@
     task,
     wait: async () => { for (let turns = 0; turns < 4; turns += 1) await task(); },
     write: print,
-  }).catch((e) => print(e));
+  }).catch((e) => { printErr(e); quit(1); });
 })();

@@ -11,5 +11,5 @@
     wait: async () => { for (let turns = 0; turns < 4; turns += 1) await task(); },
     write: print,
     swallows: true,
-  }).catch((e) => { print(e); quit(1); });
+  }).catch((e) => { printErr(e); quit(1); });
 })();

@@ -11,5 +11,5 @@
     wait: async () => { for (let turns = 0; turns < 4; turns += 1) await task(); },
     write: print,
     swallows: true,
-  }).catch((e) => print(e));
+  }).catch((e) => { std.err.puts(`${e}\n`); std.exit(1); });
 })();

@@ -9,26 +9,35 @@ Line = collections.namedtuple("Line", ["agent", "kind", "wanted", "said"])
 
 
 class Verdict:
-    """What the comparison of one plan came to: its lines, the contradiction if there is one, and how many jobs had a
-    collection of the engine's own."""
+    """What the comparison of one plan came to: its lines, the contradiction if there is one, and what is counted over a
+    whole run. That are collections of the engine's own; derefs that could give nothing, and that did; callbacks that the
+    program called, and that the engine did."""
 
-    def __init__(self, lines, contradiction, own_collections):
-        self.lines, self.contradiction, self.own_collections = lines, contradiction, own_collections
+    def __init__(self, lines, contradiction, clock, due, came):
+        self.lines, self.contradiction, self.own_collections = lines, contradiction, clock.own_collections
+        self.counted = collections.Counter(line.kind for line in lines)
+        self.chances, self.emptied, self.due, self.came = clock.chances, clock.emptied, due, came
 
     def counts(self):
-        return collections.Counter(line.kind for line in self.lines)
+        return self.counted.copy()
+
+    def forget(self):
+        """Keeps the counts alone."""
+        self.lines = []
 
 
-def compare(plan, answer, symbols=True):
-    """The verdict on an engine's lines of each agent. The plan is one that was read by the rules."""
+def compare(plan, answer, symbols=True, is_vague=False):
+    """The verdict on an engine's lines of each agent. The plan is one that was read by the rules. Of an engine that is
+    vague nothing is concluded from canaries."""
     usual = following.usually(plan)
-    followed, clock, contradiction = following.follow(plan, answer, usual, symbols)
+    followed, clock, contradiction = following.follow(plan, answer, usual, symbols, is_vague)
     lines = []
     for name, agent in usual.items():
         lines += compare_agent(name, agent, followed[name], clock, contradiction)
     if contradiction:
         lines.append(Line(contradiction.agent, Kind.CONTRADICTION, contradiction.wanted, contradiction.said))
-    return Verdict(lines, contradiction, clock.own_collections)
+    due = sum(agent.taken for agent in usual.values())
+    return Verdict(lines, contradiction, clock, due, sum(len(agent.cleaned_up) for agent in followed.values()))
 
 
 def compare_agent(name, usual, agent, clock, contradiction):
@@ -48,6 +57,8 @@ def kind_of(tag, wanted, said, moved, agent, clock):
         return Kind.NOT_OBSERVED
     if wanted == said:
         return Kind.ORDER if tag[:2] in moved and said.startswith("cleanup ") else Kind.SAME
+    if said is None and agent.awaits(tag[1]):
+        return Kind.UNCALLED
     at = agent.times.get(tag, agent.ends.get(tag[0], clock.now))
     return cause(clock.deviations, at, tag[1])
 

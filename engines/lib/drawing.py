@@ -1,22 +1,36 @@
-"""Random plans for engines, drawn as the tests draw them."""
+"""Random plans for engines: drawn as the tests draw them, with large tables and long chains besides, or about one thing."""
 
 import json
 
 import random_plans
 import rules
+import steering
+
+# what plans can be about, and where plans of anything are drawn from, with how often each comes
+ABOUT = {
+    "kept": [steering.kept], "ephemerons": [steering.ephemerons, steering.tables], "registries": [steering.registries],
+}
+STEERED = [steering.kept, steering.ephemerons, steering.tables, steering.registries]
+KINDS = {
+    random_plans.lives: 8, random_plans.tables: 4, random_plans.registrations: 6, random_plans.any_jobs: 2,
+    **dict.fromkeys(STEERED, 1),
+}
 
 
-def alone(rng):
-    kinds = [random_plans.lives, random_plans.tables, random_plans.registrations, random_plans.any_jobs]
-    return random_plans.plan_of(rng, rng.choices(kinds, [4, 2, 3, 1])[0])
+def alone(rng, about):
+    kind = rng.choice(ABOUT[about]) if about else rng.choices([*KINDS], [*KINDS.values()])[0]
+    if kind not in STEERED:
+        return random_plans.plan_of(rng, kind)
+    jobs, callbacks = kind(rng)
+    return {"version": 1, "agents": [{"name": "a", "callbacks": callbacks, "jobs": [{"run": run} for run in jobs]}]}
 
 
-def draw(rng, count, one_agent, messages, symbols=True):
+def draw(rng, count, one_agent, messages, symbols=True, about=None):
     """So many plans that the rules accept, as texts: of one agent each, or of several, with blocks and, where they are
-    wanted, with messages. Where symbols can't be held weakly, objects take their places."""
+    wanted, with messages; or all about one thing. Where symbols can't be held weakly, objects take their places."""
     texts = []
     while len(texts) < count:
-        plan = random_plans.shared_plan(rng) if rng.random() < 0.3 else alone(rng)
+        plan = random_plans.shared_plan(rng) if not about and rng.random() < 0.3 else alone(rng, about)
         if not symbols:
             plan = without_symbols(plan)
         if one_agent:
@@ -32,9 +46,14 @@ def draw(rng, count, one_agent, messages, symbols=True):
     return texts
 
 
+def runs_of(agent):
+    """The commands of each job and callback."""
+    return [*agent["callbacks"].values(), *(job["run"] for job in agent["jobs"])]
+
+
 def has_messages(plan):
     jobs = [job for agent in plan["agents"] for job in agent["jobs"]]
-    runs = [run for agent in plan["agents"] for run in agent["callbacks"].values()] + [job["run"] for job in jobs]
+    runs = [run for agent in plan["agents"] for run in runs_of(agent)]
     return any("on" in job for job in jobs) or any(step[0] == "post" for run in runs for step in run)
 
 

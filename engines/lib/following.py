@@ -1,9 +1,11 @@
 """A plan by the rules, each choice that the standard leaves open being the one that an engine took.
 
 What an engine said of a plan are the lines of each agent, and among them notes, which begin with `#`: what commands gave,
-where jobs and callbacks end, and whether a canary was emptied in a job. The rules are followed along these lines.
-A deref that gave nothing, and a callback, show that a value was emptied: it must have been one that nothing reaches.
-What was emptied must never be seen again. All else must be as the rules have it.
+where jobs and callbacks end, and what canaries show: `# collected`, that a collection came that was not asked for, and
+`# not complete`, that one that was asked for left what nothing held. The rules are followed along these lines.
+A deref that gave nothing, and a callback, show that a value was emptied: it must have been one that nothing reaches. Where
+it was reached at each collection that was asked for, another one must have come, and canaries show it. What was emptied
+must never be seen again. All else must be as the rules have it.
 """
 
 import contextlib
@@ -33,11 +35,14 @@ class Deviation:
 
 
 class Clock:
-    """How many lines of all agents were followed, and the deviations so far."""
+    """How many lines of all agents were followed, the deviations so far, and what is known of collections."""
 
     def __init__(self):
         self.now, self.deviations = 0, []
-        self.own_collections = 0  # jobs without `collect` in which the canary was emptied
+        self.own_collections = 0  # how often canaries showed a collection that was not asked for
+        self.asked = 0  # collections that were asked for
+        self.is_vague = False  # whether the engine collected otherwise than it was asked to
+        self.chances, self.emptied = 0, 0  # derefs of what a complete collection would have emptied, and that gave nothing
 
     def deviates(self, kind, number=None):
         self.deviations.append(Deviation(kind, self.now, number))
@@ -103,6 +108,8 @@ class Following(Tagged):
         super().__init__(plan, ledger, clock)
         self.ahead, self.usual = said[::-1], usual
         self.due = set()  # what a complete collection would have emptied, and no deref gave since
+        self.only_kept = set()  # what only KeptAlive had at the last collection that was asked for
+        self.doubtful = []  # what was emptied, though each collection that was asked for had to leave it
         self.cleaned_up = set()
         self.answered_by = {}  # the word of the command that assigned each variable last
         self.word = "on"
@@ -119,6 +126,13 @@ class Following(Tagged):
             self.fail(self.unlooked_for(), f"# {note}", self.next(), self.section_of(self.next()))
         self.ahead.pop()
 
+    def take(self, note):
+        """Takes a note that may come next; says whether it came."""
+        if self.next() != f"# {note}":
+            return False
+        self.ahead.pop()
+        return True
+
     def unlooked_for(self):
         return Broken.CLEANED_INSIDE if self.next().startswith("cleanup ") else Broken.ANSWERED
 
@@ -133,7 +147,8 @@ class Following(Tagged):
         if line.startswith("emptied "):
             return
         if self.next() != line:
-            self.fail(self.unlooked_for(), line, self.next(), self.section_of(self.next()))
+            other = line.startswith("cleanup ") and self.next().split(" held ")[0] == line.split(" held ")[0]
+            self.fail(Broken.HELD_OTHER if other else self.unlooked_for(), line, self.next(), self.section_of(self.next()))
         self.ahead.pop()
 
     def do(self, word, args):
@@ -170,17 +185,26 @@ class Following(Tagged):
         for number, cell in self.cells.items():
             if cell.target[1] in self.due:
                 seen = cell.target[1] in self.gone
-                self.clock.deviates(Kind.NOT_OBSERVED if seen else Kind.RETAINED, number)
-        if self.next() == "# collected":
-            self.ahead.pop()
-            collects = any(step[0] == "collect" for step in self.jobs[self.done - 1]["run"])
-            self.clock.own_collections += not collects
+                self.clock.deviates(Kind.UNCALLED if seen else Kind.RETAINED, number)
+        self.look_at_canaries()
         self.ends[self.done] = self.clock.now
+
+    def look_at_canaries(self):
+        """Where no canary shows a collection besides those that were asked for, none came."""
+        if self.take("collected"):
+            self.clock.own_collections += 1
+            self.clock.is_vague = True
+        if self.doubtful and self.clock.asked and not self.clock.is_vague:
+            number, said, live, kept = self.doubtful[0]
+            self.fail(kept if number in self.only_kept else live, "(not emptied)", said)
+        self.doubtful = []
 
     def called(self):
         """The lines of one callback that the engine called."""
         said = self.next()
         number = int(said.split()[1])
+        if number == 0:
+            self.fail(Broken.HELD_OTHER, "(no callback)", said)
         self.check_call(number, said)
         self.word = "held"
         yield from self.tagged([self.take_cell(number)])
@@ -216,7 +240,12 @@ class Following(Tagged):
             self.fail(live if number in self.reached() or not was_kept else kept, "(not emptied)", said)
         if number not in self.due:
             self.clock.deviates(Kind.EARLIER, number)
+            self.doubtful.append((number, said, live, kept))
         self.gone.add(number)
+
+    def awaits(self, number):
+        """Whether a registration's callback could have come, and did not."""
+        return number in self.cells and self.cells[number].target[1] in self.due
 
     def take_cell(self, number):
         cell = self.cells.pop(number)
@@ -231,7 +260,8 @@ class Following(Tagged):
             return super().target(weakref)
         said, target = self.next(), self.targets[weakref[1]]
         if not said.startswith("# deref "):
-            self.fail(self.unlooked_for(), f"# deref {rules.printed(target)}", said, ANSWERED_IN["deref"])
+            self.word = "deref"
+            self.fail(self.unlooked_for(), f"# deref {rules.printed(target)}", said, self.section_of(said))
         self.ahead.pop()
         return self.emptied(target, said) if said == EMPTIED else self.given(target, said)
 
@@ -245,18 +275,30 @@ class Following(Tagged):
         if reached & self.gone:
             self.fail(Broken.REACHED_EMPTIED, EMPTIED, said)
         if target[1] in self.due:
+            self.clock.chances += 1
             self.clock.deviates(Kind.RETAINED)
             self.due -= reached
         return target
 
     def emptied(self, target, said):
         if target[1] not in self.gone:
+            self.clock.chances += 1
+            self.clock.emptied += 1
             self.check_dead(target[1], said, Broken.EMPTIED_LIVE, Broken.EMPTIED_KEPT)
         return ("undefined",)
 
+    def unreached(self):
+        return set(range(1, self.made + 1)) - self.reached()
+
     def collect(self):
         """A collection may empty anything that is not reached, and need not."""
-        self.due |= set(range(1, self.made + 1)) - self.reached()
+        self.look_at_canaries()
+        self.clock.is_vague |= self.take("not complete")
+        self.clock.asked += 1
+        self.due |= self.unreached()
+        kept, self.kept = self.kept, []
+        self.only_kept = self.unreached() - self.due
+        self.kept = kept
         return 0
 
 
@@ -286,12 +328,13 @@ def usually(plan):
     return agents
 
 
-def follow(plan, answer, usual, symbols=True):
+def follow(plan, answer, usual, symbols=True, is_vague=False):
     """The agents after their run along an engine's lines, by their names, the clock, and the contradiction, if any."""
     ledger, clock, agents = rules.Ledger(), Clock(), {}
     for agent, said in zip(plan["agents"], answer, strict=True):
         order = usual[agent["name"]].cleaned()
         agents[agent["name"]] = Following(agent, ledger, clock, said, order)
+    clock.is_vague = is_vague or len(agents) > 1  # a collection that one agent asks for may be one of all
     with edition(symbols, clock):
         try:
             rules.run_turns(agents)

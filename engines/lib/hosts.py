@@ -97,11 +97,35 @@ def chromium():
     return Engine("chromium", sys.executable, lambda scripts: [*words, *scripts], said(command, "--version"), 600.0)
 
 
-ENGINES = {"node": node, "d8": d8, "jsc": jsc, "js": js, "qjs": qjs, "chromium": chromium}
+def gjs():
+    command = found("gjs", os.environ.get("GJS"), "gjs")
+    return Engine("gjs", command, lambda scripts: [host("gjs.js"), *scripts], said(command, "--version"))
+
+
+def firefox():
+    command = found("firefox", os.environ.get("FIREFOX"), "firefox", "firefox-esr")
+    words = [host("firefox.py"), "--browser", command]
+    return Engine("firefox", sys.executable, lambda scripts: [*words, *scripts], said(command, "--version"), 600.0)
+
+
+def workers(turns="job", seed=1):
+    """Node with a thread for each agent. `turns` says who goes on when: by `job`, by `command`, or all at once, `none`."""
+    alone = node()
+    words = ["--expose-gc", host("workers.mjs"), "--turns", turns, "--seed", str(seed)]
+    version = f"{alone.version}, an agent a thread, {HOW[turns]}"
+    return Engine("workers", alone.command, lambda scripts: [*words, *scripts], version)
+
+
+HOW = {"job": "by turns", "command": "by turns of a command", "none": "at once"}
+ENGINES = {
+    "node": node, "workers": workers, "d8": d8, "jsc": jsc, "js": js, "qjs": qjs, "gjs": gjs, "chromium": chromium,
+    "firefox": firefox,
+}
 
 
 def engine(name):
     return ENGINES[name]()
 
 
-WITH_MESSAGES = ("node", "chromium")  # those whose hosts can clone a SharedArrayBuffer
+IN_PAGES = ("chromium", "firefox")  # those whose words are those of a script that drives a browser
+WITH_MESSAGES = ("node", "workers", "chromium")  # those whose hosts can clone a SharedArrayBuffer

@@ -8,7 +8,15 @@ import tempfile
 
 SECONDS_TO_END = 20.0
 AT_ONCE = 100  # so many plans are run by one process: their texts are on its heap, and take its collections time
+MOST_TOLD = 400  # so much is told of what an engine wrote on standard error
 PROBE = '{"version":1,"agents":[{"name":"a","callbacks":{},"jobs":[{"run":[["symbol","s"],["weakref","w","s"]]}]}]}'
+
+
+def shortened(text):
+    """The beginning and the end of what an engine wrote, without empty lines and those of a stack."""
+    lines = [line.strip() for line in text.splitlines()]
+    text = "\n".join(line for line in lines if line and not line.startswith("at ") and line != "^")
+    return text if len(text) <= MOST_TOLD else f"{text[: MOST_TOLD // 2]} .. {text[-MOST_TOLD // 2 :]}"
 
 
 def lines_from(pipe, seconds):
@@ -38,10 +46,11 @@ def lines_of(engine, texts, scripts=()):
         plans.write("".join(f"{text}\n" for text in texts).encode())
         plans.seek(0)
         ran = subprocess.Popen(engine.words_with(scripts), stdin=plans, stdout=subprocess.PIPE, stderr=errors)
-        found = [line.decode() for line in lines_from(ran.stdout, engine.seconds) if line.startswith(b"{")]
+        said = [line.decode(errors="replace") for line in lines_from(ran.stdout, engine.seconds)]
         end(ran)
         errors.seek(0)
-        return found, errors.read().decode(errors="replace")
+        others = [line for line in said if not line.startswith("{")]  # a shell may tell of its errors there
+        return [line for line in said if line.startswith("{")], errors.read().decode(errors="replace") + "\n".join(others)
 
 
 def answers(engine, texts, scripts=()):
@@ -53,11 +62,5 @@ def answers(engine, texts, scripts=()):
         lines, err = lines_of(engine, some, scripts)
         found += [json.loads(line) for line in lines]
         if len(lines) < len(some):
-            found.append({"none": err.strip()[-300:]})
+            found.append({"none": shortened(err)})
     return found
-
-
-def holds_symbols(engine):
-    """Whether the engine can hold symbols weakly, as the 14th edition asks."""
-    answer = answers(engine, [PROBE])[0]
-    return not any(line.startswith("error ") for line in answer["agents"][0])

@@ -1,31 +1,39 @@
-"""A comparison of many plans: what was found of each, the table, and the shortest plans of what is contradicted."""
+"""A comparison of many plans: what was found of each, and the shortest plans of what is contradicted."""
 
-import collections
-import datetime
+import itertools
 import json
 import os
 import subprocess
+import time
 
 import comparing
-import corpus
 import hosts
 import rules
 import running
 import shrinking
-from verdicts import ALLOWED, Broken, Kind
+from verdicts import NEVER_CALLED, NEVER_EMPTIED
 
 TOP = os.path.dirname(hosts.HERE)
 PROGRAM = os.path.join(TOP, "crates", "clusterrun", "out", "clusterrun")
+NO_ANSWER = ("no answer", "")
+FEWEST = 20  # that something never happened is said where it could have happened so often
+MOST_LOOKED_AT = 20  # so many plans are shrunk and told of one comparison
+AT_ONCE = 100  # so many plans are run at once
+TURN = 10  # so many of them before the next of several ways to run the engine is taken
+TRIES = 3  # so often is a plan run again alone, to see that it shows the same
+QUICK = 20.0  # seconds in which an engine that gives no answer must have ended for its plan to be shrunk
 
 
-def plans_in(places):
-    """The names and texts, each in one line, of all plans in these files and folders."""
-    return [(os.path.relpath(path), one_line(path)) for path in corpus.paths_in(places)]
+class Silent(Exception):
+    """A host that does not answer its first plan, with what it wrote on standard error."""
 
 
-def one_line(path):
-    with open(path, encoding="utf-8") as file:
-        return json.dumps(json.load(file))
+def holds_symbols(engine):
+    """Whether the engine can hold symbols weakly, as the 14th edition asks. It is the first plan that a host is given."""
+    answer = running.answers(engine, [running.PROBE])[0]
+    if "agents" not in answer:
+        raise Silent(f"{engine.name} gave no answer to its first plan: {answer.get('none') or 'nothing on standard error'}")
+    return not any(line.startswith("error ") for line in answer["agents"][0])
 
 
 def reporter(program):
@@ -41,32 +49,42 @@ def reporter(program):
 
 
 class Found:
-    """What was found of one plan."""
+    """What was found of one plan, run in one of the ways to run the engine."""
 
-    def __init__(self, name, text):
-        self.name, self.text = name, text
-        self.verdict, self.skipped, self.no_answer, self.shortest, self.misreported = None, None, None, None, False
+    def __init__(self, name, text, engine):
+        self.name, self.text, self.engine = name, text, engine
+        self.verdict, self.skipped, self.no_answer, self.misreported = None, None, None, False
+        self.shortest = None
+        self.showed_again = None  # whether the plan, run alone, showed the same again; None where it was not tried
 
     def contradiction(self):
-        if self.no_answer is not None:
-            return Broken.NO_ANSWER.value
+        """The rule that was broken, and its section."""
         contradiction = self.verdict and self.verdict.contradiction
         return (contradiction.broken.value[0], contradiction.section) if contradiction else None
 
+    def trouble(self):
+        """What has to be looked at, if anything: the rule that was broken, or that there was no answer."""
+        return self.contradiction() or (NO_ANSWER if self.no_answer is not None else None)
+
 
 class Session:
-    """The plans of one comparison, with what was found."""
+    """The plans of one comparison, with what was found. The engine is given as one or several ways to run it."""
 
-    def __init__(self, engine, report, scripts):
-        self.engine, self.report, self.scripts = engine, report, scripts
-        self.symbols = running.holds_symbols(engine)
+    def __init__(self, engines, report, scripts):
+        self.engines, self.report, self.scripts = engines, report, scripts
+        self.symbols = holds_symbols(engines[0])
+        self.next_engine = itertools.cycle(engines)
         self.found, self.what = [], "plans"
 
     def run(self, plans):
-        texts = [text for _, text in plans]
-        answers = running.answers(self.engine, texts, self.scripts)
+        count = TURN if len(self.engines) > 1 else AT_ONCE
+        for start in range(0, len(plans), count):
+            self.run_some(next(self.next_engine), plans[start : start + count])
+
+    def run_some(self, engine, plans):
+        answers = running.answers(engine, [text for _, text in plans], self.scripts)
         for (name, text), answer in zip(plans, answers, strict=True):
-            self.found.append(self.look(Found(name, text), answer, self.report))
+            self.found.append(self.look(Found(name, text, engine), answer, self.report))
 
     def look(self, found, answer, report):
         """What an engine's answer to a plan comes to."""
@@ -75,132 +93,61 @@ class Session:
         if report:
             found.misreported = report(found.text) != rules.report(plan)
         if "agents" in answer:
-            found.verdict = comparing.compare(plan, answer["agents"], self.symbols)
+            is_vague = getattr(found.engine, "is_vague", False)
+            found.verdict = comparing.compare(plan, answer["agents"], self.symbols, is_vague)
         return found
 
     def contradicted(self):
         return [found for found in self.found if found.contradiction()]
 
-    def shrink_all(self, most=20):
-        """Finds the shortest plan of each contradiction, of so many at most."""
-        for found in self.contradicted()[:most]:
-            wanted = found.contradiction()
-            found.shortest = json.dumps(shrinking.shrink(json.loads(found.text), lambda plans: self.show(plans, wanted)))
+    def troubled(self):
+        return [found for found in self.found if found.trouble()]
 
-    def show(self, plans, wanted):
-        """Which of these plans show this contradiction, a rule and its section."""
+    def never(self):
+        """What never happened in the whole run, though it could have often, with how often it could, by rule."""
+        verdicts = [found.verdict for found in self.found if found.verdict]
+        chances, due = sum(verdict.chances for verdict in verdicts), sum(verdict.due for verdict in verdicts)
+        if chances >= FEWEST and not any(verdict.emptied for verdict in verdicts):
+            yield (*NEVER_EMPTIED, chances)
+        if due >= FEWEST and not any(verdict.came for verdict in verdicts):
+            yield (*NEVER_CALLED, due)
+
+    def shrink_all(self, most=MOST_LOOKED_AT):
+        """Finds the shortest plan of each contradiction, and of each that had no answer, of so many at most."""
+        for found in self.troubled()[:most]:
+            self.shrink(found)
+
+    def shrink(self, found):
+        wanted, plan, began = found.trouble(), json.loads(found.text), time.monotonic()
+        tries = 1 if wanted == NO_ANSWER else TRIES
+        found.showed_again = any(self.show(found.engine, [plan], wanted)[0] for _ in range(tries))
+        if found.showed_again and (wanted != NO_ANSWER or time.monotonic() - began < QUICK):
+            shortest = shrinking.shrink(plan, lambda plans: self.show(found.engine, plans, wanted))
+            found.shortest = json.dumps(shortest)
+
+    def show(self, engine, plans, wanted):
+        """Which of these plans show this, a rule and its section."""
         texts = [json.dumps(plan) for plan in plans]
-        answers = running.answers(self.engine, texts, self.scripts)
-        looked = [self.look(Found("", text), answer, None) for text, answer in zip(texts, answers)]
-        return [found.contradiction() == wanted for found in looked]
+        answers = running.answers(engine, texts, self.scripts)
+        looked = [self.look(Found("", text, engine), answer, None) for text, answer in zip(texts, answers)]
+        return [found.trouble() == wanted for found in looked]
 
     def status(self):
+        """0 where nothing is to be looked at, 1 where something was contradicted or never happened, 2 where the program's
+        report is not that of the rules, 3 where there was no answer."""
         if any(found.misreported for found in self.found):
             return 2
-        return 1 if self.contradicted() else 0
-
-    def counts(self):
-        """How many lines of each kind there are, and in how many plans."""
-        lines, plans = collections.Counter(), collections.Counter()
-        for found in self.found:
-            counts = found.verdict.counts() if found.verdict else collections.Counter()
-            if found.no_answer is not None:
-                counts[Kind.CONTRADICTION] += 1
-            lines.update(counts)
-            plans.update(dict.fromkeys(counts, 1))
-        return lines, plans
-
-    def table(self):
-        lines, plans = self.counts()
-        yield "| Line | Lines | Plans | Rule | Section of ECMA-262 |"
-        yield "|---|---|---|---|---|"
-        for kind in Kind:
-            if lines[kind] or kind in (Kind.SAME, Kind.CONTRADICTION):
-                rule, section = ALLOWED.get(kind, ("", ""))
-                yield f"| {kind.value} | {lines[kind]} | {plans[kind]} | {rule} | {section} |"
-
-    def notes(self):
-        """What stands below the table."""
-        skipped = collections.Counter(found.skipped for found in self.found if found.skipped)
-        for reason, count in skipped.items():
-            yield f"{count} plans skipped: {reason}"
-        own = sum(found.verdict.own_collections for found in self.found if found.verdict)
-        yield f"{own} jobs in which the engine collected without being asked, by the canary"
-        if not self.symbols:
-            yield "the engine can't hold symbols weakly, as editions before the 14th have it"
-        if not self.report:
-            yield "the program is not built: the reports are those of tests/rules.py"
-        for found in self.found:
-            if found.misreported:
-                yield f"{found.name}: the program's report is not that of the rules"
-
-    def text(self, with_lines):
-        if with_lines:
-            for found in self.found:
-                yield from differing(found)
-        for found in self.contradicted():
-            rule, section = found.contradiction()
-            yield f"{found.name}: contradiction: {rule} ({section}); the shortest plan: {found.shortest}"
-        day = datetime.date.today().isoformat()
-        yield f"{self.engine.version}, {len(self.found)} plans, {day}"
-        yield from self.table()
-        yield from self.notes()
-
-    def as_json(self):
-        lines, plans = self.counts()
-        return json.dumps(
-            {
-                "engine": self.engine.version,
-                "date": datetime.date.today().isoformat(),
-                "what": self.what,
-                "plans": len(self.found),
-                "skipped": sum(found.skipped is not None for found in self.found),
-                "kinds": {kind.value: {"lines": lines[kind], "plans": plans[kind]} for kind in Kind},
-                "notes": [*self.notes()],
-                "differing": [line_of(found, line) for found in self.found for line in differing_lines(found)],
-                "contradictions": [contradiction_of(found) for found in self.contradicted()],
-            },
-            indent=1,
-        )
-
-
-def differing_lines(found):
-    return [line for line in found.verdict.lines if differs(line)] if found.verdict else []
-
-
-def differs(line):
-    """Whether it is worth telling: not where it is the same, nor where no engine has such a line."""
-    untold = line.kind is Kind.NOT_OBSERVED and (line.wanted or "").startswith(("emptied ", "end "))
-    return line.kind is not Kind.SAME and not untold
-
-
-def differing(found):
-    for line in differing_lines(found):
-        rule, section = ALLOWED.get(line.kind, found.contradiction())
-        wanted, said = line.wanted or "(nothing)", line.said or "(nothing)"
-        yield f"{found.name}, agent {line.agent}: {line.kind.value}: {wanted} -> {said} ({rule}; {section})"
-
-
-def line_of(found, line):
-    rule, section = ALLOWED.get(line.kind, found.contradiction())
-    return {
-        "plan": found.name, "agent": line.agent, "kind": line.kind.value, "wanted": line.wanted, "said": line.said,
-        "rule": rule, "section": section,
-    }
-
-
-def contradiction_of(found):
-    rule, section = found.contradiction()
-    shortest = json.loads(found.shortest) if found.shortest else None
-    return {"plan": found.name, "rule": rule, "section": section, "said": found.no_answer, "shortest": shortest}
+        if self.contradicted() or [*self.never()]:
+            return 1
+        return 3 if self.troubled() else 0
 
 
 def fault_scripts(fault):
     """The scripts that plant a fault."""
-    return [os.path.join(hosts.HERE, "faults", f"{fault}.js")] if fault else []
+    return [os.path.join(hosts.HERE, "faults", f"{name}.js") for name in ("collections", fault)] if fault else []
 
 
 def compare_all(engine, plans, report, fault=None):
-    session = Session(engine, report, fault_scripts(fault))
+    session = Session([engine], report, fault_scripts(fault))
     session.run(plans)
     return session

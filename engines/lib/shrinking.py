@@ -4,6 +4,7 @@ import copy
 import json
 
 import rules
+from drawing import runs_of
 
 MOST_ROUNDS = 60
 
@@ -16,10 +17,6 @@ def is_accepted(plan):
     return True
 
 
-def runs_of(agent):
-    return [*agent["callbacks"].values(), *(job["run"] for job in agent["jobs"])]
-
-
 def parts_of(plan):
     """The lists of a plan of which parts can be dropped, the largest parts first."""
     return [plan["agents"], *(agent["jobs"] for agent in plan["agents"])] + [
@@ -27,36 +24,55 @@ def parts_of(plan):
     ]
 
 
-def without(plan, place, start, count):
-    """The plan without so many parts of one of its lists, and without callbacks that nothing names."""
+def without(plan, pieces):
+    """The plan without these pieces, each so many parts of one of its lists, and without callbacks that nothing names."""
     smaller = copy.deepcopy(plan)
-    del parts_of(smaller)[place][start : start + count]
+    parts = parts_of(smaller)
+    for place, start, count in sorted(pieces, reverse=True):
+        del parts[place][start : start + count]
     for agent in smaller["agents"]:
         named = {step[2] for run in runs_of(agent) for step in run if step[0] == "registry" and len(step) == 3}
         agent["callbacks"] = {name: run for name, run in agent["callbacks"].items() if name in named}
     return smaller
 
 
-def smaller_plans(plan, count):
-    for place, part in enumerate(parts_of(plan)):
-        for start in range(0, len(part), count):
-            smaller = without(plan, place, start, count)
-            if is_accepted(smaller):
-                yield smaller
+def pieces_of(plan, count):
+    """The pieces of so many parts."""
+    return [(place, start, count) for place, part in enumerate(parts_of(plan)) for start in range(0, len(part), count)]
+
+
+def accepted_without(plan, groups):
+    """The groups of pieces that can be dropped together, with the plans without them."""
+    smaller = [(group, without(plan, group)) for group in groups]
+    return [(group, plan) for group, plan in smaller if is_accepted(plan)]
+
+
+def groups_of(pieces):
+    """All of them, halves, quarters, and so on, down to each alone."""
+    size = len(pieces)
+    while size > 1:
+        yield from (pieces[start : start + size] for start in range(0, len(pieces), size))
+        size = (size + 1) // 2
 
 
 def size(plan):
     return sum(len(part) for part in parts_of(plan))
 
 
+def showing(tried, shows):
+    """Of groups of pieces with the plans without them those that show it."""
+    return [one for one, is_shown in zip(tried, shows([plan for _, plan in tried])) if is_shown]
+
+
 def shrink(plan, shows):
-    """`shows` is asked of many plans at once, and says of each whether it shows it."""
+    """`shows` is asked of many plans at once, and says of each whether it shows it. Pieces that can be dropped each alone
+    are then dropped together, as far as that shows it too."""
     count = max(len(part) for part in parts_of(plan))
     for _ in range(MOST_ROUNDS):
-        tried = [*smaller_plans(plan, count)]
-        showing = [smaller for smaller, is_shown in zip(tried, shows(tried)) if is_shown]
-        if showing:
-            plan = min(showing, key=size)
+        alone = showing(accepted_without(plan, [[piece] for piece in pieces_of(plan, count)]), shows)
+        if alone:
+            together = accepted_without(plan, groups_of([piece for group, _ in alone for piece in group]))
+            plan = min((smaller for _, smaller in [*alone, *showing(together, shows)]), key=size)
         elif count == 1:
             break
         else:

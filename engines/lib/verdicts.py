@@ -43,7 +43,9 @@ class Kind(enum.Enum):
     RETAINED = "retained"
     EARLIER = "earlier"
     EDITION = "earlier edition"
+    UNCALLED = "no callback"
     NOT_OBSERVED = "not observed"
+    NO_ANSWER = "no answer"
     CONTRADICTION = "contradiction"
 
 
@@ -54,7 +56,9 @@ ALLOWED = {
     Kind.RETAINED: ("an engine may empty less than all that is not live, and later", EXECUTION),
     Kind.EARLIER: ("an engine may empty what is not live at any time", EXECUTION),
     Kind.EDITION: ("before the 14th edition no symbol could be held weakly", HELD_WEAKLY),
-    Kind.NOT_OBSERVED: ("what no engine tells, and what a host need not call", ENQUEUE),
+    Kind.UNCALLED: ("a host need not call a callback, nor need its target be emptied", ENQUEUE),
+    Kind.NOT_OBSERVED: ("no engine tells how much it empties, nor what becomes of registrations", EXECUTION),
+    Kind.NO_ANSWER: ("the engine ended, or took too long, before it had answered: no rule says how much it must bear", ""),
 }
 
 
@@ -70,6 +74,11 @@ class Broken(enum.Enum):
     CLEANED_TWICE = ("a callback was called for a registration that was taken before", CLEANUP)
     CLEANED_UNREGISTERED = ("a callback was called for a registration that was unregistered before", UNREGISTER)
     CLEANED_UNKNOWN = ("a callback was called for a registration that was never made", REGISTER)
+    HELD_OTHER = ("a callback was called with another held value than that of its registration", CLEANUP)
     CLEANED_INSIDE = ("a callback was called before a job or a callback had ended", JOBS)
     ANSWERED = ("the engine answers otherwise, where no collection is concerned", None)
-    NO_ANSWER = ("the engine ended, or took too long, before it had answered", JOBS)
+
+
+# what never happened in a whole run: no rule forbids it, but the standard expects the opposite of hosts
+NEVER_EMPTIED = ("no WeakRef was ever emptied", CLEAR)
+NEVER_CALLED = ("no callback ever came", ENQUEUE)

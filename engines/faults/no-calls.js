@@ -1,0 +1,7 @@
+// Planted fault: no callback of a FinalizationRegistry is ever called.
+(function () {
+  const Sound = FinalizationRegistry;
+  globalThis.FinalizationRegistry = class FinalizationRegistry extends Sound {
+    constructor() { super(() => {}); }
+  };
+})();
