@@ -1,0 +1,53 @@
+// What a script of these lessons finds in clusterrun, for node: node --expose-gc --import ./node.mjs LESSON.js
+//
+// node has one thread for all agents here: they take turns at `await`. A callback of a FinalizationRegistry comes when node likes.
+
+import { AsyncLocalStorage } from "node:async_hooks";
+import { setTimeout as waits } from "node:timers/promises";
+
+const current = new AsyncLocalStorage();
+const ports = new Map();
+
+/** What waits between two agents, in one direction: messages, or those who wait for one. */
+function port(sender, receiver) {
+  const name = `${sender} ${receiver}`;
+  if (!ports.has(name)) ports.set(name, { messages: [], waiting: [] });
+  return ports.get(name);
+}
+
+const self = () => current.getStore() ?? "main";
+
+/** One value as clusterrun shows it, but for the numbers of objects. */
+function shown(value, isInner = false) {
+  if (typeof value === "string") return isInner ? `'${value}'` : value;
+  if (typeof value === "function") return `[${/^class\b/.test(Function.prototype.toString.call(value)) ? "class" : "Function"}: ${value.name || "(anonymous)"}]`;
+  if (typeof value !== "object" || value === null) return Object.is(value, -0) ? "-0" : String(value);
+  if (value instanceof Error) return `[${value.name}: ${value.message}]`;
+  if (Array.isArray(value)) return isInner ? "[Array]" : bracketed("[", Array.from(value, (one) => shown(one, true)), "]");
+  if (value instanceof Map) return isInner ? "[Map]" : `Map(${value.size}) ${bracketed("{", [...value].map((pair) => pair.map((one) => shown(one, true)).join(" => ")), "}")}`;
+  if (value instanceof Set) return isInner ? "[Set]" : `Set(${value.size}) ${bracketed("{", [...value].map((one) => shown(one, true)), "}")}`;
+  return "object";
+}
+
+const bracketed = (left, inner, right) => (inner.length === 0 ? `${left}${right}` : `${left} ${inner.join(", ")} ${right}`);
+const write = (...values) => process.stdout.write(`${values.map((value) => shown(value)).join(" ")}\n`);
+
+Object.assign(console, { log: write, info: write, debug: write, warn: write, error: write });
+Object.assign(globalThis, {
+  turn: () => waits(5),
+  collectLater: () => setTimeout(gc, 0),
+  agent(name, body) {
+    setTimeout(() => current.run(name, body), 0);
+  },
+  postMessage(value, receiver) {
+    const { messages, waiting } = port(self(), receiver);
+    const message = structuredClone(value instanceof SharedArrayBuffer || !ArrayBuffer.isView(value) ? value : value.buffer);
+    if (waiting.length > 0) waiting.shift()(message);
+    else messages.push(message);
+  },
+  message(sender) {
+    const { messages, waiting } = port(sender, self());
+    if (messages.length > 0) return waits(0, messages.shift());
+    return new Promise((go) => waiting.push(go));
+  },
+});

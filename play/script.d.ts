@@ -1,0 +1,47 @@
+import type { TraceLine } from "./clusterrun.d.ts";
+
+/** A part of a script: from the letter `start` to the one before `end`, counted from 0 in UTF-16 code units. */
+export interface Place {
+  start: number;
+  end: number;
+  /** Whether the command only lets a temporary value go. */
+  temporary?: boolean;
+}
+
+/** Where the commands of an agent come from: for each job and each callback, the place of each command. */
+export interface AgentPlaces {
+  name: string;
+  callbacks: Record<string, Place[]>;
+  jobs: Place[][];
+}
+
+/** What a script becomes: the plan, its text with a command on each line, the places of its commands, and the trace of its run. */
+export interface Planned {
+  plan: object;
+  text: string;
+  places: AgentPlaces[];
+  trace: string;
+}
+
+/** Why a script is no plan, with the part of it that is outside. */
+export class ScriptFault extends Error {
+  readonly start: number;
+  readonly end: number;
+}
+
+/** A line that a script wrote by console.log, and the place of the call; or an exception that nothing caught. */
+export interface Line {
+  agent: string;
+  text: string;
+  start?: number;
+  end?: number;
+}
+
+/** The plan of a script in JavaScript. Throws a ScriptFault where the script has one. */
+export function planOf(source: string): Planned;
+
+/** The lines that a script wrote, in the order of the run. */
+export function linesOf(trace: string, places: AgentPlaces[]): Line[];
+
+/** Each line of a trace with the place of its command; null where it has none. */
+export function placed(trace: string, places: AgentPlaces[]): Generator<{ line: TraceLine; place: Place | null }>;

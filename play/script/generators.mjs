@@ -1,0 +1,162 @@
+// Generators, of both kinds, and for-await.
+
+import { awaited, newPromise, proceed, promiseOf, reject, resolve } from "./promises.mjs";
+import { call, evaluate, evaluators, raise } from "./core.mjs";
+import { Coroutine, runWhole } from "./coroutines.mjs";
+import { Thrown } from "./faults.mjs";
+import { bindParameters, leave, newInstance, runBody } from "./functions.mjs";
+import { iterate } from "./iteration.mjs";
+import { getProperty } from "./properties.mjs";
+import { KNOWN, isCallable, isInPlan, isThing } from "./values.mjs";
+
+/** The generator is told to return where it waits. */
+class Returned {
+  constructor(value) {
+    this.value = value;
+  }
+}
+
+/** Begins a call of a generator: it runs when it is asked for its first value. */
+function* beginGenerator(cx, inner, node, callee, values) {
+  const isAsync = callee.node.async;
+  const made = newInstance(cx, node, callee, isAsync ? "asyncGenerator" : "generator");
+  callee.complete?.("prototype");
+  inner.strand = isAsync ? { guards: 1 } : inner.strand;
+  yield* bindParameters(cx, inner, node, callee, values);
+  made.coroutine = new Coroutine((function* () {
+    try {
+      return yield* runBody(inner, callee.node);
+    } catch (signal) {
+      if (!(signal instanceof Returned)) throw signal;
+      return signal.value;
+    } finally {
+      leave(inner, callee.node, cx.writer);
+    }
+  })());
+  Object.assign(made, { state: "new", inner, body: callee.node, requests: [] });
+  return made;
+}
+
+/** What the caller keeps of a value that the generator gave: the generator's temporaries end when it goes on. */
+function keep(cx, node, value) {
+  if (isInPlan(value)) cx.do(node, ["copy", cx.writer.temporary(cx.temporaries), cx.operand(node, value)]);
+  return value;
+}
+
+/** Lets a generator go on: `how` is next, throw or return. */
+function resume(cx, node, generator, how, value) {
+  if (generator.state === "running") raise(cx, node, "TypeError", "Generator is already running");
+  if (generator.state === "new" && how !== "next") finish(cx, generator);
+  if (generator.state === "done") {
+    if (how === "throw") throw new Thrown(value, node);
+    return { value: how === "return" ? value : undefined, done: true };
+  }
+  generator.state = "running";
+  try {
+    const step = generator.coroutine.next({ how, value });
+    generator.state = step.done ? "done" : "waiting";
+    return { value: keep(cx, node, step.done ? step.value : step.value.yielded), done: step.done };
+  } catch (error) {
+    generator.state = "done";
+    throw error;
+  }
+}
+
+function finish(cx, generator) {
+  generator.state = "done";
+  leave(generator.inner, generator.body, cx.writer);
+}
+
+function* yielding(node, cx) {
+  if (node.delegate) return yield* delegating(node, cx);
+  const value = node.argument ? yield* evaluate(node.argument, cx) : undefined;
+  return received(node, yield { yielded: cx.callee.node.async ? yield* awaited(cx, node, value) : value, node });
+}
+
+function received(node, { how, value }) {
+  if (how === "throw") throw new Thrown(value, node);
+  if (how === "return") throw new Returned(value);
+  return value;
+}
+
+function* delegating(node, cx) {
+  const source = yield* evaluate(node.argument, cx);
+  if (cx.callee.node.async) {
+    yield* iterateAsync(cx, node, source, function* (value) { received(node, yield { yielded: value, node }); });
+    return undefined;
+  }
+  yield* iterate(cx, node, source, function* (value) { received(node, yield { yielded: value, node }); });
+  return source.result;
+}
+
+evaluators.YieldExpression = yielding;
+
+// Generators that wait
+
+/** Each request of an async generator has a promise; they are answered one after the other. */
+function request(cx, node, generator, how, value) {
+  const promise = newPromise(cx.agent);
+  generator.requests.push({ promise, how, value, node });
+  if (generator.requests.length === 1) answerNext(cx, generator);
+  return promise;
+}
+
+function answerNext(cx, generator) {
+  const { promise, how, value, node } = generator.requests[0];
+  const done = (inner, act) => {
+    generator.requests.shift();
+    act(inner);
+    if (generator.requests.length > 0) answerNext(inner, generator);
+  };
+  const give = (inner, found, isDone) => done(inner, () => {
+    runWhole(resolve(inner, node, promise, inner.agent.realm.stepResult(inner, node, found, isDone)));
+  });
+  if (generator.state === "new" && how !== "next") finish(cx, generator);
+  if (generator.state === "done") {
+    if (how === "throw") done(cx, () => reject(cx, node, promise, value));
+    else give(cx, how === "return" ? value : undefined, true);
+    return;
+  }
+  generator.state = "waiting";
+  proceed(cx, generator.coroutine, {
+    resume: { how, value },
+    yielded: (inner, found) => give(inner, found, false),
+    ended: (found, inner) => { generator.state = "done"; give(inner, found, true); },
+    failed: (thrown, inner) => { generator.state = "done"; done(inner, () => reject(inner, node, promise, thrown.value)); },
+  });
+}
+
+/** Calls `visit` with each value of an iterator that may wait. */
+function* iterateAsync(cx, node, source, visit) {
+  const make = isThing(source) ? yield* getProperty(cx, node, source, KNOWN.asyncIterator) : undefined;
+  if (!isCallable(make)) {
+    yield* iterate(cx, node, source, function* (value) { return yield* visit(yield* awaited(cx, node, value)); });
+    return;
+  }
+  const iterator = yield* call(cx, node, make, source, []);
+  for (;;) {
+    const promise = yield* promiseOf(cx, node, yield* call(cx, node, yield* getProperty(cx, node, iterator, "next"), iterator, []));
+    const step = yield* awaited(cx, node, promise);
+    if (yield* getProperty(cx, node, step, "done")) return;
+    if (!(yield* visit(yield* getProperty(cx, node, step, "value")))) continue;
+    const end = yield* getProperty(cx, node, iterator, "return");
+    if (isCallable(end)) yield* awaited(cx, node, yield* call(cx, node, end, iterator, []));
+    return;
+  }
+}
+
+export function installGenerators(realm) {
+  const { generator, asyncGenerator } = realm.protos;
+  const method = (how) => function* (cx, node, self, [value]) {
+    const step = resume(cx, node, self, how, value);
+    return realm.stepResult(cx, node, step.value, step.done);
+  };
+  const itself = function* (cx, node, self) { return self; };
+  realm.methods(generator, { next: method("next"), return: method("return"), throw: method("throw"), itself });
+  realm.iterates(generator, "itself");
+  const waiting = (how) => function* (cx, node, self, [value]) { return request(cx, node, self, how, value); };
+  realm.methods(asyncGenerator, { next: waiting("next"), return: waiting("return"), throw: waiting("throw"), itself });
+  asyncGenerator.properties.set(KNOWN.asyncIterator, asyncGenerator.properties.get("itself"));
+  Object.assign(realm, { iterateAsync, beginGenerator, resumeGenerator: resume });
+}
+

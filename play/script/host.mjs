@@ -1,0 +1,140 @@
+// What the host gives: console, timers, turns, agents and their messages.
+
+import { raise } from "./core.mjs";
+import { Held } from "./bindings.mjs";
+import { runWhole } from "./coroutines.mjs";
+import { ScriptFault } from "./faults.mjs";
+import { newPromise, resolve } from "./promises.mjs";
+import { nameOfError, sayValues, shown } from "./saying.mjs";
+import { Sym, Thing, isCallable, isThing, typeOf } from "./values.mjs";
+
+const MOST_ROUNDS = 100;
+/** A turn is a timer of so many milliseconds, as in play/lessons/node.mjs. */
+const TURN = 5;
+
+function installConsole(realm) {
+  const console = realm.define("console", new Thing("object", realm.protos.object));
+  const log = function* (cx, node, self, values) { sayValues(cx, node, values); };
+  realm.methods(console, { log, info: log, debug: log, warn: log, error: log });
+  realm.sayText = (cx, node, text) => sayValues(cx, node, [text]);
+  realm.textOfError = (value) => {
+    if (value?.kind !== "error") return shown(value);
+    return `${nameOfError(value)}: ${value.properties.get("message")?.value ?? ""}`;
+  };
+}
+
+/** A timer: its function is held until it was called, or the timer is cleared. */
+function installTimers(realm) {
+  const timers = new Map();
+  let last = 0;
+  const set = (isRepeated) => function* (cx, node, self, [callback, delay, ...values]) {
+    if (!isCallable(callback)) raise(cx, node, "TypeError", 'The "callback" argument must be of type function.');
+    const id = (last += 1);
+    const held = [callback, ...values].map((value) => new Held(node, cx.writer, "timer", value, cx.temporaries));
+    const timer = { held, rounds: 0 };
+    timers.set(id, timer);
+    const wait = Math.max(1, Math.trunc(Number(delay)) || 0);
+    const go = function* (inner) {
+      timer.rounds += 1;
+      if (timer.rounds > MOST_ROUNDS) {
+        throw new ScriptFault("this interval is called more than 100 times: a plan has an end; clearInterval ends it", node);
+      }
+      if (isRepeated) timer.task = inner.agent.schedule(node, wait, go);
+      yield* realm.invoke(inner, node, callback, undefined, values);
+      if (!isRepeated) clear(inner, node, id);
+    };
+    timer.task = cx.agent.schedule(node, wait, go);
+    return id;
+  };
+  const clear = (cx, node, id) => {
+    const timer = timers.get(id);
+    if (timer === undefined) return;
+    timers.delete(id);
+    cx.agent.cancel(timer.task);
+    for (const held of timer.held) held.end(node, cx.writer);
+  };
+  const clearing = function* (cx, node, self, [id]) { clear(cx, node, id); };
+  const timing = { setTimeout: set(false), setInterval: set(true), clearTimeout: clearing, clearInterval: clearing };
+  for (const [name, act] of Object.entries(timing)) realm.define(name, realm.native(name, act));
+  realm.define("setImmediate", realm.native("setImmediate", (cx, node, self, [callback]) => set(false)(cx, node, self, [callback, 0])));
+}
+
+function installTurns(realm) {
+  realm.define("turn", realm.native("turn", function* (cx, node) {
+    const promise = newPromise(cx.agent);
+    const held = new Held(node, cx.writer, "turn", promise, cx.temporaries);
+    cx.agent.schedule(node, TURN, function* (inner) {
+      yield* resolve(inner, node, promise, undefined);
+      held.end(node, inner.writer);
+    });
+    return promise;
+  }));
+  realm.define("queueMicrotask", realm.native("queueMicrotask", function* (cx, node, self, [callback]) {
+    if (!isCallable(callback)) raise(cx, node, "TypeError", 'The "callback" argument must be of type function.');
+    cx.agent.enqueue(cx, node, [callback], function* (inner) {
+      inner.strand = { guards: 0 };
+      yield* realm.invoke(inner, node, callback, undefined, []);
+    });
+  }));
+}
+
+function nameOfAgent(cx, node, name) {
+  if (typeof name !== "string" || cx.agent.world.find(name) === null) {
+    throw new ScriptFault(`no agent has this name yet: agent("name", async () => {..}) begins one, before it is spoken to`, node);
+  }
+  return name;
+}
+
+function installAgents(realm) {
+  realm.define("agent", realm.native("agent", function* (cx, node, self, [name, body]) {
+    const { world } = cx.agent;
+    const fault = faultOfAgent(cx, name, body);
+    if (fault) throw new ScriptFault(fault, node);
+    const agent = world.add(name);
+    agent.schedule(node, 0, function* (inner) {
+      yield* agent.realm.invoke(inner, node, body, undefined, []);
+    });
+  }));
+  realm.define("postMessage", realm.native("postMessage", function* (cx, node, self, [value, name]) {
+    const receiver = nameOfAgent(cx, node, name);
+    const message = value?.kind === "view" ? value.stands : value;
+    if ((isThing(message) && message.kind !== "buffer") || (message instanceof Sym && !message.registered)) {
+      if (cx.strand.guards === 0) {
+        cx.writer.refuse(node, ["post", receiver, cx.operand(node, message)], "DataCloneError: value cannot be posted");
+      }
+      raise(cx, node, "DataCloneError", `${typeOf(value) === "symbol" ? "Symbol()" : "#<Object>"} could not be cloned.`);
+    }
+    cx.do(node, ["post", receiver, cx.operand(node, message)]);
+    cx.agent.world.port(cx.agent.name, receiver).push(message);
+  }));
+  realm.define("message", realm.native("message", function* (cx, node, self, [name]) {
+    const promise = newPromise(cx.agent);
+    const held = new Held(node, cx.writer, "message", promise, cx.temporaries);
+    cx.agent.schedule(node, 0, null, {
+      sender: nameOfAgent(cx, node, name),
+      received: (inner, value) => {
+        runWhole(resolve(inner, node, promise, value));
+        held.end(node, inner.writer);
+      },
+    });
+    return promise;
+  }));
+}
+
+const NAME = /^[A-Za-z_]\w{0,31}$/;
+
+function faultOfAgent(cx, name, body) {
+  const { world } = cx.agent;
+  if (cx.agent.name !== "main") return "an agent is begun outside of other agents";
+  if (typeof name !== "string" || !NAME.test(name)) return "the name of an agent is a text of letters, digits and _";
+  if (!isCallable(body) || !body.node?.async) return 'write agent("name", async () => {..})';
+  if (world.find(name) !== null) return `two agents are named ${name}`;
+  return world.agents.length === 8 ? "a plan has 8 agents at most" : null;
+}
+
+export function installHost(realm) {
+  for (const install of [installConsole, installTimers, installTurns, installAgents]) install(realm);
+  realm.define("undefined", undefined);
+  realm.define("NaN", NaN);
+  realm.define("Infinity", Infinity);
+}
