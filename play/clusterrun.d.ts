@@ -61,6 +61,9 @@ export function check(plan: Plan, options?: Options): Answer;
 
 /**
  * Runs a plan, and tells what happened, event by event: a JSON object on each line, as docs/TRACES.md of the repository says.
+ * Each line is a `TraceLine`:
+ *
+ *     const lines: TraceLine[] = trace(plan).text.trimEnd().split("\n").map((line) => JSON.parse(line));
  *
  * @throws TypeError where the plan is neither text nor bytes, RangeError where `memory` is no number of bytes.
  */
@@ -68,3 +71,59 @@ export function trace(plan: Plan, options?: TraceOptions): Answer;
 
 /** Which version this is, the commit of its sources, and the Rattle kit that proved them. */
 export const built: Readonly<{ version: string; commit: string; kit: string }>;
+
+/** A value that JSON has; null stands for undefined. */
+export type PlainValue = null | boolean | number | string;
+
+/** A value as a trace has it. Objects and symbols are told by their numbers, which are each agent's own. */
+export type TraceValue = PlainValue | { symbolfor: string } | { object: number } | { symbol: number };
+
+/** What a message carries: a value without an identity, or a block with the message's own ticket of it. */
+export type TraceCarried = PlainValue | { symbolfor: string } | { block: number; ticket: number };
+
+/** A command as the plan has it: its word and its operands. */
+export type TraceCommand = [word: string, ...operands: PlainValue[]];
+
+/** What a command gave: null where it assigns no variable, the value that it assigns, or the keys of an object. */
+export type TraceAnswer = null | { gives: TraceValue } | { keys: string[] };
+
+/** What keeps a value: the last step of a shortest way to it. */
+export type TraceReason =
+  | { variable: string }
+  | { keptalive: true }
+  | { registry: true }
+  | { registration: number }
+  | { object: number; property: string }
+  | { weakmap: number; key: number };
+
+/** A line of an agent. */
+export type AgentLine =
+  | { agent: string; event: "job"; job: number }
+  | { agent: string; event: "cleanup job"; registry: number }
+  | { agent: string; event: "message"; sender: string; value: TraceValue }
+  | { agent: string; event: "did"; command: TraceCommand; values: TraceValue[]; answer: TraceAnswer }
+  | { agent: string; event: "refused"; command: TraceCommand | null; error: string }
+  | { agent: string; event: "emptied"; command: TraceCommand | null; identities: number[] }
+  | { agent: string; event: "kept"; identity: number; by: TraceReason }
+  | { agent: string; event: "taken"; registration: number; held: TraceValue }
+  | { agent: string; event: "job ends" }
+  | { agent: string; event: "skipped"; job: number; sender: string }
+  | { agent: string; event: "agent ends" };
+
+/** A line of the ledger. */
+export type LedgerLine =
+  | { ledger: "opened"; block: number; words: number; ticket: number; agent: string }
+  | { ledger: "posted"; sender: string; receiver: string; carries: TraceCarried }
+  | { ledger: "taken"; sender: string; receiver: string }
+  | { ledger: "spent"; ticket: number }
+  | { ledger: "loaded"; ticket: number; index: number; word: number }
+  | { ledger: "stored"; ticket: number; index: number; word: number }
+  | { ledger: "added"; ticket: number; index: number; old: number; addend: number }
+  | { ledger: "waiting"; agent: string; sender: string }
+  | { ledger: "passed"; agent: string; sender: string }
+  | { ledger: "ended"; agent: string }
+  | { ledger: "drained"; sender: string; receiver: string }
+  | { ledger: "released"; block: number };
+
+/** A line of a trace. */
+export type TraceLine = AgentLine | LedgerLine;

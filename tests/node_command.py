@@ -1,0 +1,359 @@
+#!/usr/bin/env python3
+"""The command for node, play/bin.mjs, and what of the script `./clusterrun` goes by it.
+
+Usage: node_command.py
+
+- Words, files and pipes: statuses, standard output and standard error.
+- In one process, by node_command.mjs: words that are none; each example's stored report and stored trace; of some the forms of
+  a trace, all values too, beside the model of trace_model.py; faults in words, with the sentences of crates/es_explain.
+- Scripts in JavaScript, with a stand-in for what makes plans of them: plans, faults with their marks.
+- Scripts beside node's own objects: what is the same, what may differ, and what contradicts.
+- The package: what `npm pack` would pack, its types beside docs/trace.schema.json, and what the module says in a node that is
+  not asked for memories of 64 bits.
+
+What it left out, for want of node or npm, it says before its last line, `N passed, M failed`.
+"""
+
+import glob
+import json
+import os
+import re
+import shutil
+import sys
+import tempfile
+
+import node_package
+import running
+import trace_check
+import trace_forms
+
+TESTS = os.path.dirname(os.path.abspath(__file__))
+TOP = os.path.dirname(TESTS)
+PLAY = os.path.join(TOP, "play")
+BIN = os.path.join(PLAY, "bin.mjs")
+EXAMPLES = os.path.join(TOP, "examples")
+JOBS = 4
+EMPTY = b'{"version":1,"agents":[{"name":"a","callbacks":{},"jobs":[]}]}'
+REPORT = "agent a\nend live 0 awaiting 0 unregistered 0 taken 0\ncluster\nblocks 0 released 0\nmessages posted 0 taken 0 drained 0\n"
+# Words that are none of the command line.
+MISTAKES = [
+    "fly", "help", "--", "-x", "p.json", "--turns", "RUN", "run --fly", "run a b", "run --turns --turns", "run --turns=1", "run --helpers",
+    "run --helpers 0", "run --helpers 9", "run --helpers -1", "run --helpers two", "run --watch 1001", "run --watch 1.5", "run --watch=",
+    "check --turns", "check a b", "explain --json", "trace --turns", "trace --json --dot", "trace --json --json", "run --all", "plan --json",
+    "run __proto__ --toString", "run --engine", "run --engine v8", "run --engine=", "check --engine node", "run --engine node --engine node",
+]
+HELPED = ["--help", "-h", "run --help", "trace x -h", "check -h", "explain --help", "plan --help"]
+# A plan's text, and the lines of `explain`.
+EXPLAINED = [
+    ('{"version":1', ['S1 ""', "The text is no JSON in UTF-8."]),
+    ('\ufeff{"version":1}', ['S1 ""', "The text is no JSON in UTF-8."]),
+    ('{"version" : 1}', ['S2 ""', "The value has not the shape of a plan.", 'found {"version":1}']),
+    ('{"version":3,"agents":[]}', ['S3 "/version"', "The version is neither 1 nor 2.", "found 3"]),
+    ('{"version":1,"agents":[]}', ['S4 "/agents"', "A plan has 1 to 8 agents.", "found []"]),
+]
+AGENT = '{"version":1,"agents":[{"name":"a",%s}]}'
+NAME_FAULT = "A name is not spelled as one, or an earlier agent has it."
+OPERAND_FAULT = "The command is unknown, or its operands are of a wrong number or JSON kind."
+LETTERS = "abcdefghijklmnopqrstuvwxyzabcdefghijklmnopqrstuvwxyzabcd"
+# The same of a plan with one agent, of which these are the callbacks and jobs.
+EXPLAINED_AGENT = [
+    ('"callbacks":{"b/c":[]},"jobs":[]', ['S5 "/agents/0/callbacks/b~1c"', NAME_FAULT, 'found "b/c"']),
+    ('"callbacks":{"a":[],"~~1\\n\\"é":[]},"jobs":[]',
+     ['S5 "/agents/0/callbacks/~0~01\\n\\"é"', NAME_FAULT, 'found "~~1\\n\\"é"']),
+    ('"callbacks":{},"jobs":[{"on":["b","x"],"run":[]}]',
+     ['S6 "/agents/0/jobs/0/on"', "No callback, or no other agent, has this name.", 'found ["b","x"]']),
+    ('"callbacks":{},"jobs":[{"run":[]},{"run":[["new","a"],["nwe" , "b"]]}]',
+     ['S7 "/agents/0/jobs/1/run/1"', OPERAND_FAULT, 'found ["nwe","b"]']),
+    ('"callbacks":{},"jobs":[{"run":[["let","a",9007199254740992]]}]',
+     ['S8 "/agents/0/jobs/0/run/0"', "A number or a text is outside what a plan may have.", 'found ["let","a",9007199254740992]']),
+    ('"callbacks":{"c":[["new","x"],["collect"]],"b":[]},"jobs":[]',
+     ['S9 "/agents/0/callbacks/c/1"', "A callback may not collect.", 'found ["collect"]']),
+    ('"callbacks":{},"jobs":[{"run":[["buffer","b",16385]]}]',
+     ['S10 "/agents/0/jobs/0/run/0"', "There are more callbacks, jobs, commands or words than the limits allow.",
+      'found ["buffer","b",16385]']),
+    (f'"callbacks":{{}},"jobs":[{{"run":[["{LETTERS}"]]}}]',
+     ['S7 "/agents/0/jobs/0/run/0"', OPERAND_FAULT, f'found ["{LETTERS}"]']),
+    (f'"callbacks":{{}},"jobs":[{{"run":[["{LETTERS}e"]]}}]',
+     ['S7 "/agents/0/jobs/0/run/0"', OPERAND_FAULT, f'found ["{LETTERS}e"..']),
+    (f'"callbacks":{{}},"jobs":[{{"run":[["{LETTERS}eé"]]}}]',
+     ['S7 "/agents/0/jobs/0/run/0"', OPERAND_FAULT, f'found ["{LETTERS}e..']),
+]
+# Makes a plan of a script in which each statement is a new object.
+STAND_IN = """import { parse } from "../syntax/parse.mjs";
+export function planOf(source, { engine }) {
+  const run = parse(source).body.map(() => ["new", "x"]);
+  const text = `${JSON.stringify({ version: 1, agents: [{ name: "a", callbacks: {}, jobs: [{ run }] }] }, null, 1)}\\n`;
+  if (engine.check(text).status !== 0) throw new Error("no plan");
+  return { text };
+}
+"""
+FAULTY = "let a = 1;\n\tlet b; let a;\n"
+FAULT = ":2:13: 'a' is declared in this scope already.\n\tlet b; let a;\n\t           ^\n"
+
+
+def read(*path):
+    with open(os.path.join(TOP, *path), encoding="utf-8") as file:
+        return file.read()
+
+
+class Command:
+    """The command in node, its file given, with a folder for files."""
+
+    def __init__(self, room, path=BIN):
+        self.room, self.words = room, [shutil.which("node"), path]
+
+    def case(self, what, words, wanted, data=b"", **how):
+        return what, [*self.words, *words], data, wanted, how
+
+    def file(self, name, data):
+        path = os.path.join(self.room, name)
+        with open(path, "wb") as file:
+            file.write(data)
+        return path
+
+
+def of_words(command):
+    """Words, files and standard input."""
+    plan = command.file("plan.json", EMPTY)
+    faulty = command.file("faulty.json", b"[]")
+    traced = "a  agent ends\n-  a ended\n"
+    for what, words, data in [
+        ("no words", [], EMPTY), ("run", ["run"], EMPTY), ("a file", ["run", plan], b""), ("turns", ["run", "--turns", plan], b""),
+        ("a watch", ["run", plan, "--watch", "9"], b""), ("a number behind =", ["run", plan, "--helpers=2"], b""),
+        ("a file behind two dashes", ["run", "--", plan], b""),
+    ]:
+        yield command.case(what, words, (0, REPORT, ""), data)
+    yield command.case("check", ["check", plan], (0, "ok\n", ""))
+    yield command.case("explain of a plan", ["explain"], (0, "ok\n", ""), EMPTY)
+    yield command.case("trace", ["trace", "--all", plan], (0, traced, ""))
+    yield command.case("pictures of no collection", ["trace", "--dot", plan], (0, "", ""))
+    yield command.case("a line of JSON", ["trace", plan, "--json"], (0, '{"agent":"a","event":"agent ends"}\n{"ledger":"ended","agent":"a"}\n', ""))
+    yield command.case("the version", ["--version"], (0, "clusterrun 0.1.0\n", ""))
+    for word in ("run", "check", "trace"):
+        yield command.case(f"a fault, by {word}", [word, faulty], (1, "", "refused S2\n"))
+    yield command.case("an example", ["run", os.path.join(EXAMPLES, "heap.json")], (0, read("examples", "heap.report"), ""))
+    yield command.case("no file", ["run", os.path.join(command.room, "missing")], (4, "", "cannot read\n"))
+    yield command.case("a folder", ["explain", command.room], (4, "", "cannot read\n"))
+    yield command.case("a file that is spelled as an option", ["trace", "--", "--dot"], (4, "", "cannot read\n"))
+    yield command.case("explain of a fault", ["explain"], (1, "".join(f"{line}\n" for line in EXPLAINED[0][1]), ""), EXPLAINED[0][0].encode())
+
+
+# Lines as clusterrun has them, with why they may be otherwise; node's lines; whether there is any choice; and the table.
+COMPARED = [
+    ([("a", "x", None), ("a", "y", "why")], ["x", "y"], True, [("same", "x"), ("same", "y")]),
+    ([("a", "x", None), ("a", "y", "why"), ("a", "z", None)], ["x", "z"], True, [("same", "x"), ("may differ", "y"), ("same", "z")]),
+    ([("a", line, None) for line in "xyz"], list("yzx"), True, [("contradiction", "x"), ("same", "y"), ("same", "z"), ("may differ", "x")]),
+    ([("a", "x", None), ("a", "y", None)], ["y"], True, [("contradiction", "x"), ("same", "y")]),
+    ([("a", "x", None), ("b", "y", None)], ["y", "x"], False, [("same", "x"), ("same", "y")]),
+    ([("a", "x", None), ("b", "x", None)], ["x"], False, [("same", "x"), ("contradiction", "x")]),
+    ([("a", "object 3", None)], ["object", "y"], False, [("same", "object 3"), ("contradiction", "y")]),
+]
+COMPARE = """
+const { compared } = await import(process.argv[1]);
+const cases = JSON.parse(process.argv[2]);
+const lines = (some) => some.map(([agent, text, may]) => ({ agent, text, may }));
+console.log(JSON.stringify(cases.map(([ours, theirs, chosen]) => compared(lines(ours), theirs, chosen).map(({ verdict, text }) => [verdict, text]))));
+"""
+
+
+def of_lines_compared(count):
+    """The table of a script's lines beside node's."""
+    path = os.path.join(PLAY, "command", "beside.mjs")
+    words = ["node", "--input-type=module", "-e", COMPARE, path, json.dumps([case[:3] for case in COMPARED])]
+    _, said, err = running.answer(words)
+    found = json.loads(said or "[]")
+    for number, (*_, wanted) in enumerate(COMPARED):
+        count.expect(f"lines {number}", found[number] if number < len(found) else err, [list(row) for row in wanted])
+
+
+def of_engine(command):
+    """Scripts beside node's own objects."""
+    lesson = os.path.join(PLAY, "lessons", "weakref-still-answers.js")
+    same = "same           "
+    yield command.case("a lesson beside node", ["run", lesson, "--engine", "node"],
+                       (0, "".join(f"{same}{line}\n" for line in json.loads(read("play", "lessons", "lines.json"))["weakref-still-answers"]["lines"]), ""))
+    other = b'console.log(1);\nconsole.log(typeof process);\n'
+    yield command.case("a contradiction", ["run", "--engine=node"], (
+        1, f"{same}1\ncontradiction  undefined\n{' ' * 15}(Node does not write it.)\ncontradiction  object\n{' ' * 15}(Node alone writes it.)\n", ""), other)
+    uncaught = b'setTimeout(() => console.log("later"), 0);\nthrow new TypeError("no");\n'
+    yield command.case("an exception beside node", ["run", "--engine=node"], (0, f"{same}Uncaught TypeError: no\n{same}later\n", ""), uncaught)
+    plan = command.file("plan_beside.json", EMPTY)
+    yield command.case("a plan beside node", ["run", plan, "--engine", "node"],
+                       (1, "", f"{plan}: '--engine' takes a script in JavaScript, and this is a plan\n"))
+
+
+class Asked:
+    """Commands that are carried out in one process, and what each is to give."""
+
+    def __init__(self, room):
+        self.room, self.words, self.judges = room, [], []
+
+    def add(self, words, judge):
+        """The judge is called with the words and their answer."""
+        self.words.append(words)
+        self.judges.append(judge)
+
+    def ask(self):
+        flags = [] if node_package.is_wide() else [node_package.FLAG]
+        script = os.path.join(TESTS, "node_command.mjs")
+        _, said, err = running.answer(["node", *flags, script], json.dumps(self.words).encode())
+        answers = json.loads(said or "[]")
+        if len(answers) != len(self.words):
+            raise ValueError(f"node_command.mjs gives {len(answers)} answers: {err}")
+        for words, judge, answer in zip(self.words, self.judges, answers):
+            judge(words, answer)
+
+
+def of_examples(asked, count):
+    """The stored reports and traces, and the forms of a trace beside the model."""
+    for path in sorted(glob.glob(os.path.join(EXAMPLES, "*.json"))):
+        name = os.path.basename(path).removesuffix(".json")
+        for word, kind in (("run", "report"), ("trace", "trace")):
+            wanted = {"status": 0, "text": read("examples", f"{name}.{kind}")}
+            asked.add([word, path], lambda words, answer, wanted=wanted: count.expect(f"{words}", answer, wanted))
+        for form, is_all in [(trace_forms.Rows(), True), (trace_forms.Pictures(), False), (trace_forms.Lines(), False), (trace_forms.Lines(), True)]:
+            words = ["trace", path, *form.words, *(["--all"] if is_all else [])]
+            asked.add(words, lambda words, answer, form=form, is_all=is_all: formed(count, words, answer, form, is_all))
+
+
+def formed(count, words, answer, form, is_all):
+    with open(words[1], "rb") as file:
+        turns, names = trace_check.model(file.read())
+    fault = trace_check.fault(form, turns, names, is_all, answer["text"]) if answer["status"] == 0 else answer
+    count.add(f"{words}", fault)
+
+
+def of_faults(asked, count):
+    """Faults in words."""
+    texts = [text for text, _ in EXPLAINED] + [AGENT % parts for parts, _ in EXPLAINED_AGENT]
+    for number, (text, (_, lines)) in enumerate(zip(texts, EXPLAINED + EXPLAINED_AGENT)):
+        path = os.path.join(asked.room, f"faulty{number}.json")
+        with open(path, "wb") as file:
+            file.write(text.encode())
+        wanted = {"status": 1, "text": "\n".join(lines) + "\n"}
+        asked.add(["explain", path], lambda _, answer, text=text, wanted=wanted: count.expect(f"explain {text}", answer, wanted))
+
+
+def of_mistakes(asked, count):
+    """Words that are none, and words for help."""
+    for kind, lines in (("mistake", MISTAKES), ("help", HELPED)):
+        for line in lines:
+            asked.add(line.split(" "), lambda words, answer, kind=kind: count.expect(
+                f"the words {words}", (len(answer), "Usage: clusterrun" in answer.get(kind, "")), (1, True)))
+
+
+def sentences(count):
+    """The sentences of `explain` are the program's, in the order of its faults."""
+    wanted = re.findall(r'b"([A-Z][^"]*\.)"', read("crates", "es_explain", "src", "sentence.rt"))
+    got = re.findall(r'^  S\d+: "(.*)",$', read("play", "command", "explain.mjs"), re.M)
+    count.expect("the sentences of explain", got, wanted)
+
+
+def ends(command, count):
+    """How it ends where the words are none, or ask for help."""
+    for words in (["fly"], ["run", "--fly"]):
+        status, out, err = running.answer([*command.words, *words], EMPTY)
+        count.expect(f"the end of {words}", (status, out, "Usage: clusterrun" in err), (2, "", True))
+    status, out, err = running.answer([*command.words, "--help"])
+    count.expect("the end of help", (status, "Usage: clusterrun" in out, err), (0, True, ""))
+
+
+def much(command, count):
+    """A trace of many rows."""
+    jobs = [{"run": [["new", "x"]] * 10000}] * 20
+    plan = json.dumps({"version": 1, "agents": [{"name": "a", "callbacks": {}, "jobs": jobs}]})
+    status, out, err = running.answer([*command.words, "trace"], plan.encode())
+    rows = out.splitlines()
+    count.expect("a trace of 200,000 commands", (status, err, len(rows)), (0, "", 20 * 10002 + 2))
+    count.expect("its last command", rows[-4:], ["a  new x                             object 200000", "a  job ends", "a  agent ends", "-  a ended"])
+
+
+def pipes(command, count):
+    """Standard output that is full, or that nobody reads, and standard input that comes in parts."""
+    node, path = command.words
+    large = os.path.join(EXAMPLES, "heap.json")
+    for what, script, wanted in [
+        ("a full disk", f'"{node}" "{path}" run "{large}" >/dev/full', (4, "", "cannot write\n")),
+        ("a pipe that nobody reads", f'{{ sleep 0.5; "{node}" "{path}" run "{large}"; echo $? >&2; }} | true', (0, "", "cannot write\n4\n")),
+        ("a slow pipe", f'{{ printf "%s" "$0" | head -c 20; sleep 0.3; printf "%s" "$0" | tail -c +21; }} | "{node}" "{path}"', (0, REPORT, "")),
+    ]:
+        count.expect(what, running.answer(["sh", "-c", script, EMPTY.decode()]), wanted)
+
+
+def of_scripts(command):
+    """Scripts in JavaScript, in a copy of the command with the stand-in."""
+    good, faulty = command.file("good.js", b"let a = 1;\na;\n"), command.file("faulty.mjs", FAULTY.encode())
+    plan = {"version": 1, "agents": [{"name": "a", "callbacks": {}, "jobs": [{"run": [["new", "x"], ["new", "x"]]}]}]}
+    text = json.dumps(plan, indent=1) + "\n"
+    yield command.case("the plan of a script", ["plan", good], (0, text, ""))
+    yield command.case("the plan of standard input", ["plan"], (0, text, ""), b"1; 2;")
+    yield command.case("a script", ["run", good], (0, REPORT, ""))
+    yield command.case("a script, checked", ["check", good], (0, "ok\n", ""))
+    yield command.case("a script, explained", ["explain", good], (0, "ok\n", ""))
+    yield command.case("a script, traced", ["trace", good], (0, TRACED, ""))
+    for word in ("run", "check", "trace", "plan"):
+        yield command.case(f"a faulty script, by {word}", [word, faulty], (1, "", faulty + FAULT))
+    yield command.case("a faulty script, explained", ["explain", faulty], (1, faulty + FAULT, ""))
+    yield command.case("a faulty script of standard input", ["plan"], (1, "", "standard input" + FAULT), FAULTY.encode())
+    yield command.case("no script", ["run", os.path.join(command.room, "missing.js")], (4, "", "cannot read\n"))
+
+
+def copy_of_play(room):
+    """A copy of the command in which the stand-in makes the plans."""
+    copied = os.path.join(room, "play")
+    shutil.copytree(PLAY, copied)
+    os.makedirs(os.path.join(copied, "script"), exist_ok=True)
+    with open(os.path.join(copied, "script", "plan_of.mjs"), "w", encoding="utf-8") as file:
+        file.write(STAND_IN)
+    return copied
+
+
+TRACED = """a  job 1
+a  new x                             object 1
+a  new x                             object 2
+a  job ends
+a  agent ends
+-  a ended
+"""
+
+
+def by_script(room, count):
+    """Scripts by `./clusterrun`, with node and without."""
+    path, top = os.path.join(room, "missing.js"), os.path.join(TOP, "clusterrun")
+    count.expect("a script by ./clusterrun", running.answer([top, "run", path]), (4, "", "cannot read\n"))
+    bare = os.path.join(room, "bare")
+    os.mkdir(bare)
+    for name in ("sh", "readlink", "dirname"):
+        os.symlink(shutil.which(name), os.path.join(bare, name))
+    status, out, err = running.answer([os.path.join(bare, "sh"), top, "run", path], env={"PATH": bare})
+    count.expect("a script without node", (status, out, "node" in err, err.count("\n")), (125, "", True, 1))
+
+
+def main():
+    count, left_out = running.Count(), []
+    if shutil.which("node") is None:
+        print("Left out: the command for node, as there is no node.")
+        count.end()
+    with tempfile.TemporaryDirectory() as room:
+        command = Command(room)
+        copied = copy_of_play(room)
+        of_lines_compared(count)
+        count.expect_all([*of_words(command), *of_engine(command), *of_scripts(Command(room, os.path.join(copied, "bin.mjs")))], JOBS)
+        asked = Asked(room)
+        of_examples(asked, count)
+        of_faults(asked, count)
+        of_mistakes(asked, count)
+        asked.ask()
+        sentences(count)
+        ends(command, count)
+        much(command, count)
+        pipes(command, count)
+        by_script(room, count)
+        node_package.try_all(count, room, left_out)
+    for what in left_out:
+        print(f"Left out: {what}.")
+    count.end()
+
+
+if __name__ == "__main__":
+    main()
