@@ -5,7 +5,7 @@ Usage: build.py [--kept-module]
 
 It proves es_library, compiles it for WebAssembly, and writes clusterrun.mjs, package.json, index.html and BUILT, which
 says of which commit, kit and sources they are. With --kept-module the module is that of the kept clusterrun.mjs: for those
-who change the page alone, and can't wait two minutes.
+who change the page alone, and can't wait two minutes. That needs no kit.
 """
 
 import argparse
@@ -25,7 +25,9 @@ def main():
     parser = argparse.ArgumentParser(description=__doc__, formatter_class=argparse.RawDescriptionHelpFormatter)
     parser.add_argument("--kept-module", action="store_true")
     given = parser.parse_args()
-    built = origin.now()
+    # The kit is the one that proved the module's code.
+    kept = origin.read(os.path.join(origin.PLAY, "BUILT"))
+    built = origin.now(kept["kit"] if given.kept_module else origin.kit_name())
     try:
         code, proved = (page.kept_module(), "the kept module") if given.kept_module else module.built()
     except module.NotBuilt as why:

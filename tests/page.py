@@ -44,7 +44,7 @@ import module  # noqa: E402
 import origin  # noqa: E402
 import page  # noqa: E402
 
-LARGEST = 1_000_000
+LARGEST = 1_300_000
 # A module with a memory of 64 bits.
 WIDE = "process.exit(WebAssembly.validate(Uint8Array.of(0,97,115,109,1,0,0,0,5,3,1,4,1)) ? 0 : 1)"
 FLAG = "--experimental-wasm-memory64"

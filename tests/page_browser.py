@@ -50,8 +50,8 @@ const typed = (text, runs) => {
 # Plans with a fault, of which the page marks the letters between the signs. The first command of the first job stands for
 # the plan, where a text begins with a bracket.
 MARKED = [
-    '{"version": 1,«', '{"version": 1, "agents": [«}»', '{"version": 1«x»}', '«n»ul', '{"version": 1, "agents": [{"name": «"»\\ud800"',
-    '{"version": 1, "agents": [], «"agnets"»: []}', '«[]»', '{"version": «"1"», "agents": []}',
+    '{"version": 1,«', '{"version": 1, "agents": [«}»', '{"version": 1«x»}', '{"version": «n»ul', '{"version": 1, "agents": [{"name": «"»\\ud800"',
+    '{"version": 1, "agents": [], «"agnets"»: []}', '«{}»', '{"version": «"1"», "agents": []}',
     '{"version": 1, "agents": [«{"name": "a", "jobs": []}»]}',
     '{"version": 1, "agents": [{"name": "a", "callbacks": {}, "jobs": [{"run": [«[1]»]}]}]}',
     '{"version": «3», "agents": []}', '{"version": 1, "agents": «[]»}',
@@ -134,7 +134,7 @@ def keys(count, browser):
     browser.press("F8", 119)
     chosen = browser.value("at('plan').value.slice(at('plan').selectionStart, at('plan').selectionEnd)")
     count.expect("F8", chosen, '["nwe"]')
-    browser.value("at('open').click(); at('menu').querySelector('input').value = 'unregister token';"
+    browser.value("at('open').click(); at('menu').querySelector('input').value = 'examples unregister token';"
                   "at('menu').querySelector('input').dispatchEvent(new Event('input'))")
     browser.press("ArrowDown", 40)
     count.expect("the arrow", browser.value("document.activeElement.querySelector('b').textContent"), "unregister")

@@ -23,7 +23,7 @@ const step = () => document.querySelector("mark.step")?.textContent ?? null;
 const allRows = () => {
   at("to-first").click();
   const found = [current()];
-  while (!at("forward").disabled) {
+  while (at("forward").ariaDisabled !== "true") {
     at("forward").click();
     found.push(current());
   }
@@ -41,7 +41,7 @@ const collections = () => {
   at("to-first").click();
   const found = [];
   let row = -1;
-  for (at("to-collection").click(); !at("to-collection").disabled; at("to-collection").click()) {
+  for (at("to-collection").click(); at("to-collection").ariaDisabled !== "true"; at("to-collection").click()) {
     const next = Number(at("step").textContent.split(" ")[0]);
     if (next <= row) break;
     row = next;
@@ -157,7 +157,9 @@ def large(count, browser, call):
     took = browser.value(f"{begun}.then(() => performance.now() - begun)")
     print(f"the trace of 30,600 commands in the page: {took:.0f} ms")
     count.expect("the time of a long trace", took < 10000, True)
-    count.expect("too many", browser.value("at('heap').textContent"), "There are 301 values: too many to draw.")
+    said = "There are 301 values: more than 200 can't be read in one picture. Here is what surrounds object 1. A press on another value goes there."
+    count.expect("too many", browser.value("at('heap').querySelector('p').textContent"), said)
+    count.expect("what is around one", browser.value("drawn().nodes"), ["var o ", "var x ", "n1 ", "n301 "])
     browser.value("at('to-collection').click(); at('forward').click()")
     count.expect("few again", browser.value("drawn().nodes"), ["var o ", "var x ", "n1 ", "n301 "])
 

@@ -1,5 +1,7 @@
-"""What the page knows beside the engine: the plans of its menu, and the words of faults."""
+"""What the page knows beside the engine: the scripts and the plans of its menu, and the words of faults."""
 
+import glob
+import itertools
 import os
 import re
 import sys
@@ -9,6 +11,10 @@ from origin import TOP
 sys.path.insert(0, os.path.join(TOP, "engines", "lib"))
 
 import corpus  # noqa: E402
+
+
+# The lesson with which the page opens.
+FIRST = "weakref-still-answers"
 
 
 def read(*path):
@@ -22,9 +28,19 @@ def examples():
         yield {"group": "examples", "name": name, "rule": rule, "text": read("examples", f"{name}.json")}
 
 
+def lessons():
+    """The lessons, which are scripts: each begins with comments, of which the first sentence is its title."""
+    paths = sorted(glob.glob(os.path.join(TOP, "play", "lessons", "*.js")), key=lambda path: (FIRST not in path, path))
+    for path in paths:
+        text = read(path)
+        comments = itertools.takewhile(lambda line: line.startswith("//"), text.split("\n"))
+        title, rule = re.match(r"(.*?[.?:])\s*(.*)", " ".join(line.removeprefix("//").strip() for line in comments)).groups()
+        yield {"group": "lessons", "name": os.path.basename(path).removesuffix(".js"), "title": title.rstrip(":."), "rule": plain(rule), "text": text}
+
+
 def plans():
-    """The plans of the menu: the examples, and then the corpus by folders."""
-    found = [*examples()]
+    """What the menu has: the lessons, the examples, and then the corpus by folders."""
+    found = [*lessons(), *examples()]
     for path in corpus.paths_in([corpus.FOLDER]):
         group, name = os.path.relpath(path, corpus.FOLDER).removesuffix(".json").split(os.sep)
         found.append({"group": group, "name": name, **corpus.about(path), "text": read(path)})

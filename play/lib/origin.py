@@ -12,8 +12,8 @@ LIBRARY = "es_library"
 # What is made, and kept in the repository; clusterrun.d.ts is written by hand.
 MADE = ["clusterrun.mjs", "index.html", "package.json"]
 OTHERS = [
-    "play/build.py", "play/*.c", "play/lib/*.py", "play/module/*", "play/page/*", "examples/*.json",
-    "examples/README.md", "engines/corpus/*/*.json", "docs/ERRORS.md", "crates/command_line/src/options.rt",
+    "play/build.py", "play/*.c", "play/lib/*.py", "play/module/*", "play/page/*", "play/script/*.mjs", "play/syntax/*.mjs",
+    "play/lessons/*.js", "examples/*.json", "examples/README.md", "engines/corpus/*/*.json", "docs/ERRORS.md", "crates/command_line/src/options.rt",
 ]
 # What only tests of a crate read.
 TESTS = re.compile(r"crates/\w+/src/tests(\.rt|/)")
@@ -87,9 +87,8 @@ def version():
         return re.search(r'VERSION: &str = "(.*)"', file.read())[1]
 
 
-def now():
-    """What is to be said of a page that is built now."""
-    named = kit_name()
+def now(named):
+    """What is to be said of a page that is built now, by a kit of this name."""
     return {"version": version(), "commit": commit(), "kit": named, "sources": checksum(named)}
 
 

@@ -7,15 +7,10 @@ import re
 import zlib
 
 import menu
+from bundle import bundled
 from origin import PLAY
 
-# In the order in which they need each other.
-PARTS = [
-    "json", "shape", "places", "editor", "engine", "link", "menu", "report", "replay", "graph", "words", "layout", "drawing",
-    "steps", "tracing", "tabs", "page",
-]
-IMPORT = re.compile(r'^import (\{[^}]*\}) from "\./(\w+)\.mjs";$', re.M)
-EXPORT = re.compile(r"^export ((?:async )?(?:function|class|const) (\w+))", re.M)
+EXPORT = re.compile(r"^export ((?:function|const) (\w+))", re.M)
 
 
 def read(*path):
@@ -49,16 +44,11 @@ def package(built):
     return filled(read("module", "package.json"), said(built))
 
 
-def wrapped(name, text, kind=""):
-    """A module as a function that is called, and gives what the module exports."""
-    exported = [found[1] for found in EXPORT.findall(text)]
-    text = EXPORT.sub(r"\1", IMPORT.sub(r"const \1 = \2Part;", text))
-    return f"const {name} = ({kind}() => {{\n{text}return {{ {', '.join(exported)} }};\n}})();\n"
-
-
-def inlined():
-    """The page's modules as one."""
-    return "\n".join(wrapped(f"{name}Part", read("page", f"{name}.mjs")) for name in PARTS)
+def ready(script_text):
+    """The module for JavaScript as a promise of what it exports."""
+    exported = ", ".join(found[1] for found in EXPORT.findall(script_text))
+    inside = EXPORT.sub(r"\1", script_text)
+    return f"const ready = (async () => {{\n{inside}return {{ {exported} }};\n}})();\n"
 
 
 def embedded(value):
@@ -72,7 +62,7 @@ def page(script_text, built):
     values = {
         **said(built), "lines": str(lines), "css": "\n" + read("page", "page.css"),
         "plans": embedded(menu.plans()), "faults": embedded(menu.faults()),
-        "engine": "\n" + wrapped("ready", script_text, "async ") + read("page", "worker.mjs"), "page": "\n" + inlined(),
+        "engine": "\n" + ready(script_text) + bundled("page/worker.mjs"), "page": "\n" + bundled("page/page.mjs"),
     }
     for word in ("engine", "page"):
         if re.search(r"</script|<!--", values[word], re.I):

@@ -1,5 +1,8 @@
 // The picture of a heap, as SVG: roots on the left, then the values by columns.
 
+import { clipped, placedLabels } from "./labels.mjs";
+import { saidOf } from "./said.mjs";
+
 const SVG = "http://www.w3.org/2000/svg";
 const BOX = { width: 112, height: 36 };
 const ROOT = { width: 92, height: 24 };
@@ -9,31 +12,50 @@ const MARGIN = 14;
 const GAP = { least: 50, most: 110 };
 /** The letters of a name that have room: of a root's, and of a property's. */
 const MOST_LETTERS = 12;
-const MOST_OF_LABEL = 16;
 /** No picture is made smaller than this to fit. */
 const SMALLEST = 0.75;
 
-/** Draws a graph by a layout, so wide and high if it fits. `lit` are the keys of nodes that are to stand out, and of edges as
-    `FROM TO`; `touched` are those of nodes that the row is about. */
-export function drawingOf({ nodes, edges }, layout, { width, height }, { lit, touched }) {
+/** Draws a graph by a layout, so wide and high if that can be read, so large (`zoom`), or as large as it fits (`"fit"`). `lit` are the keys of nodes that are to stand
+    out, and of edges as `FROM TO`; `touched` are those of nodes that the step is about; `names` has names of values by their
+    numbers. If a node is `chosen`, what is neither lit nor beside it steps back. */
+export function drawingOf({ nodes, edges }, layout, { width, height, zoom }, { lit, touched, chosen, names }) {
   for (const { shape, key } of nodes) if (shape !== "point") layout.placeOf(key);
   const gap = gapOf(layout.columns, width);
   const placed = nodes.filter(({ shape }) => shape !== "point");
   const spots = new Map(placed.map((node) => [node.key, spotOf(node, layout.placeOf(node.key), gap)]));
   placePoints(nodes, spots);
   const size = { width: Math.ceil(right(layout.columns - 1, gap) + 56), height: 2 * MARGIN + layout.rows * ROW };
-  const scale = scaleOf(width / size.width, height / size.height);
+  const fits = [width / size.width, height / size.height];
+  const scale = zoom === "fit" ? Math.min(1, ...fits) : zoom ?? scaleOf(...fits);
   const picture = element("svg", {
     width: Math.floor(size.width * scale), height: Math.floor(size.height * scale), viewBox: `0 0 ${size.width} ${size.height}`,
+    "data-scale": scale,
   });
   const isLit = ({ from, to, kind }) => kind !== "weak" && lit.has(`${from} ${to}`);
-  const drawn = [...joined(edges)].map((edge) => edgeOf(edge, spots, isLit(edge)));
-  picture.append(heads(), ...drawn.map(({ line }) => line));
+  const near = chosen === null ? null : besides(chosen, nodes, edges, lit);
+  const drawn = [...joined(edges)].map((edge) => ({ ...edge, isLit: isLit(edge), isDim: near !== null && !(near.has(edge.from) && near.has(edge.to)) }));
+  for (const edge of drawn) edge.curve = curveOf(spots.get(edge.from), spots.get(edge.to));
+  const words = saidOf(nodes, edges);
+  picture.append(heads(), ...drawn.map(lineOf));
   for (const node of nodes) {
-    picture.append(nodeOf(node, spots.get(node.key), { lit: lit.has(node.key), touched: touched.has(node.key) }));
+    const marks = { lit: lit.has(node.key), touched: touched.has(node.key), dim: near !== null && !near.has(node.key) };
+    picture.append(nodeOf({ ...node, said: words.get(node.key), name: names.get(node.identity) }, spots.get(node.key), marks));
   }
-  picture.append(...drawn.flatMap(({ label }) => label));
+  picture.append(...placedLabels(drawn, [...spots.values(), ...besidePoints(nodes, spots)], size).map(labelOf));
   return picture;
+}
+
+/** The keys of the nodes that stand out with a chosen one: those beside it, and beside the points there. */
+function besides(chosen, nodes, edges, lit) {
+  const found = new Set([chosen, ...lit]);
+  const points = new Set(nodes.filter(({ shape }) => shape === "point").map(({ key }) => key));
+  const add = (key) => edges.forEach(({ from, to }) => {
+    if (from === key) found.add(to);
+    if (to === key) found.add(from);
+  });
+  add(chosen);
+  for (const key of [...found]) if (points.has(key)) add(key);
+  return found;
 }
 
 /** A picture that fits at no scale fits in its width at least, if it can. */
@@ -79,6 +101,14 @@ function placePoints(nodes, spots) {
   }
 }
 
+/** The room of what is written beside points. */
+function besidePoints(nodes, spots) {
+  return nodes.filter(({ shape, label }) => shape === "point" && label !== "").map(({ key, label }) => {
+    const { x, y } = spots.get(key), width = 7 * Math.min(label.length, MOST_LETTERS);
+    return { x: x + 8 + width / 2, y, width, height: 14 };
+  });
+}
+
 // Edges
 
 /** Edges of one kind between the same two nodes are one, with all their labels. */
@@ -92,18 +122,16 @@ function joined(edges) {
   return found.values();
 }
 
-function edgeOf({ from, to, kind, labels }, spots, isLit) {
-  const curve = curveOf(spots.get(from), spots.get(to));
-  const group = { "class": `edge ${kind}${isLit ? " lit" : ""}`, "data-from": from, "data-to": to };
+function lineOf({ from, to, kind, curve, isLit, isDim }) {
+  const group = { "class": `edge ${kind}${isLit ? " lit" : ""}${isDim ? " dim" : ""}`, "data-from": from, "data-to": to };
   const head = kind === "part" || kind === "key" ? {} : { "marker-end": `url(#head-${isLit ? "lit" : kind})` };
-  const line = element("g", group, element("path", { d: pathOf(curve), ...head }));
-  if (labels.length === 0) return { line, label: [] };
-  const { x, y } = middle(curve), isBack = curve[0].x > curve[3].x, all = labels.join(", ");
-  const text = element("text", { x, y: isBack ? y + 12 : y - 4, "text-anchor": "middle" }, clipped(all, MOST_OF_LABEL));
-  return { line, label: [element("g", { "class": `edge ${kind}` }, element("title", {}, all), text)] };
+  return element("g", group, element("path", { d: pathOf(curve), ...head }));
 }
 
-const clipped = (text, most) => (text.length > most ? `${text.slice(0, most - 1)}…` : text);
+function labelOf({ kind, isDim, text, all, x, y }) {
+  const group = { "class": `edge label ${kind}${isDim ? " dim" : ""}` };
+  return element("g", group, element("title", {}, all), element("text", { x, y, "text-anchor": "middle" }, text));
+}
 
 /** The four points of a curve between two nodes: to the right it goes from side to side, and past what stands between in a
     bow; within a column it goes beside the column; and to the left it goes back. */
@@ -130,11 +158,6 @@ function curveOf(from, to) {
 
 const pathOf = ([one, two, three, four]) => `M${one.x} ${one.y}C${two.x} ${two.y} ${three.x} ${three.y} ${four.x} ${four.y}`;
 
-function middle([one, two, three, four]) {
-  const at = (axis) => (one[axis] + 3 * two[axis] + 3 * three[axis] + four[axis]) / 8;
-  return { x: at("x"), y: at("y") };
-}
-
 /** The heads of arrows. */
 function heads() {
   const head = (kind) => element("marker", {
@@ -154,24 +177,25 @@ function nodeOf(node, spot, marks) {
   return group;
 }
 
-function rootOf({ key, label, title }, { x, y, width, height }) {
-  return element("g", { "class": "node root", "data-key": key },
+function rootOf({ key, label, title, identity, said }, { x, y, width, height }) {
+  const held = identity === undefined ? { role: "img" } : { "data-identity": identity, role: "button" };
+  return element("g", { "class": "node root", "data-key": key, tabindex: 0, "aria-label": said, ...held },
     element("title", {}, title),
     element("rect", { x: x - width / 2, y: y - height / 2, width, height, rx: height / 2 }),
     element("text", { x, y: y + 4, "text-anchor": "middle" }, clipped(label, MOST_LETTERS)));
 }
 
-function thingOf({ key, identity, kind, block, isGone, distance }, { x, y, width, height }) {
+function thingOf({ key, identity, kind, block, isGone, distance, said, name }, { x, y, width, height }) {
   const state = isGone ? " gone" : distance === null ? " lost" : "";
-  const said = isGone ? ", emptied" : distance === null ? ", no longer reached" : "";
+  const more = [block === null ? null : `block ${block}`, name].filter(Boolean).join(", ");
   return element("g", {
     "class": `node thing ${kind.toLowerCase()}${state}`, "data-key": key, "data-identity": identity, tabindex: 0, role: "button",
-    "aria-label": `${kind} ${identity}${said}`,
+    "aria-label": said,
   },
     element("rect", { x: x - width / 2, y: y - height / 2, width, height, rx: 6 }),
     element("text", { x, y: y - 4, "text-anchor": "middle", "class": "kind" }, kind),
     element("text", { x, y: y + 12, "text-anchor": "middle", "class": "number" },
-      String(identity), ...(block === null ? [] : [element("tspan", {}, ` block ${block}`)])));
+      String(identity), ...(more === "" ? [] : [element("tspan", {}, ` ${clipped(more, MOST_LETTERS)}`)])));
 }
 
 function pointOf({ key, label }, { x, y }) {

@@ -4,6 +4,8 @@
 /** The pixels before the first line, and the height of a line; page.css has the same. */
 const PADDING = 8;
 const HEIGHT = 20;
+/** A longer text is set at once, and can't be taken back by keys. */
+const MOST_TAKEN_BACK = 200_000;
 
 export class Editor {
   constructor(area, numbers, marks) {
@@ -17,10 +19,22 @@ export class Editor {
   }
 
   set text(text) {
-    this.area.value = text;
+    if (text !== this.text) this.write(text);
     this.area.setSelectionRange(0, 0);
     this.area.scrollTo(0, 0);
     this.mark(null);
+  }
+
+  /** Sets the text so that Control and Z bring back what was there. Only this call of a browser does that. */
+  write(text) {
+    const had = document.activeElement;
+    if (this.text !== "" && text.length + this.text.length < MOST_TAKEN_BACK) {
+      this.area.focus({ preventScroll: true });
+      this.area.select();
+      document.execCommand(text === "" ? "delete" : "insertText", false, text);
+      had?.focus({ preventScroll: true });
+    }
+    if (this.text !== text) this.area.value = text;
   }
 
   /** Takes the text as it is now, and marks the letters of a place in it, or none. The kind is a class of the mark. */

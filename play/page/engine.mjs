@@ -13,6 +13,7 @@ export class Engine {
 
   begin() {
     this.waiting = new Map();
+    this.failure = null;
     this.worker = new Worker(this.address);
     this.worker.addEventListener("message", ({ data }) => {
       this.waiting.get(data.number)?.(data);
@@ -21,13 +22,14 @@ export class Engine {
     this.worker.addEventListener("error", (event) => this.fail(event.message || "the engine could not begin"));
   }
 
-  /** Asks for `run`, `check` or `trace` of a plan. Gives the answer and how many milliseconds it took, or why there is none,
+  /** Asks for `run`, `check` or `trace` of a plan, or for `script` of a script. Gives the answer and how many milliseconds it took, or why there is none,
       as `failure`. */
-  ask(call, plan, options = {}) {
+  ask(call, text, options = {}) {
     const number = ++this.asked;
+    if (this.failure !== null) return Promise.resolve({ failure: this.failure });
     return new Promise((give) => {
       this.waiting.set(number, give);
-      this.worker.postMessage({ number, call, plan, options: { memory: MEMORY, ...options } });
+      this.worker.postMessage({ number, call, text, options: { memory: MEMORY, ...options } });
     });
   }
 
@@ -37,7 +39,9 @@ export class Engine {
     this.begin();
   }
 
+  /** The thread could not begin: it answers nothing any more. */
   fail(failure) {
+    this.failure = failure;
     for (const give of this.waiting.values()) give({ failure });
     this.waiting.clear();
   }

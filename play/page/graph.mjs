@@ -2,10 +2,10 @@
 
 import { identityOf } from "./replay.mjs";
 
-/** The nodes and edges of a heap. A node has a `key` that stays its own: `n1`, `var x`, `KeptAlive`, and `e4_1` for the point of
+/** The nodes and edges of a heap, with what was emptied just now. A node has a `key` that stays its own: `n1`, `var x`, `KeptAlive`, and `e4_1` for the point of
     an entry. An edge is strong, weak, or none at all where it only leads to a point. */
-export function graphOf(heap) {
-  const nodes = [...roots(heap), ...things(heap)];
+export function graphOf(heap, emptied = heap.emptied) {
+  const nodes = [...roots(heap), ...things(heap, emptied)];
   const edges = [...fromRoots(heap)];
   for (const [identity, thing] of heap.things) {
     edges.push(...properties(identity, thing), ...weak(identity, thing));
@@ -18,15 +18,15 @@ export function graphOf(heap) {
 const named = (identity) => `n${identity}`;
 
 function* roots(heap) {
-  for (const [name, value] of heap.variables) {
-    if (identityOf(value) !== null) yield { key: `var ${name}`, shape: "root", label: name, title: `variable ${name}` };
+  for (const [name, value] of heap.told) {
+    if (identityOf(value) !== null) yield { key: `var ${name}`, shape: "root", label: name, title: `variable ${name}`, identity: identityOf(value) };
   }
   if (heap.keptAlive.size > 0) yield { key: "KeptAlive", shape: "root", label: "KeptAlive", title: "KeptAlive: until the job ends" };
 }
 
-function* things(heap) {
+function* things(heap, emptied) {
   const near = distances(heap);
-  for (const identity of heap.emptied) yield thing(heap, identity, { isGone: true });
+  for (const identity of emptied) yield thing(heap, identity, { isGone: true });
   for (const identity of heap.things.keys()) yield thing(heap, identity, { distance: near.get(identity) ?? null });
 }
 
@@ -36,7 +36,7 @@ function thing(heap, identity, more) {
 }
 
 function* fromRoots(heap) {
-  for (const [name, value] of heap.variables) {
+  for (const [name, value] of heap.told) {
     if (identityOf(value) !== null) yield { from: `var ${name}`, to: named(identityOf(value)), kind: "strong", label: "" };
   }
   for (const identity of heap.keptAlive) yield { from: "KeptAlive", to: named(identity), kind: "strong", label: "" };

@@ -6,6 +6,8 @@ import { distances } from "./graph.mjs";
 
 /** A heap with more values is not drawn. */
 export const MOST_DRAWN = 200;
+/** The rows of a column. One with more becomes several beside each other. */
+const MOST_ROWS = 12;
 /** How many values are looked at for the columns, over all rows together: a long run shall not make the page wait. */
 const MOST_LOOKED_AT = 2_000_000;
 
@@ -18,6 +20,14 @@ export class Layout {
     this.columns = lives.reduce((most, { column }) => Math.max(most, column), 0) + 1;
     this.fill(lives.filter(({ column }) => column === 0).sort((one, other) => other.isFixed - one.isFixed || one.from - other.from));
     for (let column = 1; column < this.columns; column += 1) this.fill(lives.filter((life) => life.column === column));
+    this.fold();
+  }
+
+  fold() {
+    const old = this.places;
+    this.places = new Map();
+    this.rows = 0;
+    for (const [key, { column, row }] of folded(old, ({ column }) => column > 0)) this.put(key, column, row);
   }
 
   /** The column and the row of a node. What was not looked at comes last. */
@@ -52,6 +62,19 @@ export class Layout {
     if (rows.length === 0 || column === 1) return rows[0] ?? 0;
     return Math.round(rows.reduce((sum, row) => sum + row, 0) / rows.length);
   }
+}
+
+/** Places of which no column is long: such a one becomes several, if it may. */
+export function folded(places, mayFold) {
+  const heights = [];
+  for (const place of places.values()) {
+    const rows = mayFold(place) ? place.row + 1 : 1;
+    heights[place.column] = Math.max(heights[place.column] ?? 1, rows);
+  }
+  const firsts = [0];
+  for (let column = 0; column < heights.length; column += 1) firsts.push(firsts[column] + Math.ceil((heights[column] ?? 1) / MOST_ROWS));
+  const moved = ({ column, row }) => ({ column: firsts[column] + Math.floor(row / MOST_ROWS), row: row % MOST_ROWS });
+  return new Map([...places].map(([key, place]) => [key, mayFold(place) ? moved(place) : { ...place, column: firsts[place.column] }]));
 }
 
 /** The row nearest to a wished one that is free. */
@@ -92,9 +115,9 @@ function see(found, key, row, column) {
   return life;
 }
 
-function* links({ variables, keptAlive, things }) {
+function* links({ told, keptAlive, things }) {
   const to = (value) => `n${identityOf(value)}`;
-  for (const [name, value] of variables) if (identityOf(value) !== null) yield [`var ${name}`, to(value)];
+  for (const [name, value] of told) if (identityOf(value) !== null) yield [`var ${name}`, to(value)];
   for (const identity of keptAlive) yield ["KeptAlive", `n${identity}`];
   for (const [identity, { properties, entries }] of things) {
     for (const value of [...properties.values(), ...entries.values()]) yield [`n${identity}`, to(value)];

@@ -1,4 +1,4 @@
-// The menu of plans: the examples and the corpus, each with the rule that it shows, and a field that filters them.
+// The menu: the lessons, the examples and the corpus, each with what it shows, and a field that filters them.
 
 const element = (name, content) => Object.assign(document.createElement(name), { textContent: content });
 
@@ -25,7 +25,7 @@ export class Menu {
   row(plan, choose) {
     const button = element("button", "");
     button.type = "button";
-    button.append(element("b", plan.name), element("span", plan.rule));
+    button.append(element("b", plan.group === "lessons" ? plan.title : plan.name), element("span", plan.rule));
     button.addEventListener("click", () => {
       this.dialog.close();
       choose(plan);

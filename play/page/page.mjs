@@ -2,174 +2,185 @@
 
 import { Editor } from "./editor.mjs";
 import { Engine } from "./engine.mjs";
-import { linkOf, planOf } from "./link.mjs";
+import { isPlan } from "./kinds.mjs";
+import { keep, kept } from "./keeping.mjs";
+import { carriedBy, linkOf, saidOfLink } from "./link.mjs";
 import { Menu } from "./menu.mjs";
-import { readJson } from "./json.mjs";
-import { commandIn, partsOf, placeOf } from "./places.mjs";
-import { counted, lasting, show } from "./report.mjs";
-import { Tabs } from "./tabs.mjs";
-import { Tracing } from "./tracing.mjs";
+import { partsOf, placeOf } from "./places.mjs";
+import { pointedLine } from "../syntax/fault.mjs";
+import { Results, WITHOUT_TEXT } from "./results.mjs";
+import { split } from "./split.mjs";
 
 const at = (id) => document.getElementById(id);
 const read = (id) => JSON.parse(at(id).textContent);
 
-/** The milliseconds without a key before a plan is checked, and those of a run before the page says that it runs. */
+/** The milliseconds without a key before what is written is looked at, and those of a run before the page says that it runs. */
 const REST = 150;
 const PATIENCE = 200;
-/** The letters of the longest trace that is shown. */
-const LONGEST_TRACE = 30_000_000;
-const WITHOUT_TEXT = {
-  3: "Memory ran out. A run may take 4 GiB at most, and less on a small machine.",
-  4: "The plan is longer than a plan may be.",
-};
+/** A longer text is run by the button alone. */
+const MOST_AT_REST = 20_000;
+
+const NO_ENGINE = "This browser has no 64-bit WebAssembly memory, which the engine needs. Chromium 156 and Firefox 153 have it.";
 
 const faults = read("faults");
 const plans = read("plans");
 const engine = new Engine(at("engine").textContent);
 const editor = new Editor(at("plan"), at("numbers"), at("marks"));
-const menu = new Menu(at("menu"), plans, openPlan);
-const tabs = new Tabs(at, ["report", "trace"], showTab);
-const tracing = new Tracing(at, markStep);
-/** The plan that the report is of, and whether it has one without a fault; null before the first one. */
-let reported = null;
-let isReported = false;
-/** The plan that the trace is of, as it is written and as it is read. */
-let traced = null;
-let tracedPlan = null;
+const menu = new Menu(at("menu"), plans, (plan) => {
+  forgetLink();
+  openPlan(plan);
+});
+const results = new Results(at, editor, { ask: asked });
+/** The example that stands in the editor; null where its text was changed. */
+let opened = null;
 let resting = 0;
 /** The run or the trace under way; null where there is none. */
 let running = null;
 
-// The plan
+// What is written
 
 function openPlan(plan) {
   halt();
+  opened = plan;
   editor.text = plan.text;
-  at("about").replaceChildren(...about(plan));
-  check();
-  run();
+  tellKind();
+  keep(plan.text);
+  look({ runs: true });
 }
 
-/** What is said of a plan of the menu. */
-function about({ group, name, title, rule, section }) {
+/** Says what of the menu stands in the editor. */
+function tellKind() {
+  const { group, name, title, rule, section } = opened ?? {};
   const named = Object.assign(document.createElement("b"), { textContent: name === undefined ? "" : `${group} / ${name}` });
-  return [named, " ", [title, rule, section && `(${section})`].filter(Boolean).join(" ")];
+  // A lesson says in its first lines what it shows.
+  const said = group === "lessons" ? [title] : [title, rule, section && `(${section})`];
+  at("about").replaceChildren(named, " ", said.filter(Boolean).join(" "));
+  at("plan-title").textContent = isPlan(editor.text) ? "Plan" : "Script";
 }
 
 function changed() {
+  if (opened?.text === editor.text) return;
+  opened = null;
+  forgetLink();
+  tellKind();
   clearTimeout(resting);
-  resting = setTimeout(check, REST);
+  resting = setTimeout(() => look({ runs: editor.text.length <= MOST_AT_REST }), REST);
   editor.mark(null);
-  at("answer").classList.toggle("old", reported !== null && reported !== editor.text);
+  results.age();
 }
 
-async function check() {
+/** Runs what is written, or looks only for a fault in it. */
+async function look({ runs }) {
+  clearTimeout(resting);
   const text = editor.text;
+  keep(text);
+  if (runs) return run();
+  if (!isPlan(text)) return say(at("fault"), "", "The script is long: Run runs it.");
   const answer = await engine.ask("check", text);
-  if (text === editor.text) tell(answer);
+  return text === editor.text ? tell(answer) : undefined;
 }
 
-/** Says what a check came to, and marks the fault's place. */
+/** Says whether a plan has a fault, and marks the fault's place. */
 function tell({ status, text, failure }) {
-  editor.mark(status === 1 ? placeOf(text, editor.text) : null);
-  at("plan").setAttribute("aria-invalid", status === 1);
-  at("visit").hidden = editor.place === null;
-  if (status === 0) say(at("fault"), "good", "No fault.");
-  else if (status === 1) say(at("fault"), "bad", inWords(text));
-  else say(at("fault"), "bad", WITHOUT_TEXT[status] ?? failure);
-  markStep();
+  const place = status === 1 ? placeOf(text, editor.text) : null;
+  tellFault(place, status === 1 ? inWords(text, place) : withoutText({ status, failure }));
 }
 
-/** A fault in words, as docs/ERRORS.md has them. */
-function inWords(fault) {
+/** Why there is no answer; null where there is one. */
+function withoutText({ status, failure }) {
+  if (status === 0) return null;
+  return WITHOUT_TEXT[status] ?? (failure.includes("64-bit") ? NO_ENGINE : failure);
+}
+
+/** Says what is wrong, where it stands, or that nothing is. */
+function tellFault(place, wrong) {
+  editor.mark(place);
+  at("plan").setAttribute("aria-invalid", wrong !== null);
+  at("visit").hidden = place === null;
+  if (wrong === null) say(at("fault"), "good", "No fault.");
+  else say(at("fault"), "bad", wrong);
+  if (wrong === null) results.markStep();
+}
+
+/** A fault of a plan in words, as docs/ERRORS.md has them. */
+function inWords(fault, place) {
   const { code } = partsOf(fault);
-  const where = editor.place === null ? "" : `Line ${editor.line(editor.place.start)}, `;
+  const where = place === null ? "" : `Line ${editor.line(place.start)}, `;
   return `${where}${code}: ${faults[code].wrong}. Cure: ${faults[code].cure}.`;
 }
 
-// The report and the trace
+// Runs
 
 async function run() {
-  if (running?.call === "run") return;
+  const text = editor.text, call = isPlan(text) ? "run" : "script";
+  if (running?.text === text && running.call === call) return;
   halt();
-  const plan = editor.text;
-  const answer = await asked("run", plan);
-  if (answer !== null) end(answer, plan);
+  const answer = await asked(call, text);
+  if (answer === null || (answer.status === 1 && text !== editor.text)) return;
+  if (answer.status === 1 || answer.failure) notRun(call, answer);
+  else if (call === "run") await endPlan(text, answer);
+  else endScript(text, answer);
+}
+
+/** What is written has a fault, or there is no engine. What was run last still stands. */
+function notRun(call, answer) {
+  if (call === "run" || answer.failure) tell(answer);
+  else scriptFault(answer.fault);
+  results.age();
+  results.say("bad", answer.failure ? "It was not run." : "It has a fault, and was not run.");
+}
+
+async function endPlan(text, answer) {
+  tellEnd(text, answer);
+  await results.ofPlan(text, answer);
+}
+
+function endScript(text, answer) {
+  tellEnd(text, answer);
+  results.ofScript(text, answer);
+}
+
+/** Says that a run found no fault, or why it has no answer, if nothing was changed since it began. */
+function tellEnd(text, answer) {
+  if (text === editor.text) tellFault(null, withoutText(answer));
+}
+
+/** Says why a script has no plan: in one line with its place, and the line of the script with a mark below it. */
+function scriptFault({ message, start, end }) {
+  const place = { start, end: Math.max(end, start + 1) };
+  tellFault(place, `Line ${editor.line(start)}: ${message}`);
+  at("fault").append(Object.assign(document.createElement("pre"), { textContent: pointedLine(editor.text, place.start, place.end) }));
 }
 
 /** Asks the engine for a run or a trace, which may be stopped; null where it was. */
-async function asked(call, plan, options) {
-  const mine = { call };
+async function asked(call, text, options) {
+  const mine = { call, text };
   running = mine;
   at("stop").hidden = false;
-  setTimeout(() => { if (running === mine) say(at("state"), "", "running .."); }, PATIENCE);
-  const answer = await engine.ask(call, plan, options);
-  return running === mine ? answer : null;
+  setTimeout(() => { if (running === mine) results.say("", "running .."); }, PATIENCE);
+  const answer = await engine.ask(call, text, options);
+  if (running !== mine) return null;
+  running = null;
+  at("stop").hidden = true;
+  return answer;
 }
 
 /** Ends the run or the trace under way, if there is one. */
 function halt() {
-  if (running === null) return;
+  if (running === null) return null;
   engine.stop();
-  if (running.call === "run") end({ failure: "Stopped." }, editor.text);
-  else endTrace({ failure: "Stopped." });
-}
-
-/** Shows what a run of a plan came to. */
-function end({ status, text = "", took, failure }, plan) {
+  const ended = running;
   running = null;
-  reported = plan;
-  isReported = status === 0;
   at("stop").hidden = true;
-  at("answer").classList.toggle("old", plan !== editor.text);
-  show(at("report"), status === 1 ? `${text}\n` : text);
-  tellEnd({ status, failure }, () => `${counted(text.split("\n").length - 1, "line")}, ${lasting(took)}`);
-  traced = tracedPlan = null;
-  tracing.show("", plan);
-  showTrace();
+  return ended;
 }
 
-function tellEnd({ status, failure }, inWords) {
-  if (status === 0) say(at("state"), "good", inWords());
-  else if (status === 1) say(at("state"), "bad", "The plan has a fault, and was not run.");
-  else say(at("state"), "bad", WITHOUT_TEXT[status] ?? failure);
-}
-
-function showTab() {
-  if (tabs.shown !== "trace" && editor.kind === "step") editor.mark(null);
-  markStep();
-  showTrace();
-}
-
-/** Marks the command of the current row, where the trace is shown and the plan has not changed since. */
-function markStep() {
-  if (tabs.shown !== "trace" || tracedPlan === null || traced !== editor.text) return;
-  editor.mark(tracing.place && commandIn(tracedPlan, tracing.place), "step");
-  if (editor.place !== null) editor.reveal();
-}
-
-/** Shows the trace of the plan that was run, where it is looked at and is not that already. */
-async function showTrace() {
-  if (tabs.shown !== "trace" || !isReported || traced === reported || running !== null) return;
-  const answer = await asked("trace", reported, { all: true });
-  if (answer !== null) endTrace(answer);
-}
-
-function endTrace(answer) {
-  running = null;
-  traced = reported;
-  tracedPlan = readJson(traced).value;
-  at("stop").hidden = true;
-  const { status, text = "" } = answer;
-  const isLong = text.length > LONGEST_TRACE;
-  tracing.show(status !== 0 || isLong ? "" : text, traced);
-  const inWords = () => (isLong ? "The trace is too long to show." : `${counted(tracing.length, "row")}, ${lasting(answer.took)}`);
-  tellEnd(answer, inWords);
-}
-
-function say(place, kind, text) {
-  place.className = kind;
-  place.textContent = text;
+function stop() {
+  const ended = halt();
+  if (ended?.call === "trace") results.endTrace({ failure: "Stopped." });
+  else if (ended !== null) results.stopped(ended.text);
+  if (isPlan(editor.text)) look({ runs: false });
+  else say(at("fault"), "", "Stopped.");
 }
 
 // Links
@@ -177,36 +188,51 @@ function say(place, kind, text) {
 async function link() {
   history.replaceState(null, "", await linkOf(editor.text));
   const copied = await navigator.clipboard?.writeText(location.href).then(() => true, () => false);
-  say(at("fault"), "good", copied ? "The link is copied." : "The link is the address of this page now.");
+  say(at("fault"), "good", saidOfLink(location, copied));
 }
 
-/** Opens the plan of the address, or else this one. */
+/** The address no longer carries what is written: else a reload would bring the older text. */
+function forgetLink() {
+  if (location.hash !== "") history.replaceState(null, "", location.href.split("#")[0]);
+}
+
+/** Opens what the address carries; else what was written last, or else this example. */
 async function openLink(otherwise) {
   try {
-    const text = await planOf(location.hash);
-    if (text !== null) openPlan({ text, title: "The plan of a link." });
+    const text = await carriedBy(location.hash), last = otherwise && kept();
+    if (text !== null) openPlan({ text, title: isPlan(text) ? "The plan of a link." : "The script of a link." });
+    else if (last) openPlan(plans.find((plan) => plan.text === last) ?? { text: last });
     else if (otherwise) openPlan(otherwise);
   } catch {
     openPlan({ text: otherwise?.text ?? editor.text, title: "The link of this page can't be read." });
   }
 }
 
+function say(place, kind, text) {
+  place.className = kind;
+  place.textContent = text;
+}
+
 // Keys and buttons
 
 at("plan").addEventListener("input", changed);
 at("open").addEventListener("click", () => menu.open());
-at("run").addEventListener("click", run);
+at("run").addEventListener("click", () => look({ runs: true }));
 at("link").addEventListener("click", link);
-at("stop").addEventListener("click", () => {
-  halt();
-  check();
-});
+at("stop").addEventListener("click", stop);
 at("visit").addEventListener("click", () => editor.visit());
+at("enlarge").addEventListener("click", () => {
+  const isLarge = document.body.classList.toggle("large");
+  at("enlarge").ariaPressed = isLarge;
+  at("enlarge").textContent = isLarge ? "Shrink" : "Enlarge";
+});
+split(at("split-text"), document.querySelector("main"), "--text");
+split(at("split-rows"), at("trace"), "--rows");
 addEventListener("hashchange", () => openLink(null));
 addEventListener("keydown", (event) => {
-  const meant = { Enter: event.ctrlKey || event.metaKey ? run : null, F8: () => editor.visit() }[event.key];
+  const meant = { Enter: event.ctrlKey || event.metaKey ? () => look({ runs: true }) : null, F8: () => editor.visit() }[event.key];
   if (!meant || at("menu").open) return;
   event.preventDefault();
   meant();
 });
-openLink(plans.find((plan) => plan.name === "gone"));
+openLink(plans[0]);

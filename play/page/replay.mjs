@@ -6,13 +6,19 @@ export function identityOf(value) {
   return value?.object ?? value?.symbol ?? null;
 }
 
+/** A variable of a script's plan that is none of the script: what an expression makes on its way stands in it. */
+const TEMPORARY = /^_c?\d+$/;
+
 /** The rows of a trace: each is a line, with its agent (null of the ledger's), the place of its command in the plan (null where
     it has none) and, after a collection, what keeps each value, by its number. The plan says which variable a message goes
-    to. */
+    to. A script's has temporaries, which are not told. */
 export class Trace {
-  constructor(text, plan) {
+  constructor(text, plan, { isScript = false } = {}) {
     this.agents = JSON.parse(plan).agents;
+    this.isScript = isScript;
     this.rows = [];
+    /** By agents and numbers: the first variable or property that a value had. */
+    this.names = new Map(this.agents.map(({ name }) => [name, new Map()]));
     /** The blocks that messages carry, the oldest first, by sender and receiver. */
     this.ports = new Map();
     this.runs = new Map(this.agents.map(({ name }, number) => [name, new Run(number)]));
@@ -23,9 +29,22 @@ export class Trace {
 
   add(line) {
     BLOCKS[line.ledger]?.(this, line);
+    if (line.event === "did") this.name(line);
     if (line.event === "kept") this.rows.at(-1).kept.set(line.identity, line.by);
     else if (line.event) this.rows.push({ line, agent: line.agent, place: this.runs.get(line.agent).placeOf(line), kept: keptBy(line) });
     else this.rows.push({ line, agent: null, place: null, kept: null });
+  }
+
+  /** A value without a name gets that of the variable that it is assigned to, or of the property. */
+  name({ agent, command: [word, first, key], values, answer }) {
+    const isSet = word === "set", identity = identityOf(isSet ? values[1] : answer?.gives);
+    const given = isSet ? key : first, names = this.names.get(agent);
+    if (identity !== null && !names.has(identity) && !this.hides(given)) names.set(identity, given);
+  }
+
+  /** Whether a variable is not told. */
+  hides(variable) {
+    return this.isScript && TEMPORARY.test(variable);
   }
 
   /** The blocks that lie in a port. */
@@ -37,7 +56,7 @@ export class Trace {
 
   /** The heap of an agent before its first row. */
   heap(agent) {
-    return new Heap(this.agents.find(({ name }) => name === agent));
+    return new Heap({ ...this.agents.find(({ name }) => name === agent), hides: (variable) => this.hides(variable) });
   }
 
   /** The newest row up to this one in which an agent had a collection; -1 where there is none. */
@@ -82,8 +101,9 @@ const BLOCKS = {
 /** What an agent has: variables, KeptAlive, its objects and symbols by their numbers, and the registrations whose cells are in
     their registries. Values are as lines have them. */
 export class Heap {
-  constructor({ jobs }) {
+  constructor({ jobs, hides = () => false }) {
     this.jobs = jobs;
+    this.hides = hides;
     this.passed = 0;
     this.isCleaning = false;
     this.variables = new Map();
@@ -106,6 +126,11 @@ export class Heap {
 
   assign(variable, value) {
     this.variables.set(variable, value);
+  }
+
+  /** The variables that are told, each with its value. */
+  get told() {
+    return [...this.variables].filter(([name]) => !this.hides(name));
   }
 
   /** Takes over a line of this agent. */

@@ -1,15 +1,15 @@
-// The list of a trace's rows, of which one is the current one. Only the rows that can be seen are drawn, as there may be very
-// many.
-
-import { wordsOf } from "./words.mjs";
+// The list of a trace's steps, of which one is the current one. A step may open to what it is made of. Only those that can be
+// seen are drawn, as there may be very many.
 
 /** The height of a row in pixels; page.css has the same. */
 const HEIGHT = 22;
+/** Without room for so many rows around it, the current one is scrolled to. */
+const AROUND = 2;
 
 export class Steps {
   /** `choose` is called with the number of a row that is clicked, or gone to by a key. */
   constructor(box, choose) {
-    Object.assign(this, { box, choose, rows: [], current: 0 });
+    Object.assign(this, { box, choose, steps: [], rows: [], current: 0 });
     this.sheet = box.appendChild(Object.assign(document.createElement("div"), { className: "sheet", role: "presentation" }));
     box.addEventListener("scroll", () => this.draw());
     box.addEventListener("click", (event) => this.click(event));
@@ -17,35 +17,57 @@ export class Steps {
     new ResizeObserver(() => this.go(this.current)).observe(box);
   }
 
-  show(rows) {
-    this.rows = rows;
-    const letters = Math.max(1, ...rows.slice(0, 2000).map(({ agent }) => (agent ?? "-").length));
-    this.sheet.style.height = `${rows.length * HEIGHT}px`;
+  show(steps) {
+    this.steps = steps;
+    this.list();
+    const agents = new Set(steps.slice(0, 2000).map(({ agent }) => agent));
+    const letters = Math.max(1, ...[...agents].map((agent) => (agent ?? "-").length));
     this.sheet.style.setProperty("--name", `${Math.min(letters, 12)}ch`);
+    this.sheet.classList.toggle("alone", agents.size < 2 && steps.some(({ commands }) => commands.length > 0));
     this.box.scrollTop = 0;
     this.draw();
+  }
+
+  /** The rows: the steps, and below an open one what it is made of. */
+  list() {
+    const some = this.steps.some(({ isOpen }) => isOpen);
+    this.rows = some ? this.steps.flatMap((step) => (step.isOpen ? [step, ...step.commands] : [step])) : this.steps;
+    this.sheet.style.height = `${this.rows.length * HEIGHT}px`;
+  }
+
+  /** Opens a step, or closes it. The current row is that step then. */
+  toggle(row) {
+    const step = this.rows[row];
+    if (!step || step.commands.length === 0) return;
+    step.isOpen = !step.isOpen;
+    this.list();
+    this.choose(row);
   }
 
   /** Marks a row, and shows it. */
   go(row) {
     this.current = row;
     const top = row * HEIGHT, { scrollTop, clientHeight } = this.box;
-    if (top < scrollTop + HEIGHT) this.box.scrollTop = top - 2 * HEIGHT;
-    else if (top > scrollTop + clientHeight - 2 * HEIGHT) this.box.scrollTop = top - clientHeight + 3 * HEIGHT;
+    if (top < scrollTop + HEIGHT) this.box.scrollTop = top - AROUND * HEIGHT;
+    else if (top > scrollTop + clientHeight - 2 * HEIGHT) this.box.scrollTop = top - clientHeight + (AROUND + 1) * HEIGHT;
     this.draw();
   }
 
   click({ target }) {
     const row = target.closest(".row");
-    if (row !== null) this.choose(Number(row.dataset.row));
+    if (row === null) return;
+    if (target.closest(".opener")) this.toggle(Number(row.dataset.row));
+    else this.choose(Number(row.dataset.row));
   }
 
   press(event) {
+    if (event.ctrlKey || event.metaKey || event.altKey || this.rows.length === 0) return;
     const page = Math.max(1, Math.floor(this.box.clientHeight / HEIGHT) - 1);
     const by = { ArrowDown: 1, ArrowUp: -1, PageDown: page, PageUp: -page, Home: -Infinity, End: Infinity }[event.key];
-    if (by === undefined || event.ctrlKey || event.metaKey || event.altKey || this.rows.length === 0) return;
+    if (by !== undefined) this.choose(Math.min(this.rows.length - 1, Math.max(0, this.current + by)));
+    else if (event.key === "Enter" || event.key === " ") this.toggle(this.current);
+    else return;
     event.preventDefault();
-    this.choose(Math.min(this.rows.length - 1, Math.max(0, this.current + by)));
   }
 
   draw() {
@@ -56,20 +78,29 @@ export class Steps {
     else this.box.removeAttribute("aria-activedescendant");
   }
 
-  row({ line, agent }, number) {
-    const { event, answer } = wordsOf(line);
+  row(step, number) {
+    const { event, answer } = step.words;
     const row = document.createElement("div");
-    row.className = `row ${agent === null ? "ledger" : line.event.replace(" ", "-")}`;
+    row.className = `row ${step.kind}${step.may ? " may" : ""}${step.level > 0 ? " inner" : ""}`;
     row.id = `row-${number}`;
     row.dataset.row = number;
     row.style.top = `${number * HEIGHT}px`;
-    row.role = "option";
+    row.role = "treeitem";
+    row.ariaLevel = step.level + 1;
     row.ariaSelected = number === this.current;
     row.ariaPosInSet = number + 1;
     row.ariaSetSize = this.rows.length;
-    row.append(...[agent ?? "-", event, answer].map(cell));
+    row.append(...[step.agent ?? "-", event, answer].map(cell));
+    if (step.commands.length > 0) {
+      row.ariaExpanded = step.isOpen;
+      row.children[1].prepend(opener(step));
+    }
     return row;
   }
+}
+
+function opener({ isOpen }) {
+  return Object.assign(document.createElement("b"), { className: "opener", textContent: isOpen ? "▾ " : "▸ ", title: "Its commands in the plan (Enter)" });
 }
 
 function cell(text) {

@@ -1,4 +1,4 @@
-// Tabs, of which one is shown; the arrows go from one to the other.
+// Tabs, of which one is shown; the arrows go from one to the next that is there.
 
 export class Tabs {
   /** `at` gives the elements of the page, of which each panel and its tab, `NAME-tab`, have one of these names. `changed` is
@@ -25,8 +25,9 @@ export class Tabs {
   press(event) {
     if (event.key !== "ArrowRight" && event.key !== "ArrowLeft") return;
     event.preventDefault();
-    const by = event.key === "ArrowRight" ? 1 : this.names.length - 1;
-    this.show(this.names[(this.names.indexOf(this.shown) + by) % this.names.length]);
+    const there = this.names.filter((name) => !this.at(`${name}-tab`).hidden);
+    const by = event.key === "ArrowRight" ? 1 : there.length - 1;
+    this.show(there[(there.indexOf(this.shown) + by) % there.length]);
     this.at(`${this.shown}-tab`).focus();
   }
 }

@@ -83,10 +83,10 @@ export function wayTo(kept, identity) {
   return [...found];
 }
 
-/** A sentence on what keeps a value; `name` names values. */
-export function reason(by, identity, name) {
+/** A sentence on what keeps a value; `name` names values. In a script's trace a temporary is not told by its name. */
+export function reason(by, identity, name, trace) {
   const it = name(identity);
-  if (by.variable !== undefined) return `The variable ${by.variable} holds ${it}.`;
+  if (by.variable !== undefined) return trace.hides(by.variable) ? `The statement that runs holds ${it}.` : `The variable ${by.variable} holds ${it}.`;
   if (by.keptalive) return `KeptAlive has ${it} until the job ends.`;
   if (by.registry) return `${capital(it)} is kept as a FinalizationRegistry.`;
   if (by.registration !== undefined) return `Registration ${by.registration} holds ${it} for its callback.`;

@@ -1,0 +1,229 @@
+// The heap in the page: its picture after a row, what is said of it, and why a value of it stays.
+
+import { drawingOf } from "./drawing.mjs";
+import { graphOf, plain } from "./graph.mjs";
+import { Layout, MOST_DRAWN } from "./layout.mjs";
+import { Around, around } from "./around.mjs";
+import { identityOf } from "./replay.mjs";
+import { reason, sourcesOf, wayTo } from "./words.mjs";
+
+/** The variables that hold no object, of which so many are told. */
+const MOST_PLAIN = 12;
+const ZOOM = { least: 0.25, most: 4, step: 1.25 };
+
+const element = (name, content) => Object.assign(document.createElement(name), { textContent: content });
+
+export class HeapView {
+  /** `at` gives the elements of the page; `numberOf` says in which row an event of the trace is told. */
+  constructor(at, numberOf) {
+    Object.assign(this, { at, numberOf, trace: null, row: -1, from: 0, agent: "", chosen: null, layouts: new Map(), heap: null });
+    /** How large the picture is drawn; "fit" so that all of it is seen, and null so that it can be read. */
+    this.zoom = null;
+    at("heap").addEventListener("click", (event) => this.choose(event.target));
+    at("heap").addEventListener("keydown", (event) => this.press(event));
+    for (const [id, by] of [["smaller", 1 / ZOOM.step], ["larger", ZOOM.step]]) at(id).addEventListener("click", () => this.zoomBy(by));
+    at("fit").addEventListener("click", () => this.fit());
+    at("centre").addEventListener("change", () => this.put(Number(at("centre").value)));
+    new ResizeObserver(() => this.draw()).observe(at("heap"));
+  }
+
+  /** Takes another trace, or none. */
+  begin(trace) {
+    Object.assign(this, { trace, row: -1, chosen: null, heap: null, zoom: null });
+    this.layouts.clear();
+  }
+
+  /** Draws the heap of an agent after a step, which goes from one row of the trace to another. */
+  show(agent, { from, row }) {
+    Object.assign(this, { agent, from, row });
+    this.draw();
+  }
+
+  clear() {
+    for (const id of ["heap", "plain", "why", "edges"]) this.at(id).replaceChildren();
+    this.at("legend").hidden = true;
+  }
+
+  /** The heap of the agent after the row. It is taken on from the last one, where that was the same agent's before. */
+  state() {
+    const { agent, row, trace } = this;
+    if (this.heap === null || this.heap.agent !== agent || this.heap.row > row) this.heap = { agent, row: -1, state: trace.heap(agent) };
+    for (const one of trace.rows.slice(this.heap.row + 1, row + 1)) if (one.agent === agent) this.heap.state.apply(one.line);
+    this.heap.row = row;
+    return this.heap.state;
+  }
+
+  layout(agent) {
+    if (!this.layouts.has(agent)) this.layouts.set(agent, new Layout(this.trace, agent));
+    return this.layouts.get(agent);
+  }
+
+  draw() {
+    const { at } = this, place = at("heap");
+    if (this.trace === null || place.clientWidth === 0) return this.clear();
+    const { agent } = this, heap = this.state();
+    this.tellPlain(agent, heap);
+    const size = heap.things.size;
+    at("centre").parentElement.hidden = size <= MOST_DRAWN;
+    if (size + heap.emptied.length === 0) place.replaceChildren(element("p", "There is no object yet."));
+    else if (size > MOST_DRAWN) this.paintAround(place, agent, heap);
+    else this.paint(place, agent, heap, graphOf(heap, this.emptied()), this.layout(agent));
+    this.at("why").replaceChildren(...this.why(agent, heap));
+    this.at("legend").hidden = this.chosen !== null;
+    this.at("edges").textContent = this.chosen === null ? "" : place.querySelector(`[data-key="n${this.chosen}"]`)?.ariaLabel ?? "";
+  }
+
+  /** What the step's collections emptied. */
+  emptied() {
+    const rows = this.trace.rows.slice(this.from, this.row + 1);
+    return rows.flatMap(({ line, agent }) => (agent === this.agent && line.event === "emptied" ? line.identities : []));
+  }
+
+  paint(place, agent, heap, graph, layout, ...before) {
+    const had = place.contains(document.activeElement) ? document.activeElement.dataset.key : null;
+    const size = { width: place.clientWidth - 4, height: place.clientHeight - 4, zoom: this.zoom }, touched = this.touched(agent);
+    const { scrollLeft, scrollTop } = place;
+    const marks = { lit: this.lit(agent, heap), touched, chosen: this.chosen === null ? null : `n${this.chosen}`, names: this.trace.names.get(agent) };
+    place.replaceChildren(...before, drawingOf(graph, layout, size, marks));
+    place.scrollTo(scrollLeft, scrollTop);
+    if (had) place.querySelector(`[data-key="${had}"]`)?.focus({ preventScroll: true });
+    for (const key of touched) reveal(place, place.querySelector(`[data-key="${key}"]`));
+  }
+
+  /** Draws what is around the chosen value, or around what the step is about: the whole would be too much. */
+  paintAround(place, agent, heap) {
+    const [first] = this.touched(agent);
+    const centre = this.chosen !== null && heap.things.has(this.chosen) ? `n${this.chosen}` : first;
+    const said = `There are ${heap.things.size} values: more than ${MOST_DRAWN} can't be read in one picture.`;
+    if (centre === undefined) {
+      const most = heap.told.find(([, value]) => identityOf(value) !== null);
+      if (most === undefined) return place.replaceChildren(element("p", `${said} No variable holds one.`));
+      return this.paintPart(place, agent, heap, `n${identityOf(most[1])}`, said);
+    }
+    return this.paintPart(place, agent, heap, centre, said);
+  }
+
+  paintPart(place, agent, heap, centre, said) {
+    const graph = graphOf(heap, this.emptied()), part = around(graph, centre);
+    const what = `Here is what surrounds ${heap.kinds.get(Number(centre.slice(1)))} ${centre.slice(1)}. A press on another value goes there.`;
+    this.paint(place, agent, heap, part, new Around(part, centre), element("p", `${said} ${what}`));
+  }
+
+  /** The keys of the values that the step reads or gives, if it is the drawn agent's. */
+  touched(agent) {
+    const found = new Set();
+    for (const { line, agent: actor } of this.trace.rows.slice(this.from, this.row + 1)) {
+      if (actor !== agent) continue;
+      for (const value of [...(line.values ?? []), line.value, line.held, line.answer?.gives]) {
+        if (identityOf(value) !== null) found.add(`n${identityOf(value)}`);
+      }
+    }
+    return found;
+  }
+
+  /** The variables that hold no object. */
+  tellPlain(agent, heap) {
+    const isTold = ([name, value]) => identityOf(value) === null && value !== null && !(this.trace.isScript && name === "held");
+    const held = heap.told.filter(isTold);
+    const said = held.slice(0, MOST_PLAIN).map(([name, value]) => `${name} = ${plain(value)}`);
+    const more = held.length > MOST_PLAIN ? `, and ${held.length - MOST_PLAIN} more` : "";
+    const others = said.length > 0 ? ` Other variables: ${said.join(", ")}${more}.` : "";
+    this.at("plain").replaceChildren(element("b", `Heap of ${agent}.`), others);
+  }
+
+  // Size
+
+  zoomBy(by) {
+    const drawn = this.at("heap").querySelector("svg");
+    if (drawn !== null) this.zoom = Math.min(ZOOM.most, Math.max(ZOOM.least, Number(drawn.dataset.scale) * by));
+    this.draw();
+  }
+
+  /** The whole picture, and a second time as large as it can be read. */
+  fit() {
+    this.zoom = this.zoom === "fit" ? null : "fit";
+    this.draw();
+  }
+
+  // Why a value stays
+
+  choose(target) {
+    const node = target.closest("[data-identity]");
+    const identity = node === null ? null : Number(node.dataset.identity);
+    this.put(identity === this.chosen ? null : identity);
+  }
+
+  put(identity) {
+    this.chosen = identity;
+    this.draw();
+  }
+
+  press(event) {
+    if (event.ctrlKey || event.metaKey || event.altKey) return;
+    const does = {
+      "Enter": () => this.choose(event.target), " ": () => this.choose(event.target), "Escape": () => this.choose(this.at("heap")),
+      "+": () => this.zoomBy(ZOOM.step), "-": () => this.zoomBy(1 / ZOOM.step), "0": () => this.fit(),
+    }[event.key];
+    if (!does) return;
+    does();
+    event.preventDefault();
+  }
+
+  /** The agent's last collection, and the way to the chosen value that it told; null where nothing is chosen. */
+  way(agent) {
+    if (this.chosen === null) return null;
+    const row = this.trace.collection(agent, this.row);
+    const kept = row < 0 ? new Map() : this.trace.rows[row].kept;
+    return { row, kept, values: wayTo(kept, this.chosen) };
+  }
+
+  /** The keys of the nodes and the edges on the way to the chosen value. */
+  lit(agent, heap) {
+    const way = this.way(agent);
+    const found = new Set(this.chosen === null ? [] : [`n${this.chosen}`]);
+    for (const identity of way?.values ?? []) {
+      const keys = behind(way.kept.get(identity), heap);
+      for (const key of [...keys, `n${identity}`]) found.add(key);
+      for (const key of keys) found.add(`${key} ${keys.at(-1) === key ? `n${identity}` : keys.at(-1)}`);
+    }
+    return found;
+  }
+
+  why(agent, heap) {
+    const way = this.way(agent);
+    if (way === null) return [];
+    const name = (identity) => this.named(agent, heap, identity);
+    const it = name(this.chosen), only = (said) => [element("p", said)];
+    if (!heap.kinds.has(this.chosen)) return only(`${it} is not there yet.`);
+    if (!heap.things.has(this.chosen)) return only(`${it} was emptied.`);
+    if (way.row < 0) return only(`No collection has said yet what keeps ${it}.`);
+    const row = this.numberOf(way.row);
+    if (way.values.length === 0) return only(`The last collection (row ${row}) says of nothing that it keeps ${it}.`);
+    const list = document.createElement("ol");
+    list.append(...way.values.map((identity) => element("li", reason(way.kept.get(identity), identity, name, this.trace))));
+    return [element("p", `Why ${it} stayed at the last collection (row ${row}):`), list];
+  }
+
+  /** A value by its kind and its number, and in a script by the name that it had first. */
+  named(agent, heap, identity) {
+    const first = this.trace.isScript ? this.trace.names.get(agent).get(identity) : undefined;
+    return `${heap.kinds.get(identity) ?? "value"} ${identity}${first ? ` (${first})` : ""}`;
+  }
+}
+
+/** Scrolls a place so far that one of its nodes can be seen. */
+function reveal(place, node) {
+  if (node === null) return;
+  const inside = node.getBoundingClientRect(), outside = place.getBoundingClientRect();
+  place.scrollTop += Math.max(0, inside.bottom + 12 - outside.bottom) - Math.max(0, outside.top + 12 - inside.top);
+  place.scrollLeft += Math.max(0, inside.right + 12 - outside.right) - Math.max(0, outside.left + 12 - inside.left);
+}
+
+/** The keys of the nodes that a value is kept by, the nearest last: of an entry the WeakMap, its key and the point. */
+function behind(by, heap) {
+  if (by.variable !== undefined) return [`var ${by.variable}`];
+  if (by.keptalive) return ["KeptAlive"];
+  if (by.registration !== undefined) return [`n${heap.registrations.get(by.registration)?.registry}`];
+  const nodes = sourcesOf(by).map((identity) => `n${identity}`);
+  return by.weakmap === undefined ? nodes : [...nodes, `e${by.weakmap}_${by.key}`];
+}

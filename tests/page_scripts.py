@@ -1,0 +1,411 @@
+#!/usr/bin/env python3
+"""Scripts in the kept page: what it shows of them, and what it does with what is written.
+
+Usage: page_scripts.py [--pictures FOLDER]
+
+- In node: which lines of scripts every engine has to print, by the rules. Of the lessons, what node may leave out is none of
+  these; and of random scripts node prints them, if it collects and if it never does.
+- In a browser without a window: a script that is pasted, its steps and their marks, what it printed, its plan, and its fault;
+  undo, reload, links and focus; the picture by keys and in words, with neighbours, and its labels with 24 and 60 values; sizes
+  of 390, 1280 and 1920 pixels; contrasts, light and dark.
+
+With --pictures the page is painted. What it left out, for want of a tool, it says before its last line, `N passed, M failed`.
+"""
+
+import argparse
+import json
+import os
+import re
+import subprocess
+import tempfile
+
+import browser
+import page
+import page_browser
+import page_looks
+import page_trace
+import running
+
+TOP = os.path.dirname(os.path.dirname(os.path.abspath(__file__)))
+# How many random scripts are tried.
+RANDOM = 25
+LESSONS = os.path.join(TOP, "play", "lessons")
+
+SCRIPT = """const data = new WeakMap();
+let user = { name: "Ada" };
+data.set(user, { visits: 1 });
+const ref = new WeakRef(user);
+user = null;
+console.log("now", ref.deref() !== undefined, 7);
+await turn();
+gc();
+console.log("later", ref.deref());
+"""
+TABLE = """const registry = new FinalizationRegistry((name) => console.log("gone", name));
+const cache = new WeakMap();
+const table = {};
+let last = table;
+for (let i = 0; i < 4; i++) {
+  const row = { left: {}, right: {} };
+  cache.set(row, { html: {} });
+  registry.register(row, `row ${i}`);
+  last.next = row;
+  last = row;
+}
+const ref = new WeakRef(last);
+last = null;
+"""
+SIXTY = """const all = [];
+for (let i = 0; i < 58; i++) all.push({});
+for (let i = 0; i < 58; i++) { all[i].left = all[(i * 7 + 3) % 58]; all[i].right = all[(i * 13 + 5) % 58]; }
+const ref = new WeakRef(all[20]);
+"""
+MANY = """const all = [];
+for (let i = 0; i < 250; i++) all.push({ next: {} });
+"""
+
+# Scripts of which each line is known by the rules: with a star what may be otherwise.
+JUDGED = [
+    # In the job that made the WeakRef its target stays.
+    ("const r = new WeakRef({}); gc(); console.log(r.deref() !== undefined);", ["true"]),
+    # A turn later an engine may have collected, though nobody asked for it here.
+    ("const r = new WeakRef({}); await turn(); console.log(r.deref() !== undefined); console.log(1);", ["*true", "1"]),
+    # What a variable holds is there.
+    ("let o = {}; const r = new WeakRef(o); await turn(); gc(); console.log(r.deref() === o);", ["true"]),
+    # The choice goes on in a variable, in a property, and in what is done or not done.
+    ("const r = new WeakRef({}); await turn(); gc(); const b = r.deref(); console.log(2); console.log(b);", ["2", "*undefined"]),
+    ("const r = new WeakRef({}), o = {}; await turn(); gc(); o.b = r.deref(); console.log(2);", ["*2"]),
+    ("const r = new WeakRef({}); await turn(); gc(); if (!r.deref()) console.log('gone'); console.log(2);", ["*gone", "2"]),
+    ("const r = new WeakRef({}); function f() { if (r.deref()) return; console.log(1); } await turn(); gc(); f();", ["*1"]),
+    # A callback comes when the engine likes. What it changes hangs on that, but not before the job's end.
+    ("let n = 0; const g = new FinalizationRegistry(() => { n++; }); g.register({}, 1); console.log(n); await turn(); gc(); await turn(); "
+     "console.log(n); console.log('end');", ["0", "*1", "end"]),
+    # Whoever has the key finds the entry.
+    ("const m = new WeakMap(), k = {}; m.set(k, 1); await turn(); gc(); console.log(m.get(k), m.has({}));", ["1 false"]),
+    # An unregistration after the callback, or as soon as the target may be gone.
+    ("const g = new FinalizationRegistry((h) => console.log(h)), t = {}; g.register({}, 'h', t); await turn(); gc(); await turn(); "
+     "console.log(g.unregister(t));", ["*h", "*false"]),
+    # A choice comes to another agent with a message.
+    ("agent('a', async () => { const r = new WeakRef({}); await turn(); gc(); postMessage(r.deref() === undefined, 'b'); }); "
+     "agent('b', async () => { console.log(1); console.log(await message('a')); });", ["1", "*true"]),
+]
+
+
+def judgements(count, left_out):
+    words = page.node()
+    if words is None:
+        left_out.append("which lines every engine prints, as there is no node with 64-bit WebAssembly memory")
+        return
+
+    def judged(paths):
+        said = subprocess.run([*words, os.path.join(TOP, "tests", "page_judging.mjs"), page.SCRIPT, *paths], stdout=subprocess.PIPE, check=True).stdout
+        return [json.loads(line) for line in said.splitlines()]
+
+    with tempfile.TemporaryDirectory() as room:
+        paths = [os.path.join(room, f"{number}.js") for number in range(len(JUDGED))]
+        for path, (script, _) in zip(paths, JUDGED):
+            with open(path, "w", encoding="utf-8") as file:
+                file.write(script)
+        for (script, wanted), got in zip(JUDGED, judged(paths)):
+            count.expect(f"the lines of {script}", [f"{'*' if may else ''}{text}" for text, may in got], wanted)
+    with open(os.path.join(LESSONS, "lines.json"), encoding="utf-8") as file:
+        lessons = json.load(file)
+    for (name, lesson), got in zip(lessons.items(), judged([os.path.join(LESSONS, f"{name}.js") for name in lessons])):
+        count.expect(f"{name}: the lines", [text for text, _ in got], lesson["lines"])
+        surely = {text for text, may in got if not may}
+        count.expect(f"{name}: what node may leave out", surely & set(lesson.get("may", [])), set())
+
+
+def surely(count):
+    """Random scripts on node: what the page says that every engine prints. More are tried by hand: `page_surely.mjs COUNT SEED`."""
+    words = page.node()
+    if words is None:
+        return
+    said = subprocess.run([*words, "--expose-gc", os.path.join(TOP, "tests", "page_surely.mjs"), str(RANDOM), "1"], stdout=subprocess.PIPE, text=True, check=False).stdout
+    lines = said.splitlines() or [""]
+    print("\n".join(lines[:-1]))
+    numbers = re.fullmatch(r"(\d+) passed, (\d+) failed", lines[-1])
+    count.passed += int(numbers[1]) if numbers else 0
+    if not numbers or numbers[2] != "0":
+        count.faults.append(f"FAILED: random scripts: {lines[-1]}")
+
+
+# In the browser
+
+
+def pasted(tab, text, runs=False):
+    """Types a text, and waits until it has run, or has a fault."""
+    tab.value("at('fault').textContent = ''")
+    return tab.value(f"typed({json.dumps(text)}, {json.dumps(runs)})")
+
+
+def steps(count, tab):
+    """The steps are the statements, without temporaries; each marks its letters, opens to its commands, and has its heap."""
+    got = pasted(tab, SCRIPT)
+    count.expect("a script", (got["fault"], got["state"].split(",")[0]), ("No fault.", "2 lines"))
+    rows = tab.value("allRows()")
+    statements = [line for line in SCRIPT.splitlines() if not line.startswith("await")]
+    shown = [row[1].removeprefix("▸ ") for row in rows]
+    count.expect("each statement has one step", [row for row in shown if row in statements], statements)
+    count.expect("what stands between", [row for row in shown if row not in statements], ["turn ends", "turn ends", "main ends"])
+    count.expect("what they answer", [row[2] for row in rows], [
+        "data = WeakMap 1", "user = object 2", "", "ref = WeakRef 4", "user holds no object", "now true 7",
+        "KeptAlive lets go: object 2 (user)", "collected 2 values", "later undefined", "", ""])
+    tab.value("at('to-first').click(); at('forward').click(); at('forward').click()")
+    count.expect("the statement is marked", tab.value("step()"), "data.set(user, { visits: 1 });")
+    count.expect("its heap has no temporary", tab.value("drawn().nodes"), ["var data ", "var user ", "n1 ", "n2 ", "n3 ", "e1_2 "])
+    tab.value("at('rows').focus()")
+    tab.press("Enter", 13)
+    tab.press("ArrowDown", 40)
+    count.expect("a step opens to its commands", tab.value("current()"), ["main", "new _1", "object 3"])
+    count.expect("the place of a command", tab.value("step()"), "{ visits: 1 }")
+    tab.press("ArrowUp", 38)
+    tab.press("Enter", 13)
+    tab.value("at('to-last').click()")
+    count.expect("no statement is marked at the end", tab.value("step()"), None)
+
+
+def printed(count, tab):
+    """The lines, which of them every engine prints, and the plan with its marks."""
+    tab.value("at('printed-tab').click()")
+    lines = "[...document.querySelectorAll('.printed button')].map((it) => [it.querySelector('code').textContent, it.className])"
+    count.expect("the lines", tab.value(lines), [["now true 7", "must"], ["later undefined", "may"]])
+    tab.value("document.querySelectorAll('.printed button')[1].click()")
+    count.expect("the statement of a line", tab.value("step()"), 'console.log("later", ref.deref());')
+    tab.value("at('planned-tab').click()")
+    marked = tab.value("document.querySelector('#planned mark').textContent")
+    count.expect("its commands in the plan", (marked.startswith('["deref"'), '["say", "_1"]' in marked, '"collect"' in marked), (True, True, False))
+    press = """(() => {
+      const text = document.createTreeWalker(at("planned"), NodeFilter.SHOW_TEXT);
+      while (text.nextNode()) {
+        const found = text.currentNode.data.indexOf('["weakref"');
+        if (found < 0) continue;
+        getSelection().setPosition(text.currentNode, found + 3);
+        at("planned").dispatchEvent(new MouseEvent("click", { bubbles: true }));
+        return step();
+      }
+    })()"""
+    count.expect("the statement of a command", tab.value(press), "const ref = new WeakRef(user);")
+    tab.value("at('trace-tab').click()")
+
+
+def faults(count, tab):
+    """A script outside of the language: its line, a mark below its letters, and why. What was run last stays."""
+    got = pasted(tab, 'let a = 1;\nlet b = import("x");\n')
+    count.expect("where a fault stands", (got["fault"].startswith("Line 2: "), got["marked"], got["old"]), (True, 'import("x")', True))
+    count.expect("marks below it", tab.value("at('fault').querySelector('pre').textContent"), 'let b = import("x");\n        ^^^^^^^^^^^')
+    count.expect("the last run stays", tab.value("allRows().length"), 11)
+    got = pasted(tab, "let a = ;")
+    count.expect("a fault of the grammar", (got["fault"].startswith("Line 1: "), got["marked"]), (True, ";"))
+    got = pasted(tab, '{"version": 1, "agents": []}')
+    count.expect("a plan in JSON", (got["fault"].split(":")[0].endswith("S4"), tab.value("at('plan-title').textContent")), (True, "Plan"))
+
+
+def writing(count, tab):
+    """Undo past an example, a reload, the heading, and links."""
+    pasted(tab, SCRIPT)
+    page_browser.call(tab, "chosen", "examples", "gone")
+    count.expect("the heading of an example", tab.value("at('about').textContent").startswith("examples / gone "), True)
+    tab.value("at('plan').focus()")
+    tab.call("Input.dispatchKeyEvent", type="rawKeyDown", key="z", code="KeyZ", windowsVirtualKeyCode=90, modifiers=2, commands=["undo"])
+    count.expect("Control and Z bring back what was written", tab.value("at('plan').value"), SCRIPT)
+    count.expect("no heading where the text was changed", tab.value("at('about').textContent").strip(), "")
+    tab.value("at('fault').textContent = '', rest(200).then(settled)")
+    page_browser.begin(tab, page_browser.PAGE)
+    prepare(tab)
+    count.expect("a reload", tab.value("at('plan').value"), SCRIPT)
+    tab.value("at('link').click(), rest(300)")
+    said, end = tab.value("[at('fault').textContent, location.hash]")
+    count.expect("a link of a file", "It names a file of this machine" in said, True)
+    page_browser.begin(tab, page_browser.PAGE + end)
+    prepare(tab)
+    count.expect("a link with a script", tab.value("[at('plan').value, at('about').textContent.trim()]"), [SCRIPT, "The script of a link."])
+    pasted(tab, "console.log(1);")
+    count.expect("no link to an older text", tab.value("location.href"), page_browser.PAGE)
+    page_browser.begin(tab, page_browser.PAGE + "#script=" + "".join(f"%{byte:02X}" for byte in b"console.log(1 + 1);"))
+    prepare(tab)
+    count.expect("a script in an address", tab.value("document.querySelector('.printed code').textContent"), "2")
+    long = "".join(f"// {number * 7919 % 10007} {number * 104729 % 99991}\n" for number in range(500))
+    pasted(tab, long)
+    tab.value("at('link').click(), rest(300)")
+    count.expect("a long link", "letters: some mail" in tab.value("at('fault').textContent"), True)
+
+
+def focus(count, tab):
+    """The buttons to the ends keep the focus, so that the arrows go on."""
+    pasted(tab, SCRIPT)
+    for name, key, code, row in (("to-last", "ArrowLeft", 37, "10 of 11"), ("to-first", "ArrowRight", 39, "2 of 11")):
+        tab.value(f"at('{name}').focus(); at('{name}').click()")
+        tab.press(key, code)
+        count.expect(f"the focus of {name}", tab.value("[document.activeElement.id, at('step').textContent]"), [name, row])
+
+
+def picture(count, tab):
+    """The picture in words and by keys: edges, variables, neighbours, and its size."""
+    tab.value("at('to-first').click(); for (let row = 0; row < 3; row += 1) at('forward').click()")
+    words = "document.querySelector('[data-key=\"%s\"]').getAttribute('aria-label')"
+    count.expect("a WeakRef in words", tab.value(words % "n4"), "WeakRef 4, held by ref, target object 2 (weak)")
+    count.expect("an object in words", tab.value(words % "n2"), "object 2, held by user, held by KeptAlive, seen by WeakRef 4 (weak)")
+    count.expect("an entry's value in words", tab.value(words % "n3"), "object 3, held by the entry of WeakMap 1 under object 2")
+    tab.value("document.querySelector('[data-key=\"var ref\"]').focus()")
+    tab.press("Enter", 13)
+    dim = "[...document.querySelectorAll('#heap .node:not(.dim)')].map((it) => it.dataset.key)"
+    count.expect("what is beside the chosen value", tab.value(dim), ["var ref", "n2", "n4"])
+    count.expect("the words of the chosen value", tab.value("at('edges').textContent"), tab.value(words % "n4"))
+    scale = "Number(document.querySelector('#heap svg').dataset.scale)"
+    before = tab.value(scale)
+    tab.press("+", 187)
+    count.expect("a larger picture", tab.value(scale) > before * 1.2, True)
+    tab.press("0", 48)
+    fits = "(() => { const { clientWidth, scrollWidth, clientHeight, scrollHeight } = at('heap'); return clientWidth >= scrollWidth && clientHeight >= scrollHeight; })()"
+    count.expect("a picture that fits", tab.value(fits), True)
+    tab.press("Escape", 27)
+    count.expect("nothing is chosen", tab.value(dim + ".length === document.querySelectorAll('#heap .node').length"), True)
+    for name, side in (("split-text", "width"), ("split-rows", "height")):
+        size = f"at('{'plan' if name == 'split-text' else 'rows'}').getBoundingClientRect().{side}"
+        before = tab.value(f"at('{name}').focus(), {size}")
+        tab.press("ArrowRight", 39)
+        count.expect(f"{name} by an arrow", tab.value(size) > before + 10, True)
+        tab.value(f"at('{name}').dispatchEvent(new MouseEvent('dblclick'))")
+        count.expect(f"{name} put back", tab.value(size), before)
+    tab.value("at('enlarge').click(), rest(50)")
+    count.expect("the picture alone", tab.value("[at('heap').clientHeight > innerHeight * 0.7, at('rows').clientHeight]"), [True, 0])
+    tab.value("at('enlarge').click()")
+
+
+def many(count, tab):
+    """Labels with 24 and 60 values, and what is drawn of more than can be read."""
+    for what, script, values in (("24 values", TABLE, 24), ("60 values", SIXTY, 60)):
+        pasted(tab, script)
+        tab.value("at('to-last').click()")
+        for size in ((1280, 800), (1920, 1080)):
+            page_looks.sized(tab, *size)
+            got = tab.value("covered()")
+            count.expect(f"{what}", tab.value("document.querySelectorAll('#heap .thing').length"), values)
+            count.expect(f"labels of {what} that lie on something, of {got['labels']}", (got["labels"] > 9, got["covered"]), (True, []))
+    pasted(tab, MANY)
+    tab.value("at('to-last').click()")
+    said = "at('heap').querySelector('p').textContent"
+    count.expect("why not all is drawn", tab.value(said).startswith("There are 501 values: more than 200"), True)
+    count.expect("what is drawn", tab.value("[drawn().nodes.length > 5, drawn().nodes.length <= 42]"), [True, True])
+    tab.value("at('centre').value = 501; at('centre').dispatchEvent(new Event('change'))")
+    count.expect("another one", "surrounds object 501" in tab.value(said), True)
+
+
+def sizes(count, tab):
+    """Nothing stands outside of the window; large parts for fingers where it is narrow, and three columns where it is wide."""
+    pasted(tab, SCRIPT)
+    for size in ((390, 844), (1280, 800), (1920, 1080)):
+        page_looks.sized(tab, *size)
+        count.expect(f"the width of {size[0]}", tab.value("document.documentElement.scrollWidth <= innerWidth"), True)
+        parts = "['header', '.editor', '.walk', '.seen', '#answer', 'footer'].map((it) => document.querySelector(it).getBoundingClientRect())"
+        meets = f"(([head, editor, rows, heap, right, foot]) => head.bottom > editor.top || head.bottom > right.top || [editor, rows, heap, right].some(({{ bottom }}) => bottom > foot.top))({parts})"
+        count.expect(f"parts on each other at {size[0]}", tab.value(meets), False)
+    place = "['plan', 'rows', 'heap'].map((id) => at(id).getBoundingClientRect()).map(({ left, right }) => [left, right])"
+    (_, first), (second, end), (third, _) = tab.value(place)
+    count.expect("three columns", first < second and end < third, True)
+    page_looks.sized(tab, 390, 844)
+    small = "[...document.querySelectorAll('main button, main select')].filter((it) => it.getClientRects().length > 0 && it.getBoundingClientRect().height < 44).map((it) => it.id)"
+    count.expect("buttons for fingers", tab.value(small), [])
+    count.expect("the editor's letters", tab.value("getComputedStyle(at('plan')).fontSize"), "16px")
+    page_looks.sized(tab, 1280, 800)
+
+
+def contrasts(count, tab):
+    """With what is no longer reached, collected, chosen and printed; with a fault and an old run; and the menu."""
+    pasted(tab, SCRIPT)
+    page_looks.contrasts(count, tab, "what is no longer reached")
+    tab.value("at('to-collection').click()")
+    page_looks.contrasts(count, tab, "what is collected")
+    tab.value("press(4)")
+    page_looks.contrasts(count, tab, "what steps back")
+    for name in ("printed", "planned"):
+        tab.value(f"at('{name}-tab').click()")
+        page_looks.contrasts(count, tab, name)
+    tab.value("at('trace-tab').click()")
+    pasted(tab, "let a = ;")
+    page_looks.contrasts(count, tab, "a fault")
+    tab.value("at('open').click()")
+    page_looks.contrasts(count, tab, "the menu")
+    tab.press("Escape", 27)
+    page_browser.call(tab, "chosen", "examples", "queue")
+    tab.value("at('report-tab').click()")
+    page_looks.contrasts(count, tab, "a report")
+    tab.value("at('trace-tab').click()")
+
+
+def time_of(count, tab):
+    """From the press of the button to the steps of a script of ten lines; the best of five."""
+    took = []
+    for number in range(5):
+        text = json.dumps(f"{SCRIPT}// {number}")
+        run = f"at('plan').value = {text}, at('fault').textContent = '', begun = performance.now(), at('run').click(), settled().then(() => performance.now() - begun)"
+        took.append(tab.value(f"globalThis.begun = 0, {run}"))
+    print(f"a script of ten lines in the page: {min(took):.0f} ms")
+    count.expect("the time of a script", min(took) < 1000, True)
+
+
+def without_engine(count, tab):
+    """A browser without 64-bit memory, as the engine's thread sees it: that is said once."""
+    narrow = "globalThis.Blob = class extends Blob { constructor(parts, how) { super(['WebAssembly.validate = () => false;', ...parts], how); } }"
+    script = tab.call("Page.addScriptToEvaluateOnNewDocument", source=narrow)["identifier"]
+    page_browser.begin(tab, page_browser.PAGE)
+    tab.call("Page.removeScriptToEvaluateOnNewDocument", identifier=script)
+    said = tab.value("rest(300).then(() => [at('fault').textContent, at('state').textContent, at('rows').textContent])")
+    wanted = "This browser has no 64-bit WebAssembly memory, which the engine needs. Chromium 156 and Firefox 153 have it."
+    count.expect("no engine", said, [wanted, "It was not run.", ""])
+
+
+def first(count, tab):
+    """The page opens with a lesson, and shows its steps."""
+    count.expect("the first page", tab.value("[at('about').textContent.split(' ')[0], at('trace').hidden, allRows().length > 5]"), ["lessons", False, True])
+
+
+def prepare(tab):
+    tab.value(page_trace.TOOLS)
+    tab.value(page_looks.TOOLS)
+
+
+def pictures(tab, folder):
+    os.makedirs(folder, exist_ok=True)
+    for name, script in (("script", SCRIPT), ("24", TABLE), ("60", SIXTY)):
+        page_looks.sized(tab, 1280, 800)
+        pasted(tab, script)
+        for width, height in ((390, 844), (1280, 800), (1920, 1080)):
+            for is_dark in (False, True):
+                tab.look(width, height, is_dark, os.path.join(folder, f"{name}-{width}-{'dark' if is_dark else 'light'}.png"))
+
+
+def in_browser(count, path, folder):
+    with browser.Browser(path) as tab:
+        page_looks.sized(tab, 1280, 800)
+        page_browser.begin(tab, page_browser.PAGE)
+        prepare(tab)
+        for part in (first, steps, printed, faults, writing, focus, picture, many, sizes, contrasts, time_of, without_engine):
+            part(count, tab)
+        thrown = [event["params"]["exceptionDetails"] for event in tab.events if event["method"] == "Runtime.exceptionThrown"]
+        count.expect("what the page threw", thrown, [])
+        if folder:
+            page_browser.begin(tab, page_browser.PAGE)
+            pictures(tab, folder)
+
+
+def main():
+    parser = argparse.ArgumentParser(description=__doc__, formatter_class=argparse.RawDescriptionHelpFormatter)
+    parser.add_argument("--pictures", metavar="FOLDER")
+    given = parser.parse_args()
+    count, left_out = running.Count(), []
+    judgements(count, left_out)
+    surely(count)
+    path = browser.found()
+    if path is None:
+        left_out.append("the page in a browser, as there is no chromium")
+    else:
+        in_browser(count, path, given.pictures)
+    for what in left_out:
+        print(f"Left out: {what}.")
+    count.end()
+
+
+if __name__ == "__main__":
+    main()
