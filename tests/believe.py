@@ -9,8 +9,9 @@ Each file of crates/*/specs, but for Lib.antt, says in its first line whether it
 section SECTION has one line a crate, as `- **crate**: [File](path) size, ..`, and in these lines each file to believe
 once, and no other. A size is the number of lines that are neither empty nor a `use`. The section FEW has twelve files
 and five of which only a few words are needed: the file that says what is live takes words from these alone. A file to
-believe takes no word from an internal one. Nor do the contracts of the calls that a crate exports, and the models of
-its types, but for those of INSIDE.
+believe takes no word from an internal one. Nor do the contracts of the calls that a crate exports, and the ghost members
+of its types and their impls (their models, what a conversion gives, what they own), but for those of INSIDE and
+KEEPING; of a program it is the calls that docs/PROVED.md names.
 """
 
 import glob
@@ -20,6 +21,8 @@ import sys
 
 TOP = os.path.dirname(os.path.dirname(os.path.abspath(__file__)))
 PAGE = os.path.join(TOP, "docs", "BELIEVE.md")
+PROVED = os.path.join(TOP, "docs", "PROVED.md")
+PROMISED = re.compile(r"^\*\*([\w, ]+)\.\*\* (.*)$", re.M)
 SECTION = "## All, in reading order"
 FEW = "## Weak references alone"
 LIVE = ("es_event", "Live")
@@ -45,12 +48,26 @@ INSIDE = {
     ("es_event", "Log"),
     ("es_event", "Reading"),
 }
+# types whose values are read off what they keep, and types whose invariants no caller sees
+KEEPING = {
+    ("es_agent", "AgentCore"),
+    ("es_deeds", "Rest"),
+    ("es_event", "Done"),
+    ("es_event", "OptionalName"),
+    ("es_ledger", "LedgerCore"),
+    ("es_mark", "Marks"),
+    ("es_props", "Heap"),
+    ("es_registry", "Registries"),
+    ("es_ticket", "Opened"),
+    ("es_ticket", "Rows"),
+    ("es_ticket", "Stake"),
+}
 WORDS = re.compile(r"use Rattle\.(\w+)\.specs\.(\w+)\.\{([^}]*)\}")
 EXPORTS = re.compile(r"^pub use [\w:]+::(?:\{([^}]*)\}|(\w+));", re.MULTILINE)
 OWNER = re.compile(r"(?:impl(?:<[^>]*>)? (?:[\w<>, ]+ for )?|pub trait )(\w+)")
 CALL = re.compile(r"( *)(pub |pub\(crate\) |)(?:const )?fn (\w+)")
 CLAUSE = re.compile(r" +(?:requires|ensures)(?: \w+)? \{(.*)\}")
-MODEL = re.compile(r" +ghost Value = \{(.*)\}")
+MEMBER = re.compile(r" +ghost (Value|view|invariant|from_gives|also_owns) = (\{.*)")
 
 
 def kinds():
@@ -141,26 +158,40 @@ def read(path):
         return text.read()
 
 
+def is_program(crate):
+    return not os.path.exists(os.path.join(TOP, "crates", crate, "src", "lib.rt"))
+
+
 def exported(crate):
-    """The names that a crate's root exports."""
-    root = os.path.join(TOP, "crates", crate, "src", "lib.rt")
-    found = EXPORTS.findall(read(root)) if os.path.exists(root) else []
+    """The names that a crate's root exports; of a program those of which docs/PROVED.md speaks."""
+    if is_program(crate):
+        lines = [line for names, line in PROMISED.findall(read(PROVED)) if crate in names.split(", ")]
+        return {name for line in lines for name in re.findall(r"`(\w+)`", line)}
+    found = EXPORTS.findall(read(os.path.join(TOP, "crates", crate, "src", "lib.rt")))
     return {name.strip() for names, name in found for name in (names or name).split(",")}
 
 
-def clauses(text, exports):
-    """Each clause of an exported call, with the call's name, and the value of each exported type's model."""
+def member(lines, first):
+    """The ghost member whose text begins at this line, up to the line that ends it."""
+    last = next(at for at in range(first, len(lines)) if lines[at].endswith("};"))
+    return MEMBER.match(lines[first])[2] + "\n".join(lines[first + 1 : last + 1])
+
+
+def clauses(text, exports, words):
+    """Each clause of an exported call, with the call's name, and the ghost members of each exported type and its impls.
+    A call is seen that stands behind one of these words."""
     owner, call, trait = None, None, False
-    for line in text.split("\n"):
+    lines = text.split("\n")
+    for at, line in enumerate(lines):
         if begun := OWNER.match(line):
             owner, call, trait = begun[1], None, line.startswith("pub trait ")
         elif begun := CALL.match(line):
             seen = owner in exports if begun[1] else begun[3] in exports
-            call = begun[3] if seen and (trait or begun[2] == "pub ") else None
+            call = begun[3] if seen and (trait or begun[2] in words) else None
         elif call and (clause := CLAUSE.match(line)):
             yield call, clause[1]
-        elif owner in exports and (clause := MODEL.match(line)):
-            yield owner, clause[1]
+        elif owner in exports and MEMBER.match(line):
+            yield owner, member(lines, at)
 
 
 def spoken(crate):
@@ -169,15 +200,15 @@ def spoken(crate):
     for path in sorted(glob.glob(os.path.join(TOP, "crates", crate, "src", "**", "*.rt"), recursive=True)):
         text = read(path)
         words = words_of(text)
-        for call, clause in clauses(text, exports):
+        for call, clause in clauses(text, exports, ("pub ", "pub(crate) ") if is_program(crate) else ("pub ",)):
             for word in re.findall(r"[A-Za-z_][\w']*", clause):
                 if word in words:
                     yield words[word], call, word
 
 
-def silent(crate, file, files):
-    """Whether this crate's contracts may not speak through that file."""
-    return files.get(file) == "Internal" and not {(crate, None), file} & INSIDE
+def silent(crate, call, file, files):
+    """Whether this call or type of the crate may not speak through that file."""
+    return files.get(file) == "Internal" and (crate, call) not in KEEPING and not {(crate, None), file} & INSIDE
 
 
 def rests(files):
@@ -191,7 +222,7 @@ def rests(files):
             wrong += [f"{crate}: {name} takes {word} of {of}'s {file}, which is internal" for word, of, file in inside]
     for crate in sorted(os.path.basename(os.path.dirname(folder)) for folder in glob.glob(os.path.join(TOP, "crates", "*", ""))):
         looked += 1
-        inside = {(call, word, *file) for file, call, word in spoken(crate) if silent(crate, file, files)}
+        inside = {(call, word, *file) for file, call, word in spoken(crate) if silent(crate, call, file, files)}
         for call, word, of, file in sorted(inside):
             wrong.append(f"{crate}: {call} speaks of {word} of {of}'s {file}, which is internal")
     return wrong, looked

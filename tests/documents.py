@@ -3,9 +3,10 @@
 
 Usage: documents.py. Prints each fault, and `N passed, M failed` last.
 
-- Each document says in its first paragraph for whom it is, and keeps its length, in words outside blocks of code; its
-  links lead somewhere, and the files that it names are there.
-- README.md quotes its plan and its report from examples/, and its numbers from docs/PERFORMANCE.md.
+- Each document says in its first paragraph for whom it is; its links lead somewhere, and the files that it names are
+  there. Each of its sections keeps its length, in words outside blocks of code and tables, and README.md as a whole. A log
+  may have any length.
+- README.md quotes its plan and its report from examples/, its script from play/lessons, and its numbers from docs/PERFORMANCE.md.
 - tests/README.md has a row for each test that `check` runs, with the words with which it is called, and says how
   many wrong bodies there are.
 - docs/GLOSSARY.md has each word once, in order. CHANGELOG.md has the program's version. What docs/TUTORIAL.md quotes of
@@ -22,8 +23,8 @@ import rules
 
 TOP = os.path.dirname(os.path.dirname(os.path.abspath(__file__)))
 FOR_WHOM = re.compile(r"\b[Ff]or (those|anyone|people)\b")
-LONGEST = 3000
-LENGTHS = {"README.md": 1500, "docs/DECISIONS.md": None, "docs/TOOLCHAIN.md": None}
+LONGEST = 1600  # words of a section
+WHOLE = {"README.md": 1700}  # words of a document
 LINK = re.compile(r"\]\(([^)#\s]*)(?:#([^)\s]*))?\)")
 FILE = re.compile(r"`((?:docs|tests|crates|examples|bench|embed|engines|play)/[\w./*-]+)`")
 
@@ -60,9 +61,19 @@ def beginning(path):
 
 
 def length(path):
-    most = LENGTHS.get(path, LONGEST)
-    words = len(prose(read(path)).split())
-    return f"it has {words} words, and may have {most}" if most and words > most else None
+    """What of a document is too long."""
+    text = prose(read(path))
+    words = len(text.split())
+    if words > WHOLE.get(path, words):
+        return f"it has {words} words, and may have {WHOLE[path]}"
+    if path.startswith("docs/log/"):
+        return None
+    parts = re.split(r"^(#+ .*)$", text, flags=re.M)
+    for heading, part in zip(parts[1::2], parts[2::2]):
+        words = sum(len(line.split()) for line in part.split("\n") if not line.startswith("|"))
+        if words > LONGEST:
+            return f"{heading} has {words} words, and may have {LONGEST}"
+    return None
 
 
 def links(path):
@@ -90,10 +101,10 @@ def files(path):
 
 
 def quotes():
-    """What README.md quotes of an example and does not have."""
-    for kind in ("json", "report", "trace"):
-        if f"\n{read(f'examples/gone.{kind}')}```\n" not in read("README.md"):
-            return f"it does not quote examples/gone.{kind}"
+    """What README.md is to quote of an example and of a lesson, and does not have."""
+    for path in (*(f"examples/gone.{kind}" for kind in ("json", "report", "trace")), "play/lessons/weakref-still-answers.js"):
+        if f"\n{read(path)}```\n" not in read("README.md"):
+            return f"it does not quote {path}"
     return None
 
 
@@ -132,7 +143,7 @@ def numbers():
 def called():
     """What is wrong with the rows of tests/README.md beside the calls in `check`."""
     gate = read("check").split('rm -f "$program" "$turns"')[1]
-    for name in ("program", "turns", "calls"):
+    for name in ("program", "turns", "calls", "first"):
         gate = gate.replace(f'"${name}"', name.upper())
     calls = re.findall(r"try \w+ tests/(.*)", gate)
     page = read("tests/README.md")

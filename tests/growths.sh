@@ -292,6 +292,11 @@ else
     failed=$((failed + 1))
     echo "FAILED: four helpers: status $got and $(threads_made) threads made"
 fi
+# A later collection of it has a thread of its own, in which as many helpers mark the copy, and the agent marks it no more.
+helpers=$(threads_made)
+sed 's/"version":1/"version":2/; s/\["collect"\]/["collectlater"]/' "$room/wide.json" >"$room/wide_later.json"
+makes_threads 1 "$room/wide_later.json" --helpers 1
+makes_threads $((1 + helpers)) "$room/wide_later.json" --helpers 4
 
 # Refuses the last growths of a plan's run with so many helpers, in turn. How many there are is not quite the same from
 # run to run.

@@ -175,6 +175,8 @@ int main(int argc, char **argv)
     uint8_t out[GUARD], behind[GUARD];
     uint8_t *plan;
     struct clusterrun_answer answer = {0};
+    struct clusterrun_cluster cluster = {0};
+    size_t agents = 77;
     long before, number;
     int at;
 
@@ -201,6 +203,13 @@ int main(int argc, char **argv)
     expect(memcmp(out, behind, GUARD) == 0, "what was written", "4 GB", 0);
     length = 77;
     expect(clusterrun_keep_run(plan, too_long, &answer, &length) == CLUSTERRUN_TOO_LONG && length == 0 && !answer.filled, "kept", "4 GB", length);
+    length = 77;
+    expect(trace_some(plan, too_long, out, GUARD, &length) == CLUSTERRUN_TOO_LONG && length == 0, "trace", "4 GB", length);
+    length = 77;
+    expect(clusterrun_begin(plan, too_long, &cluster, &agents, out, GUARD, &length) == CLUSTERRUN_TOO_LONG && length == 0
+               && agents == 0 && !cluster.filled && cluster.at == NULL,
+        "begin", "4 GB", length);
+    expect(memcmp(out, behind, GUARD) == 0, "what was written at last", "4 GB", 0);
     expect(clusterrun_run(plan, 0, out, GUARD, &length) == CLUSTERRUN_REFUSED && length == 10
                && memcmp(out, "refused S1", 10) == 0 && memcmp(out + 10, behind, GUARD - 10) == 0,
         "run", "no bytes", length);

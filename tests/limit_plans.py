@@ -7,8 +7,8 @@ LONGEST = 10000  # the most commands of a job
 NAMES = "abcdefgh"
 
 
-def written(agents):
-    return json.dumps({"version": 1, "agents": agents}, separators=(",", ":")).encode()
+def written(agents, version=1):
+    return json.dumps({"version": version, "agents": agents}, separators=(",", ":")).encode()
 
 
 def agent(name, jobs, callbacks=None):
@@ -21,9 +21,9 @@ def split(commands):
     return [commands[at : at + LONGEST] for at in range(0, len(commands), LONGEST)]
 
 
-def alone(*jobs, callbacks=None):
+def alone(*jobs, callbacks=None, version=1):
     """A plan of one agent, of lists of commands that are each split into jobs."""
-    return written([agent("a", [job for commands in jobs for job in split(commands)], callbacks)])
+    return written([agent("a", [job for commands in jobs for job in split(commands)], callbacks)], version)
 
 
 def each(count, *commands):
@@ -224,6 +224,14 @@ def kept(count):
     return alone(made, *[[*derefs, ["collect"]]] * (count // len(derefs)))
 
 
+def derefs_beside_later(count):
+    """As many derefs while a later collection is open, of up to 9,000 WeakRefs in each."""
+    number = min(count, 9000)
+    made = each(number, ["new", "o"], ["weakref", "w#", "o"])
+    derefs = [["collectlater"], *each(number, ["deref", "o", "w#"])]
+    return alone(made, [["let", "o", None]], *[derefs] * (count // number), [["collect"]], version=2)
+
+
 def variables(count):
     return alone(each(count, ["let", "v#", 1]), each(count, ["copy", "x", "v#"]), [["collect"]])
 
@@ -278,7 +286,7 @@ PLANS = {
     "cells of one token": (cells_of_one_token, 100_000), "a token of many registries": (tokens_of_many_registries, 90_000),
     "cells that await": (cells_awaiting, 100_000), "cells that are refused": (cells_refused, 100_000),
     "registries": (registries_queued, 100_000), "cells registered anew": (cells_registered_anew, 100_000),
-    "kept": (kept, 1_000_000), "variables": (variables, 200_000), "collections": (collections, 1_000_000),
-    "small heaps": (small_heaps, 10_000), "chain": (chain, 300_000), "eight agents": (eight_agents, 400_000),
-    "ring": (ring, 7_992), "skips": (skips, 8_000),
+    "kept": (kept, 1_000_000), "derefs beside a later collection": (derefs_beside_later, 72_000),
+    "variables": (variables, 200_000), "collections": (collections, 1_000_000), "small heaps": (small_heaps, 10_000),
+    "chain": (chain, 300_000), "eight agents": (eight_agents, 400_000), "ring": (ring, 7_992), "skips": (skips, 8_000),
 }  # fmt: skip

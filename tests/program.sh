@@ -278,6 +278,10 @@ explained '{"version":1,"agents":[{"name":"1","callbacks":{},"jobs":[]}]}' 'S5 "
 explained_agent '"callbacks":{"b/c":[]},"jobs":[]' 'S5 "/agents/0/callbacks/b~1c"' "$name_fault" 'found "b/c"'
 explained_agent '"callbacks":{"a":[],"~~1\n\"é":[]},"jobs":[]' 'S5 "/agents/0/callbacks/~0~01\n\"é"' "$name_fault" \
     'found "~~1\n\"é"'
+# a key of 300 bytes stands whole in the place
+key=$(printf '%0300d' 0 | tr 0 k)
+explained_agent "\"callbacks\":{\"$key\":[]},\"jobs\":[]" "S5 \"/agents/0/callbacks/$key\"" "$name_fault" \
+    "found \"$(printf %.59s "$key").."
 explained_agent '"callbacks":{},"jobs":[{"run":[]},{"on":["b","1"],"run":[]}]},{"name":"b","callbacks":{},"jobs":[]' \
     'S5 "/agents/0/jobs/1/on"' "$name_fault" 'found ["b","1"]'
 explained_agent '"callbacks":{},"jobs":[{"on":["b","x"],"run":[]}]' 'S6 "/agents/0/jobs/0/on"' \

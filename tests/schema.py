@@ -55,7 +55,7 @@ TYPES = {
 }
 # What an operand has for a letter in docs/PLANS.md.
 LETTERS = {
-    "assigned": "X", "read": "YZOWMSRHTBD", "key": "K", "literal": "L", "text": "T", "callback": "C",
+    "assigned": "X", "read": "YZOWMSRHTBD", "key": "K", "literal": "L", "text": ("TEXT",), "callback": "C",
     "other_agent": "A", "whole": "NI", "words": "N",
 }
 SOME_OPERAND = {

@@ -22,6 +22,10 @@ After the random plans comes one run in which an agent waits while another colle
 take little more of the processors' time for it than by turns, as who waits sleeps. The better of up to PAIRS pairs of
 runs counts, since the same work takes more time on a machine that does much else.
 
+Then comes one in which an agent stores a word, posts right after it and goes on working, and the agent that slept till then
+works too. Both threads must take processors' time at once, in LEAST_LOOKS looks at the least: one that is woken only at the
+other's end takes none before. What else the machine does makes these looks longer, and changes nothing else.
+
 The second runs the same plans in threads with each of these numbers of helpers; the report must be that of rules.py.
 
 The third runs three plans RUNS times each, in which little is done and threads wake each other: two agents that post
@@ -45,6 +49,7 @@ import resource
 import statistics
 import subprocess
 import sys
+import tempfile
 import time
 
 import random_plans
@@ -55,6 +60,8 @@ MOST = 16384  # the most words of a block
 TOGETHER = 20  # the runs whose times count or do not count together
 PAIRS = 5
 MOST_TIME = 1.5  # how many times the processors' time of the run by turns a run with one that waits may take
+LOOK = 0.05  # the seconds between two looks at the threads' times
+LEAST_LOOKS = 10  # in how many looks both threads are to have worked
 MOST_STOLEN = 0.02  # the part of our processors' time that the host may take where times count
 AUDITS = [1, 2, 5, 20, 100, 1000]
 HELPERS = [1, 2, 3, 8]
@@ -255,6 +262,52 @@ def try_sleeping(program):
     return 1
 
 
+def thread_times(process):
+    """The processors' time of each thread of a process so far, in clock ticks."""
+    times, folder = {}, f"/proc/{process}/task"
+    try:
+        for thread in os.listdir(folder):
+            with open(f"{folder}/{thread}/stat", encoding="ascii") as file:
+                row = file.read().rsplit(")", 1)[1].split()
+            times[thread] = int(row[11]) + int(row[12])
+    except OSError:
+        pass  # a thread, or all, has ended meanwhile
+    return times
+
+
+def looks_together(program, data):
+    """In how many looks two threads or more of a run had taken processors' time since the look before."""
+    looks, before = 0, {}
+    with tempfile.TemporaryFile() as plan:
+        plan.write(data)
+        plan.seek(0)
+        with subprocess.Popen([program, "run"], stdin=plan, stdout=subprocess.DEVNULL, stderr=subprocess.DEVNULL) as ran:
+            ends = time.monotonic() + LIMIT
+            while ran.poll() is None and time.monotonic() < ends:
+                time.sleep(LOOK)
+                now = thread_times(ran.pid)
+                looks += sum(now[thread] > before.get(thread, 0) for thread in now) > 1
+                before = now
+            ran.kill()
+    return looks
+
+
+def try_waking_at_once(program):
+    """1 where an agent that is posted to right after a store is woken only at the sender's end, else 0."""
+    chain = [["new", "a"]] + [["new", "b"], ["set", "b", "p", "a"], ["copy", "a", "b"]] * 2000
+    rests, works = {"run": [["collect"]] * 1000}, [{"run": [["collect"]] * 10000}] * 2
+    posts = {"run": [["buffer", "m", 1], ["let", "x", 1], ["store", "m", 0, 7], ["post", "w", "x"]]}
+    waits = {"on": ["a", "x"], "run": []}
+    data = json.dumps(plan_of({"a": [{"run": chain}, rests, posts, *works], "w": [{"run": chain}, waits, *works]})).encode()
+    looks = [looks_together(program, data)]
+    while max(looks) < LEAST_LOOKS and len(looks) < PAIRS:
+        looks.append(looks_together(program, data))
+    if max(looks) < LEAST_LOOKS:
+        print(f"an agent that is posted to right after a store works beside the sender in {looks} looks alone")
+        return 1
+    return 0
+
+
 def stolen():
     """For how many seconds the host took our processors away since the machine began; 0 where none says."""
     ours = {f"cpu{number}" for number in os.sched_getaffinity(0)}
@@ -329,7 +382,8 @@ def main():
         tried, failed = given.count, try_plans(trial, given.count, given.jobs)
     elif given.waking is None:
         trial = functools.partial(try_plan, given.program, given.seed)
-        tried, failed = given.count + 1, try_plans(trial, given.count, given.jobs) + try_sleeping(given.program)
+        tried, failed = given.count + 2, try_plans(trial, given.count, given.jobs)
+        failed += try_sleeping(given.program) + try_waking_at_once(given.program)
     else:
         plans = {"ping-pong": ring(2, 400), "ring": ring(8, 200), "skips": skips(8, 25)}
         tried = given.waking * len(plans)
