@@ -9,8 +9,8 @@ Usage: documents.py. Prints each fault, and `N passed, M failed` last.
 - README.md quotes its plan and its report from examples/, its script from play/lessons, and its numbers from docs/PERFORMANCE.md.
 - tests/README.md has a row for each test that `check` runs, with the words with which it is called, and says how
   many wrong bodies there are.
-- docs/GLOSSARY.md has each word once, in order. CHANGELOG.md has the program's version. What docs/TUTORIAL.md quotes of
-  the code stands there, and its plans have its reports by rules.py.
+- docs/GLOSSARY.md has each word once, in order. CHANGELOG.md has the program's version. What docs/BREAKING.md quotes of
+  the code stands there, and the plans of docs/TUTORIAL.md have its reports by rules.py.
 """
 
 import glob
@@ -173,9 +173,9 @@ def version():
     return None if f"\n## {said}\n" in read("CHANGELOG.md") else f"it has no version {said}"
 
 
-def tutorial():
-    """What docs/TUTORIAL.md quotes from a file that it names, and does not stand there."""
-    found = re.findall(r"[Ff]rom `([^`]*)`:\n\n((?:    .*\n|\n)+)", read("docs/TUTORIAL.md"))
+def breaking():
+    """What docs/BREAKING.md quotes from a file that it names, and does not stand there."""
+    found = re.findall(r"[Ff]rom `([^`]*)`:\n\n((?:    .*\n|\n)+)", read("docs/BREAKING.md"))
     wrong = []
     for path, block in found:
         lines = [line[4:].strip() for line in block.split("\n") if line.strip()]
@@ -197,7 +197,7 @@ def main():
     faults |= {"README.md: quotes": quotes(), "README.md: numbers": numbers()}
     faults |= {"tests/README.md: tests": called(), "tests/README.md: edits": edits()}
     faults |= {"docs/GLOSSARY.md: words": words(), "CHANGELOG.md: version": version()}
-    faults |= {"docs/TUTORIAL.md: quotes": tutorial(), "docs/TUTORIAL.md: reports": worked()}
+    faults |= {"docs/BREAKING.md: quotes": breaking(), "docs/TUTORIAL.md: reports": worked()}
     passed = failed = 0
     for name, why in faults.items():
         passed, failed = passed + (why is None), failed + (why is not None)
