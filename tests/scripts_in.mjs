@@ -5,6 +5,7 @@
 // - Each script of javascript/outside.js has the fault that stands there, at its place.
 // - The lessons write their lines, here and on node; what may differ is named in lines.json.
 // - Each command has a row in docs/SCRIPTS.md, of which the JavaScript gives it.
+// - Plans of the corpus, written as scripts and read back, say what their reports say.
 // - Commands have their places in the script. Wrong guesses of what a collection empties are put right. A long script takes
 //   some seconds.
 // - COUNT random scripts say the same here and on node, but for what an engine may keep.
@@ -18,6 +19,7 @@ import { setFlagsFromString } from "node:v8";
 import { randomScript } from "./random_scripts.mjs";
 import { judge } from "./scripts_judge.mjs";
 import { linesOnNode } from "./scripts_node.mjs";
+import { scriptOf } from "./scripts_of_plans.mjs";
 
 setFlagsFromString("--experimental-wasm-memory64");
 const engine = await import("../play/clusterrun.mjs");
@@ -187,6 +189,31 @@ function documented() {
   }
 }
 
+/** Of a report or of a script: what was said, without quotes and numbers of objects, and of an exception only which it is. */
+const plainLine = (line) => line.replace(/^(say |error |Uncaught )/, "").replace(/^"(.*)"$/, "$1").replace(/^(\w+Error): .*/, "$1")
+  .replace(/^symbolfor "(.*)"$/, "Symbol($1)").replace(/^symbol \d+$/, "Symbol()").replace(/^object \d+/, "object");
+
+/** Two call a method that another kind of object has too, and one has a view over what is no block, which is outside. */
+const NOT_AS_SCRIPTS = ["atomics/not-a-buffer.json", "maps/not-a-map.json", "sets/not-a-set.json"];
+
+/** The plans of the corpus of which a script can be written, read back. */
+function corpus() {
+  const top = here("../engines/corpus/");
+  const folders = readdirSync(top, { withFileTypes: true }).filter((entry) => entry.isDirectory());
+  const names = folders.flatMap(({ name }) => readdirSync(new URL(`${name}/`, top)).map((file) => `${name}/${file}`));
+  let scripts = 0;
+  for (const name of names.filter((one) => one.endsWith(".json") && !one.endsWith("/about.json"))) {
+    const source = scriptOf(JSON.parse(readFileSync(new URL(name, top), "utf8")));
+    if (source === null || NOT_AS_SCRIPTS.includes(name)) continue;
+    scripts += 1;
+    const report = readFileSync(new URL(name.replace(/json$/, "report"), top), "utf8");
+    const wanted = report.split("\n").filter((line) => /^(say|error) /.test(line)).map(plainLine).join(" | ");
+    const found = run(source).lines.map(plainLine).join(" | ");
+    check(found === wanted, `${name} as a script: ${found}, and not ${wanted}`);
+  }
+  say(`${scripts} plans of the corpus were written as scripts and read back`);
+}
+
 async function random() {
   const found = { same: 0, retained: 0 };
   for (let number = Number(seed); number < Number(seed) + Number(count); number += 1) {
@@ -206,6 +233,7 @@ outside();
 lessons();
 operands();
 documented();
+corpus();
 marked();
 guessed();
 timed();

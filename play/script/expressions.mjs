@@ -149,17 +149,20 @@ const isUnknown = ({ type, name }, cx) => type === "Identifier" && cx.scope.find
 
 function* unaryOperator(node, cx) {
   const { operator, argument } = node;
-  if (operator === "delete") return yield* deleting(argument.type === "ChainExpression" ? argument.expression : argument, cx);
+  if (operator === "delete") return yield* deleting(argument, cx);
   if (operator === "typeof" && isUnknown(argument, cx)) return "undefined";
   return yield* unary(cx, node, operator, yield* evaluate(argument, cx));
 }
 
-function* deleting(node, cx) {
+function* deleting(argument, cx) {
+  const isChain = argument.type === "ChainExpression", node = isChain ? argument.expression : argument;
   if (node.type !== "MemberExpression") {
     yield* evaluate(node, cx);
     return true;
   }
   const { object: thing, key } = yield* memberOf(node, cx);
+  // A chain that ends early gives no object.
+  if (!isChain && (thing === undefined || thing === null)) raise(cx, node, "TypeError", "Cannot convert undefined or null to object");
   return yield* deleteProperty(cx, node, thing, key);
 }
 

@@ -3,7 +3,7 @@
 
 import { ScriptFault } from "./faults.mjs";
 import { call, raise } from "./core.mjs";
-import { Sym, isThing } from "./values.mjs";
+import { Sym, isThing, typeOf } from "./values.mjs";
 
 const INDEX = /^(0|[1-9]\d{0,8})$/;
 const isIndex = (key) => typeof key === "string" && INDEX.test(key);
@@ -72,7 +72,7 @@ export function* setProperty(cx, node, target, key, value) {
     raise(cx, node, "TypeError", `Cannot set properties of ${target} (setting '${nameOf(key)}')`);
   }
   if (!isThing(target)) {
-    raise(cx, node, "TypeError", `Cannot create property '${nameOf(key)}' on ${typeof target} '${String(target)}'`);
+    raise(cx, node, "TypeError", `Cannot create property '${nameOf(key)}' on ${typeOf(target)} '${nameOf(target)}'`);
   }
   if (target.kind === "view" && isIndex(key)) return cx.agent.realm.store(cx, node, target, Number(key), value);
   const place = findProperty(target, key);

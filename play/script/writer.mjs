@@ -180,9 +180,13 @@ export class Writer {
 
   #literal(node, value, temporaries) {
     const name = this.temporary(temporaries);
-    if (value?.registered) this.do(node, ["symbolfor", name, literalOf(value)], value);
-    else this.do(node, ["let", name, literalOf(value)], value);
+    this.#let(node, name, value);
     return name;
+  }
+
+  /** A variable gets a value without an identity. */
+  #let(node, name, value) {
+    this.do(node, [value?.registered ? "symbolfor" : "let", name, literalOf(value)], value);
   }
 
   /** Reads a value that no variable holds from what holds it, by a shortest way from a variable. */
@@ -282,7 +286,7 @@ export class Writer {
   /** A variable that may hold an object gets a primitive value. */
   assignLiteral(node, name, value, temporaries) {
     this.#rescue(node, name, temporaries);
-    this.do(node, ["let", name, literalOf(value)], value);
+    this.#let(node, name, value);
   }
 
   // Properties

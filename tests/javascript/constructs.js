@@ -604,6 +604,10 @@ console.log((() => { try { return { n: 24 }; } finally { gc(); } })().n, (() => 
 console.log([{ n: 26 }].flatMap((o) => [o, { n: o.n + 1 }]).map((o) => (gc(), o.n)), [[{ n: 28 }]].flat()[0].n, [{ n: 29 }].concat({ n: 30 }).at(-1).n);
 /// copies that are sorted and turned round
 const unsorted = [{ n: 2 }, { n: 1 }, { n: 3 }]; console.log(unsorted.toSorted((x, y) => x.n - y.n).map((o) => o.n), unsorted.toReversed().map((o) => o.n), unsorted.map((o) => o.n), unsorted.findLastIndex((o) => o.n < 3));
+/// what has no properties, and registered symbols where an object was
+let nothing; try { delete nothing.b; } catch (e) { console.log(e.name, e.message); } console.log(delete nothing?.b, delete (5).b);
+const sym = Symbol("q"); for (const one of [sym, 5, "t"]) try { one.p = 1; } catch (e) { console.log(e.name, e.message); }
+let named = {}; const first = new WeakRef(named); named = Symbol.for("k"); console.log(named.description, named === Symbol.for("k"), typeof first.deref());
 /// calls in calls
 function f(n) { return n === 0 ? 0 : 1 + f(n - 1); } console.log(f(3000));
 try { (function g() { g(); })(); } catch (e) { console.log(e.name, e.message); }
