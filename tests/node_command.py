@@ -7,7 +7,7 @@ Usage: node_command.py
 - In one process, by node_command.mjs: words that are none; each example's stored report and stored trace; of some the forms of
   a trace, all values too, beside the model of trace_model.py; faults in words, with the sentences of crates/es_explain.
 - Scripts in JavaScript, with a stand-in for what makes plans of them: plans, faults with their marks.
-- Scripts beside node's own objects: what is the same, what may differ, and what contradicts.
+- Scripts beside node's own objects: what is the same, what may differ, and what differs.
 - The package: what `npm pack` would pack, its types beside docs/trace.schema.json, and what the module says in a node that is
   not asked for memories of 64 bits.
 
@@ -142,12 +142,13 @@ def of_words(command):
 COMPARED = [
     ([("a", "x", None), ("a", "y", "why")], ["x", "y"], True, [("same", "x"), ("same", "y")]),
     ([("a", "x", None), ("a", "y", "why"), ("a", "z", None)], ["x", "z"], True, [("same", "x"), ("may differ", "y"), ("same", "z")]),
-    ([("a", line, None) for line in "xyz"], list("yzx"), True, [("contradiction", "x"), ("same", "y"), ("same", "z"), ("may differ", "x")]),
-    ([("a", "x", None), ("a", "y", None)], ["y"], True, [("contradiction", "x"), ("same", "y")]),
+    ([("a", line, None) for line in "xyz"], list("yzx"), True, [("differs", "x"), ("same", "y"), ("same", "z"), ("may differ", "x")]),
+    ([("a", "x", None), ("a", "y", None)], ["y"], True, [("differs", "x"), ("same", "y")]),
     ([("a", "x", None), ("b", "y", None)], ["y", "x"], False, [("same", "x"), ("same", "y")]),
-    ([("a", "x", None), ("b", "x", None)], ["x"], False, [("same", "x"), ("contradiction", "x")]),
-    ([("a", "object 3", None)], ["object", "y"], False, [("same", "object 3"), ("contradiction", "y")]),
+    ([("a", "x", None), ("b", "x", None)], ["x"], False, [("same", "x"), ("differs", "x")]),
+    ([("a", "object 3", None)], ["object", "y"], False, [("same", "object 3"), ("differs", "y")]),
 ]
+UNLESS = "It may, if a variable that nothing uses any more held a value."
 COMPARE = """
 const { compared } = await import(process.argv[1]);
 const cases = JSON.parse(process.argv[2]);
@@ -169,12 +170,12 @@ def of_lines_compared(count):
 def of_engine(command):
     """Scripts beside node's own objects."""
     lesson = os.path.join(PLAY, "lessons", "weakref-still-answers.js")
-    same = "same           "
+    same = "same        "
     yield command.case("a lesson beside node", ["run", lesson, "--engine", "node"],
                        (0, "".join(f"{same}{line}\n" for line in json.loads(read("play", "lessons", "lines.json"))["weakref-still-answers"]["lines"]), ""))
     other = b'console.log(1);\nconsole.log(typeof process);\n'
-    yield command.case("a contradiction", ["run", "--engine=node"], (
-        1, f"{same}1\ncontradiction  undefined\n{' ' * 15}(Node does not write it.)\ncontradiction  object\n{' ' * 15}(Node alone writes it.)\n", ""), other)
+    yield command.case("a line that differs", ["run", "--engine=node"], (
+        1, f"{same}1\ndiffers     undefined\n{' ' * 12}(Node does not write it. {UNLESS})\ndiffers     object\n{' ' * 12}(Node alone writes it. {UNLESS})\n", ""), other)
     uncaught = b'setTimeout(() => console.log("later"), 0);\nthrow new TypeError("no");\n'
     yield command.case("an exception beside node", ["run", "--engine=node"], (0, f"{same}Uncaught TypeError: no\n{same}later\n", ""), uncaught)
     plan = command.file("plan_beside.json", EMPTY)

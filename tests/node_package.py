@@ -94,7 +94,7 @@ def installed(count, room, package):
         status, out, err = running.answer(["node", command, "plan"], b"let a = {};\n")
         count.expect("the packed command on a script", (status, '"new"' in out, err), (0, True, ""))
         beside = running.answer(["node", command, "run", "--engine", "node"], b"console.log(1);\n")
-        count.expect("the packed command on a script beside node", beside, (0, "same           1\n", ""))
+        count.expect("the packed command on a script beside node", beside, (0, "same        1\n", ""))
     script = os.path.join(room, "home", "use.mjs")
     with open(script, "w", encoding="utf-8") as file:
         file.write(USE)

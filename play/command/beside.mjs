@@ -1,4 +1,5 @@
-// A script beside node's own objects: of each line whether node writes it too, may leave it out and why, or contradicts.
+// A script beside node's own objects: of each line whether node writes it too, may write it otherwise and why, or differs where
+// an engine may only if a variable that nothing uses any more held a value.
 
 import { spawnSync } from "node:child_process";
 import { faultText } from "./script.mjs";
@@ -9,7 +10,7 @@ const GOOD = 0, REFUSED = 1, NOT_STARTED = 125;
 const LONGEST = 60_000;
 const PRELUDE = new URL("prelude.mjs", import.meta.url).href;
 
-/** What a script comes to here and on node: the table of its lines, and the status of a fault where node contradicts. */
+/** What a script comes to here and on node: the table of its lines, and the status of a fault where node differs. */
 export function besideNode(name, source, engine) {
   if (isPlan(source)) return { status: REFUSED, error: `${name}: '--engine' takes a script in JavaScript, and this is a plan\n` };
   const { status, fault, lines, hasChosen } = scriptRun(source, engine, {});
@@ -17,7 +18,7 @@ export function besideNode(name, source, engine) {
   const node = linesOnNode(source);
   if (node.failure) return { status: NOT_STARTED, error: `node ${node.failure}\n` };
   const rows = compared(lines, node.lines, hasChosen);
-  return { status: rows.some(({ verdict }) => verdict === CONTRADICTS) ? REFUSED : GOOD, text: tableOf(rows) };
+  return { status: rows.some(({ verdict }) => verdict === DIFFERS) ? REFUSED : GOOD, text: tableOf(rows) };
 }
 
 /** The lines that node writes for a script, which has until LONGEST to end. */
@@ -28,7 +29,9 @@ function linesOnNode(source) {
   return { lines: stdout.split("\n").slice(0, -1) };
 }
 
-const SAME = "same", MAY = "may differ", CONTRADICTS = "contradiction";
+const SAME = "same", MAY = "may differ", DIFFERS = "differs";
+/** An engine lets a variable go when nothing uses it any more, and the plan at the end of its scope. */
+const UNLESS = "It may, if a variable that nothing uses any more held a value.";
 /** Objects have no numbers on node. */
 const plain = (text) => text.replace(/\b(object|symbol) \d+/g, "$1");
 
@@ -39,10 +42,10 @@ export function compared(ours, theirs, hasChosen) {
   const taken = (isOneAgent ? inOrder : inAnyOrder)(ours.map(({ text }) => plain(text)), theirs);
   const rows = ours.map(({ text, may }, at) => {
     if (taken[at] !== null) return { verdict: SAME, text };
-    return may === null ? { verdict: CONTRADICTS, text, why: "Node does not write it." } : { verdict: MAY, text, why: may };
+    return may === null ? { verdict: DIFFERS, text, why: `Node does not write it. ${UNLESS}` } : { verdict: MAY, text, why: may };
   });
   const known = new Set(taken);
-  const alone = theirs.filter((_, at) => !known.has(at)).map((text) => ({ verdict: hasChosen ? MAY : CONTRADICTS, text, why: "Node alone writes it." }));
+  const alone = theirs.filter((_, at) => !known.has(at)).map((text) => ({ verdict: hasChosen ? MAY : DIFFERS, text, why: `Node alone writes it.${hasChosen ? "" : ` ${UNLESS}`}` }));
   return [...rows, ...alone];
 }
 
@@ -67,6 +70,6 @@ function inAnyOrder(texts, others) {
   return texts.map((text) => left.get(text)?.shift() ?? null);
 }
 
-const WIDTH = CONTRADICTS.length + 2;
+const WIDTH = MAY.length + 2;
 const reasonOf = (why) => (why ? `${" ".repeat(WIDTH)}(${why})\n` : "");
 const tableOf = (rows) => rows.map(({ verdict, text, why }) => `${verdict.padEnd(WIDTH)}${text}\n${reasonOf(why)}`).join("");
