@@ -1,5 +1,6 @@
 -- To believe: which accesses to words a message orders, and which none does (Memory Model, happens-before: what an agent did before it posted a
--- message happens before all that the receiver does after its receipt).
+-- message happens before all that the receiver does after its receipt). Here messages alone order: that an access reads what another wrote,
+-- which the standard counts too, depends on the order of turns.
 use Rattle.std.specs.Prelude.{ℕ, ◌==◌, ◌&&◌, ◌||◌, not, Bool, List, [], ◌∷◌, ◌++◌, drop, map, if◌then◌else◌}
 use Rattle.std.specs.List.{list_all, list_any, sum_by}
 use Rattle.es_event.specs.declared.ledger_event.LedgerEvent.{LedgerEvent}

@@ -24,7 +24,7 @@ use Rattle.es_cluster.specs.State.{ClusterView}
 use Rattle.es_replay.specs.Doing.{did}
 use Rattle.es_replay.proofs.Holding.{held_line}
 use Rattle.es_refine.proofs.Draining.{turned}
-use Rattle.es_messages.specs.Alone.{Letter, Local, Lore, Touch, Touched, addressed, changes, learned, lore_after, new_lore, own_mark, posted_by, times, touch_by, touched_by, touched_now}
+use Rattle.es_messages.specs.Alone.{Letter, Local, Lore, Touch, Touched, changes, learned, lore_after, lore_with, new_lore, posted_by, times, touch_by, touched_by}
 use Rattle.es_messages.specs.Renamed.{got_in, letter_of, local_of, lore_of, name, renamed, told_of, touched_as, touched_in}
 use Rattle.es_messages.specs.Steps.{AreSilent, AtTurn, Does, IsTouch, is_quiet, posts, takes, touches, is_silent}
 use Rattle.es_messages.proofs.Names.{name_stays}
@@ -100,14 +100,6 @@ how_many_touched f [] i = refl
 how_many_touched f (e ∷ l) i = counts f l i (accessed l e) (marked l) (accesses l) (how_many_touched f l i)
 
 -- After a turn
-
--- what is known after, with an access, letters posted and marks that were taken
-abbrev lore_with : Lore → ℕ → List Mark → Option Touch → List (ℕ × Letter) → Lore
-lore_with old i marks p ps = record {
-  knows = marks ++ (own_mark i old.touched p ++ old.knows);
-  told = λ r. old.told r ++ map (λ m. old.knows) (addressed r ps);
-  touched = old.touched ++ touched_now old.knows p;
-}
 
 -- by agents
 record LoreIs (n : ℕ) (m : Ledger) (l : Ledger) (i j : ℕ) (new : Lore) : Type 0 where

@@ -30,3 +30,4 @@ mod Wordless
 mod Reporting
 pub mod Reports
 mod ExampleWords
+mod ExampleOrdered

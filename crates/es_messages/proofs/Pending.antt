@@ -1,6 +1,6 @@
 -- An agent's next access is settled by what it is: it makes that one whenever it goes on.
 use Rattle.std.proofs.Common.{◌≡◌, ℕ, zero, suc, ◌==◌, true, sym, ◌∙◌, ap, refl, subst, List, ◌++◌, length, Option, Some, None, inl, inr}
-use Rattle.std.specs.Prelude.{slice_get, unsigned_abs}
+use Rattle.std.specs.Prelude.{slice_get}
 use Rattle.std.proofs.lemmas.Bool.{cases_Bool, eqb-false, eqb-true, false≢true}
 use Rattle.es_value.specs.declared.value.Value.{Value}
 use Rattle.es_event.specs.declared.command.Command.{Command}
@@ -10,8 +10,7 @@ use Rattle.es_event.specs.declared.event.Event.{Event}
 use Rattle.es_event.specs.declared.event.Event.TheVariants.{JobBegun, CleanupBegun, Received, Did, Refused, Emptied, Taken, JobEnded, Skipped, Closed}
 use Rattle.es_event.specs.declared.event.Refusal.{Refusal}
 use Rattle.es_event.specs.declared.row.Row.{Row}
-use Rattle.es_event.specs.Access.{access_of}
-use Rattle.es_event.specs.Commands.{first, reads}
+use Rattle.es_event.specs.Commands.{reads}
 use Rattle.es_event.specs.Follows.{AtCommand, Permits}
 use Rattle.es_event.specs.History.{History}
 use Rattle.es_event.specs.Jobs.{Receivers, receivers}
@@ -20,25 +19,21 @@ use Rattle.es_event.specs.Legal.{Lawful, values_of, word_in}
 use Rattle.es_event.specs.Order.{Due, begin, receive, run, clean, take_cell, finish, end_job, close, due}
 use Rattle.es_event.specs.Rules.{refusal}
 use Rattle.es_event.specs.Runs.{ComesNext}
-use Rattle.es_event.specs.Sharing.{Buffers, block_of}
+use Rattle.es_event.specs.Sharing.{Buffers}
 use Rattle.es_event.proofs.Accepted.{is_accepted}
-use Rattle.es_messages.specs.Alone.{AreDone, Finds, GoFar, Goes, Local, Locals, Lore, Touch, Words, World, opened_row, touch_by, touched_by, touched_now, with_new}
+use Rattle.es_messages.specs.Alone.{AreDone, Finds, GoFar, Goes, Local, Locals, Lore, Touch, Words, World, opened_row, touch_by, touch_with, touched_by, touched_now, with_new}
 use Rattle.es_messages.proofs.Beyond.{going, others, touch_of}
 use Rattle.es_messages.proofs.Touching.{get_last, lore_mine, lore_other, touched_far}
 
 -- What is due
 
-abbrev pub if_none : Option Refusal → Touch → Option Touch
-if_none None t = Some t
+abbrev pub if_none : Option Refusal → Option Touch → Option Touch
+if_none None t = t
 if_none (Some code) t = None
 
-abbrev touch_with : Buffers → Command → List Value → Option Touch
-touch_with over (Atomic c) vs = Some (record { block = block_of over (first vs); index = unsigned_abs c.index; access = access_of c.operation })
-touch_with over _ vs = None
-
+-- the access that the due command is, if it is not refused
 abbrev pub command_touch : Buffers → Receivers → History → Command → Option Touch
-command_touch over into h (Atomic c) =
-    if_none (refusal over h (Atomic c) (values_of into h (reads (Atomic c)))) (record { block = block_of over (first (values_of into h (reads (Atomic c)))); index = unsigned_abs c.index; access = access_of c.operation })
+command_touch over into h (Atomic c) = if_none (refusal over h (Atomic c) (values_of into h (reads (Atomic c)))) (touch_with over (Atomic c) (values_of into h (reads (Atomic c))))
 command_touch over into h _ = None
 
 abbrev pub due_touch : Buffers → Receivers → History → Due → Option Touch
@@ -49,17 +44,12 @@ did_touch : (n i : ℕ) (over : Buffers) (r : Option Row) (into : Receivers) (h 
 did_touch n i over r into h (Atomic c) vs a rows l =
     let here : Lawful over into h (Did (Atomic c, vs, a)) = subst (λ r. Lawful (with_new r h over) into h (Did (Atomic c, vs, a))) rows l in
     let free : refusal over h (Atomic c) vs ≡ None = is_accepted over h (Atomic c) vs (word_in a) a here.1 in
-    let values = values_of into h (reads (Atomic c)) in
-    let is : Touch = record { block = block_of over (first values); index = unsigned_abs c.index; access = access_of c.operation } in
-    ap (λ vs. touch_with over (Atomic c) vs) here.0
-    ∙ sym (ap (λ o. if_none o is) (ap (refusal over h (Atomic c)) (sym here.0) ∙ free))
+    ap (touch_with over (Atomic c)) here.0
+    ∙ sym (ap (λ o. if_none o (touch_with over (Atomic c) (values_of into h (reads (Atomic c))))) (ap (refusal over h (Atomic c)) (sym here.0) ∙ free))
 did_touch n i over r into h _ vs a rows l = refl
 
 refused_touch : (over : Buffers) (into : Receivers) (h : History) (c : Command) (code : Refusal) → refusal over h c (values_of into h (reads c)) ≡ Some code → None ≡ command_touch over into h c
-refused_touch over into h (Atomic c) code is =
-    let values = values_of into h (reads (Atomic c)) in
-    let here : Touch = record { block = block_of over (first values); index = unsigned_abs c.index; access = access_of c.operation } in
-    sym (ap (λ o. if_none o here) is)
+refused_touch over into h (Atomic c) code is = sym (ap (λ o. if_none o (touch_with over (Atomic c) (values_of into h (reads (Atomic c))))) is)
 refused_touch over into h _ code is = refl
 
 emptied_touch : (over : Buffers) (into : Receivers) (h : History) (c : Command) → collects_now h c ≡ true → None ≡ command_touch over into h c

@@ -8,6 +8,7 @@ use Rattle.es_value.specs.declared.value.Value.{Value}
 use Rattle.es_value.specs.declared.value.Value.TheVariants.{Object}
 use Rattle.es_event.specs.declared.access.Access.{Access}
 use Rattle.es_event.specs.declared.access.Change.{Change}
+use Rattle.es_event.specs.declared.command.Command.{Command}
 use Rattle.es_event.specs.declared.command.Command.TheVariants.{SharedArrayBuffer, Atomic, Post}
 use Rattle.es_event.specs.declared.event.Event.{Event}
 use Rattle.es_event.specs.declared.event.Event.TheVariants.{JobBegun, CleanupBegun, Received, Did, Refused, Emptied, Taken, JobEnded, Skipped, Closed}
@@ -139,13 +140,17 @@ pub record Touch : Type 0 where
   pub index : ℕ
   pub access : Access
 
+-- the one that a command with these values is
+abbrev pub touch_with : Buffers → Command → List Value → Option Touch
+touch_with over (Atomic c) vs = Some (record { block = block_of over (first vs); index = unsigned_abs c.index; access = access_of c.operation })
+touch_with over c vs = None
+
 -- the one that the event is
 abbrev pub touch_by : Buffers → Event → Option Touch
 touch_by over (JobBegun j) = None
 touch_by over (CleanupBegun q) = None
 touch_by over (Received t v) = None
-touch_by over (Did (Atomic c, vs, r)) = Some (record { block = block_of over (first vs); index = unsigned_abs c.index; access = access_of c.operation })
-touch_by over (Did (c, vs, r)) = None
+touch_by over (Did (c, vs, r)) = touch_with over c vs
 touch_by over (Refused code) = None
 touch_by over (Emptied ids) = None
 touch_by over (Taken m held) = None
@@ -216,13 +221,17 @@ abbrev pub touched_now : List Mark → Option Touch → List Touched
 touched_now knew None = []
 touched_now knew (Some t) = touched_by knew t ∷ []
 
--- what agent i knows after an event, of what it knew before and what it is told
-abbrev pub new_lore : Lore → ℕ → List Mark → Local → Event → Lore
-new_lore old i marks a e = record {
-  knows = marks ++ (own_mark i old.touched (touch_by a.over e) ++ old.knows);
-  told = λ r. old.told r ++ map (λ m. old.knows) (addressed r (posted_by a.over e));
-  touched = old.touched ++ touched_now old.knows (touch_by a.over e);
+-- what agent i knows after it was told of these accesses, made this one and posted these messages
+abbrev pub lore_with : Lore → ℕ → List Mark → Option Touch → List (ℕ × Letter) → Lore
+lore_with old i marks touch sent = record {
+  knows = marks ++ (own_mark i old.touched touch ++ old.knows);
+  told = λ r. old.told r ++ map (λ m. old.knows) (addressed r sent);
+  touched = old.touched ++ touched_now old.knows touch;
 }
+
+-- what it knows after an event
+abbrev pub new_lore : Lore → ℕ → List Mark → Local → Event → Lore
+new_lore old i marks a e = lore_with old i marks (touch_by a.over e) (posted_by a.over e)
 
 abbrev pub lore_after : (ℕ → Lore) → ℕ → Lore → ℕ → Lore
 lore_after lore i new j = if i == j then new else lore j

@@ -1,10 +1,11 @@
 //! What holds of plans whose agents share words, where messages order their accesses. Each law is the
-//! contract of a function that does nothing.
+//! contract of a function that does nothing. Two accesses race here where no message orders them: all are
+//! sequentially consistent, so none is a data race (ECMA-262, Memory Model), and yet their order may show.
 
 ghost use Rattle.es_messages.specs.WithoutRaces.{MessagesAloneDoNotRace, WithoutRacesNoTurnsRace, WithoutRacesThreadsReportAsByTurns, WithoutRacesThreadsSayAsByTurns, WithoutRacesTurnsSayAlike};
 
 /// If in one list of turns that ends no two accesses to a word race, every list of turns that ends has the
-/// same histories (ECMA-262, Memory Model: programs without data races).
+/// same histories.
 pub fn without_races_turns_say_alike()
     ensures { WithoutRacesTurnsSayAlike }
 {}
