@@ -5,3 +5,4 @@ pub mod LedTo
 pub mod Open
 mod Accesses
 mod ExampleAccesses
+mod ExampleRaces

@@ -1,8 +1,6 @@
 -- What is kept of a plan's cluster along its turns, as far as its agents' own names need it.
 use Rattle.std.proofs.Common.{◌≡◌, ℕ, zero, suc, ◌+◌, ◌≤◌, ◌||◌, false, true, sym, ◌∙◌, ap, refl, subst, arith, List, [], ◌∷◌, ◌++◌, length, reverse, Option, Some, None}
 use Rattle.std.specs.Prelude.{slice_get}
-use Rattle.std.specs.List.{list_all}
-use Rattle.std.proofs.lemmas.Bool.{and_parts}
 use Rattle.es_event.specs.declared.event.Event.{Event}
 use Rattle.es_event.specs.declared.ledger_event.LedgerEvent.{LedgerEvent}
 use Rattle.es_event.specs.declared.ledger_event.LedgerEvent.TheVariants.{Opened, Posted, Taken, Spent, Accessed, Waiting as WaitingEvent, Passed, Ended as EndedEvent, Drained}
@@ -26,7 +24,8 @@ use Rattle.es_cluster.specs.State.{ClusterView, first_state, first_views}
 use Rattle.es_cluster.specs.Turns.{Turned}
 use Rattle.es_cluster.proofs.Standing.{by_place, within}
 use Rattle.es_replay.proofs.Running.{stands_after, stands_first}
-use Rattle.es_messages.specs.Messages.{share_no_word, shares_no_word}
+use Rattle.es_messages.specs.Alone.{Words}
+use Rattle.es_messages.specs.Renamed.{HasWords}
 use Rattle.es_messages.specs.Steps.{Along, HasCome, Keeps}
 use Rattle.es_messages.proofs.Opened.{over_later}
 use Rattle.es_messages.proofs.Turning.{over_on, step}
@@ -51,16 +50,16 @@ still_dry n l (e ∷ es) are dry = ap (λ t. t || has_drained (es ++ l)) (no_dra
 -- An agent
 
 keeps_later : (n : ℕ) (es : List LedgerEvent) (l : Ledger) (b : AgentView) → LegalSoFar n (es ++ l) → Keeps l b → Keeps (es ++ l) b
-keeps_later n es l b legal k = record { over = over_later n es l legal b.over k.over; rising = k.rising; newest_is = k.newest_is; wordless = k.wordless }
+keeps_later n es l b legal k = record { over = over_later n es l legal b.over k.over; rising = k.rising; newest_is = k.newest_is }
 
 rises_next : (m : Ledger) (b : AgentView) (e : Event) (r : Option Row) → is_rising_from 0 (reverse b.over) ≡ true → newest b.over ≤ made b.history → HasCome m b.history e r
     → (is_rising_from 0 (reverse (with_row r b).over) ≡ true) × (newest (with_row r b).over ≤ made (e ∷ b.history))
 rises_next m b e None rising small come = (rising, omega (arith, small))
 rises_next m b e (Some q) rising small come = (still_rises b.over (made b.history + 1) q rising (omega (arith, small)), (let more = come.1 in omega (arith, more)))
 
-keeps_moved : (n : ℕ) (c : ClusterView) (i : ℕ) (d : ClusterView) → Along n c → (turn : Turned Moved i c d) → Keeps d.ledger.history turn.after
-keeps_moved n c i d along turn =
-    let s = step n c i d along turn in
+keeps_moved : (n : ℕ) (c : ClusterView) (words : Words) (i : ℕ) (d : ClusterView) → Along n c → HasWords n c.ledger.history words → (turn : Turned Moved i c d) → Keeps d.ledger.history turn.after
+keeps_moved n c words i d along holds turn =
+    let s = step n c words i d along holds turn in
     let b = turn.before in
     let was = along.each i b turn.agent in
     let rises = rises_next d.ledger.history b s.event s.row was.rising was.newest_is s.means.comes in
@@ -68,7 +67,6 @@ keeps_moved n c i d along turn =
       over = over_on n c i d.ledger.history b s.event s.row s.deeds s.at s.means.comes;
       rising = rises.0;
       newest_is = rises.1;
-      wordless = was.wordless;
     })
 
 -- A cluster
@@ -94,18 +92,22 @@ still n p i c d x turn same =
     along_after n p i c d x turn
     (subst (Keeps d.ledger.history) (sym same) (subst (λ m. Keeps m turn.before) (sym turn.ledger.1) (keeps_later n turn.ledger.0 c.ledger.history turn.before (subst (LegalSoFar n) turn.ledger.1 legal) (x.each i turn.before turn.agent))))
 
-pub along_turn : (n : ℕ) (p : Progress) (i : ℕ) (c d : ClusterView) → Along n c → Turned p i c d → Along n d
-along_turn n Moved i c d x turn = along_after n Moved i c d x turn (keeps_moved n c i d x turn)
-along_turn n Waiting i c d x turn = still n Waiting i c d x turn turn.turn.2
-along_turn n Ended i c d x turn = still n Ended i c d x turn turn.turn.1
+pub along_turn : (n : ℕ) (p : Progress) (i : ℕ) (c : ClusterView) (words : Words) (d : ClusterView) → Along n c → HasWords n c.ledger.history words → Turned p i c d → Along n d
+along_turn n Moved i c words d x holds turn = along_after n Moved i c d x turn (keeps_moved n c words i d x holds turn)
+along_turn n Waiting i c words d x holds turn = still n Waiting i c d x turn turn.turn.2
+along_turn n Ended i c words d x holds turn = still n Ended i c d x turn turn.turn.1
 
 -- Before the first event
 
-first_keeps : (agents n : ℕ) (ps : List AgentPlan) → list_all shares_no_word ps ≡ true → (i : ℕ) (b : AgentView) → slice_get (first_views agents n ps) i ≡ Some b → Keeps [] b
-first_keeps agents n [] shares i b is = cc
-first_keeps agents n (p ∷ ps) shares zero b is =
-    subst (Keeps []) (let same : record { plan = p; number = n; agents = agents; over = []; history = [] } ≡ b = cc in same) (record { over = tt; rising = refl; newest_is = omega arith; wordless = (and_parts (shares_no_word p) (list_all shares_no_word ps) shares).0 })
-first_keeps agents n (p ∷ ps) shares (suc i) b is = first_keeps agents (n + 1) ps (and_parts (shares_no_word p) (list_all shares_no_word ps) shares).1 i b is
+first_keeps : (agents n : ℕ) (ps : List AgentPlan) (i : ℕ) (b : AgentView) → slice_get (first_views agents n ps) i ≡ Some b → Keeps [] b
+first_keeps agents n [] i b is = cc
+first_keeps agents n (p ∷ ps) zero b is =
+    subst (Keeps []) (let same : record { plan = p; number = n; agents = agents; over = []; history = [] } ≡ b = cc in same) (record { over = tt; rising = refl; newest_is = omega arith })
+first_keeps agents n (p ∷ ps) (suc i) b is = first_keeps agents (n + 1) ps i b is
 
-pub along_first : (plan : Plan) → share_no_word plan ≡ true → Along (length plan.agents) (first_state plan)
-along_first plan shares = record { stands = stands_first plan; number = refl; legal = tt; dry = refl; each = λ i b is. first_keeps (length plan.agents) 0 plan.agents shares i b is }
+pub along_first : (plan : Plan) → Along (length plan.agents) (first_state plan)
+along_first plan = record { stands = stands_first plan; number = refl; legal = tt; dry = refl; each = λ i b is. first_keeps (length plan.agents) 0 plan.agents i b is }
+
+-- all words are 0
+pub words_first : (n : ℕ) → HasWords n [] (λ b x. 0)
+words_first n = record { named_so = λ b x some less. absurd (omega (arith, some, less)); others = λ c x none. refl }

@@ -12,10 +12,11 @@ use Rattle.es_event.specs.declared.row.Row.{Row}
 use Rattle.es_event.specs.Identities.{made}
 use Rattle.es_event.specs.Ledger.{Ledger, front, port_of}
 use Rattle.es_event.specs.Rows.{row}
-use Rattle.es_deeds.specs.Deeds.{Deed, Passes, words_in}
+use Rattle.es_deeds.specs.Deeds.{Deed, Passes, Spends, words_in}
 use Rattle.es_replay.proofs.Messages.{Receives, Refuses, Says, next_words}
 use Rattle.es_messages.specs.Alone.{Hears, Letter, Local, Locals, MaySkip}
 use Rattle.es_messages.specs.Renamed.{got_in, letter_of, name, renamed_row, sent_in}
+use Rattle.es_messages.specs.Steps.{AreSilent, Does, is_quiet, takes}
 
 -- the first message of a port
 front_port : (ms : List Body) (m : Body) → slice_get ms 0 ≡ Some m → (rest : List Body) × (ms ≡ m ∷ rest)
@@ -33,6 +34,7 @@ says_letter all n l i s a (Block b k) ms v r is says =
 pub record HearsSo (all : Locals) (n : ℕ) (l : Ledger) (i s : ℕ) (a : Local) (e : Event) (r : Option Row) (ds : List Deed) : Type 0 where
   pub hears : Hears all i s a (map (letter_of n l) (port_of l s i)) e (option_map (renamed_row (name n l)) r) (got_in ds)
   pub sends : (f : Body → Letter) → sent_in f ds ≡ []
+  pub does : Does n l i a.over e ds
 
 pub received : (all : Locals) (n : ℕ) (l : Ledger) (i s : ℕ) (a : Local) (v : Value) (r : Option Row) (ds : List Deed) → Receives l i s (made a.history) v r ds → HearsSo all n l i s a (Received s v) r ds
 received all n l i s a v r ds x =
@@ -42,6 +44,7 @@ received all n l i s a v r ds x =
       hears = subst (λ ms. Hears all i s a (map (letter_of n l) ms) (Received s v) (option_map (renamed_row (name n l)) r) (got_in ds)) (sym port.1)
           (subst (λ ds. Hears all i s a (letter_of n l x.body ∷ map (letter_of n l) port.0) (Received s v) (option_map (renamed_row (name n l)) r) (got_in ds)) (sym x.deeds) heard);
       sends = λ f. ap (sent_in f) x.deeds;
+      does = takes s (front l s i) (next_words l s i) [] x.deeds tt refl refl;
     }
 
 -- one that finds no room
@@ -52,6 +55,7 @@ declined all n l i s a r ds none x =
       hears = subst (λ ms. Hears all i s a (map (letter_of n l) ms) (Refused TooManyValues) (option_map (renamed_row (name n l)) r) (got_in ds)) (sym port.1)
           (inr (refl, ap (option_map (renamed_row (name n l))) none), ap got_in x.deeds);
       sends = λ f. ap (sent_in f) x.deeds;
+      does = takes s (front l s i) (next_words l s i) (Spends x.serial ∷ []) x.deeds (refl, tt) refl refl;
     }
 
 -- none, so the job is skipped
@@ -59,6 +63,7 @@ pub skipped : (all : Locals) (n : ℕ) (l : Ledger) (i s j : ℕ) (a : Local) (r
 skipped all n l i s j a r ds none deeds empty may = record {
   hears = subst (λ ms. Hears all i s a (map (letter_of n l) ms) (Skipped j s) (option_map (renamed_row (name n l)) r) (got_in ds)) (sym (no_port (port_of l s i) empty)) ((j, refl), ap (option_map (renamed_row (name n l))) none, ap got_in deeds, may);
   sends = λ f. ap (sent_in f) deeds;
+  does = is_quiet (subst AreSilent (sym deeds) (refl, tt)) refl refl;
 }
   where
     no_port : (ms : List Body) → is_some (slice_get ms 0) ≡ false → ms ≡ []

@@ -1,4 +1,7 @@
+mod Touching
 mod Beyond
+mod Sane
+mod Pending
 mod Certain
 mod Renaming
 mod Weighing
@@ -7,6 +10,10 @@ mod Ports
 mod Others
 mod Opened
 mod Opening
+mod Playing
+mod Learning
+mod Wording
+mod Racing
 mod Still
 mod Skipping
 mod Asking
@@ -19,6 +26,8 @@ mod Receiving
 mod Turning
 mod Along
 mod Composing
+mod Wordless
 mod Reporting
 pub mod Reports
 mod ExampleWords
+mod ExampleOrdered

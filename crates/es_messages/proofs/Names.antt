@@ -114,7 +114,7 @@ apart n (Passed a t ∷ l) legal b c some less any more same = apart n l legal.1
 apart n (Ended a ∷ l) legal b c some less any more same = apart n l legal.1 b c some (omega (arith, less)) any (omega (arith, more)) same
 apart n (Drained t u ∷ l) legal b c some less any more same = apart n l legal.1 b c some (omega (arith, less)) any (omega (arith, more)) same
 
-no_name : (n : ℕ) (l : Ledger) → LegalSoFar n l → name n l 0 ≡ 0
+pub no_name : (n : ℕ) (l : Ledger) → LegalSoFar n l → name n l 0 ≡ 0
 no_name n [] legal = refl
 no_name n (Opened d w s a ∷ l) legal = elim (cases_Bool (d == 0)) [
   | inl e ↦ (let zero = eqb-true d 0 e in let may = (may_open n l d w s a (owed l) legal.0).0 in absurd (omega (arith, zero, may)))
@@ -177,18 +177,18 @@ names_differ n l legal (suc b) zero x y same =
     let off : 0 ≡ named n it.agent it.before = sym (no_name n l legal) ∙ sym same ∙ it.is in absurd (omega (arith, off))
 names_differ n l legal (suc b) (suc c) x y same = apart n l legal (suc b) (suc c) (omega arith) x (omega arith) y same
 
+pub name_test : (n : ℕ) (l : Ledger) → LegalSoFar n l → (b c : ℕ) → b ≤ opened l → c ≤ opened l → (name n l b == name n l c) ≡ (b == c)
+name_test n l legal b c x y = elim (cases_Bool (b == c)) [
+  | inl e ↦ eq-eqb (name n l b) (name n l c) (ap (name n l) (eqb-true b c e)) ∙ sym e
+  | inr e ↦ off (name n l b == name n l c) refl e
+]
+  where
+    off : (t : Bool) → (name n l b == name n l c) ≡ t → (b == c) ≡ false → (name n l b == name n l c) ≡ (b == c)
+    off true is e = absurd (eqb-false b c e (names_differ n l legal b c x y (eqb-true (name n l b) (name n l c) is)))
+    off false is e = is ∙ sym e
+
 pub names_apart : (n : ℕ) (l : Ledger) (over : Buffers) → LegalSoFar n l → AreOpened l over → TellsApart (name n l) over
 names_apart n l over legal all = record {
   none = no_name n l legal;
-  apart = λ v u. by_test (block_of over v) (block_of over u) (value_within l over v all) (value_within l over u all);
+  apart = λ v u. name_test n l legal (block_of over v) (block_of over u) (value_within l over v all) (value_within l over u all);
 }
-  where
-    by_test : (b c : ℕ) → b ≤ opened l → c ≤ opened l → (name n l b == name n l c) ≡ (b == c)
-    by_test b c x y = elim (cases_Bool (b == c)) [
-      | inl e ↦ eq-eqb (name n l b) (name n l c) (ap (name n l) (eqb-true b c e)) ∙ sym e
-      | inr e ↦ off (name n l b == name n l c) refl e
-    ]
-      where
-        off : (t : Bool) → (name n l b == name n l c) ≡ t → (b == c) ≡ false → (name n l b == name n l c) ≡ (b == c)
-        off true is e = absurd (eqb-false b c e (names_differ n l legal b c x y (eqb-true (name n l b) (name n l c) is)))
-        off false is e = is ∙ sym e

@@ -1,20 +1,25 @@
 -- What agents post, what lies in a port, and what buffers are over, are blocks that were opened; and they stay as they are.
-use Rattle.std.proofs.Common.{◌≡◌, ℕ, ◌≤◌, ◌==◌, Bool, true, false, cond, sym, ◌∙◌, subst, arith, List, [], ◌∷◌, ◌++◌, drop, Option, Some, None}
+use Rattle.std.proofs.Common.{◌≡◌, ℕ, ◌≤◌, ◌==◌, Bool, true, false, cond, sym, ◌∙◌, ap, refl, subst, arith, List, [], ◌∷◌, ◌++◌, drop, Option, Some, None, inl, inr}
 use Rattle.std.specs.Prelude.{slice_get}
-use Rattle.std.specs.Option.{option_map}
+use Rattle.std.specs.Option.{option_and_then, option_map}
+use Rattle.std.proofs.lemmas.Bool.{cases_Bool, eqb-false, eqb-true}
 use Rattle.es_event.specs.declared.ledger_event.Body.{Body}
 use Rattle.es_event.specs.declared.ledger_event.Body.TheVariants.{Plain, Block}
 use Rattle.es_event.specs.declared.ledger_event.LedgerEvent.{LedgerEvent}
 use Rattle.es_event.specs.declared.ledger_event.LedgerEvent.TheVariants.{Opened, Posted, Taken, Spent, Accessed, Waiting, Passed, Ended, Drained}
 use Rattle.es_event.specs.declared.row.Entry.{Entry}
+use Rattle.es_event.specs.declared.row.Holder.{Holder}
+use Rattle.es_event.specs.declared.row.Holder.TheVariants.{Agent, Nobody}
 use Rattle.es_event.specs.declared.row.Row.{Row}
-use Rattle.es_event.specs.Ledger.{Ledger, front, holder_of, is_at, opened, port_of, table}
+use Rattle.es_event.specs.Ledger.{Ledger, front, holder_of, is_at, moved_if, opened, port_of, posted_line, serial_in, size, table}
 use Rattle.es_event.specs.LegalLedger.{LegalSoFar}
+use Rattle.es_event.specs.Rows.{held_by, line_of, moved, row}
 use Rattle.es_event.specs.Sharing.{Buffers, row_at}
 use Rattle.es_deeds.specs.Deeds.{Deed, Opens, Posts, Spends, Accesses, Waits, Passes, Ends, deed, part, part_of, taking}
 use Rattle.es_ledger.proofs.Made.{Each, IsMade, all_made}
 use Rattle.es_messages.specs.Renamed.{AreOpened, AreSent, IsOpened, IsSent}
-use Rattle.es_messages.specs.Steps.{AreOver, IsOver}
+use Rattle.es_replay.proofs.Holding.{held_line, held_taken, line_first, line_moved, line_other, none_moved}
+use Rattle.es_messages.specs.Steps.{AreOver, HasLine, IsOver}
 use Rattle.es_messages.proofs.Names.{grown}
 use Rattle.es_messages.proofs.Others.{size_stays}
 
@@ -109,6 +114,57 @@ front_opened n l s r b k legal is = at (port_of l s r) (all_lie n l legal s r) i
     at [] all is = cc
     at (m ∷ ms) all is = let here : IsOpened l (Block b k) = subst (IsOpened l) (let same : m ≡ Block b k = cc in same) all.0 in here
 
+-- A ticket's row stays
+
+moved_row : (k : ℕ) (who : Holder) (t : List Entry) (j : ℕ) (r : Row) → option_map (λ e. e.row) (line_of j t) ≡ Some r → option_map (λ e. e.row) (line_of j (moved k who t)) ≡ Some r
+moved_row k who t j r is = by_line (line_of j t) refl is
+  where
+    by_line : (o : Option Entry) → line_of j t ≡ o → option_map (λ e. e.row) o ≡ Some r → option_map (λ e. e.row) (line_of j (moved k who t)) ≡ Some r
+    by_line None at is = cc
+    by_line (Some e) at is = elim (cases_Bool (j == k)) [
+      | inl here ↦ (let same = eqb-true j k here in ap (λ j. option_map (λ (e : Entry). e.row) (line_of j (moved k who t))) same ∙ ap (option_map (λ e. e.row)) (line_moved k who t e (ap (λ j. line_of j t) (sym same) ∙ at)) ∙ is)
+      | inr other ↦ ap (option_map (λ e. e.row)) (line_other j k who t (eqb-false j k other)) ∙ ap (option_map (λ e. e.row)) at ∙ is
+    ]
+
+longer_row : (t us : List Entry) (j : ℕ) (r : Row) → option_map (λ e. e.row) (line_of j t) ≡ Some r → option_map (λ e. e.row) (line_of j (t ++ us)) ≡ Some r
+longer_row t us j r is = by_line (line_of j t) refl is
+  where
+    by_line : (o : Option Entry) → line_of j t ≡ o → option_map (λ e. e.row) o ≡ Some r → option_map (λ e. e.row) (line_of j (t ++ us)) ≡ Some r
+    by_line None at is = cc
+    by_line (Some e) at is = ap (option_map (λ e. e.row)) (line_first j t us e at) ∙ is
+
+line_next : (l : Ledger) (e : LedgerEvent) (r : Row) → HasLine l r → HasLine (e ∷ l) r
+line_next l (Opened b w s a) r is = longer_row (table l) _ r.serial r is
+line_next l (Posted t u m) r is = longer_row (table l) (posted_line l t u m) r.serial r is
+line_next l (Taken t u) r is = by_ticket (option_and_then serial_in (front l t u))
+  where
+    by_ticket : (o : Option ℕ) → option_map (λ e. e.row) (line_of r.serial (moved_if o (Agent u) (table l))) ≡ Some r
+    by_ticket None = is
+    by_ticket (Some k) = moved_row k (Agent u) (table l) r.serial r is
+line_next l (Spent s) r is = moved_row s Nobody (table l) r.serial r is
+line_next l _ r is = is
+
+pub line_later : (es : List LedgerEvent) (l : Ledger) (r : Row) → HasLine l r → HasLine (es ++ l) r
+line_later [] l r is = is
+line_later (e ∷ es) l r is = line_next (es ++ l) e r (line_later es l r is)
+
+pub line_held : (l : Ledger) (s a : ℕ) (r : Row) → s ≡ r.serial → holder_of l s ≡ Some (a, r) → HasLine l r
+line_held l s a r same is = ap (λ k. option_map (λ (e : Entry). e.row) (line_of k (table l))) (sym same) ∙ ap (option_map (λ e. e.row)) (held_line (line_of s (table l)) a r is)
+
+-- that of the ticket in a message
+pub line_in_front : (n : ℕ) (l : Ledger) (s i b k : ℕ) → LegalSoFar n l → front l s i ≡ Some (Block b k) → HasLine l (row k b (size l b))
+line_in_front n l s i b k legal at = by_line (line_of k (table l)) refl
+  where
+    after : line_of k (moved k (Agent i) (table l)) ≡ Some (held_by (Agent i) (row k b (size l b)))
+    after =
+        sym (ap (λ m. line_of k (moved_if (option_and_then serial_in m) (Agent i) (table l))) at)
+        ∙ held_line (line_of k (table (Taken s i ∷ l))) i (row k b (size l b)) (held_taken n l s i b k legal at)
+
+    by_line : (o : Option Entry) → line_of k (table l) ≡ o → HasLine l (row k b (size l b))
+    by_line None is = (let clash = sym (none_moved k k (Agent i) (table l) is) ∙ after in cc)
+    by_line (Some e) is =
+        ap (option_map (λ e. e.row)) is ∙ sym (ap (option_map (λ (e : Entry). e.row)) (line_moved k (Agent i) (table l) e is)) ∙ ap (option_map (λ e. e.row)) after
+
 -- Buffers
 
 pub over_opened : (l : Ledger) (over : Buffers) → AreOver l over → AreOpened l over
@@ -120,7 +176,7 @@ over_later n es l legal [] are = tt
 over_later n es l legal (p ∷ over) are =
     let more = grown es l in
     let less = are.0.0 in
-    ((omega (arith, more, less), are.0.1 ∙ sym (size_stays n es l legal p.1.block less)), over_later n es l legal over are.1)
+    ((omega (arith, more, less), are.0.1 ∙ sym (size_stays n es l legal p.1.block less), line_later es l p.1 are.0.2), over_later n es l legal over are.1)
 
 pub row_over : (l : Ledger) (over : Buffers) (o : ℕ) (r : Row) → AreOver l over → row_at over o ≡ Some r → IsOver l r
 row_over l [] o r are is = cc

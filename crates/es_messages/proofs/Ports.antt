@@ -1,4 +1,4 @@
--- The messages that lie in a port are those that its sender posted to it, less those that its receiver took.
+-- The messages that lie in a port are those that its sender posted to it, less those that its receiver took; and so is what they tell.
 use Rattle.std.proofs.Common.{◌≡◌, ℕ, zero, suc, ◌+◌, ◌<◌, ◌≤◌, ◌==◌, ◌&&◌, Bool, true, false, cond, sym, ◌∙◌, ap, refl, arith, List, [], ◌∷◌, ◌++◌, append-nil, drop, length, map, Option, Some, None, length-append, append_assoc}
 use Rattle.std.specs.Prelude.{is_some, slice_get}
 use Rattle.std.specs.Option.{option_map}
@@ -11,10 +11,12 @@ use Rattle.es_event.specs.Ledger.{Ledger, front, holder_of, is_at, port_of}
 use Rattle.es_event.specs.LegalLedger.{ComesNext, LegalSoFar, has_message, owed}
 use Rattle.es_deeds.specs.Deeds.{Deed, Opens, Posts, Takes, Spends, Accesses, Waits, Passes, Ends, deed, part, part_of, taking}
 use Rattle.es_deeds.specs.Patience.{has_drained}
+use Rattle.es_laws.specs.Races.{Mark, known}
 use Rattle.es_refine.proofs.Draining.{turned}
 use Rattle.es_messages.specs.Alone.{Letter, addressed, times}
-use Rattle.es_messages.specs.Renamed.{IsPort, got_in, posted_in, sent_in, took_in}
+use Rattle.es_messages.specs.Renamed.{IsPort, got_in, posted_in, sent_in, told_of, took_in}
 use Rattle.es_messages.proofs.Beyond.{addressed_more}
+use Rattle.es_messages.proofs.Touching.{drop_left}
 
 pub sent_more : (f : Body → Letter) (ds es : List Deed) → sent_in f (ds ++ es) ≡ sent_in f ds ++ sent_in f es
 sent_more f [] es = refl
@@ -46,12 +48,6 @@ map_more : {A B : Type 0} (f : A → B) (xs ys : List A) → map f (xs ++ ys) �
 map_more f [] ys = refl
 map_more f (x ∷ xs) ys = ap (λ zs. f x ∷ zs) (map_more f xs ys)
 
-drop_left : {A : Type 0} (k : ℕ) (xs : List A) (y : A) (ys : List A) → drop k xs ≡ y ∷ ys → k < length xs
-drop_left zero [] y ys e = cc
-drop_left zero (x ∷ xs) y ys e = omega arith
-drop_left (suc k) [] y ys e = cc
-drop_left (suc k) (x ∷ xs) y ys e = let rest = drop_left k xs y ys e in omega (arith, rest)
-
 -- What one more event posts, and takes
 
 abbrev sent_now : (Body → Letter) → Ledger → LedgerEvent → ℕ → List (ℕ × Letter)
@@ -70,8 +66,8 @@ none_got true d e = append-nil (took_in d) ∙ e
 none_got false d e = refl
 
 -- what is left of a port where nothing is posted to it and nothing taken
-unmoved : (f : Body → Letter) (l : Ledger) (e : LedgerEvent) (s r : ℕ) → IsPort f l s r → port_of (e ∷ l) s r ≡ port_of l s r → addressed r (sent_now f l e s) ≡ [] → times s (got_now l e r) ≡ 0 → IsPort f (e ∷ l) s r
-unmoved f l e s r is port posts takes =
+unmoved : (f : Body → Letter) (l : Ledger) (e : LedgerEvent) (s r : ℕ) → IsPort f l s r → port_of (e ∷ l) s r ≡ port_of l s r → (known (e ∷ l)).carried s r ≡ (known l).carried s r → told_of (e ∷ l) s r ≡ told_of l s r → addressed r (sent_now f l e s) ≡ [] → times s (got_now l e r) ≡ 0 → IsPort f (e ∷ l) s r
+unmoved f l e s r is port carried told posts takes =
     let sent : addressed r (sent_in f (part (e ∷ l) s)) ≡ addressed r (sent_in f (part l s)) =
     ap (addressed r) (sent_more f (part l s) (part_of s (deed l e))) ∙ addressed_more r (sent_in f (part l s)) (sent_now f l e s) ∙ ap (λ x. addressed r (sent_in f (part l s)) ++ x) posts ∙ append-nil (addressed r (sent_in f (part l s))) in
     let got : times s (got_in (part (e ∷ l) r)) ≡ times s (got_in (part l r)) =
@@ -79,10 +75,12 @@ unmoved f l e s r is port posts takes =
     record {
       lies = ap (map f) port ∙ is.lies ∙ sym (ap (λ k. drop k (addressed r (sent_in f (part (e ∷ l) s)))) got ∙ ap (drop (times s (got_in (part l r)))) sent);
       within = (let size = ap length sent in let less = is.within in omega (arith, size, got, less));
+      tells = carried ∙ is.tells ∙ sym (ap (λ k. drop k (told_of (e ∷ l) s r)) got ∙ ap (drop (times s (got_in (part l r)))) told);
+      many = ap length told ∙ is.many ∙ sym (ap length sent);
     }
 
-posted_more : (f : Body → Letter) (l : Ledger) (e : LedgerEvent) (s r : ℕ) (m : Body) → IsPort f l s r → port_of (e ∷ l) s r ≡ port_of l s r ++ m ∷ [] → addressed r (sent_now f l e s) ≡ f m ∷ [] → times s (got_now l e r) ≡ 0 → IsPort f (e ∷ l) s r
-posted_more f l e s r m is port posts takes =
+posted_more : (f : Body → Letter) (l : Ledger) (e : LedgerEvent) (s r : ℕ) (m : Body) (marks : List Mark) → IsPort f l s r → port_of (e ∷ l) s r ≡ port_of l s r ++ m ∷ [] → (known (e ∷ l)).carried s r ≡ (known l).carried s r ++ marks ∷ [] → told_of (e ∷ l) s r ≡ told_of l s r ++ marks ∷ [] → addressed r (sent_now f l e s) ≡ f m ∷ [] → times s (got_now l e r) ≡ 0 → IsPort f (e ∷ l) s r
+posted_more f l e s r m marks is port carried told posts takes =
     let before = addressed r (sent_in f (part l s)) in
     let k = times s (got_in (part l r)) in
     let sent : addressed r (sent_in f (part (e ∷ l) s)) ≡ before ++ f m ∷ [] =
@@ -93,10 +91,13 @@ posted_more f l e s r m is port posts takes =
       lies = ap (map f) port ∙ map_more f (port_of l s r) (m ∷ []) ∙ ap (λ x. x ++ f m ∷ []) is.lies ∙ sym (drop_end k before (f m ∷ []) is.within)
           ∙ sym (ap (λ k. drop k (addressed r (sent_in f (part (e ∷ l) s)))) got ∙ ap (drop k) sent);
       within = (let size = ap length sent ∙ length-append before (f m ∷ []) in let less = is.within in omega (arith, size, got, less));
+      tells = carried ∙ ap (λ x. x ++ marks ∷ []) is.tells ∙ sym (drop_end k (told_of l s r) (marks ∷ []) (let less = is.within in let same = is.many in omega (arith, less, same)))
+          ∙ sym (ap (λ k. drop k (told_of (e ∷ l) s r)) got ∙ ap (drop k) told);
+      many = (let size = ap length sent ∙ length-append before (f m ∷ []) in let more = ap length told ∙ length-append (told_of l s r) (marks ∷ []) in let same = is.many in omega (arith, size, more, same));
     }
 
-taken_one : (f : Body → Letter) (l : Ledger) (e : LedgerEvent) (s r : ℕ) → IsPort f l s r → has_message l s r ≡ true → port_of (e ∷ l) s r ≡ drop 1 (port_of l s r) → addressed r (sent_now f l e s) ≡ [] → times s (got_now l e r) ≡ 1 → IsPort f (e ∷ l) s r
-taken_one f l e s r is there port posts takes =
+taken_one : (f : Body → Letter) (l : Ledger) (e : LedgerEvent) (s r : ℕ) → IsPort f l s r → has_message l s r ≡ true → port_of (e ∷ l) s r ≡ drop 1 (port_of l s r) → (known (e ∷ l)).carried s r ≡ drop 1 ((known l).carried s r) → told_of (e ∷ l) s r ≡ told_of l s r → addressed r (sent_now f l e s) ≡ [] → times s (got_now l e r) ≡ 1 → IsPort f (e ∷ l) s r
+taken_one f l e s r is there port carried told posts takes =
     let before = addressed r (sent_in f (part l s)) in
     let k = times s (got_in (part l r)) in
     let sent : addressed r (sent_in f (part (e ∷ l) s)) ≡ before =
@@ -106,6 +107,8 @@ taken_one f l e s r is there port posts takes =
     record {
       lies = ap (map f) port ∙ drop_mapped f (port_of l s r) ∙ ap (drop 1) is.lies ∙ sym (drop_one k before) ∙ sym (ap (λ k. drop k (addressed r (sent_in f (part (e ∷ l) s)))) got ∙ ap (drop (suc k)) sent);
       within = (let size = ap length sent in let less = some_left (port_of l s r) there is.lies in omega (arith, size, got, less));
+      tells = carried ∙ ap (drop 1) is.tells ∙ sym (drop_one k (told_of l s r)) ∙ sym (ap (λ k. drop k (told_of (e ∷ l) s r)) got ∙ ap (drop (suc k)) told);
+      many = ap length told ∙ is.many ∙ sym (ap length sent);
     }
   where
     some_left : (ms : List Body) → is_some (slice_get ms 0) ≡ true → map f ms ≡ drop (times s (got_in (part l r))) (addressed r (sent_in f (part l s))) → times s (got_in (part l r)) < length (addressed r (sent_in f (part l s)))
@@ -114,8 +117,8 @@ taken_one f l e s r is there port posts takes =
 
 -- Event by event
 
-quiet : (f : Body → Letter) (l : Ledger) (e : LedgerEvent) (s r : ℕ) → IsPort f l s r → port_of (e ∷ l) s r ≡ port_of l s r → sent_now f l e s ≡ [] → got_now l e r ≡ [] → IsPort f (e ∷ l) s r
-quiet f l e s r is port posts takes = unmoved f l e s r is port (ap (addressed r) posts) (ap (times s) takes)
+quiet : (f : Body → Letter) (l : Ledger) (e : LedgerEvent) (s r : ℕ) → IsPort f l s r → port_of (e ∷ l) s r ≡ port_of l s r → (known (e ∷ l)).carried s r ≡ (known l).carried s r → told_of (e ∷ l) s r ≡ told_of l s r → sent_now f l e s ≡ [] → got_now l e r ≡ [] → IsPort f (e ∷ l) s r
+quiet f l e s r is port carried told posts takes = unmoved f l e s r is port carried told (ap (addressed r) posts) (ap (times s) takes)
 
 by_spender : (f : Body → Letter) (o : Option (ℕ × Row)) (d : Deed) (a : ℕ) → posted_in f d ≡ [] → took_in d ≡ [] → (sent_in f (part_of a (option_map (λ p. (p.0, d)) o)) ≡ []) × (got_in (part_of a (option_map (λ p. (p.0, d)) o)) ≡ [])
 by_spender f None d a posts takes = (refl, refl)
@@ -137,16 +140,16 @@ take_here t u s r m w false true right left = ap (λ b. times s (got_in (cond (b
 take_here t u s r m w true false right left = ap (λ b. times s (got_in (cond (b && true) (Takes t m w ∷ []) []))) right
 take_here t u s r m w false false right left = ap (λ b. times s (got_in (cond (b && true) (Takes t m w ∷ []) []))) right
 
-port_at : (t u s r : ℕ) (a b : Bool) (x y : List Body) → (t == s) ≡ a → (u == r) ≡ b → cond (is_at s r t u) x y ≡ cond (a && b) x y
+port_at : {A : Type 0} (t u s r : ℕ) (a b : Bool) (x y : A) → (t == s) ≡ a → (u == r) ≡ b → cond (is_at s r t u) x y ≡ cond (a && b) x y
 port_at t u s r a b x y left right = ap (λ a. cond (a && (r == u)) x y) (turned s t ∙ left) ∙ ap (λ b. cond (a && b) x y) (turned r u ∙ right)
 
 posted_at : (f : Body → Letter) (l : Ledger) (t u s r : ℕ) (m : Body) → IsPort f l s r → IsPort f (Posted t u m ∷ l) s r
 posted_at f l t u s r m is = at (t == s) (u == r) refl refl
   where
     at : (a b : Bool) → (t == s) ≡ a → (u == r) ≡ b → IsPort f (Posted t u m ∷ l) s r
-    at true true left right = posted_more f l (Posted t u m) s r m is (port_at t u s r true true _ _ left right) (post_here f t u s r m true true right left) (ap (times s) (none_got ((t == r) && true) (Posts u m) refl))
-    at true false left right = unmoved f l (Posted t u m) s r is (port_at t u s r true false _ _ left right) (post_here f t u s r m true false right left) (ap (times s) (none_got ((t == r) && true) (Posts u m) refl))
-    at false b left right = unmoved f l (Posted t u m) s r is (port_at t u s r false b _ _ left right) (post_here f t u s r m false b right left) (ap (times s) (none_got ((t == r) && true) (Posts u m) refl))
+    at true true left right = posted_more f l (Posted t u m) s r m ((known l).knows s) is (port_at t u s r true true _ _ left right) (port_at t u s r true true _ _ left right) (port_at t u s r true true _ _ left right) (post_here f t u s r m true true right left) (ap (times s) (none_got ((t == r) && true) (Posts u m) refl))
+    at true false left right = unmoved f l (Posted t u m) s r is (port_at t u s r true false _ _ left right) (port_at t u s r true false _ _ left right) (port_at t u s r true false _ _ left right) (post_here f t u s r m true false right left) (ap (times s) (none_got ((t == r) && true) (Posts u m) refl))
+    at false b left right = unmoved f l (Posted t u m) s r is (port_at t u s r false b _ _ left right) (port_at t u s r false b _ _ left right) (port_at t u s r false b _ _ left right) (post_here f t u s r m false b right left) (ap (times s) (none_got ((t == r) && true) (Posts u m) refl))
 
 taken_at : (f : Body → Letter) (l : Ledger) (t u s r : ℕ) → has_message l t u ≡ true → IsPort f l s r → IsPort f (Taken t u ∷ l) s r
 taken_at f l t u s r there is = at (t == s) (u == r) refl refl
@@ -156,20 +159,20 @@ taken_at f l t u s r there is = at (t == s) (u == r) refl refl
 
     at : (a b : Bool) → (t == s) ≡ a → (u == r) ≡ b → IsPort f (Taken t u ∷ l) s r
     at true true left right =
-        taken_one f l (Taken t u) s r is (ap (λ s. has_message l s r) (sym (eqb-true t s left)) ∙ ap (λ r. has_message l t r) (sym (eqb-true u r right)) ∙ there) (port_at t u s r true true _ _ left right) none (take_here t u s r _ _ true true right left)
-    at true false left right = unmoved f l (Taken t u) s r is (port_at t u s r true false _ _ left right) none (take_here t u s r _ _ true false right left)
-    at false true left right = unmoved f l (Taken t u) s r is (port_at t u s r false true _ _ left right) none (take_here t u s r _ _ false true right left)
-    at false false left right = unmoved f l (Taken t u) s r is (port_at t u s r false false _ _ left right) none (take_here t u s r _ _ false false right left)
+        taken_one f l (Taken t u) s r is (ap (λ s. has_message l s r) (sym (eqb-true t s left)) ∙ ap (λ r. has_message l t r) (sym (eqb-true u r right)) ∙ there) (port_at t u s r true true _ _ left right) (port_at t u s r true true _ _ left right) refl none (take_here t u s r _ _ true true right left)
+    at true false left right = unmoved f l (Taken t u) s r is (port_at t u s r true false _ _ left right) (port_at t u s r true false _ _ left right) refl none (take_here t u s r _ _ true false right left)
+    at false true left right = unmoved f l (Taken t u) s r is (port_at t u s r false true _ _ left right) (port_at t u s r false true _ _ left right) refl none (take_here t u s r _ _ false true right left)
+    at false false left right = unmoved f l (Taken t u) s r is (port_at t u s r false false _ _ left right) (port_at t u s r false false _ _ left right) refl none (take_here t u s r _ _ false false right left)
 
 pub is_port : (n : ℕ) (f : Body → Letter) (l : Ledger) (s r : ℕ) → LegalSoFar n l → has_drained l ≡ false → IsPort f l s r
-is_port n f [] s r legal dry = record { lies = refl; within = omega arith }
+is_port n f [] s r legal dry = record { lies = refl; within = omega arith; tells = refl; many = refl }
 is_port n f (Posted t u m ∷ l) s r legal dry = posted_at f l t u s r m (is_port n f l s r legal.1 dry)
 is_port n f (Taken t u ∷ l) s r legal dry = taken_at f l t u s r (may_come n l t u (owed l) legal.0) (is_port n f l s r legal.1 dry)
-is_port n f (Opened b w k a ∷ l) s r legal dry = quiet f l (Opened b w k a) s r (is_port n f l s r legal.1 dry) refl (none_sent f _ (Opens b w k) refl) (none_got _ (Opens b w k) refl)
-is_port n f (Spent k ∷ l) s r legal dry = quiet f l (Spent k) s r (is_port n f l s r legal.1 dry) refl (by_spender f (holder_of l k) (Spends k) s refl refl).0 (by_spender f (holder_of l k) (Spends k) r refl refl).1
+is_port n f (Opened b w k a ∷ l) s r legal dry = quiet f l (Opened b w k a) s r (is_port n f l s r legal.1 dry) refl refl refl (none_sent f _ (Opens b w k) refl) (none_got _ (Opens b w k) refl)
+is_port n f (Spent k ∷ l) s r legal dry = quiet f l (Spent k) s r (is_port n f l s r legal.1 dry) refl refl refl (by_spender f (holder_of l k) (Spends k) s refl refl).0 (by_spender f (holder_of l k) (Spends k) r refl refl).1
 is_port n f (Accessed k i m old ∷ l) s r legal dry =
-    quiet f l (Accessed k i m old) s r (is_port n f l s r legal.1 dry) refl (by_spender f (holder_of l k) (Accesses k i m old) s refl refl).0 (by_spender f (holder_of l k) (Accesses k i m old) r refl refl).1
-is_port n f (Waiting a t ∷ l) s r legal dry = quiet f l (Waiting a t) s r (is_port n f l s r legal.1 dry) refl (none_sent f _ (Waits t) refl) (none_got _ (Waits t) refl)
-is_port n f (Passed a t ∷ l) s r legal dry = quiet f l (Passed a t) s r (is_port n f l s r legal.1 dry) refl (none_sent f _ (Passes t) refl) (none_got _ (Passes t) refl)
-is_port n f (Ended a ∷ l) s r legal dry = quiet f l (Ended a) s r (is_port n f l s r legal.1 dry) refl (none_sent f _ Ends refl) (none_got _ Ends refl)
+    quiet f l (Accessed k i m old) s r (is_port n f l s r legal.1 dry) refl refl refl (by_spender f (holder_of l k) (Accesses k i m old) s refl refl).0 (by_spender f (holder_of l k) (Accesses k i m old) r refl refl).1
+is_port n f (Waiting a t ∷ l) s r legal dry = quiet f l (Waiting a t) s r (is_port n f l s r legal.1 dry) refl refl refl (none_sent f _ (Waits t) refl) (none_got _ (Waits t) refl)
+is_port n f (Passed a t ∷ l) s r legal dry = quiet f l (Passed a t) s r (is_port n f l s r legal.1 dry) refl refl refl (none_sent f _ (Passes t) refl) (none_got _ (Passes t) refl)
+is_port n f (Ended a ∷ l) s r legal dry = quiet f l (Ended a) s r (is_port n f l s r legal.1 dry) refl refl refl (none_sent f _ Ends refl) (none_got _ Ends refl)
 is_port n f (Drained t u ∷ l) s r legal dry = cc

@@ -1,27 +1,25 @@
--- An agent of a plan that shares no word hears nothing but messages.
-use Rattle.std.proofs.Common.{◌≡◌, ℕ, zero, suc, ◌-◌, Bool, true, false, not, ◌∙◌, ap, refl, subst, List, [], ◌∷◌, drop, Option, Some, None}
+-- An agent of a plan that shares no word accesses none.
+use Rattle.std.proofs.Common.{◌≡◌, ℕ, zero, suc, ◌-◌, Bool, true, false, not, refl, subst, List, [], ◌∷◌, drop, Option, Some, None}
 use Rattle.std.specs.Prelude.{slice_get}
 use Rattle.std.specs.List.{list_all, list_any}
 use Rattle.std.specs.Option.{option_map_or}
 use Rattle.std.proofs.lemmas.Bool.{and_parts, not-true, or_parts}
 use Rattle.es_event.specs.declared.command.Command.{Command}
 use Rattle.es_event.specs.declared.command.Command.TheVariants.{Atomic}
-use Rattle.es_event.specs.declared.event.Answer.{Answer}
 use Rattle.es_event.specs.declared.event.Event.{Event}
-use Rattle.es_event.specs.declared.event.Event.TheVariants.{JobBegun, CleanupBegun, Did, Refused, Emptied, Taken, JobEnded, Closed}
 use Rattle.es_event.specs.declared.plan.AgentPlan.{AgentPlan}
 use Rattle.es_event.specs.declared.plan.Callback.{Callback}
 use Rattle.es_event.specs.declared.plan.Job.{Job}
-use Rattle.es_event.specs.Follows.{AtCommand, Follows, Permits}
+use Rattle.es_event.specs.Follows.{Follows}
 use Rattle.es_event.specs.History.{History}
 use Rattle.es_event.specs.Jobs.{Receivers, job, receivers}
 use Rattle.es_event.specs.Later.{snapshot}
-use Rattle.es_event.specs.Order.{Due, Phase, begin, between, clean, close, due, due_after, due_at, due_between, due_end, due_inside, due_job, end_job, ended, finish, handed, inside, left, phase, queue, receive, run, stopped, take_cell}
-use Rattle.es_event.specs.Runs.{heard, heard_by, silence}
+use Rattle.es_event.specs.Order.{Due, Phase, between, due, due_after, due_at, due_between, due_end, due_inside, due_job, ended, handed, inside, left, phase, queue, run, stopped}
 use Rattle.es_event.specs.Sharing.{Buffers}
 use Rattle.es_event.proofs.Coming.{Comes, begins_cleanup, begins_handed, begins_job, closes, comes, does, empties_dead, ends, finishes, finishes_stopped, next_cell, receives, refuses, refuses_message, skips, stops, takes}
 use Rattle.es_event.proofs.Work.{of_cleanup}
 use Rattle.es_messages.specs.Messages.{is_on_word, shares_no_word}
+use Rattle.es_messages.proofs.Pending.{command_touch, due_touch}
 
 -- What the plan says
 
@@ -109,29 +107,15 @@ due_local_at plan h inside c e d = inside_local h (left plan h) c e d
 due_local_at plan h stopped c e d = absurd (end_runs_nothing (snapshot h) c d)
 due_local_at plan h ended c e d = cc
 
--- So it hears nothing
+-- So it accesses none
 
-silent_by : (c : Command) (r : Answer) → is_on_word c ≡ false → heard_by c r ≡ silence
-silent_by (Atomic a) r e = cc
-silent_by _ r e = refl
+none_by : (over : Buffers) (into : Receivers) (h : History) (c : Command) → is_on_word c ≡ false → command_touch over into h c ≡ None
+none_by over into h (Atomic a) off = cc
+none_by over into h _ off = refl
 
-at_command : (over : Buffers) (into : Receivers) (h : History) (c : Command) (e : Event) → is_on_word c ≡ false → AtCommand over into h c e → heard e ≡ silence
-at_command over into h c (Did (d, vs, r)) off p = silent_by d r (ap is_on_word p ∙ off)
-at_command over into h c (Refused code) off p = refl
-at_command over into h c (Emptied ids) off p = refl
-at_command over into h c _ off p = absurd p
+none_due : (over : Buffers) (into : Receivers) (h : History) (d : Due) → ((c : Command) → d ≡ run c → is_on_word c ≡ false) → due_touch over into h d ≡ None
+none_due over into h (run c) off = none_by over into h c (off c refl)
+none_due over into h _ off = refl
 
-by_due : (over : Buffers) (into : Receivers) (h : History) (d : Due) (e : Event) → ((c : Command) → d ≡ run c → is_on_word c ≡ false) → ((k s : ℕ) → d ≡ receive k s → ⊥) → Permits over into h d e → heard e ≡ silence
-by_due over into h (run c) e off none p = at_command over into h c e (off c refl) p
-by_due over into h (receive k s) e off none p = absurd (none k s refl)
-by_due over into h (begin k) (JobBegun i) off none p = refl
-by_due over into h (clean k) (CleanupBegun i) off none p = refl
-by_due over into h (take_cell k) (Taken i v) off none p = refl
-by_due over into h (finish k) (Emptied ids) off none p = refl
-by_due over into h end_job JobEnded off none p = refl
-by_due over into h close Closed off none p = refl
-by_due over into h _ e off none p = absurd p
-
-pub hears_nothing : (over more : Buffers) (plan : AgentPlan) (h : History) (e : Event) → shares_no_word plan ≡ true → Follows over plan h → ((k s : ℕ) → due plan h ≡ receive k s → ⊥) → Permits more (receivers plan.jobs) h (due plan h) e → heard e ≡ silence
-hears_nothing over more plan h e shares follows none p =
-    by_due more (receivers plan.jobs) h (due plan h) e (λ c d. due_local_at plan h (phase h) c (left_local over plan (is_wordless plan shares) h follows) d) none p
+pub touches_none : (over : Buffers) (plan : AgentPlan) (h : History) → shares_no_word plan ≡ true → Follows over plan h → due_touch over (receivers plan.jobs) h (due plan h) ≡ None
+touches_none over plan h shares follows = none_due over (receivers plan.jobs) h (due plan h) (λ c d. due_local_at plan h (phase h) c (left_local over plan (is_wordless plan shares) h follows) d)

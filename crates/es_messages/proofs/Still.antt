@@ -1,23 +1,24 @@
 -- A turn of an agent that waits, or has ended, changes nothing by the agents' own names.
-use Rattle.std.proofs.Common.{◌≡◌, ℕ, Bool, true, false, cond, ◌∙◌, ap, refl, List, [], ◌∷◌, ◌++◌, map}
-use Rattle.std.specs.Prelude.{is_some, slice_set, ◌&&◌}
+use Rattle.std.proofs.Common.{◌≡◌, ℕ, Bool, true, false, cond, sym, ◌∙◌, ap, refl, subst, arith, List, [], ◌∷◌, ◌++◌, map}
+use Rattle.std.specs.Prelude.{is_some, slice_set}
 use Rattle.es_event.specs.declared.ledger_event.Body.{Body}
 use Rattle.es_event.specs.declared.ledger_event.Body.TheVariants.{Plain, Block}
-use Rattle.es_event.specs.declared.ledger_event.LedgerEvent.TheVariants.{Passed as PassedEvent, Waiting as WaitingEvent}
+use Rattle.es_event.specs.declared.ledger_event.LedgerEvent.TheVariants.{Waiting as WaitingEvent}
 use Rattle.es_event.specs.Ledger.{Ledger, waits}
-use Rattle.es_event.specs.LegalLedger.{has_message, skips}
-use Rattle.es_ledger.specs.Turns.{asked, judged, told, waits_for}
+use Rattle.es_ledger.specs.LedgerView.{LedgerView}
+use Rattle.es_ledger.specs.Turns.{told}
 use Rattle.es_ledger.specs.declared.turn.Turn.{Turn}
-use Rattle.es_ledger.specs.declared.turn.Turn.TheVariants.{Ready, Skip, Stay}
+use Rattle.es_ledger.specs.declared.turn.Turn.TheVariants.{Stay}
 use Rattle.es_deeds.specs.Deeds.{Deed, Posts, Waits, part}
 use Rattle.es_record.specs.AgentView.{AgentView}
 use Rattle.es_member.proofs.Growing.{part_waits}
+use Rattle.es_member.proofs.Hearing.{where_stay}
 use Rattle.es_member.specs.declared.member.Progress.TheVariants.{Waiting, Ended}
 use Rattle.es_cluster.specs.State.{ClusterView}
 use Rattle.es_cluster.specs.Turns.{Turned}
 use Rattle.es_cluster.proofs.Standing.{set_same}
-use Rattle.es_messages.specs.Alone.{Letter}
-use Rattle.es_messages.specs.Renamed.{got_in, letter_of, local_of, locals_of, name, posted_in, renamed, sent_in}
+use Rattle.es_messages.specs.Alone.{Letter, Words, World}
+use Rattle.es_messages.specs.Renamed.{HasWords, got_in, letter_of, local_of, lore_of, name, posted_in, renamed, sent_in, world_of}
 
 sent_same : (f g : Body → Letter) (ds : List Deed) → ((m : Body) → f m ≡ g m) → sent_in f ds ≡ sent_in g ds
 sent_same f g [] same = refl
@@ -41,31 +42,37 @@ pub waits_locals : (n : ℕ) (l : Ledger) (a s : ℕ) (bs : List AgentView) → 
 waits_locals n l a s [] = refl
 waits_locals n l a s (b ∷ bs) = ap (λ x. x ∷ map (local_of n (WaitingEvent a s ∷ l)) bs) (waits_local n l a s b) ∙ ap (λ xs. local_of n l b ∷ xs) (waits_locals n l a s bs)
 
-asked_locals : (n : ℕ) (l : Ledger) (a s : ℕ) (bs : List AgentView) → map (local_of n (asked l a s)) bs ≡ map (local_of n l) bs
-asked_locals n l a s bs = at (is_some (waits l a))
+-- what is the same after a recorded wait is the same after a turn that waits
+told_same : {A : Type 0} (f : Ledger → A) (l m : Ledger) (k a s : ℕ) → f (WaitingEvent a s ∷ l) ≡ f l → ◌≡◌ {A = Turn × Ledger} (Stay, m) (told l k a s) → f m ≡ f l
+told_same f l m k a s same is = ap f (where_stay l m k a s is) ∙ at (is_some (waits l a))
   where
-    at : (t : Bool) → map (local_of n (cond t l (WaitingEvent a s ∷ l))) bs ≡ map (local_of n l) bs
+    at : (t : Bool) → f (cond t l (WaitingEvent a s ∷ l)) ≡ f l
     at true = refl
-    at false = waits_locals n l a s bs
+    at false = same
 
-told_locals : (n k : ℕ) (l m : Ledger) (a s : ℕ) (bs : List AgentView) → ◌≡◌ {A = Turn × Ledger} (Stay, m) (told l k a s) → map (local_of n m) bs ≡ map (local_of n l) bs
-told_locals n k l m a s bs is = at (has_message l s a) is
-  where
-    by_skip : (t : Bool) → ◌≡◌ {A = Turn × Ledger} (Stay, m) (cond t (Skip, PassedEvent a s ∷ asked l a s) (Stay, asked l a s)) → map (local_of n m) bs ≡ map (local_of n l) bs
-    by_skip true is = (let off : Stay ≡ Skip = ap (λ p. p.0) is in cc)
-    by_skip false is = ap (λ m. map (local_of n m) bs) (ap (λ p. p.1) is) ∙ asked_locals n l a s bs
+-- the agents, what they know, and the words
+abbrev standing : ℕ → Ledger → List AgentView → Words → World
+standing n l bs words = record { locals = map (local_of n l) bs; lore = lore_of n l; words = words }
 
-    at : (t : Bool) → ◌≡◌ {A = Turn × Ledger} (Stay, m) (cond t (Ready, l) (judged (asked l a s) k a s)) → map (local_of n m) bs ≡ map (local_of n l) bs
-    at true is = (let off : Stay ≡ Ready = ap (λ p. p.0) is in cc)
-    at false is = by_skip (waits_for (asked l a s) a s && skips (asked l a s) k a s) is
-
-pub waits_still : (i : ℕ) (c d : ClusterView) → Turned Waiting i c d → locals_of d ≡ locals_of c
-waits_still i c d turn =
+pub waits_still : (i : ℕ) (c d : ClusterView) (words : Words) → Turned Waiting i c d → world_of d words ≡ world_of c words
+waits_still i c d words turn =
     let agents : d.agents ≡ c.agents = turn.agents ∙ ap (λ b. slice_set c.agents i b) turn.turn.2 ∙ set_same c.agents i turn.before turn.agent in
-    ap (λ n. map (local_of n d.ledger.history) d.agents) turn.number ∙ ap (λ bs. map (local_of c.ledger.agents d.ledger.history) bs) agents
-    ∙ told_locals c.ledger.agents c.ledger.agents c.ledger.history d.ledger.history turn.before.number turn.told.0 c.agents turn.told.2
+    ap (λ n. standing n d.ledger.history d.agents words) turn.number ∙ ap (λ bs. standing c.ledger.agents d.ledger.history bs words) agents
+    ∙ told_same (λ l. standing c.ledger.agents l c.agents words) c.ledger.history d.ledger.history c.ledger.agents turn.before.number turn.told.0
+    (ap (λ all. record { locals = all; lore = lore_of c.ledger.agents c.ledger.history; words = words }) (waits_locals c.ledger.agents c.ledger.history turn.before.number turn.told.0 c.agents)) turn.told.2
 
-pub ends_still : (i : ℕ) (c d : ClusterView) → Turned Ended i c d → locals_of d ≡ locals_of c
-ends_still i c d turn =
+pub waits_words : (n i : ℕ) (c d : ClusterView) (words : Words) → Turned Waiting i c d → HasWords n c.ledger.history words → HasWords n d.ledger.history words
+waits_words n i c d words turn holds =
+    subst (λ l. HasWords n l words) (sym (where_stay c.ledger.history d.ledger.history c.ledger.agents turn.before.number turn.told.0 turn.told.2)) (at (is_some (waits c.ledger.history turn.before.number)))
+  where
+    at : (t : Bool) → HasWords n (cond t c.ledger.history (WaitingEvent turn.before.number turn.told.0 ∷ c.ledger.history)) words
+    at true = holds
+    at false = record { named_so = λ b x some less. holds.named_so b x some (omega (arith, less)); others = λ k x none. holds.others k x (λ b some less same. none b some (omega (arith, less)) same) }
+
+pub ends_still : (i : ℕ) (c d : ClusterView) (words : Words) → Turned Ended i c d → world_of d words ≡ world_of c words
+ends_still i c d words turn =
     let agents : d.agents ≡ c.agents = turn.agents ∙ ap (λ b. slice_set c.agents i b) turn.turn.1 ∙ set_same c.agents i turn.before turn.agent in
-    ap (λ l. map (local_of l.agents l.history) d.agents) turn.told ∙ ap (λ bs. map (local_of c.ledger.agents c.ledger.history) bs) agents
+    ap (λ l. standing l.agents l.history d.agents words) turn.told ∙ ap (λ bs. standing c.ledger.agents c.ledger.history bs words) agents
+
+pub ends_words : (n i : ℕ) (c d : ClusterView) (words : Words) → Turned Ended i c d → HasWords n c.ledger.history words → HasWords n d.ledger.history words
+ends_words n i c d words turn holds = subst (λ (l : LedgerView). HasWords n l.history words) (sym turn.told) holds

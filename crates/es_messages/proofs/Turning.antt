@@ -18,10 +18,11 @@ use Rattle.es_cluster.specs.Turns.{Turned}
 use Rattle.es_cluster.proofs.Standing.{set_mapped}
 use Rattle.es_replay.specs.Together.{StandsAt}
 use Rattle.es_replay.proofs.Turning.{Done, after_event as grown_by, done, move}
-use Rattle.es_messages.specs.Alone.{Goes, after_event, posted_by, with_new}
-use Rattle.es_messages.specs.Renamed.{AreOpened, got_in, letter_of, local_of, locals_of, name, renamed, renamed_row, sent_in}
+use Rattle.es_messages.specs.Alone.{Goes, Words, after_event, learned, lore_after, new_lore, posted_by, touch_by, with_new, words_after}
+use Rattle.es_messages.specs.Renamed.{AreOpened, HasWords, got_in, letter_of, local_of, locals_of, lore_of, name, renamed, renamed_row, sent_in, world_of}
 use Rattle.es_messages.specs.Steps.{Along, AreOver, AtTurn, HasCome, Keeps, Means}
 use Rattle.es_messages.proofs.Doing.{means_alone}
+use Rattle.es_messages.proofs.Learning.{learns}
 use Rattle.es_messages.proofs.Names.{names_apart}
 use Rattle.es_messages.proofs.Opened.{all_sent, over_later, over_opened}
 use Rattle.es_messages.proofs.Others.{other_stays, renamed_stays, sent_stays, set_over}
@@ -29,33 +30,34 @@ use Rattle.es_messages.proofs.Ports.{got_more, sent_more}
 use Rattle.es_messages.proofs.Receiving.{means_message}
 use Rattle.es_messages.proofs.Renaming.{comes_renamed, new_renamed, run_renamed}
 use Rattle.es_messages.proofs.Skipping.{mapped_at}
+use Rattle.es_messages.proofs.Wording.{words_turn}
 
 -- What comes, and by which deeds
 
-pub record Step (n : ℕ) (c : ClusterView) (i : ℕ) (d : ClusterView) (b new : AgentView) : Type 0 where
+pub record Step (n : ℕ) (c : ClusterView) (words : Words) (i : ℕ) (d : ClusterView) (b new : AgentView) : Type 0 where
   pub event : Event
   pub row : Option Row
   pub is : new ≡ grown_by b row event
   pub deeds : List Deed
   pub at : AtTurn n c i d.ledger.history b event row deeds
-  pub means : Means n c i d.ledger.history b event row deeds
+  pub means : Means n c words i d.ledger.history b event row deeds
 
-means : (n : ℕ) (c : ClusterView) (i : ℕ) (m : Ledger) (b : AgentView) (e : Event) (r : Option Row) (ds : List Deed) → AtTurn n c i m b e r ds → Means n c i m b e r ds
-means n c i m b e r ds x = by_due (due b.plan b.history) refl
+means : (n : ℕ) (c : ClusterView) (words : Words) (i : ℕ) (m : Ledger) (b : AgentView) (e : Event) (r : Option Row) (ds : List Deed) → HasWords n c.ledger.history words → AtTurn n c i m b e r ds → Means n c words i m b e r ds
+means n c words i m b e r ds holds x = by_due (due b.plan b.history) refl
   where
-    by_due : (d : Due) → due b.plan b.history ≡ d → Means n c i m b e r ds
-    by_due (receive k s) at = means_message n c i m b e r ds k s x at
-    by_due (begin j) at = means_alone n c i m b e r ds x (λ k s is. let clash = sym at ∙ is in cc)
-    by_due (run q) at = means_alone n c i m b e r ds x (λ k s is. let clash = sym at ∙ is in cc)
-    by_due (clean q) at = means_alone n c i m b e r ds x (λ k s is. let clash = sym at ∙ is in cc)
-    by_due (take_cell q) at = means_alone n c i m b e r ds x (λ k s is. let clash = sym at ∙ is in cc)
-    by_due (finish p) at = means_alone n c i m b e r ds x (λ k s is. let clash = sym at ∙ is in cc)
-    by_due end_job at = means_alone n c i m b e r ds x (λ k s is. let clash = sym at ∙ is in cc)
-    by_due close at = means_alone n c i m b e r ds x (λ k s is. let clash = sym at ∙ is in cc)
-    by_due nothing at = means_alone n c i m b e r ds x (λ k s is. let clash = sym at ∙ is in cc)
+    by_due : (d : Due) → due b.plan b.history ≡ d → Means n c words i m b e r ds
+    by_due (receive k s) at = means_message n c words i m b e r ds k s x at
+    by_due (begin j) at = means_alone n c words i m b e r ds holds x (λ k s is. let clash = sym at ∙ is in cc)
+    by_due (run q) at = means_alone n c words i m b e r ds holds x (λ k s is. let clash = sym at ∙ is in cc)
+    by_due (clean q) at = means_alone n c words i m b e r ds holds x (λ k s is. let clash = sym at ∙ is in cc)
+    by_due (take_cell q) at = means_alone n c words i m b e r ds holds x (λ k s is. let clash = sym at ∙ is in cc)
+    by_due (finish p) at = means_alone n c words i m b e r ds holds x (λ k s is. let clash = sym at ∙ is in cc)
+    by_due end_job at = means_alone n c words i m b e r ds holds x (λ k s is. let clash = sym at ∙ is in cc)
+    by_due close at = means_alone n c words i m b e r ds holds x (λ k s is. let clash = sym at ∙ is in cc)
+    by_due nothing at = means_alone n c words i m b e r ds holds x (λ k s is. let clash = sym at ∙ is in cc)
 
-pub step : (n : ℕ) (c : ClusterView) (i : ℕ) (d : ClusterView) → Along n c → (turn : Turned Moved i c d) → Step n c i d turn.before turn.after
-step n c i d along turn = record { event = e; row = r; is = turn.turn.3; deeds = doing.deeds; at = at; means = means n c i d.ledger.history b e r doing.deeds at }
+pub step : (n : ℕ) (c : ClusterView) (words : Words) (i : ℕ) (d : ClusterView) → Along n c → HasWords n c.ledger.history words → (turn : Turned Moved i c d) → Step n c words i d turn.before turn.after
+step n c words i d along holds turn = record { event = e; row = r; is = turn.turn.3; deeds = doing.deeds; at = at; means = means n c words i d.ledger.history b e r doing.deeds holds at }
   where
     b : AgentView
     b = turn.before
@@ -118,9 +120,9 @@ over_on n c i m b e r ds x come =
 
 -- The agent, and all of them, by their own names
 
-goes : (n : ℕ) (c : ClusterView) (i : ℕ) (d : ClusterView) (b new : AgentView) (e : Event) (r : Option Row) (ds : List Deed) → n ≡ c.ledger.agents → d.ledger.agents ≡ c.ledger.agents → d.agents ≡ slice_set c.agents i new → new ≡ grown_by b r e
-    → AtTurn n c i d.ledger.history b e r ds → Means n c i d.ledger.history b e r ds → Goes n (locals_of c) i (locals_of d)
-goes n c i d b new e r ds size number agents is x y = record {
+goes : (n : ℕ) (c : ClusterView) (words : Words) (i : ℕ) (d : ClusterView) (b new : AgentView) (e : Event) (r : Option Row) (ds : List Deed) → n ≡ c.ledger.agents → d.ledger.agents ≡ c.ledger.agents → d.agents ≡ slice_set c.agents i new → new ≡ grown_by b r e
+    → AtTurn n c i d.ledger.history b e r ds → Means n c words i d.ledger.history b e r ds → Goes n (world_of c words) i (world_of d (words_after words (touch_by (renamed (name n c.ledger.history) b.over) e)))
+goes n c words i d b new e r ds size number agents is x y = record {
   before = local_of n l b;
   at = mapped_at (local_of c.ledger.agents l) c.agents i ∙ ap (option_map (local_of c.ledger.agents l)) x.here ∙ ap (λ n. Some (local_of n l b)) (sym size);
   run = run_renamed (name n l) b.over b.plan b.history (names_apart n l b.over x.along.legal (over_opened l b.over keeps.over)) (x.along.stands.each i b x.here).run;
@@ -129,7 +131,7 @@ goes n c i d b new e r ds size number agents is x y = record {
   got = got_in ds;
   next = subst (λ over. ComesNext over b.plan b.history e) (sym buffers) (comes_renamed (name n m) (with_row r b).over b.plan b.history e (names_apart n m (with_row r b).over x.legal opened) (x.moved.next.lawful, x.moved.next.permitted));
   finds = y.finds;
-  is = all_are;
+  is = λ k. record { locals = all_are k; lore = lore_is k; words = words_after words (touch_by (renamed (name n l) b.over) e) };
 }
   where
     l : Ledger
@@ -189,7 +191,15 @@ goes n c i d b new e r ds size number agents is x y = record {
         ∙ ap (slice_set (map (local_of n l) c.agents) i) mine
         ∙ ap (λ k. slice_set (map (local_of k l) c.agents) i (after_event (local_of n l b) e (option_map (renamed_row (name n m)) r) (got_in ds))) size
 
-pub turn_goes : (n : ℕ) (c : ClusterView) (i : ℕ) (d : ClusterView) → Along n c → Turned Moved i c d → Goes n (locals_of c) i (locals_of d)
-turn_goes n c i d along turn =
-    let s = step n c i d along turn in
-    goes n c i d turn.before turn.after s.event s.row s.deeds (sym along.number) turn.number turn.agents s.is s.at s.means
+    lore_is : lore_of d.ledger.agents m ≡ lore_after (lore_of c.ledger.agents l) i (new_lore (lore_of c.ledger.agents l i) i (learned (lore_of c.ledger.agents l) i (local_of n l b) (got_in ds)) (local_of n l b) e)
+    lore_is =
+        ap (λ k. lore_of k m) (number ∙ sym size) ∙ learns n c i m b e r ds x y.does
+        ∙ ap (λ k. lore_after (lore_of k l) i (new_lore (lore_of k l i) i (learned (lore_of k l) i (local_of n l b) (got_in ds)) (local_of n l b) e)) size
+
+pub turn_goes : (n : ℕ) (c : ClusterView) (words : Words) (i : ℕ) (d : ClusterView) → Along n c → HasWords n c.ledger.history words → Turned Moved i c d → (more : Words) × HasWords n d.ledger.history more × Goes n (world_of c words) i (world_of d more)
+turn_goes n c words i d along holds turn =
+    let s = step n c words i d along holds turn in (
+      words_after words (touch_by (renamed (name n c.ledger.history) turn.before.over) s.event),
+      words_turn n c words i d.ledger.history turn.before s.event s.row s.deeds s.at s.means.does holds,
+      goes n c words i d turn.before turn.after s.event s.row s.deeds (sym along.number) turn.number turn.agents s.is s.at s.means,
+    )

@@ -1,23 +1,30 @@
--- Internal: an agent of a plan without words of shared memory, by what it is whatever the order of turns: blocks are named by who opened
--- them and as which of its own, tickets have no serials, and messages are told by who sent them and who took them.
-use Rattle.std.specs.Prelude.{ℕ, zero, suc, ◌≡◌, ◌+◌, ◌<◌, ◌==◌, ◌⊎◌, Bool, true, false, List, [], ◌∷◌, ◌++◌, Option, Some, None, drop, slice_get, slice_set, if◌then◌else◌}
+-- Internal: an agent by what it is whatever the order of turns: blocks are named by who opened them and as which of its own, tickets have no
+-- serials, and messages are told by who sent them and who took them; beside the agents the words of their blocks, and what each agent knows of
+-- accesses.
+use Rattle.std.specs.Prelude.{ℕ, zero, suc, ◌≡◌, ◌+◌, ◌<◌, ◌==◌, ◌&&◌, ◌||◌, ◌⊎◌, Bool, true, false, List, [], ◌∷◌, ◌++◌, length, map, Option, Some, None, unwrap_or, drop, slice_get, slice_set, unsigned_abs, if◌then◌else◌}
+use Rattle.std.specs.List.{list_any}
 use Rattle.std.specs.Option.{option_map_or}
 use Rattle.es_value.specs.declared.value.Value.{Value}
 use Rattle.es_value.specs.declared.value.Value.TheVariants.{Object}
-use Rattle.es_event.specs.declared.command.Command.TheVariants.{SharedArrayBuffer, Post}
+use Rattle.es_event.specs.declared.access.Access.{Access}
+use Rattle.es_event.specs.declared.access.Change.{Change}
+use Rattle.es_event.specs.declared.command.Command.{Command}
+use Rattle.es_event.specs.declared.command.Command.TheVariants.{SharedArrayBuffer, Atomic, Post}
 use Rattle.es_event.specs.declared.event.Event.{Event}
 use Rattle.es_event.specs.declared.event.Event.TheVariants.{JobBegun, CleanupBegun, Received, Did, Refused, Emptied, Taken, JobEnded, Skipped, Closed}
 use Rattle.es_event.specs.declared.event.Refusal.TheVariants.{TooManyValues}
 use Rattle.es_event.specs.declared.plan.AgentPlan.{AgentPlan}
 use Rattle.es_event.specs.declared.row.Row.{Row}
+use Rattle.es_event.specs.Access.{access_of, written}
 use Rattle.es_event.specs.Commands.{first}
 use Rattle.es_event.specs.History.{History}
 use Rattle.es_event.specs.Identities.{made}
 use Rattle.es_event.specs.Order.{Due, receive, due, phase}
 use Rattle.es_event.specs.Rows.{row}
-use Rattle.es_event.specs.Runs.{ComesNext, IsRunOver, heard, silence}
-use Rattle.es_event.specs.Sharing.{Buffers, blocks_opened, row_of}
+use Rattle.es_event.specs.Runs.{ComesNext, Heard, IsRunOver, a_word, heard, silence}
+use Rattle.es_event.specs.Sharing.{Buffers, block_of, blocks_opened, row_of}
 use Rattle.es_agent.specs.Tickets.{is_ended}
+use Rattle.es_laws.specs.Races.{Mark, first_of, is_mark}
 
 -- a message: a value, or a block with its number of words
 pub data Letter : Type 0 where
@@ -125,6 +132,110 @@ posted_by over JobEnded = []
 posted_by over (Skipped j t) = []
 posted_by over Closed = []
 
+-- Words
+
+-- an access to a word: of which block, by its own name, at which index, and what becomes of the word
+pub record Touch : Type 0 where
+  pub block : ℕ
+  pub index : ℕ
+  pub access : Access
+
+-- the one that a command with these values is
+abbrev pub touch_with : Buffers → Command → List Value → Option Touch
+touch_with over (Atomic c) vs = Some (record { block = block_of over (first vs); index = unsigned_abs c.index; access = access_of c.operation })
+touch_with over c vs = None
+
+-- the one that the event is
+abbrev pub touch_by : Buffers → Event → Option Touch
+touch_by over (JobBegun j) = None
+touch_by over (CleanupBegun q) = None
+touch_by over (Received t v) = None
+touch_by over (Did (c, vs, r)) = touch_with over c vs
+touch_by over (Refused code) = None
+touch_by over (Emptied ids) = None
+touch_by over (Taken m held) = None
+touch_by over JobEnded = None
+touch_by over (Skipped j t) = None
+touch_by over Closed = None
+
+-- the word of a block, by its own name, at an index
+abbrev pub Words : Type 0
+Words = ℕ → ℕ → ℕ
+
+abbrev pub hears_at : Words → Option Touch → Heard
+hears_at m None = silence
+hears_at m (Some t) = if t.access.gives_word then a_word (m t.block t.index) else silence
+
+abbrev pub is_over : ℕ → ℕ → Touch → Bool
+is_over b x t = (t.block == b) && (t.index == x)
+
+-- what a change leaves of a word
+abbrev pub left_over : Change → ℕ → ℕ
+left_over c old = unwrap_or (written c old) old
+
+abbrev pub words_after : Words → Option Touch → Words
+words_after m None b x = m b x
+words_after m (Some t) b x = if is_over b x t then left_over t.access.change (m t.block t.index) else m b x
+
+-- What agents know
+
+abbrev pub is_known : Mark → List Mark → Bool
+is_known x marks = list_any (is_mark x) marks
+
+-- an access that was made: where, whether it writes, and of which accesses its agent knew
+pub record Touched : Type 0 where
+  pub block : ℕ
+  pub index : ℕ
+  pub writes : Bool
+  pub knew : List Mark
+
+abbrev pub changes : Change → Bool
+changes Change.Keep = false
+changes (Change.Write w) = true
+changes (Change.Add n) = true
+
+abbrev pub touched_by : List Mark → Touch → Touched
+touched_by knew t = record { block = t.block; index = t.index; writes = changes t.access.change; knew = knew }
+
+-- two accesses to one word, one of them a write
+abbrev pub clash : Touched → Touched → Bool
+clash x y = ((x.block == y.block) && (x.index == y.index)) && (x.writes || y.writes)
+
+-- of which accesses an agent knows; of each message to an agent, the oldest first, those of which it knew when it posted it; and its accesses,
+-- the oldest first
+pub record Lore : Type 0 where
+  pub knows : List Mark
+  pub told : ℕ → List (List Mark)
+  pub touched : List Touched
+
+-- what a message of s tells agent a, which is i
+abbrev pub learned : (ℕ → Lore) → ℕ → Local → List ℕ → List Mark
+learned lore i a [] = []
+learned lore i a (s ∷ rest) = first_of (drop (times s a.got) ((lore s).told i))
+
+abbrev pub own_mark : ℕ → List Touched → Option Touch → List Mark
+own_mark i earlier None = []
+own_mark i earlier (Some t) = (i, length earlier) ∷ []
+
+abbrev pub touched_now : List Mark → Option Touch → List Touched
+touched_now knew None = []
+touched_now knew (Some t) = touched_by knew t ∷ []
+
+-- what agent i knows after it was told of these accesses, made this one and posted these messages
+abbrev pub lore_with : Lore → ℕ → List Mark → Option Touch → List (ℕ × Letter) → Lore
+lore_with old i marks touch sent = record {
+  knows = marks ++ (own_mark i old.touched touch ++ old.knows);
+  told = λ r. old.told r ++ map (λ m. old.knows) (addressed r sent);
+  touched = old.touched ++ touched_now old.knows touch;
+}
+
+-- what it knows after an event
+abbrev pub new_lore : Lore → ℕ → List Mark → Local → Event → Lore
+new_lore old i marks a e = lore_with old i marks (touch_by a.over e) (posted_by a.over e)
+
+abbrev pub lore_after : (ℕ → Lore) → ℕ → Lore → ℕ → Lore
+lore_after lore i new j = if i == j then new else lore j
+
 -- Steps
 
 -- of a message of s that is there, or of none, agent i hears this, and this ticket comes
@@ -134,31 +245,55 @@ Hears all i s a (plain v ∷ ms) e r got = (e ≡ Received s v) × (r ≡ None) 
 Hears all i s a (over_block q ∷ ms) e r got =
     (((e ≡ Received s (Object (made a.history + 1))) × (r ≡ Some q)) ⊎ ((e ≡ Refused TooManyValues) × (r ≡ None))) × (got ≡ s ∷ [])
 
--- where nothing is due from others, only a block of its own comes
-abbrev pub Finds : ℕ → Locals → ℕ → Local → Due → Event → Option Row → List ℕ → Type 0
-Finds n all i a (receive j s) e r got = Hears all i s a (letters all s i a) e r got
-Finds n all i a d e r got = (r ≡ opened_row n i a.history e) × (got ≡ []) × (heard e ≡ silence)
+-- where nothing is due from others, only a block of its own comes, and only a word is heard
+abbrev pub Finds : ℕ → Locals → Words → ℕ → Local → Due → Event → Option Row → List ℕ → Type 0
+Finds n all m i a (receive j s) e r got = Hears all i s a (letters all s i a) e r got
+Finds n all m i a d e r got = (r ≡ opened_row n i a.history e) × (got ≡ []) × (heard e ≡ hears_at m (touch_by a.over e))
 
 abbrev pub after_event : Local → Event → Option Row → List ℕ → Local
 after_event a e r got = record { plan = a.plan; over = with_new r a.history a.over; history = e ∷ a.history; sent = a.sent ++ posted_by a.over e; got = a.got ++ got }
 
+-- all agents, what they know, and the words of all blocks
+pub record World : Type 0 where
+  pub locals : Locals
+  pub lore : ℕ → Lore
+  pub words : Words
+
+abbrev pub world_after : World → ℕ → Local → Event → Option Row → List ℕ → World
+world_after w i a e r got = record {
+  locals = slice_set w.locals i (after_event a e r got);
+  lore = lore_after w.lore i (new_lore (w.lore i) i (learned w.lore i a got) a e);
+  words = words_after w.words (touch_by a.over e);
+}
+
 -- agent i of n goes on by one event
-pub record Goes (n : ℕ) (all : Locals) (i : ℕ) (new : Locals) : Type 0 where
+pub record Goes (n : ℕ) (w : World) (i : ℕ) (new : World) : Type 0 where
   pub before : Local
-  pub at : slice_get all i ≡ Some before
+  pub at : slice_get w.locals i ≡ Some before
   pub run : IsRunOver before.over before.plan before.history
   pub event : Event
   pub row : Option Row
   pub got : List ℕ
   pub next : ComesNext (with_new row before.history before.over) before.plan before.history event
-  pub finds : Finds n all i before (due before.plan before.history) event row got
-  pub is : new ≡ slice_set all i (after_event before event row got)
+  pub finds : Finds n w.locals w.words i before (due before.plan before.history) event row got
+  pub is : new ≡ world_after w i before event row got
 
 -- so many steps of any agents, one after the other
-abbrev pub GoFar : ℕ → ℕ → Locals → Locals → Type 0
-GoFar n zero all end = end ≡ all
-GoFar n (suc k) all end = (i : ℕ) × (mid : Locals) × Goes n all i mid × GoFar n k mid end
+abbrev pub GoFar : ℕ → ℕ → World → World → Type 0
+GoFar n zero w end = end ≡ w
+GoFar n (suc k) w end = (i : ℕ) × (mid : World) × Goes n w i mid × GoFar n k mid end
 
 -- all have ended
-abbrev pub AreDone : Locals → Type 0
-AreDone all = (i : ℕ) (a : Local) → slice_get all i ≡ Some a → is_done a ≡ true
+abbrev pub AreDone : World → Type 0
+AreDone w = (i : ℕ) (a : Local) → slice_get w.locals i ≡ Some a → is_done a ≡ true
+
+-- of two accesses of two agents to one word, one of them a write, one agent knew of the other
+abbrev pub IsFree : World → Type 0
+IsFree w =
+    (i j p q : ℕ) (x y : Touched) → (i ≡ j → ⊥) → slice_get (w.lore i).touched p ≡ Some x → slice_get (w.lore j).touched q ≡ Some y → clash x y ≡ true → (is_known (i, p) y.knew || is_known (j, q) x.knew) ≡ true
+
+-- nobody knows of an access that was not made; and of each message there is what its sender knew
+pub record IsSane (w : World) : Type 0 where
+  pub knows : (i : ℕ) (x : Mark) → is_known x (w.lore i).knows ≡ true → x.1 < length (w.lore x.0).touched
+  pub told : (i r : ℕ) (x : Mark) → list_any (is_known x) ((w.lore i).told r) ≡ true → x.1 < length (w.lore x.0).touched
+  pub parallel : (i r : ℕ) (a : Local) → slice_get w.locals i ≡ Some a → length ((w.lore i).told r) ≡ length (addressed r a.sent)

@@ -3,3 +3,4 @@ pub mod Alone
 pub mod Renamed
 pub mod Messages
 pub mod Steps
+pub mod WithoutRaces

@@ -1,18 +1,20 @@
 -- Internal: a cluster by turns, told by its agents' own names.
-use Rattle.std.specs.Prelude.{ℕ, ◌≡◌, ◌≤◌, ◌<◌, ◌==◌, ⊤, List, [], ◌∷◌, ◌++◌, drop, length, map, if◌then◌else◌}
+use Rattle.std.specs.Prelude.{ℕ, ◌≡◌, ◌≢◌, ◌≤◌, ◌<◌, ◌==◌, ⊤, List, [], ◌∷◌, ◌++◌, drop, length, map, if◌then◌else◌}
 use Rattle.es_value.specs.declared.value.Value.{Value}
 use Rattle.es_event.specs.declared.ledger_event.Body.{Body}
 use Rattle.es_event.specs.declared.ledger_event.Body.TheVariants.{Plain, Block}
 use Rattle.es_event.specs.declared.ledger_event.LedgerEvent.{LedgerEvent}
 use Rattle.es_event.specs.declared.ledger_event.LedgerEvent.TheVariants.{Opened, Posted, Taken, Spent, Accessed, Waiting, Passed, Ended, Drained}
 use Rattle.es_event.specs.declared.row.Row.{Row}
-use Rattle.es_event.specs.Ledger.{Ledger, opened, port_of, size}
+use Rattle.es_event.specs.Ledger.{Ledger, is_at, opened, port_of, size, word}
 use Rattle.es_event.specs.Rows.{row}
 use Rattle.es_event.specs.Sharing.{Buffers, block_of}
 use Rattle.es_deeds.specs.Deeds.{Deed, Opens, Posts, Takes, Spends, Accesses, Waits, Passes, Ends, part}
 use Rattle.es_record.specs.AgentView.{AgentView}
+use Rattle.es_laws.specs.Memory.{is_write}
+use Rattle.es_laws.specs.Races.{Mark, MarkedAccess, known, marked}
 use Rattle.es_cluster.specs.State.{ClusterView}
-use Rattle.es_messages.specs.Alone.{Letter, Local, Locals, addressed, named, over_block, plain, times}
+use Rattle.es_messages.specs.Alone.{Letter, Local, Locals, Lore, Touched, Words, World, addressed, named, over_block, plain, times}
 use Rattle.es_messages.specs.Weights.{weigh}
 
 -- Other names of blocks
@@ -85,10 +87,28 @@ abbrev pub got_in : List Deed → List ℕ
 got_in [] = []
 got_in (d ∷ ds) = took_in d ++ got_in ds
 
--- the messages from s to r that lie there are those that s posted, less those that r took
+abbrev pub told_after : Ledger → LedgerEvent → ℕ → ℕ → List (List Mark) → List (List Mark)
+told_after l (Opened b w k a) s r before = before
+told_after l (Posted t u m) s r before = if is_at s r t u then before ++ (known l).knows s ∷ [] else before
+told_after l (Taken t u) s r before = before
+told_after l (Spent k) s r before = before
+told_after l (Accessed k i m old) s r before = before
+told_after l (Waiting a t) s r before = before
+told_after l (Passed a t) s r before = before
+told_after l (Ended a) s r before = before
+told_after l (Drained t u) s r before = before
+
+-- of each message that s posted to r, the oldest first, the accesses of which s knew
+abbrev pub told_of : Ledger → ℕ → ℕ → List (List Mark)
+told_of [] s r = []
+told_of (e ∷ earlier) s r = told_after earlier e s r (told_of earlier s r)
+
+-- the messages from s to r that lie there are those that s posted, less those that r took; and so is what they tell
 pub record IsPort (f : Body → Letter) (l : Ledger) (s r : ℕ) : Type 0 where
   pub lies : map f (port_of l s r) ≡ drop (times s (got_in (part l r))) (addressed r (sent_in f (part l s)))
   pub within : times s (got_in (part l r)) ≤ length (addressed r (sent_in f (part l s)))
+  pub tells : (known l).carried s r ≡ drop (times s (got_in (part l r))) (told_of l s r)
+  pub many : length (told_of l s r) ≡ length (addressed r (sent_in f (part l s)))
 
 -- an agent, and all of them
 abbrev pub local_of : ℕ → Ledger → AgentView → Local
@@ -128,3 +148,24 @@ IsSent l Ends = ⊤
 abbrev pub AreSent : Ledger → List Deed → Type 0
 AreSent l [] = ⊤
 AreSent l (d ∷ ds) = IsSent l d × AreSent l ds
+
+-- What the agents know
+
+abbrev pub touched_as : (ℕ → ℕ) → MarkedAccess → Touched
+touched_as f x = record { block = f x.access.block; index = x.access.index; writes = is_write x.access; knew = x.knew }
+
+-- those of agent i, the oldest first, of accesses by falling age
+abbrev pub touched_in : (ℕ → ℕ) → List MarkedAccess → ℕ → List Touched
+touched_in f [] i = []
+touched_in f (x ∷ xs) i = if x.access.agent == i then touched_in f xs i ++ touched_as f x ∷ [] else touched_in f xs i
+
+abbrev pub lore_of : ℕ → Ledger → ℕ → Lore
+lore_of n l i = record { knows = (known l).knows i; told = told_of l i; touched = touched_in (name n l) (marked l) i }
+
+-- the words of opened blocks under their names; all else is 0
+pub record HasWords (n : ℕ) (l : Ledger) (m : Words) : Type 0 where
+  pub named_so : (b x : ℕ) → 0 < b → b ≤ opened l → m (name n l b) x ≡ word l b x
+  pub others : (c x : ℕ) → ((b : ℕ) → 0 < b → b ≤ opened l → name n l b ≢ c) → m c x ≡ 0
+
+abbrev pub world_of : ClusterView → Words → World
+world_of c m = record { locals = locals_of c; lore = lore_of c.ledger.agents c.ledger.history; words = m }
