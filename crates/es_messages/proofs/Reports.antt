@@ -17,6 +17,7 @@ use Rattle.es_cluster.specs.Turns.{AllTurned}
 use Rattle.es_outcome.specs.Outcomes.{IsClusterOutcome}
 use Rattle.es_refine.proofs.Ending.{refines}
 use Rattle.es_messages.specs.Messages.{SayAlike, share_no_word}
+use Rattle.es_messages.specs.WithoutRaces.{HasNoRaceByTurns}
 use Rattle.es_messages.proofs.Composing.{number_far, says_alike}
 use Rattle.es_messages.proofs.Reporting.{reports_same}
 use Rattle.es_messages.proofs.Wordless.{messages_alone}
@@ -36,8 +37,11 @@ drained_below_same : (m : ℕ) (l : Ledger) (n : ℕ) → marked (drained_below 
 drained_below_same zero l n = refl
 drained_below_same (suc m) l n = drained_to_same n (drained_below l n m) m ∙ drained_below_same m l n
 
+drain_is_free : (l : Ledger) (n : ℕ) → has_no_race (after_drain l n) ≡ has_no_race l
+drain_is_free l n = ap (λ ms. list_all (λ x. list_all (λ y. not (race x y)) ms) ms) (drained_below_same n l n)
+
 undrained : (l : Ledger) (n : ℕ) → has_no_race (after_drain l n) ≡ true → has_no_race l ≡ true
-undrained l n none = ap (λ ms. list_all (λ x. list_all (λ y. not (race x y)) ms) ms) (sym (drained_below_same n l n)) ∙ none
+undrained l n none = sym (drain_is_free l n) ∙ none
 
 -- A run by moves is one by turns
 
@@ -97,3 +101,8 @@ pub reports_in_threads : (plan : Plan) (o q : Outcome) → share_no_word plan �
 reports_in_threads plan o q shares a b =
     let y = refines plan q b in
     turned_reports plan y.turns y.end o y.outcome a y.turned (messages_alone plan y.turns y.end shares y.turned) y.ends ∙ sym y.reported
+
+pub alone_by_turns : (plan : Plan) → share_no_word plan ≡ true → HasNoRaceByTurns plan
+alone_by_turns plan shares c (end, run, is) =
+    let turns = run_turns (first_state plan) end run in
+    subst (λ c. has_no_race c.ledger.history ≡ true) (sym is) (drain_is_free end.ledger.history end.ledger.agents ∙ messages_alone plan turns.0 end shares turns.1)

@@ -21,6 +21,10 @@ abbrev pub WithoutRacesNoTurnsRace : Type 0
 WithoutRacesNoTurnsRace =
     (plan : Plan) (ns ms : List ℕ) (c d : ClusterView) (o q : Outcome) → AllTurned ns (first_state plan) c → EndsIn (with_drained c) o → has_no_race c.ledger.history ≡ true → AllTurned ms (first_state plan) d → EndsIn (with_drained d) q → has_no_race d.ledger.history ≡ true
 
+-- by turns no two accesses of the plan race
+abbrev pub HasNoRaceByTurns : Plan → Type 0
+HasNoRaceByTurns plan = (c : ClusterView) → RunsToEnd (first_state plan) c → has_no_race c.ledger.history ≡ true
+
 -- If by turns no two race, each agent has one history in threads too: the one by turns.
 abbrev pub WithoutRacesThreadsSayAsByTurns : Type 0
 WithoutRacesThreadsSayAsByTurns =
@@ -34,3 +38,7 @@ WithoutRacesThreadsReportAsByTurns =
 -- Agents that read and write no word race for none.
 abbrev pub MessagesAloneDoNotRace : Type 0
 MessagesAloneDoNotRace = (plan : Plan) (ns : List ℕ) (c : ClusterView) → share_no_word plan ≡ true → AllTurned ns (first_state plan) c → has_no_race c.ledger.history ≡ true
+
+-- So by turns they race for none.
+abbrev pub MessagesAloneDoNotRaceByTurns : Type 0
+MessagesAloneDoNotRaceByTurns = (plan : Plan) → share_no_word plan ≡ true → HasNoRaceByTurns plan

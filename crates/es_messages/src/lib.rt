@@ -10,7 +10,7 @@ pub use laws::{
     threads_report_as_by_turns,
 };
 pub use races::{
-    messages_alone_do_not_race, without_races_no_turns_race,
+    messages_alone_do_not_race, messages_alone_do_not_race_by_turns, without_races_no_turns_race,
     without_races_threads_report_as_by_turns, without_races_threads_say_as_by_turns,
     without_races_turns_say_alike,
 };

@@ -2,7 +2,7 @@
 //! contract of a function that does nothing. Two accesses race here where no message orders them: all are
 //! sequentially consistent, so none is a data race (ECMA-262, Memory Model), and yet their order may show.
 
-ghost use Rattle.es_messages.specs.WithoutRaces.{MessagesAloneDoNotRace, WithoutRacesNoTurnsRace, WithoutRacesThreadsReportAsByTurns, WithoutRacesThreadsSayAsByTurns, WithoutRacesTurnsSayAlike};
+ghost use Rattle.es_messages.specs.WithoutRaces.{MessagesAloneDoNotRace, MessagesAloneDoNotRaceByTurns, WithoutRacesNoTurnsRace, WithoutRacesThreadsReportAsByTurns, WithoutRacesThreadsSayAsByTurns, WithoutRacesTurnsSayAlike};
 
 /// If in one list of turns that ends no two accesses to a word race, every list of turns that ends has the
 /// same histories.
@@ -28,4 +28,9 @@ pub fn without_races_threads_report_as_by_turns()
 /// Agents that read and write no word race for none.
 pub fn messages_alone_do_not_race()
     ensures { MessagesAloneDoNotRace }
+{}
+
+/// So by turns they race for none.
+pub fn messages_alone_do_not_race_by_turns()
+    ensures { MessagesAloneDoNotRaceByTurns }
 {}
