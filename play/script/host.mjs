@@ -31,7 +31,7 @@ function installTimers(realm) {
     if (!isCallable(callback)) raise(cx, node, "TypeError", 'The "callback" argument must be of type function.');
     const id = (last += 1);
     const held = [callback, ...values].map((value) => new Held(node, cx.writer, "timer", value, cx.temporaries));
-    const timer = { held, rounds: 0 };
+    const timer = { held, rounds: 0, isUsed: false };
     timers.set(id, timer);
     const wait = Math.max(1, Math.trunc(Number(delay)) || 0);
     const go = function* (inner) {
@@ -40,6 +40,7 @@ function installTimers(realm) {
         throw new ScriptFault("this interval is called more than 100 times: a plan has an end; clearInterval ends it", node);
       }
       if (isRepeated) timer.task = inner.agent.schedule(node, wait, go);
+      else use(inner, timer);
       yield* realm.invoke(inner, node, callback, undefined, values);
       if (!isRepeated) clear(inner, node, id);
     };
@@ -51,7 +52,12 @@ function installTimers(realm) {
     if (timer === undefined) return;
     timers.delete(id);
     cx.agent.cancel(timer.task);
-    for (const held of timer.held) held.end(node, cx.writer);
+    for (const held of timer.held) timer.isUsed ? held.drop(node, cx.writer) : held.end(node, cx.writer);
+  };
+  /** A timer that is called once needs nothing any more as soon as the call has begun. */
+  const use = ({ writer }, timer) => {
+    timer.isUsed = true;
+    for (const held of timer.held) held.use(writer);
   };
   const clearing = function* (cx, node, self, [id]) { clear(cx, node, id); };
   const timing = { setTimeout: set(false), setInterval: set(true), clearTimeout: clearing, clearInterval: clearing };
