@@ -64,7 +64,7 @@ class Judge {
 class Agent {
   constructor(jobs, uses, effects) {
     this.heap = new Heap({ jobs: jobs.map(() => ({ on: ["", ""] })) });
-    this.used = new Used(uses);
+    this.used = new Used(uses, (name) => effects.names.has(name));
     this.effects = effects;
     this.isCleaning = false;
     /** What KeptAlive has in every engine: not what a deref gave that may give nothing. */
@@ -96,7 +96,7 @@ class Agent {
   /** Why a target may be gone; null where it may not, as where the command has what leads to it. */
   mayBeGone(target, had) {
     if (target === null) return REASONS.deref;
-    if (this.used.reaches(this.heap, target, [...this.keptAlive, ...had], (name) => this.effects.names.has(name))) return null;
+    if (this.used.reaches(this.heap, target, [...this.keptAlive, ...had])) return null;
     const name = this.used.unread(this.heap, target);
     return name === null ? REASONS.deref : REASONS.unread(name);
   }

@@ -12,8 +12,10 @@ export class Used {
   /** The variables that a function may read, by the function's number. */
   #captured = new Map();
 
-  constructor(uses) {
+  /** A variable of some names is doubtful: an engine may choose what it holds. */
+  constructor(uses, isDoubtful) {
     this.uses = withNext(uses);
+    this.isDoubtful = isDoubtful;
     this.holds = (heap, identity) => this.#heldBy(heap, identity);
   }
 
@@ -31,20 +33,25 @@ export class Used {
     if (now && (now.identity === null || (now.name === null && !now.willBeRead))) this.#variables.delete(variable);
   }
 
-  /** Whether a value is reached from some others, or from what will be read. A variable may be doubtful: an engine may choose
-      what it holds. */
-  reaches(heap, identity, others, isDoubtful) {
-    const from = [...this.#variables.values()].filter(({ name, willBeRead }) => willBeRead && !isDoubtful(name));
+  /** Whether a value is reached from some others, or from what will be read. */
+  reaches(heap, identity, others) {
+    const from = [...this.#variables.values()].filter((one) => one.willBeRead && !this.isDoubtful(one.name));
     return this.#leads(heap, [...from.map((one) => one.identity), ...others], identity);
   }
 
   /** The name of a variable that leads to a value, though nothing reads it any more: "" where only several together do, and null
       where none do. */
   unread(heap, identity) {
-    const named = [...this.#variables.values()].filter(({ name }) => name !== null);
+    const named = [...this.#variables.values()].filter(({ name }) => name !== null && !this.isDoubtful(name));
     if (!this.#leads(heap, named.map((one) => one.identity), identity)) return null;
     const found = named.findLast((one) => !one.willBeRead && this.#leads(heap, [one.identity], identity));
     return found?.name ?? "";
+  }
+
+  /** What a variable surely holds now; null of what is none of these. */
+  #now(variable) {
+    const found = this.#variables.get(variable);
+    return found && !this.isDoubtful(found.name) ? found.identity : null;
   }
 
   #leads(heap, from, identity) {
@@ -56,7 +63,7 @@ export class Used {
     const { kind, properties } = heap.things.get(identity);
     const captured = this.#captured.get(identity);
     const held = [...properties].filter(([key]) => !captured || key !== SCOPE).map(([, value]) => identityOf(value));
-    if (captured) held.push(...captured.map((one) => this.#variables.get(one)?.identity ?? null));
+    if (captured) held.push(...captured.map((one) => this.#now(one)));
     if (kind !== "FinalizationRegistry") return held;
     const cells = [...heap.registrations.values()].filter(({ registry }) => registry === identity);
     return [...held, ...cells.map((cell) => identityOf(cell.held))];
