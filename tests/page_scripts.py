@@ -99,6 +99,10 @@ JUDGED = [
      "console.log(r.deref() !== undefined); g.unregister(t); console.log(t === r);", ["true", "false"]),
     ("const t = {}; let h = {}; const r = new WeakRef(h); new FinalizationRegistry(() => 1).register(t, h); h = null; await turn(); gc(); "
      "console.log(r.deref() !== undefined); console.log(t === r);", ["*true", "false"]),
+    # What a callback reads keeps nothing: with the registry an engine lets go of both.
+    ("function f(t) { const o = { p: 1 }; new FinalizationRegistry(() => console.log(o.p)).register(t, 1); return new WeakRef(o); } "
+     "let t = {}; const r = f(t); await turn(); gc(); console.log(r.deref() !== undefined); console.log(typeof t); t = null; await turn(); gc();",
+     ["*true", "object", "*1"]),
     # What a deref may not give, it keeps for nobody: neither for the next one, nor by its variable.
     ("const r = new WeakRef({}); await turn(); console.log(r.deref() !== undefined); console.log(r.deref() !== undefined);", ["*true", "*true"]),
     ("const r = new WeakRef({}); await turn(); const b = r.deref(); console.log(r.deref() !== undefined); console.log(b === r);", ["*true", "*false"]),
