@@ -15,11 +15,27 @@ export interface AgentPlaces {
   jobs: Place[][];
 }
 
-/** What a script becomes: the plan, its text with a command on each line, the places of its commands, and the trace of its run. */
+/** What a script does with a variable, after so many of its agent's commands (`at`): it gets a value, an object or a symbol by its
+    number in the plan; or that is read. Or a function, by its number, may from now on read some variables when it is called. A
+    `this`, and what an expression or the host still needs, is a variable without a name of the script. */
+export type Use =
+  | { at: number; variable: number; name: string | null; identity: number | null }
+  | { at: number; variable: number; isRead: true }
+  | { at: number; callee: number; variables: number[] };
+
+/** The uses of an agent's variables, in order. */
+export interface AgentUses {
+  name: string;
+  uses: Use[];
+}
+
+/** What a script becomes: the plan, its text with a command on each line, the places of its commands, the uses of its variables, and
+    the trace of its run. */
 export interface Planned {
   plan: object;
   text: string;
   places: AgentPlaces[];
+  uses: AgentUses[];
   trace: string;
 }
 

@@ -148,7 +148,6 @@ COMPARED = [
     ([("a", "x", None), ("b", "x", None)], ["x"], False, [("same", "x"), ("differs", "x")]),
     ([("a", "object 3", None)], ["object", "y"], False, [("same", "object 3"), ("differs", "y")]),
 ]
-UNLESS = "It may, if a variable that nothing uses any more held a value."
 COMPARE = """
 const { compared } = await import(process.argv[1]);
 const cases = JSON.parse(process.argv[2]);
@@ -175,7 +174,23 @@ def of_engine(command):
                        (0, "".join(f"{same}{line}\n" for line in json.loads(read("play", "lessons", "lines.json"))["weakref-still-answers"]["lines"]), ""))
     other = b'console.log(1);\nconsole.log(typeof process);\n'
     yield command.case("a line that differs", ["run", "--engine=node"], (
-        1, f"{same}1\ndiffers     undefined\n{' ' * 12}(Node does not write it. {UNLESS})\ndiffers     object\n{' ' * 12}(Node alone writes it. {UNLESS})\n", ""), other)
+        1, f"{same}1\ndiffers     undefined\n{' ' * 12}(Node does not write it.)\ndiffers     object\n{' ' * 12}(Node alone writes it.)\n", ""), other)
+    # After the call nothing leads to the registry. So node collects it, and with it the callback and what that names.
+    unread = b"""function start(target) {
+  const cache = {};
+  new FinalizationRegistry(() => console.log(cache.size)).register(target, 1);
+  return new WeakRef(cache);
+}
+const target = {};
+const ref = start(target);
+await turn();
+gc();
+console.log(ref.deref() ? "there" : "gone");
+console.log(typeof target);
+"""
+    why = "Nothing that runs later reads what 'cache' holds, so an engine may let go of it."
+    yield command.case("what nothing reads any more", ["run", "--engine=node"], (
+        0, f"may differ  there\n{' ' * 12}({why})\n{same}object\nmay differ  gone\n{' ' * 12}(Node alone writes it.)\n", ""), unread)
     uncaught = b'setTimeout(() => console.log("later"), 0);\nthrow new TypeError("no");\n'
     yield command.case("an exception beside node", ["run", "--engine=node"], (0, f"{same}Uncaught TypeError: no\n{same}later\n", ""), uncaught)
     plan = command.file("plan_beside.json", EMPTY)

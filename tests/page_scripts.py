@@ -72,6 +72,40 @@ JUDGED = [
     ("const r = new WeakRef({}); await turn(); console.log(r.deref() !== undefined); console.log(1);", ["*true", "1"]),
     # What a variable holds is there.
     ("let o = {}; const r = new WeakRef(o); await turn(); gc(); console.log(r.deref() === o);", ["true"]),
+    # But it may go as soon as nothing reads the variable any more, or not before it has another value.
+    ("const o = {}, r = new WeakRef(o); await turn(); gc(); console.log(r.deref() !== undefined);", ["*true"]),
+    ("const o = {}, r = new WeakRef(o); await turn(); gc(); console.log(r.deref() !== undefined); console.log(o === r);", ["true", "false"]),
+    ("let o = {}; const r = new WeakRef(o); await turn(); gc(); console.log(r.deref() !== undefined); o = {}; console.log(o === r);", ["*true", "false"]),
+    ("const o = { p: 1 }, r = new WeakRef(o); for (let i = 0; i < 2; i++) { if (i) console.log(r.deref() !== undefined); console.log(o.p); await turn(); "
+     "gc(); }", ["1", "true", "1"]),
+    ("const s = new Set(), on = (f) => { s.add(new WeakRef(f)); return f; }; const keep = on(() => 1); await turn(); gc(); "
+     "console.log([...s].map((w) => w.deref() !== undefined));", ["*[ true ]"]),
+    # A parameter, and what a timer will read.
+    ("async function f(o) { const r = new WeakRef(o); await turn(); gc(); console.log(r.deref() === o); await turn(); gc(); "
+     "console.log(r.deref() !== undefined); } await f({}); console.log('end');", ["true", "*true", "end"]),
+    ("const o = { p: 1 }, r = new WeakRef(o); setTimeout(() => console.log(o.p), 50); await turn(); gc(); console.log(r.deref() !== undefined);", ["true", "1"]),
+    # `this` is read as a variable is.
+    ("class A { async f() { const r = new WeakRef(this); await turn(); gc(); console.log(r.deref() === this); await turn(); gc(); "
+     "console.log(r.deref() !== undefined); } } await new A().f();", ["true", "*true"]),
+    # A function that may still be called has what it names, and not all of its scope.
+    ("const l = []; function f() { const o = {}; l.push(() => o); return new WeakRef(o); } const r = f(); await turn(); gc(); "
+     "console.log(r.deref() !== undefined); console.log(l.length);", ["true", "1"]),
+    ("const l = []; function f() { const o = {}; l.push(() => 1); const g = () => o; return new WeakRef(g()); } const r = f(); await turn(); gc(); "
+     "console.log(r.deref() !== undefined); console.log(l.length);", ["*true", "1"]),
+    ("const l = []; function f() { let o = {}; l.push(() => { o = null; }); return new WeakRef(o); } const r = f(); await turn(); gc(); "
+     "console.log(r.deref() !== undefined); console.log(l.length);", ["*true", "1"]),
+    # A registry has its held values, as long as something leads to the registry.
+    ("const t = {}, g = new FinalizationRegistry(() => 1); let h = {}; const r = new WeakRef(h); g.register(t, h); h = null; await turn(); gc(); "
+     "console.log(r.deref() !== undefined); g.unregister(t); console.log(t === r);", ["true", "false"]),
+    ("const t = {}; let h = {}; const r = new WeakRef(h); new FinalizationRegistry(() => 1).register(t, h); h = null; await turn(); gc(); "
+     "console.log(r.deref() !== undefined); console.log(t === r);", ["*true", "false"]),
+    # What a callback reads keeps nothing: with the registry an engine lets go of both.
+    ("function f(t) { const o = { p: 1 }; new FinalizationRegistry(() => console.log(o.p)).register(t, 1); return new WeakRef(o); } "
+     "let t = {}; const r = f(t); await turn(); gc(); console.log(r.deref() !== undefined); console.log(typeof t); t = null; await turn(); gc();",
+     ["*true", "object", "*1"]),
+    # What a deref may not give, it keeps for nobody: neither for the next one, nor by its variable.
+    ("const r = new WeakRef({}); await turn(); console.log(r.deref() !== undefined); console.log(r.deref() !== undefined);", ["*true", "*true"]),
+    ("const r = new WeakRef({}); await turn(); const b = r.deref(); console.log(r.deref() !== undefined); console.log(b === r);", ["*true", "*false"]),
     # The choice goes on in a variable, in a property, and in what is done or not done.
     ("const r = new WeakRef({}); await turn(); gc(); const b = r.deref(); console.log(2); console.log(b);", ["2", "*undefined"]),
     ("const r = new WeakRef({}), o = {}; await turn(); gc(); o.b = r.deref(); console.log(2);", ["*2"]),
@@ -82,6 +116,8 @@ JUDGED = [
      "console.log(n); console.log('end');", ["0", "*1", "end"]),
     # Whoever has the key finds the entry.
     ("const m = new WeakMap(), k = {}; m.set(k, 1); await turn(); gc(); console.log(m.get(k), m.has({}));", ["1 false"]),
+    # Its token is in hand, so the target was there all the time.
+    ("const g = new FinalizationRegistry(() => 1), t = {}; g.register(t, 'h', t); await turn(); gc(); await turn(); console.log(g.unregister(t));", ["true"]),
     # An unregistration after the callback, or as soon as the target may be gone.
     ("const g = new FinalizationRegistry((h) => console.log(h)), t = {}; g.register({}, 'h', t); await turn(); gc(); await turn(); "
      "console.log(g.unregister(t));", ["*h", "*false"]),

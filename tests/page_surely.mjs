@@ -23,6 +23,7 @@ function gone() { if (r.deref()) return "there"; return "gone"; }
 const there = () => r.deref() !== undefined;
 function note(what) { console.log(what); }
 `;
+/** Reads all variables. Where it is left out, an engine may let go of what nothing reads any more. */
 const TAIL = 'console.log("end", [a, b, c, x, y, o, r, list, w, s, t, g, loud].length);\n';
 /** Statements; each # is a number that no other line has. */
 const STATEMENTS = [
@@ -44,7 +45,9 @@ const STATEMENTS = [
 function choosingScript(dice) {
   let number = 0;
   const numbered = (text) => text.replace(/#(v?)/g, (_, isName) => `${isName}${(number += 1)}`);
-  return HEAD + Array.from({ length: 8 + dice.below(16) }, () => `${numbered(dice.one(STATEMENTS))}\n`).join("") + TAIL;
+  const statements = Array.from({ length: 8 + dice.below(16) }, () => `${numbered(dice.one(STATEMENTS))}\n`);
+  const all = HEAD + statements.join("") + (dice.below(2) ? TAIL : "");
+  return dice.below(2) ? all : `async function whole() {\n${all}}\nawait whole();\n`;
 }
 
 /** The first line of some that the others do not have after those before it; undefined if they have all. */

@@ -1,5 +1,5 @@
-// A script beside node's own objects: of each line whether node writes it too, may write it otherwise and why, or differs where
-// an engine may only if a variable that nothing uses any more held a value.
+// A script beside node's own objects: of each line whether node writes it too, may write it otherwise and why, or differs where no
+// engine may.
 
 import { spawnSync } from "node:child_process";
 import { faultText } from "./script.mjs";
@@ -30,8 +30,6 @@ function linesOnNode(source) {
 }
 
 const SAME = "same", MAY = "may differ", DIFFERS = "differs";
-/** An engine lets a variable go when nothing uses it any more, and the plan at the end of its scope. */
-const UNLESS = "It may, if a variable that nothing uses any more held a value.";
 /** Objects have no numbers on node. */
 const plain = (text) => text.replace(/\b(object|symbol) \d+/g, "$1");
 
@@ -42,10 +40,10 @@ export function compared(ours, theirs, hasChosen) {
   const taken = (isOneAgent ? inOrder : inAnyOrder)(ours.map(({ text }) => plain(text)), theirs);
   const rows = ours.map(({ text, may }, at) => {
     if (taken[at] !== null) return { verdict: SAME, text };
-    return may === null ? { verdict: DIFFERS, text, why: `Node does not write it. ${UNLESS}` } : { verdict: MAY, text, why: may };
+    return may === null ? { verdict: DIFFERS, text, why: "Node does not write it." } : { verdict: MAY, text, why: may };
   });
   const known = new Set(taken);
-  const alone = theirs.filter((_, at) => !known.has(at)).map((text) => ({ verdict: hasChosen ? MAY : DIFFERS, text, why: `Node alone writes it.${hasChosen ? "" : ` ${UNLESS}`}` }));
+  const alone = theirs.filter((_, at) => !known.has(at)).map((text) => ({ verdict: hasChosen ? MAY : DIFFERS, text, why: "Node alone writes it." }));
   return [...rows, ...alone];
 }
 

@@ -17,51 +17,60 @@ export class Effects {
   constructor(statements) {
     this.statements = statements.filter(({ isParameters }) => !isParameters);
     this.own = new Set(statements.flatMap(({ node }) => [...within(node)].flatMap(nameOfMethod)));
-    /** The names of variables that have a choice, and the statements that have one. */
+    /** The names of variables that have a choice. */
     this.names = new Set();
-    this.nodes = new Set();
-    /** Whether all that follows hangs on a choice. */
-    this.isAll = false;
+    /** The statements that have one, each with why an engine may choose. */
+    this.nodes = new Map();
+    /** Why all that follows hangs on a choice; null where it does not. */
+    this.ofAll = null;
+  }
+
+  get isAll() {
+    return this.ofAll !== null;
   }
 
   get hasChosen() {
     return this.isAll || this.names.size > 0;
   }
 
-  /** Whether a place stands in a statement that has a choice. */
-  reaches(place) {
-    return [...this.nodes].some(({ start, end }) => start <= place.start && place.end <= end);
+  /** Why what stands at a place hangs on a choice: it stands in a statement that has one, or has one in it. Null where it does
+      not. */
+  reasonAt(place) {
+    const found = [...this.nodes].find(([node]) => has(node, place) || has(place, node));
+    return found?.[1] ?? null;
   }
 
-  /** A statement asked for what an engine may choose; null of one that is not known. */
-  choose(node) {
+  /** A statement asked for what an engine may choose, for some reason; null of one that is not known. */
+  choose(node, reason) {
     if (this.isAll || this.nodes.has(node)) return;
     const given = node && givenNames(node);
     if (given && given.parts.every((part) => this.isContained(part))) {
-      this.nodes.add(node);
-      for (const name of given.names) this.nameIsChosen(name);
-    } else if (node && isWhole(node) && this.isContained(node)) this.nodes.add(node);
-    else this.isAll = true;
+      this.nodes.set(node, reason);
+      for (const name of given.names) this.nameIsChosen(name, reason);
+      return;
+    }
+    if (node) this.nodes.set(node, reason);
+    if (!node || !isWhole(node) || !this.isContained(node)) this.ofAll = reason;
   }
 
-  nameIsChosen(name) {
+  nameIsChosen(name, reason) {
     if (this.names.has(name)) return;
     this.names.add(name);
-    for (const { node } of this.statements) if (mentions(node, name)) this.choose(node);
+    for (const { node } of this.statements) if (mentions(node, name)) this.choose(node, reason);
   }
 
   /** A FinalizationRegistry is made: from now on its callback may be called at any time. */
-  begin(node) {
+  begin(node, reason) {
     const made = node && [...within(node)].find(({ type, callee }) => type === "NewExpression" && callee.name === "FinalizationRegistry");
     const body = made && this.functionOf(made.arguments[0])?.body;
-    if (!body) this.isAll = true;
-    else for (const part of body.type === "BlockStatement" ? body.body : [body]) this.beginPart(part);
+    if (!body) this.ofAll ??= reason;
+    else for (const part of body.type === "BlockStatement" ? body.body : [body]) this.beginPart(part, reason);
   }
 
   /** A part of a callback's body. It prints, and that is all, or what it changes hangs on a choice. */
-  beginPart(node) {
+  beginPart(node, reason) {
     if (!givenNames(node) && this.isContained(node)) return;
-    this.choose(node);
+    this.choose(node, reason);
   }
 
   /** The function that an expression is, or that its name was declared as. */
@@ -90,6 +99,9 @@ export class Effects {
     return object.type === "Identifier" && !this.names.has(object.name) && !computed && !this.own.has(property.name);
   }
 }
+
+/** Whether a part of the text has another one in it. */
+const has = (one, other) => one.start <= other.start && other.end <= one.end;
 
 /** A node and all in it. */
 function* within(node) {

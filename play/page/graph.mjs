@@ -77,14 +77,14 @@ export function plain(value) {
 }
 
 /** How many steps each value is from the roots, of those that are reached: an entry's value comes after both its WeakMap and
-    its key. */
-export function distances(heap) {
+    its key. `from` are the roots, and `holds` says what a value holds by itself. */
+export function distances(heap, from = firsts(heap), holds = propertiesOf) {
   const near = new Map(), later = new Map();
-  let ahead = firsts(heap);
+  let ahead = from;
   for (let distance = 1; ahead.length > 0; distance += 1) {
     const found = ahead.filter((identity) => identity !== null && heap.things.has(identity) && !near.has(identity));
     for (const identity of found) near.set(identity, distance);
-    ahead = [...new Set(found)].flatMap((identity) => led(heap, identity, near, later));
+    ahead = [...new Set(found)].flatMap((identity) => led(heap, identity, near, later, holds));
   }
   return near;
 }
@@ -95,11 +95,13 @@ function firsts(heap) {
   return [...[...heap.variables.values()].map(identityOf), ...heap.keptAlive, ...registries, ...held];
 }
 
+const propertiesOf = (heap, identity) => [...heap.things.get(identity).properties.values()].map(identityOf);
+
 /** What a value leads to that is reached now. Of an entry whose key alone is reached by then, the WeakMap finds it later, and
     so the other way round. */
-function led(heap, identity, near, later) {
-  const { properties: held, entries } = heap.things.get(identity);
-  const found = [...[...held.values()].map(identityOf), ...(later.get(identity) ?? [])];
+function led(heap, identity, near, later, holds) {
+  const { entries } = heap.things.get(identity);
+  const found = [...holds(heap, identity), ...(later.get(identity) ?? [])];
   for (const [key, value] of entries) {
     if (near.has(key)) found.push(identityOf(value));
     else later.set(key, [...(later.get(key) ?? []), identityOf(value)]);

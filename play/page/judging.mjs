@@ -2,21 +2,22 @@
 // when it calls the callbacks of a FinalizationRegistry. docs/PAGE.md has the criterion.
 
 import { placed } from "../script/lines.mjs";
-import { distances } from "./graph.mjs";
 import { Effects } from "./effects.mjs";
 import { Heap, identityOf } from "./replay.mjs";
 import { statementAt } from "./statements.mjs";
+import { Used } from "./used.mjs";
 
 const REASONS = {
   callback: "An engine calls this callback when it likes, or never.",
   deref: "An engine may collect sooner or later, or never.",
-  after: "What came before may be otherwise in another engine.",
+  unread: (name) => `Nothing that runs later reads ${name ? `what '${name}' holds` : "the variables that lead to it"}, so an engine may let go of it.`,
+  after: (why) => `What came before may be otherwise in another engine. ${why}`,
 };
 
 /** The lines, each with the number of its event in the trace, and with why it may be otherwise (`may`), or null; and whether
     anything in the run may be otherwise (`hasChosen`). */
-export function judged(lines, trace, places, statements) {
-  const judge = new Judge(places, statements);
+export function judged(lines, trace, { places, uses, statements }) {
+  const judge = new Judge(places, uses, statements);
   const found = [];
   let number = 0;
   for (const { line, place } of placed(trace, places)) {
@@ -28,23 +29,23 @@ export function judged(lines, trace, places, statements) {
 }
 
 class Judge {
-  constructor(places, statements) {
+  constructor(places, uses, statements) {
     this.statements = statements;
-    this.agents = new Map(places.map(({ name, jobs }) => [name, new Agent(jobs, new Effects(statements))]));
+    this.agents = new Map(places.map(({ name, jobs }, at) => [name, new Agent(jobs, uses[at].uses, new Effects(statements))]));
   }
 
   /** Takes over an event, and says why a line that it ends may be otherwise; null where it may not. */
   see(line, place) {
     const agent = this.agents.get(line.agent);
     if (!agent) return null;
-    const isChosen = agent.chooses(line) || this.comes(line);
+    if (line.command) agent.used.command();
+    const reason = agent.effects.isAll ? null : (agent.chooses(line) ?? (this.comes(line) ? REASONS.deref : null));
     const statement = place && statementAt(this.statements, place);
-    if (isChosen) agent.effects.choose(statement?.node ?? null);
+    if (reason !== null) agent.effects.choose(statement?.node ?? null, reason);
     agent.apply(line, statement);
     if (!place) return null;
     if (agent.isCleaning) return REASONS.callback;
-    if (agent.effects.reaches(place)) return REASONS.deref;
-    return agent.effects.isAll ? REASONS.after : null;
+    return agent.effects.reasonAt(place) ?? (agent.effects.isAll ? REASONS.after(agent.effects.ofAll) : null);
   }
 
   /** Whether an engine may choose anything: what is asked for, or whether a callback comes. */
@@ -61,43 +62,58 @@ class Judge {
 
 /** An agent as far as it has run. */
 class Agent {
-  constructor(jobs, effects) {
+  constructor(jobs, uses, effects) {
     this.heap = new Heap({ jobs: jobs.map(() => ({ on: ["", ""] })) });
+    this.used = new Used(uses, (name) => effects.names.has(name));
     this.effects = effects;
     this.isCleaning = false;
+    /** What KeptAlive has in every engine: not what a deref gave that may give nothing. */
+    this.keptAlive = new Set();
     /** Where FinalizationRegistries were made in the job that runs: no callback is called before its end. */
     this.made = [];
     /** The tokens of registrations that were taken, with the numbers of their registries. */
     this.taken = new Set();
   }
 
-  /** Whether a command asks for what an engine may choose: what it asks for was emptied, or may be at any time. */
+  /** Why an engine may choose what a command asks for: it was emptied, or may be at any time. Null where it may not. */
   chooses({ event, command, values }) {
-    if (event !== "did") return false;
-    if (command[0] === "deref") return this.mayBeGone(this.heap.things.get(identityOf(values[0])).target);
-    if (command[0] !== "unregister") return false;
+    if (event !== "did") return null;
+    if (command[0] === "deref") return this.asks(this.heap.things.get(identityOf(values[0])).target);
+    if (command[0] !== "unregister") return null;
     const [registry, token] = values.map(identityOf);
+    if (this.taken.has(`${registry} ${token}`)) return REASONS.deref;
     const cells = [...this.heap.registrations.values()].filter((cell) => cell.registry === registry && cell.token === token);
-    return this.taken.has(`${registry} ${token}`) || cells.some(({ target }) => this.mayBeGone(target));
+    return cells.map(({ target }) => this.mayBeGone(target, [token])).find((reason) => reason !== null) ?? null;
   }
 
-  mayBeGone(target) {
-    if (target === null) return true;
-    const isHeld = this.heap.keptAlive.has(target) || [...this.heap.variables.values()].some((value) => identityOf(value) === target);
-    return !isHeld && !distances(this.heap).has(target);
+  /** Why what a WeakRef is asked for may be gone; null where it may not: then it is kept alive. */
+  asks(target) {
+    const reason = this.mayBeGone(target, []);
+    if (reason === null) this.keptAlive.add(target);
+    return reason;
+  }
+
+  /** Why a target may be gone; null where it may not, as where the command has what leads to it. */
+  mayBeGone(target, had) {
+    if (target === null) return REASONS.deref;
+    if (this.used.reaches(this.heap, target, [...this.keptAlive, ...had])) return null;
+    const name = this.used.unread(this.heap, target);
+    return name === null ? REASONS.deref : REASONS.unread(name);
   }
 
   apply(line, statement) {
     if (line.event === "cleanup job") this.isCleaning = true;
     if (line.event === "job ends") this.endJob();
     if (line.event === "did" && line.command[0] === "registry") this.made.push(statement?.node ?? null);
+    if (line.event === "did" && line.command[0] === "weakref") this.keptAlive.add(identityOf(line.values[0]));
     if (line.event === "taken") this.take(line);
     this.heap.apply(line);
   }
 
   endJob() {
     this.isCleaning = false;
-    for (const node of this.made.splice(0)) this.effects.begin(node);
+    this.keptAlive.clear();
+    for (const node of this.made.splice(0)) this.effects.begin(node, REASONS.deref);
   }
 
   take({ registration }) {

@@ -11,9 +11,9 @@ import { statementsOf } from "./statements.mjs";
 export function scriptRun(source, calls, options) {
   try {
     const engine = { trace: (plan) => calls.trace(plan, { ...options, all: true }) };
-    const { text, places, trace } = planOf(source, { engine });
+    const { text, places, uses, trace } = planOf(source, { engine });
     const statements = statementsOf(treeOf(source));
-    const { lines, hasChosen } = judged(linesOf(trace, places), trace, places, statements);
+    const { lines, hasChosen } = judged(linesOf(trace, places), trace, { places, uses, statements });
     return { status: 0, text, places, trace, lines, hasChosen, statements: statements.map(({ node, ...rest }) => rest) };
   } catch (error) {
     if (!(error instanceof ScriptFault)) throw error;

@@ -15,6 +15,8 @@ const isFunction = (node) => FUNCTIONS.has(node.type);
 class Declared {
   /** By name: `kind` (var, let, const, function, class, param, self), and whether it is `captured`. */
   names = new Map();
+  /** The names that are read in it and declared around it. */
+  free = new Set();
 
   constructor(outer, owner, isTop) {
     Object.assign(this, { outer, owner, isTop });
@@ -46,7 +48,7 @@ class Analysis {
 
   constructor(program) {
     this.#enter(program, null);
-    for (const { name, scope } of this.#uses) this.#resolve(name, scope);
+    for (const use of this.#uses) this.#resolve(use);
   }
 
   #enter(node, outer, isTop = node.type === "Program") {
@@ -100,11 +102,18 @@ class Analysis {
 
   #visit(node, scope) {
     if (node === null) return;
-    if (node.type === "Identifier") this.#uses.push({ name: node.name, scope });
+    if (node.type === "Identifier") this.#uses.push({ name: node.name, scope, isRead: true });
+    else if (isAssigned(node)) this.#assignment(node, scope);
     else if (isFunction(node) || BLOCKS.has(node.type)) this.#enter(node, scope);
     else if (node.type === "PropertyDefinition") this.#field(node, scope);
     else if (isAgentCall(node)) node.arguments.forEach((one) => this.#visitOfAgent(one, scope));
     else this.#children(node, scope);
+  }
+
+  /** A variable that gets a value is used, and not read. */
+  #assignment({ left, right }, scope) {
+    this.#uses.push({ name: left.name, scope, isRead: false });
+    this.#visit(right, scope);
   }
 
   #visitOfAgent(node, scope) {
@@ -121,12 +130,14 @@ class Analysis {
     }
   }
 
-  #resolve(name, scope) {
+  #resolve({ name, scope, isRead }) {
     let found = scope;
-    while (found !== null && !found.names.has(name)) found = found.outer;
+    for (; found !== null && !found.names.has(name); found = found.outer) if (isRead) found.free.add(name);
     if (found !== null && !found.isTop && found.owner !== scope.owner) found.names.get(name).captured = true;
   }
 }
+
+const isAssigned = ({ type, operator, left }) => type === "AssignmentExpression" && operator === "=" && left.type === "Identifier";
 
 /** A call that begins an agent: the function's names are the top of that agent. */
 const isAgentCall = (node) => node.type === "CallExpression" && node.callee.type === "Identifier" && node.callee.name === "agent";

@@ -19,6 +19,7 @@ export class Binding {
 
   /** The value, which from now on some variable of the plan holds. */
   read(node, writer, temporaries) {
+    writer.uses.read(this);
     if (this.isCaptured) {
       const { environment } = this.scope;
       return writer.fetch(node, environment, writer.key(environment, this.name), this.value, temporaries);
@@ -35,6 +36,12 @@ export class Binding {
     else if (isInPlan(value) || writer.teller(value) !== null) this.#assign(node, writer, value, temporaries);
     else this.#withhold(node, writer, value, temporaries);
     this.value = value;
+    writer.uses.write(this, value, this.#told);
+  }
+
+  /** The name, of a variable of the script. */
+  get #told() {
+    return this.scope === null ? null : this.name;
   }
 
   #assign(node, writer, value, temporaries) {
@@ -60,6 +67,7 @@ export class Binding {
     if (isThing(this.value)) this.value.holders.delete(this);
     if (this.variable !== null) writer.release(node, this.variable);
     this.variable = null;
+    writer.uses.write(this, undefined, this.#told);
   }
 }
 
@@ -72,7 +80,18 @@ export class Held {
     this.#binding.write(node, writer, value, temporaries);
   }
 
+  use(writer) {
+    writer.uses.read(this.#binding);
+  }
+
+  /** The host has it no more, which it needed up to here. */
   end(node, writer) {
+    this.use(writer);
+    this.drop(node, writer);
+  }
+
+  /** The host has it no more, and used it before. */
+  drop(node, writer) {
     this.#binding.end(node, writer);
   }
 }

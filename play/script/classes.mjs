@@ -2,7 +2,7 @@
 
 import { Context, evaluate, evaluators, executors, needing, outside, raise } from "./core.mjs";
 import { Binding, Scope } from "./bindings.mjs";
-import { bindParameters, construct, handOver, leave, link, linkPrototype, makeFunction, newInstance, runBody } from "./functions.mjs";
+import { bindParameters, capture, construct, handOver, leave, link, linkPrototype, makeFunction, newInstance, runBody, selfOf } from "./functions.mjs";
 import { keyOfProperty, named } from "./patterns.mjs";
 import { define, defineAccessor } from "./properties.mjs";
 import { scoped, statements } from "./statements.mjs";
@@ -46,6 +46,7 @@ function* begun(node, cx, name) {
   const prototype = new Thing("object", around);
   const own = node.body.body.find(({ kind }) => kind === "constructor");
   const made = makeFunction(cx, own?.value ?? emptyConstructor(node), { name, home: prototype });
+  capture(cx, made, node);
   Object.assign(made, { isClass: true, derived: Boolean(parent), isDefault: !own, fields: [], later: [], instanceScope: cx.scope });
   made.properties.set("prototype", { value: prototype, isEnumerable: false, isReadOnly: true });
   define(cx, node, prototype, "constructor", made, { isEnumerable: false });
@@ -80,7 +81,7 @@ function* addField(member, cx, made) {
 /** The context in which a field or a static block is evaluated. */
 function within(cx, made, self, home, node) {
   const scope = new Scope(made.instanceScope, cx.agent, cx.agent.world.scopes.get(node)).begin(node, cx.writer);
-  return new Context(cx.agent, scope, { self: { value: self }, callee: made, home, strand: cx.strand });
+  return new Context(cx.agent, scope, { self: selfOf(cx.writer, self), callee: made, home, strand: cx.strand });
 }
 
 function* setField(cx, made, self, home, { key, member }) {
@@ -130,6 +131,7 @@ function* constructed(cx, node, self, values) {
 /** From here on the constructor has its instance, and needs it up to its end. */
 function* begin(cx, self, made) {
   Object.assign(self, { value: made, isMissing: false });
+  cx.writer.uses.write(self, made, "this");
   cx.writer.need(made);
   yield* setFields(cx, self.callee, made);
 }

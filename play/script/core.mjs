@@ -89,11 +89,15 @@ const isWhole = ({ type }) => type === "BlockStatement" || type.startsWith("For"
 
 /** Values that are still needed while others are found. */
 export function* needing(cx, value, act) {
-  cx.writer.need(value);
+  const { writer } = cx;
+  const needed = { value };
+  writer.need(value);
+  writer.uses.write(needed, value);
   try {
     return yield* act();
   } finally {
-    cx.writer.needNoMore(value, cx.temporaries);
+    writer.uses.read(needed);
+    writer.needNoMore(value, cx.temporaries);
   }
 }
 

@@ -42,18 +42,22 @@ function* array(node, cx) {
 
 /** The values of elements or arguments, with what is spread. */
 function* listed(nodes, cx) {
-  const values = [];
+  const { writer } = cx;
+  const needed = [];
   try {
     for (const one of nodes) {
       const found = one === null ? [undefined] : one.type === "SpreadElement" ? yield* spread(one, cx) : [yield* evaluate(one, cx)];
       for (const value of found) {
-        cx.writer.need(value);
-        values.push(value);
+        writer.need(value);
+        writer.uses.write(needed[needed.push({ value }) - 1], value);
       }
     }
-    return values;
+    return needed.map(({ value }) => value);
   } finally {
-    for (const value of values) cx.writer.needNoMore(value, cx.temporaries);
+    for (const one of needed) {
+      writer.uses.read(one);
+      writer.needNoMore(one.value, cx.temporaries);
+    }
   }
 }
 
@@ -109,6 +113,7 @@ function* reference(node, cx) {
 
 function* ofSuper(node, cx) {
   const key = yield* keyOfMember(node, cx);
+  cx.writer.uses.read(cx.self);
   const found = cx.home.proto === null ? null : findProperty(cx.home.proto, key);
   if (found === null) return { self: cx.self.value, value: undefined };
   const { value } = found.found;
@@ -124,7 +129,8 @@ function* calling(node, cx) {
   if (!isCallable(value)) raise(cx, node.callee, "TypeError", `${textOfNode(cx, node)} is not a function`);
   for (const one of [self, value]) cx.writer.need(one);
   try {
-    return yield* call(cx, node, value, self, yield* listed(node.arguments, cx));
+    const values = yield* needing(cx, self, () => listed(node.arguments, cx));
+    return yield* call(cx, node, value, self, values);
   } finally {
     for (const one of [self, value]) cx.writer.needNoMore(one, cx.temporaries);
   }

@@ -57,6 +57,7 @@ export function makeFunction(cx, node, { name = node.id?.name ?? "", home = null
   made.properties.set("name", { value: name, isEnumerable: false, isReadOnly: true });
   made.properties.set("length", { value: lengthOf(node), isEnumerable: false, isReadOnly: true });
   if (!made.isArrow && !node.async && !home) made.complete = (key) => key === "prototype" && completePrototype(realm, made);
+  capture(cx, made, node);
   const environment = cx.scope.nearest();
   const self = made.isArrow && usesThis(node) ? cx.self.value : null;
   if (environment !== null) {
@@ -65,6 +66,12 @@ export function makeFunction(cx, node, { name = node.id?.name ?? "", home = null
   }
   if (isThing(self)) link(cx, node, made, "this", self);
   return made;
+}
+
+/** Notes which variables around it a function, or a class, may read. */
+export function capture(cx, made, node) {
+  const free = cx.agent.world.scopes.get(node)?.free ?? [];
+  cx.writer.uses.capture(made, [...free].map((name) => cx.scope.find(name)).filter((binding) => binding !== null));
 }
 
 /** The `prototype` of a function is made when it is first looked up. */
@@ -100,7 +107,7 @@ function* entered(cx, node, callee, self, values, newTarget) {
   }
   const scope = new Scope(callee.scope, agent, agent.world.scopes.get(callee.node));
   const inner = new Context(agent, scope, {
-    self: callee.isArrow ? callee.self : { value: self }, callee, home: callee.home, strand: cx.strand,
+    self: callee.isArrow ? callee.self : selfOf(writer, self), callee, home: callee.home, strand: cx.strand,
     newTarget: callee.isArrow ? callee.newTarget : newTarget,
   });
   const isLater = callee.node.generator || callee.node.async;
@@ -122,6 +129,14 @@ export function leave(inner, node, writer) {
   writer.endTemporaries(end, inner.temporaries);
   writer.endTemporaries(end, inner.returned);
   inner.scope.end(end, writer);
+  if (!inner.callee?.isArrow) writer.uses.write(inner.self, undefined);
+}
+
+/** The `this` of a call. */
+export function selfOf(writer, value) {
+  const self = { value };
+  writer.uses.write(self, value, "this");
+  return self;
 }
 
 /** Binds the parameters. What only this call needs of the caller's temporaries becomes the parameters. */

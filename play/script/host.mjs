@@ -23,15 +23,37 @@ function installConsole(realm) {
   };
 }
 
-/** A timer: its function is held until it was called, or the timer is cleared. */
+/** A timer: its function, and what that gets, are held until it was called, or the timer is cleared. */
+class Timer {
+  rounds = 0;
+  #isUsed = false;
+  #held;
+
+  constructor({ writer, temporaries }, node, values) {
+    this.#held = values.map((value) => new Held(node, writer, "timer", value, temporaries));
+  }
+
+  /** The one call begins: after that the timer needs nothing. */
+  use(writer) {
+    this.#isUsed = true;
+    for (const held of this.#held) held.use(writer);
+  }
+
+  end(node, writer) {
+    for (const held of this.#held) {
+      if (this.#isUsed) held.drop(node, writer);
+      else held.end(node, writer);
+    }
+  }
+}
+
 function installTimers(realm) {
   const timers = new Map();
   let last = 0;
   const set = (isRepeated) => function* (cx, node, self, [callback, delay, ...values]) {
     if (!isCallable(callback)) raise(cx, node, "TypeError", 'The "callback" argument must be of type function.');
     const id = (last += 1);
-    const held = [callback, ...values].map((value) => new Held(node, cx.writer, "timer", value, cx.temporaries));
-    const timer = { held, rounds: 0 };
+    const timer = new Timer(cx, node, [callback, ...values]);
     timers.set(id, timer);
     const wait = Math.max(1, Math.trunc(Number(delay)) || 0);
     const go = function* (inner) {
@@ -40,6 +62,7 @@ function installTimers(realm) {
         throw new ScriptFault("this interval is called more than 100 times: a plan has an end; clearInterval ends it", node);
       }
       if (isRepeated) timer.task = inner.agent.schedule(node, wait, go);
+      else timer.use(inner.writer);
       yield* realm.invoke(inner, node, callback, undefined, values);
       if (!isRepeated) clear(inner, node, id);
     };
@@ -51,7 +74,7 @@ function installTimers(realm) {
     if (timer === undefined) return;
     timers.delete(id);
     cx.agent.cancel(timer.task);
-    for (const held of timer.held) held.end(node, cx.writer);
+    timer.end(node, cx.writer);
   };
   const clearing = function* (cx, node, self, [id]) { clear(cx, node, id); };
   const timing = { setTimeout: set(false), setInterval: set(true), clearTimeout: clearing, clearInterval: clearing };

@@ -193,7 +193,7 @@ export class Agent {
 
   #clean() {
     const { machine } = this.writer;
-    this.isCleaning = true;
+    this.isCleaning = this.writer.uses.isCleaning = true;
     while (machine.queue.length > 0) {
       const registry = machine.queue.shift();
       for (let cell = machine.due(registry), goesOn = true; cell && goesOn; cell = machine.due(registry)) {
@@ -202,7 +202,7 @@ export class Agent {
       machine.keptAlive.clear();
       if (machine.due(registry)) machine.queue.push(registry);
     }
-    this.isCleaning = false;
+    this.isCleaning = this.writer.uses.isCleaning = false;
   }
 
   /** Calls a callback. Its commands are the same at each call, or each registration gets a registry of its own. */

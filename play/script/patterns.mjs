@@ -110,7 +110,10 @@ function* setOfSuper(cx, node, object, key, value) {
 
 /** The object and the key of a member that is assigned. */
 export function* memberOf(node, cx) {
-  if (node.object.type === "Super") return { object: cx.self.value, key: yield* keyOfMember(node, cx) };
+  if (node.object.type === "Super") {
+    cx.writer.uses.read(cx.self);
+    return { object: cx.self.value, key: yield* keyOfMember(node, cx) };
+  }
   const object = yield* evaluate(node.object, cx);
   const key = yield* needing(cx, object, () => keyOfMember(node, cx));
   return { object, key };

@@ -50,6 +50,8 @@ const placesFor = (agents) => agents.map(({ name, callbacks, jobs }) => ({
   name, callbacks: each(callbacks, ({ places }) => places), jobs: jobs.map(({ run }) => run.places),
 }));
 
+const usesFor = (agents) => agents.map(({ name, writer }) => ({ name, uses: writer.uses.told() }));
+
 /** A plan's text with a command on each line. */
 function textOf({ version, agents }) {
   const list = (lines, indent) => (lines.length === 0 ? "[]" : `[\n${lines.map((line) => `${indent} ${line}`).join(",\n")}]`);
@@ -82,7 +84,7 @@ export function planOf(source, { engine }) {
     const other = confirm(traced, agents, fault !== null);
     if (other !== null) answer(found.answers, other);
     else if (fault !== null) throw fault;
-    else return { plan, text, places: placesFor(agents), trace: traced };
+    else return { plan, text, places: placesFor(agents), uses: usesFor(agents), trace: traced };
   }
   throw broken("the engine's answers lead to no plan");
 }

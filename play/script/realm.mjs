@@ -186,6 +186,7 @@ export class Realm {
     if (cx.self.isMissing) {
       raise(cx, node, "ReferenceError", "Must call super constructor in derived class before accessing 'this' or returning from derived constructor");
     }
+    cx.writer.uses.read(cx.self);
     return cx.self.value;
   }
 

@@ -5,7 +5,7 @@ import { ScriptFault } from "./faults.mjs";
 import { link, linkPrototype, newInstance } from "./functions.mjs";
 import { iterate } from "./iteration.mjs";
 import { getProperty } from "./properties.mjs";
-import { canBeHeldWeakly, isCallable } from "./values.mjs";
+import { canBeHeldWeakly, isCallable, isInPlan } from "./values.mjs";
 
 /** A command that the host refuses. Where nobody can catch what it throws, it is written, and ends its job. */
 function refused(cx, node, words, error, message) {
@@ -124,6 +124,8 @@ function installRegistry(realm) {
     const thing = made(cx, node, newTarget, "registry", ["registry", cx.agent.addCallback(wish)]);
     cx.agent.addRegistry(thing, callback, node);
     link(cx, node, thing, "callback", callback);
+    // The host may call it when the script has the registry no more.
+    if (isInPlan(callback)) cx.writer.assign(node, cx.writer.variable("callback"), callback, cx.temporaries);
     return thing;
   });
   realm.methods(proto, {

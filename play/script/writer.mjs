@@ -8,6 +8,7 @@ import { ScriptFault, broken } from "./faults.mjs";
 import { Keys } from "./keys.mjs";
 import { Machine } from "./machine.mjs";
 import { Names } from "./names.mjs";
+import { Uses } from "./uses.mjs";
 import { hasIdentity, isInPlan, literalOf, planned } from "./values.mjs";
 import { waysTo } from "./ways.mjs";
 
@@ -15,6 +16,7 @@ const MOST_COMMANDS = 10000;
 
 export class Writer {
   keys = new Keys();
+  uses = new Uses();
   #names = new Names();
   /** The list that is written now. */
   run = new Run();
@@ -51,6 +53,7 @@ export class Writer {
     }
     this.run.commands.push(command);
     this.run.places.push({ start: node.start, end: node.end, ...place });
+    this.uses.commands += 1;
   }
 
   /** Writes a command that is refused: its job or callback ends there. */

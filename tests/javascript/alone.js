@@ -26,3 +26,5 @@ let o = {}; const r = new WeakRef(o); await turn(); o = null; collectLater(); co
 const a = new FinalizationRegistry((h) => console.log(h)), b = new FinalizationRegistry((h) => console.log(h)); b.register({}, "second"); a.register({}, "first"); await turn(); gc();
 /// gone b | gone a | 1
 const gone = [], r = new FinalizationRegistry((h) => { gone.push(h); if (gone.length === 1) console.log("gone", h); else console.log(`gone ${h}`); }); let x = {}, y = {}; r.register(x, "a"); r.register(y, "b"); await turn(); y = null; gc(); await turn(); x = null; gc(); await turn(); console.log(gone.length - 1);
+/// called 3 { }
+function watch(target) { const own = {}, list = [1, 2, 3]; new FinalizationRegistry(() => console.log("called", list.length, own ? "{ }" : "")).register(target, 1); } let x = {}; watch(x); await turn(); x = null; gc();
