@@ -19,7 +19,7 @@ import { setFlagsFromString } from "node:v8";
 import { randomScript } from "./random_scripts.mjs";
 import { judge } from "./scripts_judge.mjs";
 import { linesOnNode } from "./scripts_node.mjs";
-import { scriptOf } from "./scripts_of_plans.mjs";
+import { NOT_AS_SCRIPTS, readBack } from "./scripts_read_back.mjs";
 
 setFlagsFromString("--experimental-wasm-memory64");
 const engine = await import("../play/clusterrun.mjs");
@@ -189,29 +189,21 @@ function documented() {
   }
 }
 
-/** Of a report or of a script: what was said, without quotes and numbers of objects, and of an exception only which it is. */
-const plainLine = (line) => line.replace(/^(say |error |Uncaught )/, "").replace(/^"(.*)"$/, "$1").replace(/^(\w+Error): .*/, "$1")
-  .replace(/^symbolfor "(.*)"$/, "Symbol($1)").replace(/^symbol \d+$/, "Symbol()").replace(/^object \d+/, "object");
-
-/** Two call a method that another kind of object has too, and one has a view over what is no block, which is outside. */
-const NOT_AS_SCRIPTS = ["atomics/not-a-buffer.json", "maps/not-a-map.json", "sets/not-a-set.json"];
-
-/** The plans of the corpus of which a script can be written, read back. */
+/** The plans of the corpus as scripts. The documents say how many are read back. */
 function corpus() {
-  const top = here("../engines/corpus/");
-  const folders = readdirSync(top, { withFileTypes: true }).filter((entry) => entry.isDirectory());
-  const names = folders.flatMap(({ name }) => readdirSync(new URL(`${name}/`, top)).map((file) => `${name}/${file}`));
-  let scripts = 0;
-  for (const name of names.filter((one) => one.endsWith(".json") && !one.endsWith("/about.json"))) {
-    const source = scriptOf(JSON.parse(readFileSync(new URL(name, top), "utf8")));
-    if (source === null || NOT_AS_SCRIPTS.includes(name)) continue;
-    scripts += 1;
-    const report = readFileSync(new URL(name.replace(/json$/, "report"), top), "utf8");
-    const wanted = report.split("\n").filter((line) => /^(say|error) /.test(line)).map(plainLine).join(" | ");
-    const found = run(source).lines.map(plainLine).join(" | ");
-    check(found === wanted, `${name} as a script: ${found}, and not ${wanted}`);
+  let count = 0;
+  let back = 0;
+  for (const { name, found, wanted } of readBack({ engine, planOf, linesOf })) {
+    const isSame = found === wanted;
+    check(isSame !== name in NOT_AS_SCRIPTS, `${name} as a script: ${found}, and its report says ${wanted}`);
+    count += 1;
+    back += isSame;
   }
-  say(`${scripts} plans of the corpus were written as scripts and read back`);
+  for (const page of ["docs/SCRIPTS.md", "tests/README.md"]) {
+    check(readFileSync(here(`../${page}`), "utf8").includes(`${back} of the ${count} plans of the corpus`), `${page} says how many plans are read back`);
+  }
+  say(`${back} of the ${count} plans of the corpus were written as scripts and read back; not so were`);
+  for (const [name, why] of Object.entries(NOT_AS_SCRIPTS)) say(`  ${name}: ${why}`);
 }
 
 async function random() {

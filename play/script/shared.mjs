@@ -4,6 +4,7 @@
 import { raise } from "./core.mjs";
 import { ScriptFault } from "./faults.mjs";
 import { newInstance } from "./functions.mjs";
+import { planned } from "./values.mjs";
 
 const MOST_WORDS = 16384;
 const MOST_BLOCKS = 256;
@@ -77,6 +78,19 @@ function atomics(realm) {
 /** What a command read, as the view has it. A number that the view has otherwise than the plan is no longer the command's. */
 const read = (cx, node, view, words) => view.reads(cx.ask(node, words));
 
+/** Whether two shared buffers, or views of these, are over the same block: ours, since JavaScript can't ask. */
+function* sameBlock(cx, node, self, [one, other]) {
+  const both = [one, other];
+  if (both.some((value) => planned(value)?.kind !== "buffer")) {
+    if (cx.strand.guards === 0) {
+      const operands = both.map((value) => cx.operand(node, value));
+      cx.writer.refuse(node, ["sameblock", cx.writer.temporary(cx.temporaries), ...operands], "TypeError: not a SharedArrayBuffer");
+    }
+    raise(cx, node, "TypeError", "sameBlock takes two of SharedArrayBuffer");
+  }
+  return cx.ask(node, ["sameblock", ...both.map((value) => cx.operand(node, value))]);
+}
+
 const MISSING = ["exchange", "compareExchange", "and", "or", "xor", "wait", "waitAsync", "notify", "isLockFree"];
 
 export function installShared(realm) {
@@ -85,6 +99,7 @@ export function installShared(realm) {
     return newBuffer(cx, node, bytes, newTarget);
   });
   realm.getter(realm.protos.buffer, "byteLength", function* (cx, node, self) {
+    if (self?.kind !== "buffer") raise(cx, node, "TypeError", "Method SharedArrayBuffer.prototype.byteLength called on incompatible receiver");
     return 4 * cx.ask(node, ["length", cx.operand(node, self)]);
   });
   for (const name of Object.keys(VIEWS)) realm.constructorOf(name, realm.protos[name], newView(realm, name));
@@ -102,6 +117,7 @@ export function installShared(realm) {
     if (index < view.stands.block.words.length) cx.do(node, ["store", cx.operand(node, view), index, wordOf(value)]);
     return value;
   };
+  realm.define("sameBlock", realm.native("sameBlock", sameBlock, { length: 2 }));
   const object = realm.define("Atomics", realm.plainObject());
   realm.methods(object, atomics(realm));
   for (const name of MISSING) {

@@ -9,6 +9,8 @@ export class World {
   agents = [];
   steps = 0;
   version = 1;
+  /** The symbols of `Symbol.for`, which all agents have in common. */
+  registered = new Map();
   #ports = new Map();
 
   /** `found` is what earlier runs of the same script found out. */

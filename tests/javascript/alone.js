@@ -10,6 +10,10 @@ const r = new FinalizationRegistry((h) => { throw new Error("x" + h); }); r.regi
 const v = new Uint32Array(new SharedArrayBuffer(4)); setTimeout(() => console.log("next"), 1); Atomics.load(v, 7);
 /// DataCloneError | Uncaught DataCloneError: value cannot be posted | ok
 agent("b", async () => { console.log(await message("main")); }); try { postMessage({}, "b"); } catch (e) { console.log(e.name); } postMessage("ok", "b"); postMessage({}, "b");
+/// Symbol(k) true | next
+agent("a", async () => { postMessage(Symbol.for("k"), "b"); }); agent("b", async () => { const s = await message("a"); console.log(s, s === Symbol.for("k")); console.log("next"); });
+/// Uncaught TypeError: not a SharedArrayBuffer | next
+const b = new SharedArrayBuffer(4); setTimeout(() => console.log("next"), 1); sameBlock(b, {});
 /// waits
 agent("b", async () => { console.log("waits"); await message("main"); console.log("never"); });
 /// a begins | b begins

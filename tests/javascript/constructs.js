@@ -615,3 +615,8 @@ const list = (n) => (n === 0 ? null : { n, next: list(n - 1) }); const l = list(
 const deepMap = (n) => (n === 0 ? [0] : [n].map((x) => deepMap(x - 1)[0] + 1)); console.log(deepMap(200));
 class A { set v(x) { if (x > 0) this.v = x - 1; else console.log("done"); } } new A().v = 500;
 const o = { toString() { return "o"; }, valueOf() { throw new RangeError("no"); } }; try { o + 1; } catch (e) { console.log(e.name, `${o}`); }
+/// whether two buffers are over one block
+agent("a", async () => { const b = new SharedArrayBuffer(4), other = new SharedArrayBuffer(4); postMessage(b, "c"); const back = await message("c"); console.log(sameBlock(b, back), b === back, sameBlock(b, other), sameBlock(new Int32Array(b), back)); for (const no of [{}, 1, undefined]) try { sameBlock(b, no); } catch (e) { console.log(e.name, e.message); } });
+agent("c", async () => { postMessage(await message("a"), "a"); });
+/// keys and lengths of what has none
+for (const no of [1, "t", undefined]) try { Reflect.ownKeys(no); } catch (e) { console.log(e.name, e.message); } try { SharedArrayBuffer.prototype.byteLength; } catch (e) { console.log(e.name); }
