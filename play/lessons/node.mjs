@@ -49,7 +49,7 @@ Object.assign(globalThis, {
     return blockOf(both[0]) === blockOf(both[1]);
   },
   agent(name, body) {
-    setTimeout(() => current.run(name, body), 0);
+    setTimeout(() => current.run(name, () => body()), 0);
   },
   postMessage(value, receiver) {
     const { messages, waiting } = port(self(), receiver);

@@ -35,7 +35,7 @@ function assignName(node, cx, value, declares) {
     return;
   }
   const binding = bindingOf(cx, node);
-  if (binding === null) raise(cx, node, "ReferenceError", `${node.name} is not defined`);
+  if (binding === null) cx.agent.realm.unknown(cx, node, node.name);
   if (!binding.isMutable) raise(cx, node, "TypeError", "Assignment to constant variable.");
   binding.write(node, cx.writer, value, cx.temporaries);
 }

@@ -92,6 +92,7 @@ export function* setProperty(cx, node, target, key, value) {
 }
 
 function assignOwn(cx, node, target, key, value, found) {
+  cx.agent.realm.checkOwn(cx, node, target);
   if (found.isReadOnly) raise(cx, node, "TypeError", `Cannot assign to read only property '${nameOf(key)}' of object`);
   if (target.items !== undefined && key === "length") setLength(cx, node, target, value);
   else if (target.items !== undefined && isIndex(key)) setItem(cx, node, target, Number(key), value);
@@ -106,6 +107,7 @@ export function define(cx, node, thing, key, value, { isEnumerable = true } = {}
   if (thing.isBuiltIn) {
     throw new ScriptFault("what the language brings along can't be changed here: other code relies on it", node);
   }
+  cx.agent.realm.checkOwn(cx, node, thing);
   if (thing.items !== undefined && isIndex(key)) return setItem(cx, node, thing, Number(key), value);
   thing.properties.set(key, { value, isEnumerable });
   cx.writer.hold(node, thing, cx.writer.key(thing, key), value, cx.temporaries);

@@ -30,3 +30,12 @@ let o = {}; const r = new WeakRef(o); await turn(); o = null; collectLater(); co
 const a = new FinalizationRegistry((h) => console.log(h)), b = new FinalizationRegistry((h) => console.log(h)); b.register({}, "second"); a.register({}, "first"); await turn(); gc();
 /// gone b | gone a | 1
 const gone = [], r = new FinalizationRegistry((h) => { gone.push(h); if (gone.length === 1) console.log("gone", h); else console.log(`gone ${h}`); }); let x = {}, y = {}; r.register(x, "a"); r.register(y, "b"); await turn(); y = null; gc(); await turn(); x = null; gc(); await turn(); console.log(gone.length - 1);
+/// 1 gone | 12 12 | 1
+agent("owner", async () => { let buffer = new SharedArrayBuffer(8); const ref = new WeakRef(buffer); postMessage(buffer, "user"); buffer = null; await turn(); gc(); console.log(1, ref.deref() === undefined ? "gone" : "there"); console.log(await message("user"), await message("user")); console.log(await message("user")); });
+agent("user", async () => { let words = new Uint32Array(await message("owner")); const ref = new WeakRef(words.buffer); words[0] = 7; words[1] += 5; postMessage(words[0] + words[1], "owner"); postMessage(words.reduce((a, b) => a + b), "owner"); words = null; await turn(); gc(); postMessage(ref.deref() === undefined ? 1 : 0, "owner"); });
+/// did go true | 0
+agent("page", async () => { const cache = new Map(), registry = new FinalizationRegistry((key) => { if (!cache.get(key)?.deref()) cache.delete(key); }); let image = { pixels: 100 }; cache.set("image", new WeakRef(image)); registry.register(image, "image"); postMessage("go", "worker"); console.log(await message("worker"), cache.get("image")?.deref() === image); image = null; postMessage("again", "worker"); await message("worker"); gc(); await turn(); console.log(cache.size); });
+agent("worker", async () => { for (let i = 0; i < 2; i++) postMessage(`did ${await message("page")}`, "page"); });
+/// ticket 1 2 | late
+agent("a", async () => { setTimeout(() => console.log("late"), 1); const [one, two] = [await message("b"), await message("b")]; console.log("ticket", one, two); });
+agent("b", async () => { await turn(); postMessage(1, "a"); await turn(); await turn(); postMessage(2, "a"); });

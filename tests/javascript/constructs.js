@@ -620,3 +620,35 @@ agent("a", async () => { const b = new SharedArrayBuffer(4), other = new SharedA
 agent("c", async () => { postMessage(await message("a"), "a"); });
 /// keys and lengths of what has none
 for (const no of [1, "t", undefined]) try { Reflect.ownKeys(no); } catch (e) { console.log(e.name, e.message); } try { SharedArrayBuffer.prototype.byteLength; } catch (e) { console.log(e.name); }
+/// views as arrays
+const v = new Int32Array(new SharedArrayBuffer(12)); v[0] = -1; v[2] = 5; for (const n of v) console.log(n); for (const [i, n] of v.entries()) console.log(i, n); console.log([...v.keys()], [...v.values()], Array.from(v, (n) => n * 2), Math.max(...v)); const [first, ...others] = v; console.log(first, others);
+console.log(v.reduce((a, b) => a + b), v.reduce((a, b) => a + b, 10), v.join("-"), v.join(), `${v}`, v.at(-1), v.at(9), v.at(-9), v.indexOf(5), v.indexOf(7), v.includes(0), v.some((n) => n > 4), v.every((n) => n > 4), v.find((n) => n > 0), v.find((n) => n > 9), v.findIndex((n) => n === 0), v.findIndex((n) => n > 9));
+console.log(v.fill(9) === v, [...v]); v.fill(7, 1, -1); v.forEach((n, i, all) => { console.log(n, i, all === v); all[2] = 4; }); v.set([1, "2"], 1); console.log([...v], new Set(v).size, v.set(new Uint32Array(new SharedArrayBuffer(4)))); console.log(v[0]); for (const at of [-1, 3]) try { v.set([1], at); } catch (e) { console.log(e.name); } try { v.forEach(5); } catch (e) { console.log(e.name, e.message); } for (const n of v) { if (n === 1) break; console.log("before", n); }
+class Words extends Uint32Array { *[Symbol.iterator]() { yield "own"; } } console.log([...new Words(new SharedArrayBuffer(8))]);
+/// agents of all kinds of functions
+async function work(name, from) { const total = new Uint32Array(await message("main")); Atomics.add(total, 0, from); postMessage(name, "main"); }
+agent("a", () => work("a", 3)); agent("b", async () => work("b", 4)); agent("c", function () { setTimeout(() => postMessage(this === undefined, "main"), 20); }); const named = { async run() { postMessage(typeof this, "main"); } }; agent("d", named.run);
+const total = new Uint32Array(new SharedArrayBuffer(4)); for (const name of ["a", "b"]) postMessage(total.buffer, name); console.log(await Promise.all(["a", "b"].map((name) => message(name))), total[0], await message("c"), await message("d"));
+/// what messages carry
+agent("b", async () => { const all = []; for (let got = await message("main"); got !== "end"; got = await message("main")) all.push(Object.is(got, -0) ? "-0" : got); console.log(all); });
+for (const sent of [1.5, "é", -0, NaN, null, undefined, true, 2 ** 60, "x".repeat(300), ""]) postMessage(sent, "b"); for (const no of [Symbol("q"), Symbol.iterator, () => 1]) try { postMessage(no, "b"); } catch (e) { console.log(e.name, typeof no === "symbol" ? e.message : ""); } postMessage("end", "b");
+/// a producer and a consumer
+agent("producer", async () => { for (let i = 0; i < 5; i++) postMessage(i, "consumer"); postMessage("done", "consumer"); });
+agent("consumer", async () => { let sum = 0; for (;;) { const item = await message("producer"); if (item === "done") break; sum += item; console.log("got", item); } console.log("sum", sum); });
+/// a pipeline of three agents
+agent("source", async () => { for (const word of ["alpha", "beta", "gamma"]) postMessage(word, "upper"); postMessage(null, "upper"); });
+agent("upper", async () => { let word; while ((word = await message("source")) !== null) postMessage(word.toUpperCase(), "sink"); postMessage(null, "sink"); });
+agent("sink", async () => { const all = []; let word = await message("upper"); while (word) { all.push(word); word = await message("upper"); } console.log(all.join(" "), all.length); });
+/// to and fro, with a protocol
+agent("front", async () => { const ask = async (...words) => { for (const one of words) postMessage(one, "counter"); return words[0] === "get" ? await message("counter") : undefined; }; await ask("add", 5); await ask("add", 7); console.log("total", await ask("get")); await ask("stop"); });
+agent("counter", async () => { let total = 0; loop: while (true) switch (await message("front")) { case "add": total += await message("front"); break; case "get": postMessage(total, "front"); break; case "stop": break loop; } console.log("stopped"); });
+/// a ring buffer of a writer and a reader
+const SIZE = 4; class Ring { static words = SIZE + 2; constructor(buffer) { this.words = new Uint32Array(buffer); } get used() { return Atomics.load(this.words, 0) - Atomics.load(this.words, 1); } push(value) { if (this.used === SIZE) return false; Atomics.store(this.words, 2 + (Atomics.load(this.words, 0) % SIZE), value); Atomics.add(this.words, 0, 1); return true; } shift() { return this.used === 0 ? undefined : Atomics.load(this.words, 2 + (Atomics.add(this.words, 1, 1) % SIZE)); } }
+agent("writer", async () => { const buffer = new SharedArrayBuffer(Ring.words * 4), ring = new Ring(buffer); postMessage(buffer, "reader"); let n = 0; while (ring.push(n * n)) n++; postMessage(n, "reader"); });
+agent("reader", async () => { const ring = new Ring(await message("writer")), count = await message("writer"), got = []; for (let v; (v = ring.shift()) !== undefined;) got.push(v); console.log(count, got); });
+/// messages as an async generator, and a body that fails
+async function* messagesFrom(name, count) { for (let i = 0; i < count; i++) yield await message(name); }
+agent("numbers", async () => { [3, 1, 2].forEach((n) => postMessage(n, "reader")); }); agent("reader", async () => { const all = []; for await (const n of messagesFrom("numbers", 3)) all.push(n); console.log(all.sort((a, b) => a - b)); throw new RangeError("fails"); });
+/// a timer that posts
+agent("clock", async () => { let ticks = 0; const timer = setInterval(() => { postMessage(++ticks, "listener"); if (ticks === 3) clearInterval(timer); }, 10); });
+agent("listener", async () => { for (let i = 0; i < 3; i++) console.log("tick", await message("clock")); try { const got = await message("clock"); console.log("never", got); } finally { console.log("never"); } });
