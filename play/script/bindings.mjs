@@ -8,6 +8,8 @@ export class Binding {
   isInitialized = false;
   /** The plan's variable, once it has one. */
   variable = null;
+  /** After how many steps of the script it got its value. */
+  since = 0;
 
   constructor(name, kind, scope, isCaptured) {
     Object.assign(this, { name, kind, scope, isCaptured });
@@ -31,6 +33,7 @@ export class Binding {
     if (isThing(this.value)) this.value.holders.delete(this);
     this.isInitialized = true;
     this.isTold = false;
+    this.since = this.scope?.agent.world.steps ?? 0;
     if (this.isCaptured) writer.hold(node, this.scope.environment, writer.key(this.scope.environment, this.name), value, temporaries);
     else if (isInPlan(value) || writer.teller(value) !== null) this.#assign(node, writer, value, temporaries);
     else this.#withhold(node, writer, value, temporaries);

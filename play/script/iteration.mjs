@@ -34,9 +34,8 @@ function* eachItem(cx, node, array, visit) {
 }
 
 function* eachWord(cx, node, view, visit) {
-  const { length } = view.stands.block.words;
   yield* needing(cx, view, function* () {
-    for (let index = 0; index < length; index += 1) if (yield* visit(cx.agent.realm.load(cx, node, view, index))) return;
+    for (let index = 0; index < view.count; index += 1) if (yield* visit(cx.agent.realm.load(cx, node, view, index))) return;
   });
 }
 

@@ -32,8 +32,9 @@ export class Agent {
   #order = 0;
   #registries = 0;
 
-  constructor(world, name) {
-    Object.assign(this, { world, name });
+  /** An agent begins after some steps of the script. */
+  constructor(world, name, begun) {
+    Object.assign(this, { world, name, begun });
     this.writer = new Writer(world.found.answers.get(name));
     this.realm = installAll(this);
   }

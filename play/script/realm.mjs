@@ -198,10 +198,12 @@ export class Realm {
     return cx.self.value;
   }
 
-  /** Agents share blocks alone. What a script has outside of its agents they may read where it is no object of a plan. */
-  checkForeign(cx, node, { value, name, isMutable, kind }) {
+  /** Agents share blocks alone. What a script has outside of its agents they may read where it is no object of a plan, and has not
+      changed since the agent began. */
+  checkForeign(cx, node, { value, name, kind, isMutable, since }, isAssigned) {
     const isCode = value?.kind === "function" && value.number === 0;
-    if ((isMutable && kind !== "function" && kind !== "class") || (hasIdentity(value) && !isCode)) {
+    const hasChanged = isMutable && kind !== "function" && kind !== "class" && since > cx.agent.begun;
+    if (isAssigned || hasChanged || (hasIdentity(value) && !isCode)) {
       const isSent = !isThing(value) || planned(value).kind === "buffer";
       throw foreign(node, name, isSent ? "send it with postMessage" : "make it within the agent");
     }

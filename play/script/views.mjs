@@ -1,111 +1,90 @@
-// What a view of a block has of an array's methods. Each word that they look at is a load of the plan, and each that they write a
-// store.
+// Uint32Array and Int32Array: views of a block, or of a part of it. In a plan a view is its buffer.
 
-import { call, raise } from "./core.mjs";
+import { raise } from "./core.mjs";
 import { ScriptFault } from "./faults.mjs";
-import { listOf } from "./iteration.mjs";
-import { toNumber } from "./operators.mjs";
-import { newArray } from "./properties.mjs";
-import { isCallable } from "./values.mjs";
+import { newInstance } from "./functions.mjs";
+import { wholeOf, wordOf } from "./shared.mjs";
+import { Thing } from "./values.mjs";
 
-/** That `this` is a view, and how many words it has. */
-function lengthOf(node, self) {
-  if (self?.kind !== "view") throw new ScriptFault("a method of views is taken on views alone", node);
-  return self.stands.block.words.length;
+const BYTES = 4;
+/** What a word of a plan is in a view. */
+const VIEWS = {
+  Uint32Array: (word) => word,
+  Int32Array: (word) => word | 0,
+};
+const OTHERS = [
+  "Int8Array", "Uint8Array", "Uint8ClampedArray", "Int16Array", "Uint16Array", "Float32Array", "Float64Array", "BigInt64Array",
+  "BigUint64Array",
+];
+
+function newView(realm, name) {
+  return function* (cx, node, self, [buffer, byteOffset, length], newTarget) {
+    if (newTarget === undefined) raise(cx, node, "TypeError", `Constructor ${name} requires 'new'`);
+    if (buffer?.kind !== "buffer") {
+      throw new ScriptFault(`a ${name} stands over a SharedArrayBuffer here: write new ${name}(new SharedArrayBuffer(16))`, node);
+    }
+    const part = partOf(cx, node, name, buffer.block.words.length, wholeOf(byteOffset), length);
+    return Object.assign(newInstance(cx, node, newTarget, "view"), { stands: buffer, reads: VIEWS[name] }, part);
+  };
 }
 
-const load = (cx, node, self, index) => cx.agent.realm.load(cx, node, self, index);
-const store = (cx, node, self, index, value) => cx.agent.realm.store(cx, node, self, index, value);
-
-/** An index that may count from the end, within a view. */
-const place = (value, length, otherwise) => {
-  if (value === undefined) return otherwise;
-  const index = Math.trunc(Number(value)) || 0;
-  return index < 0 ? Math.max(0, length + index) : Math.min(index, length);
-};
-
-/** Calls a function with each word, as it is by then; what `visit` gives for its answer, other than undefined, ends it. */
-function* eachCall(cx, node, self, [callback, that], visit) {
-  const length = lengthOf(node, self);
-  if (!isCallable(callback)) raise(cx, node, "TypeError", `${String(callback)} is not a function`);
-  for (let index = 0; index < length; index += 1) {
-    const outer = cx.temporaries;
-    cx.temporaries = [];
-    try {
-      const value = load(cx, node, self, index);
-      const found = visit(yield* call(cx, node, callback, that, [value, index, self]), value, index);
-      if (found !== undefined) return found;
-    } finally {
-      cx.writer.endTemporaries(node, cx.temporaries);
-      cx.temporaries = outer;
-    }
+/** The part of a block that a view is over: from which word on, and how many words. */
+function partOf(cx, node, name, words, byteOffset, length) {
+  if (byteOffset % BYTES !== 0) raise(cx, node, "RangeError", `start offset of ${name} should be a multiple of ${BYTES}`);
+  const from = byteOffset / BYTES;
+  if (from < 0 || (length === undefined && from > words)) {
+    raise(cx, node, "RangeError", `Start offset ${byteOffset} is outside the bounds of the buffer`);
   }
-  return undefined;
+  const count = length === undefined ? words - from : wholeOf(length);
+  if (count < 0 || from + count > words) raise(cx, node, "RangeError", `Invalid typed array length: ${count}`);
+  return { from, count };
 }
 
-const calling = {
-  *forEach(cx, node, self, values) { yield* eachCall(cx, node, self, values, () => undefined); },
-  *some(cx, node, self, values) { return (yield* eachCall(cx, node, self, values, (isIt) => (isIt ? true : undefined))) ?? false; },
-  *every(cx, node, self, values) { return (yield* eachCall(cx, node, self, values, (isIt) => (isIt ? undefined : false))) ?? true; },
-  *find(cx, node, self, values) { return yield* eachCall(cx, node, self, values, (isIt, value) => (isIt ? value : undefined)); },
-  *findIndex(cx, node, self, values) {
-    return (yield* eachCall(cx, node, self, values, (isIt, value, index) => (isIt ? index : undefined))) ?? -1;
-  },
-  *reduce(cx, node, self, [callback, ...first]) {
-    const length = lengthOf(node, self);
-    if (!isCallable(callback)) raise(cx, node, "TypeError", `${String(callback)} is not a function`);
-    if (first.length === 0 && length === 0) raise(cx, node, "TypeError", "Reduce of empty array with no initial value");
-    let value = first.length > 0 ? first[0] : load(cx, node, self, 0);
-    for (let index = 1 - first.length; index < length; index += 1) {
-      value = yield* call(cx, node, callback, undefined, [value, load(cx, node, self, index), index, self]);
-    }
+/** Words are asked for and written. A number that a view has otherwise than the plan is no longer the command's. */
+function installWords(realm) {
+  realm.load = (cx, node, view, index) => {
+    if (index >= view.count) return undefined;
+    return view.reads(cx.ask(node, ["load", cx.operand(node, view), view.from + index]));
+  };
+  realm.store = (cx, node, view, index, value) => {
+    if (index < view.count) cx.do(node, ["store", cx.operand(node, view), view.from + index, wordOf(value)]);
     return value;
-  },
-};
+  };
+  /** Another view of some words of a view. */
+  realm.part = (view, from, count) => (
+    Object.assign(new Thing("view", view.proto), { stands: view.stands, reads: view.reads, from: view.from + from, count }));
+}
 
-const wordsOf = (cx, node, self) => Array.from({ length: lengthOf(node, self) }, (_, index) => load(cx, node, self, index));
-
-const looking = {
-  *at(cx, node, self, [index]) {
-    const at = Math.trunc(Number(index)) || 0;
-    const where = at < 0 ? lengthOf(node, self) + at : at;
-    return where < 0 ? undefined : load(cx, node, self, where);
-  },
-  *includes(cx, node, self, [value]) { return wordsOf(cx, node, self).includes(value); },
-  *indexOf(cx, node, self, [value]) { return wordsOf(cx, node, self).indexOf(value); },
-  *join(cx, node, self, [between = ","]) { return wordsOf(cx, node, self).join(between); },
-  *toString(cx, node, self) { return wordsOf(cx, node, self).join(); },
-};
-
-const changing = {
-  *fill(cx, node, self, [value, from, to]) {
-    const length = lengthOf(node, self);
-    const number = yield* toNumber(cx, node, value);
-    for (let index = place(from, length, 0); index < place(to, length, length); index += 1) store(cx, node, self, index, number);
-    return self;
-  },
-  *set(cx, node, self, [source, from = 0]) {
-    const values = yield* listOf(cx, node, source);
-    if (from < 0 || from + values.length > lengthOf(node, self)) raise(cx, node, "RangeError", "offset is out of bounds");
-    for (const [index, value] of values.entries()) store(cx, node, self, from + index, yield* toNumber(cx, node, value));
-  },
-};
-
-const iterating = Object.fromEntries(["keys", "values", "entries"].map((part) => [part, function* (cx, node, self) {
-  const length = lengthOf(node, self);
-  let next = 0;
-  return cx.agent.realm.iterator(cx, node, self, (inner) => {
-    const index = next;
-    if (index >= length) return undefined;
-    next += 1;
-    if (part === "keys") return { value: index };
-    const value = load(inner, node, self, index);
-    return { value: part === "values" ? value : newArray(inner, node, [index, value]) };
-  });
-}]));
+function installGetters(realm) {
+  const getters = {
+    *buffer(cx, node, self) { return self.stands; },
+    /** A plan knows how long a block is, and not a part of it. */
+    *length(cx, node, self) {
+      const isWhole = self.count === self.stands.block.words.length;
+      return isWhole ? cx.ask(node, ["length", cx.operand(node, self)]) : self.count;
+    },
+    *byteLength(cx, node, self) { return BYTES * (yield* getters.length(cx, node, self)); },
+    *byteOffset(cx, node, self) { return BYTES * self.from; },
+  };
+  for (const [name, get] of Object.entries(getters)) {
+    realm.getter(realm.protos.view, name, function* (cx, node, self) {
+      if (self?.kind !== "view") raise(cx, node, "TypeError", `Method TypedArray.prototype.${name} called on incompatible receiver`);
+      return yield* get(cx, node, self);
+    });
+  }
+}
 
 export function installViews(realm) {
-  const proto = realm.protos.view;
-  for (const methods of [calling, looking, changing, iterating]) realm.methods(proto, methods);
-  realm.iterates(proto, "values");
+  for (const name of Object.keys(VIEWS)) {
+    const made = realm.constructorOf(name, realm.protos[name], newView(realm, name));
+    realm.tagged(realm.protos[name], name);
+    for (const owner of [made, realm.protos[name]]) realm.constant(owner, "BYTES_PER_ELEMENT", BYTES);
+  }
+  for (const name of OTHERS) {
+    realm.define(name, realm.native(name, function* (cx, node) {
+      throw new ScriptFault(`${name} is not taken: a block is a row of words of 32 bits; write Uint32Array`, node);
+    }, { isConstructor: true }));
+  }
+  installWords(realm);
+  installGetters(realm);
 }

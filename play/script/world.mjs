@@ -27,7 +27,7 @@ export class World {
   }
 
   add(name) {
-    const agent = new Agent(this, name);
+    const agent = new Agent(this, name, this.steps);
     this.agents.push(agent);
     return agent;
   }

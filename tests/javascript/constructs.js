@@ -652,3 +652,31 @@ agent("numbers", async () => { [3, 1, 2].forEach((n) => postMessage(n, "reader")
 /// a timer that posts
 agent("clock", async () => { let ticks = 0; const timer = setInterval(() => { postMessage(++ticks, "listener"); if (ticks === 3) clearInterval(timer); }, 10); });
 agent("listener", async () => { for (let i = 0; i < 3; i++) console.log("tick", await message("clock")); try { const got = await message("clock"); console.log("never", got); } finally { console.log("never"); } });
+/// numbers in words, and parts of blocks
+const a = new Uint32Array(new SharedArrayBuffer(16));
+for (const n of [2 ** 60, -(2 ** 60), 2 ** 53 + 2, Infinity, -Infinity, NaN, -1, 1e100, "12", null, undefined, true, -0]) { console.log(Atomics.store(a, 0, n), a[0]); a[1] = n; console.log(a[1], Atomics.add(a, 2, n), a[2], Atomics.sub(a, 2, n), a[2]); }
+console.log(Atomics.load(a, "1"), Atomics.load(a, 1.7), Atomics.load(a), Atomics.load(a, NaN));
+for (const i of [-1, 4, Infinity, "x9"]) try { console.log(Atomics.load(a, i)); } catch (e) { console.log(e.name, e.message); }
+for (const [offset, length] of [[2], [20], [-4], [4, 9], [4, -1], [16], [12, 1], ["4", "1"], [undefined, 2], [0, 0]]) try { const v = new Int32Array(a.buffer, offset, length); console.log(v.length, v.byteOffset, v.byteLength); } catch (e) { console.log(e.name, e.message); }
+const part = new Int32Array(a.buffer, 4, 2); part[0] = -7; part[1] = 8; part[2] = 9; console.log([...a], [...part], part.length, part.subarray(1).length, part.subarray(1)[0], part.subarray(-1)[0], part.at(-1), Atomics.add(part, 1, 1), a[2], 1 in part, 2 in part);
+try { Atomics.load(part, 2); } catch (e) { console.log(e.name); }
+const whole = a.subarray(); whole.fill(3); console.log(a.join(), whole.buffer === a.buffer, sameBlock(part, whole), whole === a, Object.prototype.toString.call(whole), Object.prototype.toString.call(a.buffer), Object.entries(part));
+try { Uint32Array.prototype.length; } catch (e) { console.log(e.name); }
+const plain = new Uint32Array(new SharedArrayBuffer(8)); console.log(plain.byteLength, plain.byteOffset, plain.BYTES_PER_ELEMENT, Uint32Array.BYTES_PER_ELEMENT, plain instanceof Uint32Array, plain.constructor === Uint32Array, Object.keys(plain), 0 in plain, 5 in plain, plain.hasOwnProperty(0), JSON.stringify(plain), plain[9], plain[-1]); plain.name = "x"; for (const key in plain) console.log(key, plain[key]); console.log(Object.keys({ ...plain }));
+/// a histogram by three agents, which a loop begins
+const TEXT = "the quick brown fox jumps over the lazy dog", BINS = 26;
+async function count(from, to) { const bins = new Uint32Array(await message("main")); for (const letter of TEXT.slice(from, to)) { const code = letter.charCodeAt(0) - 97; if (code >= 0 && code < BINS) Atomics.add(bins, code, 1); } postMessage(to - from, "main"); }
+const parts = 3, size = Math.ceil(TEXT.length / parts), bins = new Uint32Array(new SharedArrayBuffer(4 * BINS));
+for (let i = 0; i < parts; i++) { agent(`counter${i}`, () => count(i * size, Math.min((i + 1) * size, TEXT.length))); postMessage(bins.buffer, `counter${i}`); }
+let total = 0; for (let i = 0; i < parts; i++) total += await message(`counter${i}`); console.log(total, bins[14], bins.indexOf(Math.max(...bins)), bins.reduce((a, b) => a + b));
+/// a product of matrices, a row for each agent
+const SIDE = 2; for (let r = 0; r < SIDE; r++) agent(`row${r}`, async () => { const a = new Int32Array(await message("main")), out = new Int32Array(await message("main"), 4 * SIDE * r, SIDE); for (let j = 0; j < SIDE; j++) for (let k = 0; k < SIDE; k++) out[j] += a[r * SIDE + k] * a[k * SIDE + j]; postMessage("done", "main"); });
+const a = new Int32Array(new SharedArrayBuffer(4 * SIDE * SIDE)); a.set([1, 2, 3, -4]); const out = new Int32Array(new SharedArrayBuffer(a.byteLength)); for (let r = 0; r < SIDE; r++) for (const one of [a.buffer, out.buffer]) postMessage(one, `row${r}`); for (let r = 0; r < SIDE; r++) await message(`row${r}`); console.log([...out]);
+/// a pool of agents, and a barrier
+class Pool { #free; constructor(names) { this.#free = [...names]; } async run(job) { const name = this.#free.shift(); postMessage(job, name); const result = await message(name); this.#free.push(name); return result; } }
+const fib = (n) => (n < 2 ? n : fib(n - 1) + fib(n - 2)); for (const name of ["w1", "w2"]) agent(name, async () => { for (let job; (job = await message("boss")) !== null;) postMessage(`${name}: fib(${job}) = ${fib(job)}`, "boss"); });
+agent("boss", async () => { const pool = new Pool(["w1", "w2"]); for (const n of [5, 8, 10]) console.log(await pool.run(n)); for (const name of ["w1", "w2"]) postMessage(null, name); });
+const NAMES = "abc"; agent("gate", async () => { for (const name of NAMES) await message(name); for (const name of NAMES) postMessage(LATER, name); }); const LATER = "go"; for (const name of NAMES) agent(name, async () => { await turn(); postMessage("here", "gate"); const got = await message("gate"); if (name === "c") console.log(name, "may", got); });
+/// messages that an object of the script gives one by one, and texts of JSON
+class Mailbox { constructor(from) { this.from = from; this.seen = []; } async *[Symbol.asyncIterator]() { for (;;) { const text = await message(this.from); if (text === "bye") return; this.seen.push(text); yield text; } } }
+agent("alice", async () => { for (const text of ["hi", JSON.stringify({ to: "bob", tags: ["x"] }), "bye"]) postMessage(text, "bob"); }); agent("bob", async () => { const box = new Mailbox("alice"); for await (const text of box) console.log(text.startsWith("{") ? JSON.parse(text).tags : text); console.log(box.seen.length); });

@@ -114,3 +114,7 @@ function f() {} f.calls = 0; agent("a", async () => { f.calls++; });
 agent("a", async () => { const flag = new Int32Array(new SharedArrayBuffer(4)); postMessage(flag.buffer, "b"); while (Atomics.load(flag, 0) === 0) await turn(); }); agent("b", async () => { Atomics.store(new Int32Array(await message("a")), 0, 1); });
 /// compareExchange | Atomics.compareExchange(lock, 0, 0, 1)
 agent("a", async () => { const lock = new Int32Array(new SharedArrayBuffer(4)); while (Atomics.compareExchange(lock, 0, 0, 1) !== 0); });
+/// send it with postMessage | n
+let n = 1; agent("a", async () => { console.log(n); }); n = 2;
+/// belongs to another agent | n
+let n = 1; agent("a", async () => { n++; });
