@@ -21,6 +21,7 @@ export class Binding {
 
   /** The value, which from now on some variable of the plan holds. */
   read(node, writer, temporaries) {
+    if (this.scope.agent.writer !== writer) return this.value;
     if (this.isCaptured) {
       const { environment } = this.scope;
       return writer.fetch(node, environment, writer.key(environment, this.name), this.value, temporaries);
@@ -109,14 +110,18 @@ export class Scope {
     this.#variable = writer.variable("scope");
     writer.assign(node, this.#variable, made, temporaries);
     this.environment = made;
-    const around = this.outer?.nearest() ?? null;
+    const around = this.#outerOfAgent()?.nearest() ?? null;
     if (around !== null) writer.hold(node, made, "outer", around, temporaries);
     writer.endTemporaries(node, temporaries);
   }
 
-  /** The environment of this scope, or of the nearest one around it that has one. */
+  /** The environment of this scope, or of the nearest one around it that has one, in the same agent. */
   nearest() {
-    return this.environment ?? this.outer?.nearest() ?? null;
+    return this.environment ?? this.#outerOfAgent()?.nearest() ?? null;
+  }
+
+  #outerOfAgent() {
+    return this.outer?.agent === this.agent ? this.outer : null;
   }
 
   find(name) {

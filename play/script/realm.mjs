@@ -200,8 +200,8 @@ export class Realm {
 
   /** Agents share blocks alone. What a script has outside of its agents they may read where it is no object of a plan, and has not
       changed since the agent began. */
-  checkForeign(cx, node, { value, name, kind, isMutable, since }, isAssigned) {
-    const isCode = value?.kind === "function" && value.number === 0;
+  checkForeign(cx, node, { value, name, kind, isMutable, since, scope }, isAssigned) {
+    const isCode = value?.kind === "function" && cx.agent.world.common.use(value, scope.agent);
     const hasChanged = isMutable && kind !== "function" && kind !== "class" && since > cx.agent.begun;
     if (isAssigned || hasChanged || (hasIdentity(value) && !isCode)) {
       const isSent = !isThing(value) || planned(value).kind === "buffer";

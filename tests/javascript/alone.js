@@ -39,3 +39,5 @@ agent("worker", async () => { for (let i = 0; i < 2; i++) postMessage(`did ${awa
 /// ticket 1 2 | late
 agent("a", async () => { setTimeout(() => console.log("late"), 1); const [one, two] = [await message("b"), await message("b")]; console.log("ticket", one, two); });
 agent("b", async () => { await turn(); postMessage(1, "a"); await turn(); await turn(); postMessage(2, "a"); });
+/// a lost 1 | b lost 2 | b ends | function true
+const registryOf = (name) => new FinalizationRegistry((held) => console.log(name, "lost", held)); agent("a", async () => { const r = registryOf("a"); r.register({}, 1); const own = registryOf; await turn(); gc(); await message("b"); console.log(typeof own, new WeakRef(registryOf).deref() === own); }); agent("b", async () => { const r = registryOf("b"); r.register({}, 2); await turn(); gc(); await turn(); console.log("b ends"); postMessage(1, "a"); });

@@ -680,3 +680,20 @@ const NAMES = "abc"; agent("gate", async () => { for (const name of NAMES) await
 /// messages that an object of the script gives one by one, and texts of JSON
 class Mailbox { constructor(from) { this.from = from; this.seen = []; } async *[Symbol.asyncIterator]() { for (;;) { const text = await message(this.from); if (text === "bye") return; this.seen.push(text); yield text; } } }
 agent("alice", async () => { for (const text of ["hi", JSON.stringify({ to: "bob", tags: ["x"] }), "bye"]) postMessage(text, "bob"); }); agent("bob", async () => { const box = new Mailbox("alice"); for await (const text of box) console.log(text.startsWith("{") ? JSON.parse(text).tags : text); console.log(box.seen.length); });
+/// functions and classes that agents have in common
+class Base { kind() { return "base"; } }
+class Square extends Base { static unit = 1; #s; constructor(s) { super(); this.#s = s; } get area() { return this.#s ** 2 * Square.unit; } kind() { return `square, a ${super.kind()}`; } }
+function Old(n) { this.n = n; } Old.prototype.twice = function () { return 2 * this.n; }; const make = (Kind, ...all) => new Kind(...all);
+class Cube extends Square {} const kept = [new Cube(2), new Old(5)], weak = new WeakMap([[Cube, make]]);
+for (const name of ["a", "b"]) agent(name, async () => {
+  const kinds = { Square, Old, make }, map = new WeakMap([[Square, "s"]]), ref = new WeakRef(Old), list = [make(Square, 3), kinds.make(kinds.Old, 4)]; await turn(); gc(); if (name === "b") await message("a");
+  console.log(name, list[0].area, list[1].twice(), list[0].kind(), map.get(Square), ref.deref() === Old, list[0] instanceof Base, list[0].constructor === Square, Object.getPrototypeOf(list[1]) === Old.prototype); if (name === "a") postMessage(1, "b"); else postMessage(2, "main");
+});
+console.log(await message("b"), (gc(), kept[0].area), kept[1].twice(), weak.get(Cube) === make, kept[0] instanceof Base);
+/// agents that a function begins, with functions of the script
+function spawn(name, task) { agent(name, async () => { postMessage(task(await message("main")), "main"); }); return (value) => { postMessage(value, name); return message(name); }; }
+const double = spawn("double", (n) => 2 * n), shout = spawn("shout", (s) => s.toUpperCase() + "!"); console.log(await double(21), await shout("hey"));
+/// functions within agents, of what a loop captures
+const words = new Uint32Array(new SharedArrayBuffer(8)), n = words.length;
+for (let i = 0; i < 2; i++) agent(`w${i}`, async () => { const f = () => i, o = { f }, r = new WeakRef(o); await turn(); gc(); postMessage(`${r.deref() === o} ${o.f()} ${(() => f())()} ${n} ${n + 1}`, "main"); });
+for (let i = 0; i < 2; i++) console.log(await message(`w${i}`));

@@ -118,3 +118,7 @@ agent("a", async () => { const lock = new Int32Array(new SharedArrayBuffer(4)); 
 let n = 1; agent("a", async () => { console.log(n); }); n = 2;
 /// belongs to another agent | n
 let n = 1; agent("a", async () => { n++; });
+/// make it within the agent | Cache
+class Cache { static all = new Map(); } agent("a", async () => { console.log(Cache.all.size); });
+/// make it within the agent | next
+function counter() { let n = 0; return () => ++n; } const next = counter(); agent("a", async () => { console.log(next()); });
