@@ -3,6 +3,7 @@
 // knows of them.
 
 import { Held } from "./bindings.mjs";
+import { Thing, isThing } from "./values.mjs";
 
 const WHOLE = { start: 0, end: 0 };
 
@@ -10,15 +11,19 @@ const WHOLE = { start: 0, end: 0 };
 const stateOf = ({ number, isEmptied, edges, variables, holders, withheld }) => ({ number, isEmptied, edges, variables, holders, withheld });
 const newState = () => ({ number: 0, isEmptied: false, edges: new Map(), variables: new Set(), holders: new Set(), withheld: undefined });
 
+/** A function of an agent's own, which is called as another one is. */
+export const ownFunction = (callee) => Object.assign(new Thing("function", callee.proto), callee, newState());
+
 /** What a function or a prototype leads to. */
 function* leadsTo(thing) {
+  if (thing.isBuiltIn) return;
   thing.complete?.("prototype");
   for (const { value, get, set } of thing.properties.values()) yield* [value, get, set];
-  yield* [thing.proto, thing.home, ...thing.edges.values()];
+  yield* [thing.proto, thing.home, ...thing.edges.values(), ...(thing.withheld?.values() ?? [])];
   if (thing.isArrow) yield thing.self.value;
 }
 
-const isThing = (value) => value?.properties !== undefined;
+const isFunction = (thing) => thing.kind === "function" && !(thing.native && thing.isConstructor);
 
 /** A function with all functions and prototypes that it leads to; null if it leads to other objects. */
 function codeOf(callee) {
@@ -27,7 +32,7 @@ function codeOf(callee) {
     for (const next of leadsTo(thing)) if (isThing(next) && !next.isBuiltIn) found.add(next);
   }
   const prototypes = new Set([...found].flatMap((thing) => [thing.home, thing.properties.get("prototype")?.value]));
-  return [...found].every((thing) => (thing.kind === "function" && !thing.native) || prototypes.has(thing)) ? found : null;
+  return [...found].every((thing) => isFunction(thing) || prototypes.has(thing)) ? found : null;
 }
 
 export class Common {

@@ -2,6 +2,7 @@
 
 import { raise } from "./core.mjs";
 import { Held } from "./bindings.mjs";
+import { ownFunction } from "./common.mjs";
 import { runWhole } from "./coroutines.mjs";
 import { ScriptFault } from "./faults.mjs";
 import { newPromise, resolve } from "./promises.mjs";
@@ -93,7 +94,7 @@ function installAgents(realm) {
     if (fault) throw new ScriptFault(fault, node);
     const agent = world.add(name);
     agent.schedule(node, 0, function* (inner) {
-      const ended = yield* agent.realm.invoke(inner, node, body, undefined, []);
+      const ended = yield* agent.realm.invoke(inner, node, ownFunction(body), undefined, []);
       if (ended?.kind === "promise") ended.isBody = true;
     });
   }));

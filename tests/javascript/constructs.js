@@ -697,3 +697,8 @@ const double = spawn("double", (n) => 2 * n), shout = spawn("shout", (s) => s.to
 const words = new Uint32Array(new SharedArrayBuffer(8)), n = words.length;
 for (let i = 0; i < 2; i++) agent(`w${i}`, async () => { const f = () => i, o = { f }, r = new WeakRef(o); await turn(); gc(); postMessage(`${r.deref() === o} ${o.f()} ${(() => f())()} ${n} ${n + 1}`, "main"); });
 for (let i = 0; i < 2; i++) console.log(await message(`w${i}`));
+/// functions of the language in agents, and a body with a name
+const log = (...all) => console.log("[log]", ...all), { max } = Math, parse = JSON.parse, send = postMessage, bound = console.log.bind(null, "bound");
+agent("a", async () => { const o = { max }, w = new WeakRef(o.max); await turn(); gc(); log("x", max(1, 2), parse("[1]").length, w.deref() === max, o.max(1, 3)); bound("y"); send(1, "w1"); });
+for (const i of [1, 2]) agent(`w${i}`, async function me() { await message(i === 1 ? "a" : "w1"); const o = { me }; await turn(); gc(); console.log(i, typeof me, me.name, typeof o.me); postMessage(1, i === 1 ? "w2" : "main"); });
+await message("w2"); console.log(new WeakRef(max).deref()(2, 4));

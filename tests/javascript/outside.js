@@ -122,3 +122,5 @@ let n = 1; agent("a", async () => { n++; });
 class Cache { static all = new Map(); } agent("a", async () => { console.log(Cache.all.size); });
 /// make it within the agent | next
 function counter() { let n = 0; return () => ++n; } const next = counter(); agent("a", async () => { console.log(next()); });
+/// make it within the agent | go
+let go; const p = new Promise((act) => (go = act)); agent("a", async () => { go(5); });
