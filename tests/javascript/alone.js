@@ -41,3 +41,5 @@ agent("a", async () => { setTimeout(() => console.log("late"), 1); const [one, t
 agent("b", async () => { await turn(); postMessage(1, "a"); await turn(); await turn(); postMessage(2, "a"); });
 /// a lost 1 | b lost 2 | b ends | function true
 const registryOf = (name) => new FinalizationRegistry((held) => console.log(name, "lost", held)); agent("a", async () => { const r = registryOf("a"); r.register({}, 1); const own = registryOf; await turn(); gc(); await message("b"); console.log(typeof own, new WeakRef(registryOf).deref() === own); }); agent("b", async () => { const r = registryOf("b"); r.register({}, 2); await turn(); gc(); await turn(); console.log("b ends"); postMessage(1, "a"); });
+/// undefined undefined
+let F = function () {}, o = new F(); const w = new WeakRef(F), p = new WeakRef(F.prototype); F = null; o = null; await turn(); gc(); console.log(w.deref(), p.deref());

@@ -702,3 +702,7 @@ const log = (...all) => console.log("[log]", ...all), { max } = Math, parse = JS
 agent("a", async () => { const o = { max }, w = new WeakRef(o.max); await turn(); gc(); log("x", max(1, 2), parse("[1]").length, w.deref() === max, o.max(1, 3)); bound("y"); send(1, "w1"); });
 for (const i of [1, 2]) agent(`w${i}`, async function me() { await message(i === 1 ? "a" : "w1"); const o = { me }; await turn(); gc(); console.log(i, typeof me, me.name, typeof o.me); postMessage(1, i === 1 ? "w2" : "main"); });
 await message("w2"); console.log(new WeakRef(max).deref()(2, 4));
+/// a function and its prototype hold each other
+function Old(link) { this.link = link; } const refs = [new WeakRef(Old.prototype)]; let a = new Old(null); await turn(); gc(); console.log(refs[0].deref() === Old.prototype, Object.getPrototypeOf(a) === Old.prototype, new Old(a).link === a);
+let F = function () {}; let o = new F(); const w = new WeakRef(F), p = new WeakRef(F.prototype); F = null; await turn(); gc(); console.log(o.constructor === w.deref(), p.deref() === Object.getPrototypeOf(o));
+function* gen() { yield 1; } const g = new WeakRef(gen.prototype); await turn(); gc(); console.log(g.deref() === gen.prototype);
