@@ -136,7 +136,10 @@ const ON_BLOCK = [
   (dice) => `words[${dice.below(4)}] = words[${dice.below(4)}] + ${dice.below(5)};`,
   () => "for (let i = 0; i < words.length; i++) console.log(me, i, Atomics.load(words, i));",
   (dice) => `try { Atomics.store(words, ${2 + dice.below(4)}, 1); } catch (e) { console.log(me, e.name); }`,
-  () => "words = new Uint32Array(words.buffer);",
+  (dice) => `words = new ${dice.one(["Uint32Array", "Int32Array"])}(words.buffer);`,
+  (dice) => `console.log(me, [...words], words.indexOf(${dice.below(5)}), words.at(${-1 - dice.below(5)}), words.reduce((x, y) => x + y));`,
+  (dice) => `words.fill(${dice.below(50)}, ${dice.below(4)}); words.set([${dice.below(9)}, ${-1 - dice.below(9)}], ${dice.below(3)});`,
+  (dice) => `{ const part = new Int32Array(words.buffer, 4 * ${dice.below(3)}, 2); part[0] -= ${dice.below(9)}; console.log(me, ...part, Atomics.sub(part, 1, 3), sameBlock(part, words)); }`,
 ];
 
 /** Two agents over one block, which send each other messages by turns. A line begins with the name of its agent. */

@@ -229,7 +229,7 @@ def table():
 
 def rows():
     """The rows of the table of commands in docs/PLANS.md: of each word what its cell says."""
-    cells = re.findall(r"^\| (`[^|]*`) \|[^|]*\|[^|]*\|$", read("docs/PLANS.md").split("## Commands")[1], re.M)
+    cells = re.findall(r"^\| (`[^|]*`) \|[^|]*\|[^|]*\|[^|]*\|$", read("docs/PLANS.md").split("## Commands")[1], re.M)
     return {cell[1:].split("`")[0].split(" ")[0]: cell.replace("`", "") for cell in cells}
 
 

@@ -4,7 +4,7 @@
 // - Those of javascript/alone.js write the lines in their headings.
 // - Each script of javascript/outside.js has the fault that stands there, at its place.
 // - The lessons write their lines, here and on node; what may differ is named in lines.json.
-// - Each command has a row in docs/SCRIPTS.md, of which the JavaScript gives it.
+// - Each command has JavaScript that gives it in docs/PLANS.md, and what docs/SCRIPTS.md has beside that gives it too.
 // - Plans of the corpus, written as scripts and read back, say what their reports say.
 // - Commands have their places in the script. Wrong guesses of what a collection empties are put right. A long script takes
 //   some seconds.
@@ -17,9 +17,10 @@ import { readFileSync, readdirSync, writeFileSync } from "node:fs";
 import { fileURLToPath } from "node:url";
 import { setFlagsFromString } from "node:v8";
 import { randomScript } from "./random_scripts.mjs";
+import { documentsHold } from "./scripts_documented.mjs";
 import { judge } from "./scripts_judge.mjs";
 import { linesOnNode } from "./scripts_node.mjs";
-import { scriptOf } from "./scripts_of_plans.mjs";
+import { NOT_AS_SCRIPTS, readBack } from "./scripts_read_back.mjs";
 
 setFlagsFromString("--experimental-wasm-memory64");
 const engine = await import("../play/clusterrun.mjs");
@@ -157,12 +158,6 @@ function timed() {
   check((user + system) / 1e6 < SECONDS, `the long script took ${(user + system) / 1e6} seconds of a processor`);
 }
 
-const BEFORE = `let a = {}, b = {};
-const w = new WeakRef(a), m = new WeakMap(), s = new WeakSet(), r = new FinalizationRegistry(() => {}), t = new Uint32Array(new SharedArrayBuffer(4));
-agent("b", async () => {});
-await turn();
-`;
-
 /** What the interpreter knows of the operands of commands is what commands.json says. */
 function operands() {
   for (const [word, { operands: uses, and = "" }] of Object.entries(JSON.parse(readFileSync(here("commands.json"), "utf8")))) {
@@ -173,45 +168,26 @@ function operands() {
   }
 }
 
-/** The first plan of docs/SCRIPTS.md is the one of its script. Each row of its table has a command of commands.json, and its
-    JavaScript gives this command. */
+/** The tables of docs/PLANS.md and docs/SCRIPTS.md, and the first plan of SCRIPTS. */
 function documented() {
-  const whole = readFileSync(here("../docs/SCRIPTS.md"), "utf8");
-  const [script, plan] = ["js", "json"].map((kind) => whole.split(`\n\`\`\`${kind}\n`)[1].split("```")[0]);
-  check(run(script).text === plan, "docs/SCRIPTS.md has the plan of its script");
-  const page = whole.split("## Each command in JavaScript")[1].split("\n## ")[0];
-  const rows = [...page.matchAll(/^\| `(\w+)` \| (?:`([^`]*)` )?\|/gm)].map(([, word, script]) => ({ word, script }));
-  const words = Object.keys(JSON.parse(readFileSync(here("commands.json"), "utf8")));
-  check(rows.map(({ word }) => word).sort().join() === words.sort().join(), "docs/SCRIPTS.md has a row for each command");
-  for (const { word, script } of rows) {
-    const last = JSON.parse(run(BEFORE + (script ?? "")).text ?? '{"agents":[]}').agents[0]?.jobs.at(-1).run ?? [];
-    check(last.some(([found]) => found === word) === (script !== undefined), `docs/SCRIPTS.md, ${word}: ${JSON.stringify(last)}`);
-  }
+  for (const { holds, what } of documentsHold((source) => run(source).text)) check(holds, what);
 }
 
-/** Of a report or of a script: what was said, without quotes and numbers of objects, and of an exception only which it is. */
-const plainLine = (line) => line.replace(/^(say |error |Uncaught )/, "").replace(/^"(.*)"$/, "$1").replace(/^(\w+Error): .*/, "$1")
-  .replace(/^symbolfor "(.*)"$/, "Symbol($1)").replace(/^symbol \d+$/, "Symbol()").replace(/^object \d+/, "object");
-
-/** Two call a method that another kind of object has too, and one has a view over what is no block, which is outside. */
-const NOT_AS_SCRIPTS = ["atomics/not-a-buffer.json", "maps/not-a-map.json", "sets/not-a-set.json"];
-
-/** The plans of the corpus of which a script can be written, read back. */
+/** The plans of the corpus as scripts. The documents say how many are read back. */
 function corpus() {
-  const top = here("../engines/corpus/");
-  const folders = readdirSync(top, { withFileTypes: true }).filter((entry) => entry.isDirectory());
-  const names = folders.flatMap(({ name }) => readdirSync(new URL(`${name}/`, top)).map((file) => `${name}/${file}`));
-  let scripts = 0;
-  for (const name of names.filter((one) => one.endsWith(".json") && !one.endsWith("/about.json"))) {
-    const source = scriptOf(JSON.parse(readFileSync(new URL(name, top), "utf8")));
-    if (source === null || NOT_AS_SCRIPTS.includes(name)) continue;
-    scripts += 1;
-    const report = readFileSync(new URL(name.replace(/json$/, "report"), top), "utf8");
-    const wanted = report.split("\n").filter((line) => /^(say|error) /.test(line)).map(plainLine).join(" | ");
-    const found = run(source).lines.map(plainLine).join(" | ");
-    check(found === wanted, `${name} as a script: ${found}, and not ${wanted}`);
+  let count = 0;
+  let back = 0;
+  for (const { name, found, wanted } of readBack({ engine, planOf, linesOf })) {
+    const isSame = found === wanted;
+    check(isSame !== name in NOT_AS_SCRIPTS, `${name} as a script: ${found}, and its report says ${wanted}`);
+    count += 1;
+    back += isSame;
   }
-  say(`${scripts} plans of the corpus were written as scripts and read back`);
+  for (const page of ["docs/SCRIPTS.md", "tests/README.md"]) {
+    check(readFileSync(here(`../${page}`), "utf8").includes(`${back} of the ${count} plans of the corpus`), `${page} says how many plans are read back`);
+  }
+  say(`${back} of the ${count} plans of the corpus were written as scripts and read back; not so were`);
+  for (const [name, why] of Object.entries(NOT_AS_SCRIPTS)) say(`  ${name}: ${why}`);
 }
 
 async function random() {

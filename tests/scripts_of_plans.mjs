@@ -1,37 +1,67 @@
-// A plan of one agent as a script in JavaScript: each job is a timer's, so an exception ends that job alone.
+// A plan as a script in JavaScript: each job is a timer's, so an exception ends that job alone. An agent is one of the script; the
+// only agent of a plan is what stands outside of all agents.
 
 const literal = (value) => (value === null ? "undefined" : JSON.stringify(value));
 const v = (name) => `v_${name}`;
+const all = (names) => names.map(v).join(", ");
 const gives = (write) => (x, ...operands) => `${v(x)} = ${write(...operands)}`;
-const view = (b) => `new Uint32Array(${v(b)})`;
 
-/** What a command with these operands is in JavaScript. */
-const FORMS = {
-  let: gives(literal), new: gives(() => "{}"), symbol: gives(() => "Symbol()"), symbolfor: gives((text) => `Symbol.for(${literal(text)})`),
-  copy: gives(v), same: gives((y, z) => `${v(y)} === ${v(z)}`), say: (y) => `console.log(${v(y)})`,
-  set: (o, key, y) => `${v(o)}.${key} = ${v(y)}`, get: gives((o, key) => `${v(o)}.${key}`), delete: gives((o, key) => `delete ${v(o)}.${key}`),
-  weakref: gives((t) => `new WeakRef(${v(t)})`), deref: gives((w) => `${v(w)}.deref()`),
-  weakmap: gives(() => "new WeakMap()"), wmset: (m, k, y) => `${v(m)}.set(${v(k)}, ${v(y)})`, wmget: gives((m, k) => `${v(m)}.get(${v(k)})`),
-  wmhas: gives((m, k) => `${v(m)}.has(${v(k)})`), wmdelete: gives((m, k) => `${v(m)}.delete(${v(k)})`),
-  weakset: gives(() => "new WeakSet()"), wsadd: (s, k) => `${v(s)}.add(${v(k)})`,
-  wshas: gives((s, k) => `${v(s)}.has(${v(k)})`), wsdelete: gives((s, k) => `${v(s)}.delete(${v(k)})`),
-  registry: gives((callback) => `new FinalizationRegistry(c_${callback})`),
-  register: (r, ...operands) => `${v(r)}.register(${operands.map(v).join(", ")})`, unregister: gives((r, t) => `${v(r)}.unregister(${v(t)})`),
-  buffer: gives((words) => `new SharedArrayBuffer(${4 * words})`), load: gives((b, index) => `Atomics.load(${view(b)}, ${index})`),
-  store: (b, index, n) => `Atomics.store(${view(b)}, ${index}, ${n})`, add: gives((b, index, n) => `Atomics.add(${view(b)}, ${index}, ${n})`),
-  collect: () => "gc()",
-};
+/** What makes a thing, and the class of which it is one. */
+const CLASSES = { weakmap: "WeakMap", weakset: "WeakSet" };
 
-const line = ([word, ...operands]) => `  ${FORMS[word](...operands)};\n`;
+/** What a command with its operands is in JavaScript, in a plan with such words and keys.
+    - Where a plan makes nothing of a kind, it tries others in its place. These may have a method of the same name, so that of the
+      class is called; and a view is over none.
+    - A plan's objects have no prototype. Where it uses what an object of JavaScript inherits, its objects must not have one either.
+    - Keys are written as the report writes them. */
+function formsOf(words, keys) {
+  const view = (b) => (words.has("buffer") ? `new Uint32Array(${v(b)})` : v(b));
+  const method = (maker, name) => (o, ...operands) => (
+    words.has(maker) ? `${v(o)}.${name}(${all(operands)})` : `${CLASSES[maker]}.prototype.${name}.call(${all([o, ...operands])})`);
+  const object = keys.some((key) => key in {}) ? "Object.create(null)" : "{}";
+  return {
+    let: gives(literal), new: gives(() => object), symbol: gives(() => "Symbol()"), symbolfor: gives((text) => `Symbol.for(${literal(text)})`),
+    copy: gives(v), same: gives((y, z) => `${v(y)} === ${v(z)}`), say: (y) => `console.log(${v(y)})`,
+    set: (o, key, y) => `${v(o)}.${key} = ${v(y)}`, get: gives((o, key) => `${v(o)}.${key}`), delete: gives((o, key) => `delete ${v(o)}.${key}`),
+    keys: (o) => `console.log(["keys", ...Reflect.ownKeys(${v(o)})].join(" "))`,
+    weakref: gives((t) => `new WeakRef(${v(t)})`), deref: gives((w) => `${v(w)}.deref()`),
+    weakmap: gives(() => "new WeakMap()"), wmset: method("weakmap", "set"), wmget: gives(method("weakmap", "get")),
+    wmhas: gives(method("weakmap", "has")), wmdelete: gives(method("weakmap", "delete")),
+    weakset: gives(() => "new WeakSet()"), wsadd: method("weakset", "add"),
+    wshas: gives(method("weakset", "has")), wsdelete: gives(method("weakset", "delete")),
+    registry: gives((callback) => `new FinalizationRegistry(c_${callback})`),
+    register: (r, ...operands) => `${v(r)}.register(${all(operands)})`, unregister: gives((r, t) => `${v(r)}.unregister(${v(t)})`),
+    buffer: gives((count) => `new SharedArrayBuffer(${4 * count})`), length: gives((b) => `${view(b)}.length`),
+    sameblock: gives((b, d) => `sameBlock(${v(b)}, ${v(d)})`), load: gives((b, index) => `Atomics.load(${view(b)}, ${index})`),
+    store: (b, index, n) => `Atomics.store(${view(b)}, ${index}, ${n})`, add: gives((b, index, n) => `Atomics.add(${view(b)}, ${index}, ${n})`),
+    post: (agent, y) => `postMessage(${v(y)}, "${agent}")`, collect: () => "gc()",
+  };
+}
 
-/** The script; null where the plan has several agents, or a command that no script has as it is. */
-export function scriptOf({ agents: [{ callbacks, jobs }, ...others] }) {
-  const commands = [...Object.values(callbacks).flat(), ...jobs.flatMap(({ run }) => run)];
-  if (others.length > 0 || commands.some(([word]) => !FORMS[word])) return null;
-  const names = commands.flatMap(([, ...operands]) => operands).filter((operand) => /^[A-Za-z_]\w*$/.test(operand));
+const KEYED = new Set(["set", "get", "delete"]);
+const isName = (operand) => /^[A-Za-z_]\w*$/.test(operand);
+const commandsOf = ({ callbacks, jobs }) => [...Object.values(callbacks).flat(), ...jobs.flatMap(({ run }) => run)];
+
+/** What an agent does, as statements. */
+function bodyOf({ callbacks, jobs }, forms) {
+  const lines = (run) => run.map(([word, ...operands]) => `  ${forms[word](...operands)};\n`).join("");
+  const names = [...commandsOf({ callbacks, jobs }).flatMap(([, ...operands]) => operands), ...jobs.flatMap(({ on = [] }) => on)];
+  const job = ({ on, run }, at) => {
+    const [head, first] = on ? ["async () =>", `  ${v(on[1])} = await message("${on[0]}");\n`] : ["() =>", ""];
+    return `setTimeout(${head} {\n${first}${lines(run)}}, ${10 * at});\n`;
+  };
   return [
-    `let ${[...new Set(["held", ...names])].map(v).join(", ")};\n`,
-    ...Object.entries(callbacks).map(([name, run]) => `function c_${name}(held) {\n  v_held = held;\n${run.map(line).join("")}}\n`),
-    ...jobs.map(({ run }, at) => `setTimeout(() => {\n${run.map(line).join("")}}, ${10 * at});\n`),
+    `let ${all([...new Set(["held", ...names.filter(isName)])])};\n`,
+    ...Object.entries(callbacks).map(([name, run]) => `function c_${name}(held) {\n  v_held = held;\n${lines(run)}}\n`),
+    ...jobs.map(job),
   ].join("");
+}
+
+/** The script of a plan. */
+export function scriptOf({ agents }) {
+  const commands = agents.flatMap(commandsOf);
+  const keys = commands.filter(([word]) => KEYED.has(word)).map(([word, first, second, third]) => (word === "set" ? second : third));
+  const forms = formsOf(new Set(commands.map(([word]) => word)), keys);
+  if (agents.length === 1) return bodyOf(agents[0], forms);
+  return agents.map((agent) => `agent("${agent.name}", async () => {\n${bodyOf(agent, forms)}});\n`).join("");
 }

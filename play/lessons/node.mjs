@@ -15,6 +15,13 @@ function port(sender, receiver) {
   return ports.get(name);
 }
 
+/** What stands for the block of a shared buffer, by each buffer that is over it: JavaScript can't ask. */
+const blocks = new WeakMap();
+const blockOf = (buffer) => blocks.get(buffer) ?? blocks.set(buffer, {}).get(buffer);
+
+const bufferOf = (value) => (ArrayBuffer.isView(value) ? value.buffer : value);
+const isShared = (value) => value instanceof SharedArrayBuffer;
+
 const self = () => current.getStore() ?? "main";
 
 /** One value as clusterrun shows it, but for the numbers of objects. */
@@ -36,12 +43,19 @@ Object.assign(console, { log: write, info: write, debug: write, warn: write, err
 Object.assign(globalThis, {
   turn: () => waits(5),
   collectLater: () => setTimeout(gc, 0),
+  sameBlock(one, other) {
+    const both = [one, other].map(bufferOf);
+    if (!both.every(isShared)) throw new TypeError("sameBlock takes two of SharedArrayBuffer");
+    return blockOf(both[0]) === blockOf(both[1]);
+  },
   agent(name, body) {
-    setTimeout(() => current.run(name, body), 0);
+    setTimeout(() => current.run(name, () => body()), 0);
   },
   postMessage(value, receiver) {
     const { messages, waiting } = port(self(), receiver);
-    const message = structuredClone(value instanceof SharedArrayBuffer || !ArrayBuffer.isView(value) ? value : value.buffer);
+    const sent = bufferOf(value);
+    const message = structuredClone(sent);
+    if (isShared(sent)) blocks.set(message, blockOf(sent));
     if (waiting.length > 0) waiting.shift()(message);
     else messages.push(message);
   },

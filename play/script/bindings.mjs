@@ -8,6 +8,8 @@ export class Binding {
   isInitialized = false;
   /** The plan's variable, once it has one. */
   variable = null;
+  /** After how many steps of the script it got its value. */
+  since = 0;
 
   constructor(name, kind, scope, isCaptured) {
     Object.assign(this, { name, kind, scope, isCaptured });
@@ -19,6 +21,7 @@ export class Binding {
 
   /** The value, which from now on some variable of the plan holds. */
   read(node, writer, temporaries) {
+    if (this.scope.agent.writer !== writer) return this.value;
     writer.uses.read(this);
     if (this.isCaptured) {
       const { environment } = this.scope;
@@ -32,6 +35,7 @@ export class Binding {
     if (isThing(this.value)) this.value.holders.delete(this);
     this.isInitialized = true;
     this.isTold = false;
+    this.since = this.scope?.agent.world.steps ?? 0;
     if (this.isCaptured) writer.hold(node, this.scope.environment, writer.key(this.scope.environment, this.name), value, temporaries);
     else if (isInPlan(value) || writer.teller(value) !== null) this.#assign(node, writer, value, temporaries);
     else this.#withhold(node, writer, value, temporaries);
@@ -125,14 +129,18 @@ export class Scope {
     this.#variable = writer.variable("scope");
     writer.assign(node, this.#variable, made, temporaries);
     this.environment = made;
-    const around = this.outer?.nearest() ?? null;
+    const around = this.#outerOfAgent()?.nearest() ?? null;
     if (around !== null) writer.hold(node, made, "outer", around, temporaries);
     writer.endTemporaries(node, temporaries);
   }
 
-  /** The environment of this scope, or of the nearest one around it that has one. */
+  /** The environment of this scope, or of the nearest one around it that has one, in the same agent. */
   nearest() {
-    return this.environment ?? this.outer?.nearest() ?? null;
+    return this.environment ?? this.#outerOfAgent()?.nearest() ?? null;
+  }
+
+  #outerOfAgent() {
+    return this.outer?.agent === this.agent ? this.outer : null;
   }
 
   find(name) {

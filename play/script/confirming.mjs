@@ -53,7 +53,9 @@ function differing(name, guesses, lines, isCut) {
 /** Compares a trace with the events of the agents. Where these are cut off, by a fault, nothing is asked of what comes after. */
 export function confirm(trace, agents, isCut) {
   const said = saidBy(trace);
-  for (const { name, writer } of agents) {
+  for (const agent of agents) {
+    const { name, writer, world } = agent;
+    world.common.enter(agent);
     const found = differing(name, writer.machine.events, said.get(name) ?? [], isCut);
     if (found !== null) return found;
   }

@@ -78,7 +78,11 @@ export function capture(cx, made, node) {
 function completePrototype(realm, made) {
   if (made.properties.has("prototype")) return;
   const prototype = new Thing("object", made.node.generator ? realm.protos.generator : realm.protos.object);
-  if (!made.node.generator) prototype.properties.set("constructor", { value: made, isEnumerable: false });
+  prototype.holders.add(new Link(made, "prototype"));
+  if (!made.node.generator) {
+    prototype.properties.set("constructor", { value: made, isEnumerable: false });
+    made.holders.add(new Link(prototype, "constructor"));
+  }
   made.properties.set("prototype", { value: prototype, isEnumerable: false });
 }
 

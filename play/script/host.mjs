@@ -2,11 +2,12 @@
 
 import { raise } from "./core.mjs";
 import { Held } from "./bindings.mjs";
+import { ownFunction } from "./common.mjs";
 import { runWhole } from "./coroutines.mjs";
 import { ScriptFault } from "./faults.mjs";
 import { newPromise, resolve } from "./promises.mjs";
 import { nameOfError, sayValues, shown } from "./saying.mjs";
-import { Sym, Thing, isCallable, isThing, typeOf } from "./values.mjs";
+import { Sym, Thing, hasIdentity, isCallable, isThing } from "./values.mjs";
 
 const MOST_ROUNDS = 100;
 /** A turn is a timer of so many milliseconds, as in play/lessons/node.mjs. */
@@ -105,6 +106,7 @@ function nameOfAgent(cx, node, name) {
   if (typeof name !== "string" || cx.agent.world.find(name) === null) {
     throw new ScriptFault(`no agent has this name yet: agent("name", async () => {..}) begins one, before it is spoken to`, node);
   }
+  if (name === cx.agent.name) throw new ScriptFault("an agent of a plan has no messages with itself", node);
   return name;
 }
 
@@ -115,17 +117,18 @@ function installAgents(realm) {
     if (fault) throw new ScriptFault(fault, node);
     const agent = world.add(name);
     agent.schedule(node, 0, function* (inner) {
-      yield* agent.realm.invoke(inner, node, body, undefined, []);
+      const ended = yield* agent.realm.invoke(inner, node, ownFunction(body), undefined, []);
+      if (ended?.kind === "promise") ended.isBody = true;
     });
   }));
   realm.define("postMessage", realm.native("postMessage", function* (cx, node, self, [value, name]) {
     const receiver = nameOfAgent(cx, node, name);
     const message = value?.kind === "view" ? value.stands : value;
     if ((isThing(message) && message.kind !== "buffer") || (message instanceof Sym && !message.registered)) {
-      if (cx.strand.guards === 0) {
+      if (cx.strand.guards === 0 && hasIdentity(message)) {
         cx.writer.refuse(node, ["post", receiver, cx.operand(node, message)], "DataCloneError: value cannot be posted");
       }
-      raise(cx, node, "DataCloneError", `${typeOf(value) === "symbol" ? "Symbol()" : "#<Object>"} could not be cloned.`);
+      raise(cx, node, "DataCloneError", `${isThing(value) ? "#<Object>" : shown(value)} could not be cloned.`);
     }
     cx.do(node, ["post", receiver, cx.operand(node, message)]);
     cx.agent.world.port(cx.agent.name, receiver).push(message);
@@ -150,7 +153,7 @@ function faultOfAgent(cx, name, body) {
   const { world } = cx.agent;
   if (cx.agent.name !== "main") return "an agent is begun outside of other agents";
   if (typeof name !== "string" || !NAME.test(name)) return "the name of an agent is a text of letters, digits and _";
-  if (!isCallable(body) || !body.node?.async) return 'write agent("name", async () => {..})';
+  if (!isCallable(body) || !body.node) return 'write agent("name", async () => {..})';
   if (world.find(name) !== null) return `two agents are named ${name}`;
   return world.agents.length === 8 ? "a plan has 8 agents at most" : null;
 }

@@ -9,10 +9,13 @@ import { installPlain } from "./plain.mjs";
 import { installPromises } from "./promising.mjs";
 import { Realm } from "./realm.mjs";
 import { installShared } from "./shared.mjs";
+import { installViews } from "./views.mjs";
+import { installViewsAsArrays } from "./views_as_arrays.mjs";
 import { installWeak } from "./weak.mjs";
 
 const INSTALLS = [
-  installObjects, installPlain, installArrays, installCollections, installPromises, installGenerators, installWeak, installShared, installHost,
+  installObjects, installPlain, installArrays, installCollections, installPromises, installGenerators, installWeak, installShared, installViews,
+  installViewsAsArrays, installHost,
 ];
 
 export function installAll(agent) {

@@ -1,7 +1,7 @@
 // Iteration over arrays, texts, Maps, Sets, generators, and objects with an iterator of their own.
 
 import { call, needing, raise } from "./core.mjs";
-import { getProperty, item, newArray } from "./properties.mjs";
+import { findProperty, getProperty, item, newArray } from "./properties.mjs";
 import { KNOWN, isThing } from "./values.mjs";
 
 /** Calls `visit` with each value, which the plan's variables hold; where that gives true, the iteration ends there. */
@@ -10,6 +10,9 @@ export function* iterate(cx, node, source, visit) {
   if (source?.kind === "array" && hasOwnIteration(cx, source)) return yield* eachItem(cx, node, source, visit);
   if (source?.pairs !== undefined && hasOwnIteration(cx, source)) {
     return yield* eachPair(cx, node, source, source.kind === "map" ? "entries" : "keys", visit);
+  }
+  if (source?.kind === "view" && findProperty(source, KNOWN.iterator).owner === cx.agent.realm.protos.view) {
+    return yield* eachWord(cx, node, source, visit);
   }
   const iterator = yield* iteratorOf(cx, node, source);
   const step = ownSteps(cx, node, iterator);
@@ -27,6 +30,12 @@ function* each(values, visit) {
 function* eachItem(cx, node, array, visit) {
   yield* needing(cx, array, function* () {
     for (let index = 0; index < array.items.length; index += 1) if (yield* visit(item(cx, node, array, index))) return;
+  });
+}
+
+function* eachWord(cx, node, view, visit) {
+  yield* needing(cx, view, function* () {
+    for (let index = 0; index < view.count; index += 1) if (yield* visit(cx.agent.realm.load(cx, node, view, index))) return;
   });
 }
 

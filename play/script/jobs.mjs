@@ -13,6 +13,7 @@ import { Writer } from "./writer.mjs";
 import { Thing, hasIdentity, isInPlan, planned } from "./values.mjs";
 
 const MOST_JOBS = 1000;
+const TOO_MANY_JOBS = "an agent would have more than 1,000 jobs; others have their turns where it waits for a message";
 /** What two calls of a callback may not differ in: the commands, and what a line shows in another way than the report. */
 const written = ({ commands, places }) => JSON.stringify([commands, places.map(({ say }) => say?.shown)]);
 const WHOLE = { start: 0, end: 0 };
@@ -31,8 +32,9 @@ export class Agent {
   #order = 0;
   #registries = 0;
 
-  constructor(world, name) {
-    Object.assign(this, { world, name });
+  /** An agent begins after some steps of the script. */
+  constructor(world, name, begun) {
+    Object.assign(this, { world, name, begun });
     this.writer = new Writer(world.found.answers.get(name));
     this.realm = installAll(this);
   }
@@ -92,7 +94,7 @@ export class Agent {
       this.hasEnded = true;
       return;
     }
-    if (this.jobs.length === MOST_JOBS) throw new ScriptFault("an agent would have more than 1,000 jobs", task.node);
+    if (this.jobs.length === MOST_JOBS) throw new ScriptFault(TOO_MANY_JOBS, task.node);
     this.cancel(task);
     this.now = Math.max(this.now, task.time);
     const job = { run: new Run() };
@@ -120,7 +122,7 @@ export class Agent {
     this.#drain();
     writer.endTemporaries(task.node, cx.temporaries);
     for (const { promise, node } of this.rejected) {
-      if (!promise.isHandled) this.#say(cx, node, "Uncaught (in promise) ", promise.value);
+      if (!promise.isHandled) this.#say(cx, node, promise.isBody ? "Uncaught " : "Uncaught (in promise) ", promise.value);
     }
     this.rejected.clear();
     writer.machine.endJob();

@@ -144,7 +144,7 @@ function installSymbol(realm) {
     return cx.make(node, new Sym(description === undefined ? undefined : yield* toText(cx, node, description)), ["symbol"]);
   }, { isConstructor: true }));
   for (const [name, value] of Object.entries(KNOWN)) realm.constant(symbol, name, value);
-  const registered = new Map();
+  const { registered } = realm.agent.world;
   realm.methods(symbol, {
     *for(cx, node, self, [value]) {
       const text = yield* toText(cx, node, value);
@@ -171,7 +171,10 @@ export function installObjects(realm) {
   installSymbol(realm);
   const reflect = realm.define("Reflect", realm.plainObject());
   realm.methods(reflect, {
-    *ownKeys(cx, node, self, [value]) { return newArray(cx, node, [...ownKeys(value), ...symbolKeys(value)]); },
+    *ownKeys(cx, node, self, [value]) {
+      if (!isThing(value)) raise(cx, node, "TypeError", "Reflect.ownKeys called on non-object");
+      return newArray(cx, node, [...ownKeys(value), ...symbolKeys(value)]);
+    },
     *has(cx, node, self, [value, key]) { return findProperty(value, keyOf(key)) !== null; },
     *get(cx, node, self, [value, key]) { return yield* getProperty(cx, node, value, keyOf(key)); },
     *deleteProperty(cx, node, self, [value, key]) { return yield* deleteProperty(cx, node, value, keyOf(key)); },

@@ -5,11 +5,11 @@ import { iterate } from "./iteration.mjs";
 import { define, enumerableKeys, findProperty, getProperty, keyOf, newArray, setProperty } from "./properties.mjs";
 import { Thing, isThing } from "./values.mjs";
 
-/** The binding of a name that stands in the script. */
-export function bindingOf(cx, node) {
+/** The binding of a name that stands in the script, for its value or for an assignment. */
+export function bindingOf(cx, node, isAssigned = false) {
   const found = cx.scope.find(node.name);
   if (found === null) return null;
-  if (found.scope.agent !== cx.agent) cx.agent.realm.checkForeign(cx, node, found);
+  if (found.scope.agent !== cx.agent) cx.agent.realm.checkForeign(cx, node, found, isAssigned);
   if (!found.isInitialized) raise(cx, node, "ReferenceError", `Cannot access '${node.name}' before initialization`);
   return found;
 }
@@ -34,8 +34,8 @@ function assignName(node, cx, value, declares) {
     cx.scope.find(node.name).write(node, cx.writer, value, cx.temporaries);
     return;
   }
-  const binding = bindingOf(cx, node);
-  if (binding === null) raise(cx, node, "ReferenceError", `${node.name} is not defined`);
+  const binding = bindingOf(cx, node, true);
+  if (binding === null) cx.agent.realm.unknown(cx, node, node.name);
   if (!binding.isMutable) raise(cx, node, "TypeError", "Assignment to constant variable.");
   binding.write(node, cx.writer, value, cx.temporaries);
 }

@@ -22,6 +22,7 @@ export function ownProperty(thing, key) {
     if (isIndex(key)) return Number(key) in thing.items ? { value: thing.items[Number(key)], isEnumerable: true } : undefined;
     if (key === "length") return { value: thing.items.length, isEnumerable: false };
   }
+  if (thing.kind === "view" && isIndex(key)) return Number(key) < thing.count ? { isEnumerable: true } : undefined;
   thing.complete?.(key);
   return thing.properties.get(key);
 }
@@ -37,7 +38,7 @@ export function findProperty(thing, key) {
 
 /** The keys of a thing's own properties, as Reflect.ownKeys orders them, without symbols. */
 export function ownKeys(thing) {
-  const items = thing.items ? Object.keys(thing.items) : [];
+  const items = Object.keys(thing.items ?? Array(thing.count ?? 0).fill());
   const texts = [...thing.properties.keys()].filter((key) => typeof key === "string");
   const indices = texts.filter(isIndex).sort((one, other) => one - other);
   return [...items, ...indices, ...texts.filter((key) => !isIndex(key))];
@@ -51,10 +52,7 @@ export function* getProperty(cx, node, target, key) {
     raise(cx, node, "TypeError", `Cannot read properties of ${target} (reading '${nameOf(key)}')`);
   }
   if (typeof target === "string" && (key === "length" || isIndex(key))) return target[key];
-  if (target.kind === "view") {
-    if (isIndex(key)) return cx.agent.realm.load(cx, node, target, Number(key));
-    if (key === "length") return cx.ask(node, ["length", cx.operand(node, target)]);
-  }
+  if (target.kind === "view" && isIndex(key)) return cx.agent.realm.load(cx, node, target, Number(key));
   const thing = isThing(target) ? target : cx.agent.realm.protoOf(target);
   const found = findProperty(thing, key);
   if (found === null) return cx.agent.realm.checkKnown(node, thing, key);
@@ -92,6 +90,7 @@ export function* setProperty(cx, node, target, key, value) {
 }
 
 function assignOwn(cx, node, target, key, value, found) {
+  cx.agent.realm.checkOwn(cx, node, target);
   if (found.isReadOnly) raise(cx, node, "TypeError", `Cannot assign to read only property '${nameOf(key)}' of object`);
   if (target.items !== undefined && key === "length") setLength(cx, node, target, value);
   else if (target.items !== undefined && isIndex(key)) setItem(cx, node, target, Number(key), value);
@@ -106,6 +105,7 @@ export function define(cx, node, thing, key, value, { isEnumerable = true } = {}
   if (thing.isBuiltIn) {
     throw new ScriptFault("what the language brings along can't be changed here: other code relies on it", node);
   }
+  cx.agent.realm.checkOwn(cx, node, thing);
   if (thing.items !== undefined && isIndex(key)) return setItem(cx, node, thing, Number(key), value);
   thing.properties.set(key, { value, isEnumerable });
   cx.writer.hold(node, thing, cx.writer.key(thing, key), value, cx.temporaries);

@@ -6,12 +6,13 @@ import { invoke } from "./functions.mjs";
 import { callSuper, instance } from "./classes.mjs";
 import { begin } from "./promises.mjs";
 import { findProperty } from "./properties.mjs";
-import { KNOWN, Sym, Thing, hasIdentity } from "./values.mjs";
+import { KNOWN, Sym, Thing, hasIdentity, isThing, planned } from "./values.mjs";
 
 const KINDS = [
   "object", "function", "array", "string", "number", "boolean", "symbol", "map", "set", "weakref", "weakmap", "weakset", "registry", "promise",
   "buffer", "view", "Uint32Array", "Int32Array", "iterator", "generator", "asyncGenerator", "Error",
 ];
+const BY_CALLS = 'agents write postMessage(value, "name") and await message("name")';
 const NOT_TAKEN = {
   Proxy: "a plan's objects do what they are told: a Proxy would decide by code", Date: "a plan has no clock",
   RegExp: "it knows no regular expressions", eval: "the script must be there as a whole", BigInt: "it knows no BigInt", Intl: "it knows no Intl",
@@ -20,6 +21,7 @@ const NOT_TAKEN = {
   structuredClone: "postMessage sends what can be sent", fetch: "a plan opens no connection",
   require: "a script is one file", process: "a script is no program of node", window: "a script has no page",
   document: "a script has no page", Worker: 'write agent("name", async () => {..})',
+  ...Object.fromEntries(["self", "onmessage", "addEventListener", "parentPort", "MessageChannel", "BroadcastChannel"].map((name) => [name, BY_CALLS])),
 };
 
 /** A page that is not isolated has no name for SharedArrayBuffer. The memory of WebAssembly leads to it. */
@@ -49,6 +51,9 @@ class Method {
     this.#made = value;
   }
 }
+
+const foreign = (node, name, instead) => (
+  new ScriptFault(`${name || "this function"} belongs to another agent: agents share blocks alone; ${instead}`, node));
 
 export class Realm {
   protos = {};
@@ -93,7 +98,11 @@ export class Realm {
   }
 
   global(cx, node, name) {
-    if (this.#globals.has(name)) return this.#globals.get(name);
+    return this.#globals.has(name) ? this.#globals.get(name) : this.unknown(cx, node, name);
+  }
+
+  /** A name that the script has not, and the language either; or the interpreter alone. */
+  unknown(cx, node, name) {
     if (Object.hasOwn(NOT_TAKEN, name)) throw new ScriptFault(`${name} is not taken: ${NOT_TAKEN[name]}`, node);
     return raise(cx, node, "ReferenceError", `${name} is not defined`);
   }
@@ -190,12 +199,20 @@ export class Realm {
     return cx.self.value;
   }
 
-  /** Agents share blocks alone. What a script has outside of its agents they may read where it is no object of a plan. */
-  checkForeign(cx, node, { value, name, isMutable, kind }) {
-    const isCode = value?.kind === "function" && value.number === 0;
-    if ((isMutable && kind !== "function" && kind !== "class") || (hasIdentity(value) && !isCode)) {
-      throw new ScriptFault(`${name} belongs to another agent: agents share blocks alone; send it with postMessage`, node);
+  /** Agents share blocks alone. What a script has outside of its agents they may read where it is no object of a plan, and has not
+      changed since the agent began. */
+  checkForeign(cx, node, { value, name, kind, isMutable, since, scope }, isAssigned) {
+    const isCode = value?.kind === "function" && cx.agent.world.common.use(value, scope.agent);
+    const hasChanged = isMutable && kind !== "function" && kind !== "class" && since > cx.agent.begun;
+    if (isAssigned || hasChanged || (hasIdentity(value) && !isCode)) {
+      const isSent = !isThing(value) || planned(value).kind === "buffer";
+      throw foreign(node, name, isSent ? "send it with postMessage" : "make it within the agent");
     }
+  }
+
+  /** What an agent writes to a function or a class, another one must not see. */
+  checkOwn(cx, node, thing) {
+    if (thing.scope && thing.scope.agent !== cx.agent) throw foreign(node, thing.properties.get("name")?.value, "make it within the agent");
   }
 
   checkPrivate(cx, node, thing, key) {

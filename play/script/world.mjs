@@ -1,6 +1,7 @@
 // The agents of a script, which take turns as those of a plan do, and the messages between them.
 
 import { Scope } from "./bindings.mjs";
+import { Common } from "./common.mjs";
 import { Agent } from "./jobs.mjs";
 import { statements } from "./statements.mjs";
 import { Thing } from "./values.mjs";
@@ -9,6 +10,9 @@ export class World {
   agents = [];
   steps = 0;
   version = 1;
+  /** The symbols of `Symbol.for`, which all agents have in common. */
+  registered = new Map();
+  common = new Common();
   #ports = new Map();
 
   /** `found` is what earlier runs of the same script found out. */
@@ -25,7 +29,7 @@ export class World {
   }
 
   add(name) {
-    const agent = new Agent(this, name);
+    const agent = new Agent(this, name, this.steps);
     this.agents.push(agent);
     return agent;
   }
@@ -62,7 +66,9 @@ export class World {
     for (;;) {
       const going = this.agents.filter(({ hasEnded }) => !hasEnded);
       if (going.length === 0) return;
-      (going.find((agent) => !this.#stays(agent)) ?? going[0]).move();
+      const next = going.find((agent) => !this.#stays(agent)) ?? going[0];
+      this.common.enter(next);
+      next.move();
     }
   }
 }

@@ -10,6 +10,10 @@ const r = new FinalizationRegistry((h) => { throw new Error("x" + h); }); r.regi
 const v = new Uint32Array(new SharedArrayBuffer(4)); setTimeout(() => console.log("next"), 1); Atomics.load(v, 7);
 /// DataCloneError | Uncaught DataCloneError: value cannot be posted | ok
 agent("b", async () => { console.log(await message("main")); }); try { postMessage({}, "b"); } catch (e) { console.log(e.name); } postMessage("ok", "b"); postMessage({}, "b");
+/// Symbol(k) true | next
+agent("a", async () => { postMessage(Symbol.for("k"), "b"); }); agent("b", async () => { const s = await message("a"); console.log(s, s === Symbol.for("k")); console.log("next"); });
+/// Uncaught TypeError: not a SharedArrayBuffer | next
+const b = new SharedArrayBuffer(4); setTimeout(() => console.log("next"), 1); sameBlock(b, {});
 /// waits
 agent("b", async () => { console.log("waits"); await message("main"); console.log("never"); });
 /// a begins | b begins
@@ -28,3 +32,16 @@ const a = new FinalizationRegistry((h) => console.log(h)), b = new FinalizationR
 const gone = [], r = new FinalizationRegistry((h) => { gone.push(h); if (gone.length === 1) console.log("gone", h); else console.log(`gone ${h}`); }); let x = {}, y = {}; r.register(x, "a"); r.register(y, "b"); await turn(); y = null; gc(); await turn(); x = null; gc(); await turn(); console.log(gone.length - 1);
 /// called 3 { }
 function watch(target) { const own = {}, list = [1, 2, 3]; new FinalizationRegistry(() => console.log("called", list.length, own ? "{ }" : "")).register(target, 1); } let x = {}; watch(x); await turn(); x = null; gc();
+/// 1 gone | 12 12 | 1
+agent("owner", async () => { let buffer = new SharedArrayBuffer(8); const ref = new WeakRef(buffer); postMessage(buffer, "user"); buffer = null; await turn(); gc(); console.log(1, ref.deref() === undefined ? "gone" : "there"); console.log(await message("user"), await message("user")); console.log(await message("user")); });
+agent("user", async () => { let words = new Uint32Array(await message("owner")); const ref = new WeakRef(words.buffer); words[0] = 7; words[1] += 5; postMessage(words[0] + words[1], "owner"); postMessage(words.reduce((a, b) => a + b), "owner"); words = null; await turn(); gc(); postMessage(ref.deref() === undefined ? 1 : 0, "owner"); });
+/// did go true | 0
+agent("page", async () => { const cache = new Map(), registry = new FinalizationRegistry((key) => { if (!cache.get(key)?.deref()) cache.delete(key); }); let image = { pixels: 100 }; cache.set("image", new WeakRef(image)); registry.register(image, "image"); postMessage("go", "worker"); console.log(await message("worker"), cache.get("image")?.deref() === image); image = null; postMessage("again", "worker"); await message("worker"); gc(); await turn(); console.log(cache.size); });
+agent("worker", async () => { for (let i = 0; i < 2; i++) postMessage(`did ${await message("page")}`, "page"); });
+/// ticket 1 2 | late
+agent("a", async () => { setTimeout(() => console.log("late"), 1); const [one, two] = [await message("b"), await message("b")]; console.log("ticket", one, two); });
+agent("b", async () => { await turn(); postMessage(1, "a"); await turn(); await turn(); postMessage(2, "a"); });
+/// a lost 1 | b lost 2 | b ends | function true
+const registryOf = (name) => new FinalizationRegistry((held) => console.log(name, "lost", held)); agent("a", async () => { const r = registryOf("a"); r.register({}, 1); const own = registryOf; await turn(); gc(); await message("b"); console.log(typeof own, new WeakRef(registryOf).deref() === own); }); agent("b", async () => { const r = registryOf("b"); r.register({}, 2); await turn(); gc(); await turn(); console.log("b ends"); postMessage(1, "a"); });
+/// undefined undefined
+let F = function () {}, o = new F(); const w = new WeakRef(F), p = new WeakRef(F.prototype); F = null; o = null; await turn(); gc(); console.log(w.deref(), p.deref());

@@ -615,3 +615,94 @@ const list = (n) => (n === 0 ? null : { n, next: list(n - 1) }); const l = list(
 const deepMap = (n) => (n === 0 ? [0] : [n].map((x) => deepMap(x - 1)[0] + 1)); console.log(deepMap(200));
 class A { set v(x) { if (x > 0) this.v = x - 1; else console.log("done"); } } new A().v = 500;
 const o = { toString() { return "o"; }, valueOf() { throw new RangeError("no"); } }; try { o + 1; } catch (e) { console.log(e.name, `${o}`); }
+/// whether two buffers are over one block
+agent("a", async () => { const b = new SharedArrayBuffer(4), other = new SharedArrayBuffer(4); postMessage(b, "c"); const back = await message("c"); console.log(sameBlock(b, back), b === back, sameBlock(b, other), sameBlock(new Int32Array(b), back)); for (const no of [{}, 1, undefined]) try { sameBlock(b, no); } catch (e) { console.log(e.name, e.message); } });
+agent("c", async () => { postMessage(await message("a"), "a"); });
+/// keys and lengths of what has none
+for (const no of [1, "t", undefined]) try { Reflect.ownKeys(no); } catch (e) { console.log(e.name, e.message); } try { SharedArrayBuffer.prototype.byteLength; } catch (e) { console.log(e.name); }
+/// views as arrays
+const v = new Int32Array(new SharedArrayBuffer(12)); v[0] = -1; v[2] = 5; for (const n of v) console.log(n); for (const [i, n] of v.entries()) console.log(i, n); console.log([...v.keys()], [...v.values()], Array.from(v, (n) => n * 2), Math.max(...v)); const [first, ...others] = v; console.log(first, others);
+console.log(v.reduce((a, b) => a + b), v.reduce((a, b) => a + b, 10), v.join("-"), v.join(), `${v}`, v.at(-1), v.at(9), v.at(-9), v.indexOf(5), v.indexOf(7), v.includes(0), v.some((n) => n > 4), v.every((n) => n > 4), v.find((n) => n > 0), v.find((n) => n > 9), v.findIndex((n) => n === 0), v.findIndex((n) => n > 9));
+console.log(v.fill(9) === v, [...v]); v.fill(7, 1, -1); v.forEach((n, i, all) => { console.log(n, i, all === v); all[2] = 4; }); v.set([1, "2"], 1); console.log([...v], new Set(v).size, v.set(new Uint32Array(new SharedArrayBuffer(4)))); console.log(v[0]); for (const at of [-1, 3]) try { v.set([1], at); } catch (e) { console.log(e.name); } try { v.forEach(5); } catch (e) { console.log(e.name, e.message); } for (const n of v) { if (n === 1) break; console.log("before", n); }
+class Words extends Uint32Array { *[Symbol.iterator]() { yield "own"; } } console.log([...new Words(new SharedArrayBuffer(8))]);
+/// agents of all kinds of functions
+async function work(name, from) { const total = new Uint32Array(await message("main")); Atomics.add(total, 0, from); postMessage(name, "main"); }
+agent("a", () => work("a", 3)); agent("b", async () => work("b", 4)); agent("c", function () { setTimeout(() => postMessage(this === undefined, "main"), 20); }); const named = { async run() { postMessage(typeof this, "main"); } }; agent("d", named.run);
+const total = new Uint32Array(new SharedArrayBuffer(4)); for (const name of ["a", "b"]) postMessage(total.buffer, name); console.log(await Promise.all(["a", "b"].map((name) => message(name))), total[0], await message("c"), await message("d"));
+/// what messages carry
+agent("b", async () => { const all = []; for (let got = await message("main"); got !== "end"; got = await message("main")) all.push(Object.is(got, -0) ? "-0" : got); console.log(all); });
+for (const sent of [1.5, "é", -0, NaN, null, undefined, true, 2 ** 60, "x".repeat(300), ""]) postMessage(sent, "b"); for (const no of [Symbol("q"), Symbol.iterator, () => 1]) try { postMessage(no, "b"); } catch (e) { console.log(e.name, typeof no === "symbol" ? e.message : ""); } postMessage("end", "b");
+/// a producer and a consumer
+agent("producer", async () => { for (let i = 0; i < 5; i++) postMessage(i, "consumer"); postMessage("done", "consumer"); });
+agent("consumer", async () => { let sum = 0; for (;;) { const item = await message("producer"); if (item === "done") break; sum += item; console.log("got", item); } console.log("sum", sum); });
+/// a pipeline of three agents
+agent("source", async () => { for (const word of ["alpha", "beta", "gamma"]) postMessage(word, "upper"); postMessage(null, "upper"); });
+agent("upper", async () => { let word; while ((word = await message("source")) !== null) postMessage(word.toUpperCase(), "sink"); postMessage(null, "sink"); });
+agent("sink", async () => { const all = []; let word = await message("upper"); while (word) { all.push(word); word = await message("upper"); } console.log(all.join(" "), all.length); });
+/// to and fro, with a protocol
+agent("front", async () => { const ask = async (...words) => { for (const one of words) postMessage(one, "counter"); return words[0] === "get" ? await message("counter") : undefined; }; await ask("add", 5); await ask("add", 7); console.log("total", await ask("get")); await ask("stop"); });
+agent("counter", async () => { let total = 0; loop: while (true) switch (await message("front")) { case "add": total += await message("front"); break; case "get": postMessage(total, "front"); break; case "stop": break loop; } console.log("stopped"); });
+/// a ring buffer of a writer and a reader
+const SIZE = 4; class Ring { static words = SIZE + 2; constructor(buffer) { this.words = new Uint32Array(buffer); } get used() { return Atomics.load(this.words, 0) - Atomics.load(this.words, 1); } push(value) { if (this.used === SIZE) return false; Atomics.store(this.words, 2 + (Atomics.load(this.words, 0) % SIZE), value); Atomics.add(this.words, 0, 1); return true; } shift() { return this.used === 0 ? undefined : Atomics.load(this.words, 2 + (Atomics.add(this.words, 1, 1) % SIZE)); } }
+agent("writer", async () => { const buffer = new SharedArrayBuffer(Ring.words * 4), ring = new Ring(buffer); postMessage(buffer, "reader"); let n = 0; while (ring.push(n * n)) n++; postMessage(n, "reader"); });
+agent("reader", async () => { const ring = new Ring(await message("writer")), count = await message("writer"), got = []; for (let v; (v = ring.shift()) !== undefined;) got.push(v); console.log(count, got); });
+/// messages as an async generator, and a body that fails
+async function* messagesFrom(name, count) { for (let i = 0; i < count; i++) yield await message(name); }
+agent("numbers", async () => { [3, 1, 2].forEach((n) => postMessage(n, "reader")); }); agent("reader", async () => { const all = []; for await (const n of messagesFrom("numbers", 3)) all.push(n); console.log(all.sort((a, b) => a - b)); throw new RangeError("fails"); });
+/// a timer that posts
+agent("clock", async () => { let ticks = 0; const timer = setInterval(() => { postMessage(++ticks, "listener"); if (ticks === 3) clearInterval(timer); }, 10); });
+agent("listener", async () => { for (let i = 0; i < 3; i++) console.log("tick", await message("clock")); try { const got = await message("clock"); console.log("never", got); } finally { console.log("never"); } });
+/// numbers in words, and parts of blocks
+const a = new Uint32Array(new SharedArrayBuffer(16));
+for (const n of [2 ** 60, -(2 ** 60), 2 ** 53 + 2, Infinity, -Infinity, NaN, -1, 1e100, "12", null, undefined, true, -0]) { console.log(Atomics.store(a, 0, n), a[0]); a[1] = n; console.log(a[1], Atomics.add(a, 2, n), a[2], Atomics.sub(a, 2, n), a[2]); }
+console.log(Atomics.load(a, "1"), Atomics.load(a, 1.7), Atomics.load(a), Atomics.load(a, NaN));
+for (const i of [-1, 4, Infinity, "x9"]) try { console.log(Atomics.load(a, i)); } catch (e) { console.log(e.name, e.message); }
+for (const [offset, length] of [[2], [20], [-4], [4, 9], [4, -1], [16], [12, 1], ["4", "1"], [undefined, 2], [0, 0]]) try { const v = new Int32Array(a.buffer, offset, length); console.log(v.length, v.byteOffset, v.byteLength); } catch (e) { console.log(e.name, e.message); }
+const part = new Int32Array(a.buffer, 4, 2); part[0] = -7; part[1] = 8; part[2] = 9; console.log([...a], [...part], part.length, part.subarray(1).length, part.subarray(1)[0], part.subarray(-1)[0], part.at(-1), Atomics.add(part, 1, 1), a[2], 1 in part, 2 in part);
+try { Atomics.load(part, 2); } catch (e) { console.log(e.name); }
+const whole = a.subarray(); whole.fill(3); console.log(a.join(), whole.buffer === a.buffer, sameBlock(part, whole), whole === a, Object.prototype.toString.call(whole), Object.prototype.toString.call(a.buffer), Object.entries(part));
+try { Uint32Array.prototype.length; } catch (e) { console.log(e.name); }
+const plain = new Uint32Array(new SharedArrayBuffer(8)); console.log(plain.byteLength, plain.byteOffset, plain.BYTES_PER_ELEMENT, Uint32Array.BYTES_PER_ELEMENT, plain instanceof Uint32Array, plain.constructor === Uint32Array, Object.keys(plain), 0 in plain, 5 in plain, plain.hasOwnProperty(0), JSON.stringify(plain), plain[9], plain[-1]); plain.name = "x"; for (const key in plain) console.log(key, plain[key]); console.log(Object.keys({ ...plain }));
+/// a histogram by three agents, which a loop begins
+const TEXT = "the quick brown fox jumps over the lazy dog", BINS = 26;
+async function count(from, to) { const bins = new Uint32Array(await message("main")); for (const letter of TEXT.slice(from, to)) { const code = letter.charCodeAt(0) - 97; if (code >= 0 && code < BINS) Atomics.add(bins, code, 1); } postMessage(to - from, "main"); }
+const parts = 3, size = Math.ceil(TEXT.length / parts), bins = new Uint32Array(new SharedArrayBuffer(4 * BINS));
+for (let i = 0; i < parts; i++) { agent(`counter${i}`, () => count(i * size, Math.min((i + 1) * size, TEXT.length))); postMessage(bins.buffer, `counter${i}`); }
+let total = 0; for (let i = 0; i < parts; i++) total += await message(`counter${i}`); console.log(total, bins[14], bins.indexOf(Math.max(...bins)), bins.reduce((a, b) => a + b));
+/// a product of matrices, a row for each agent
+const SIDE = 2; for (let r = 0; r < SIDE; r++) agent(`row${r}`, async () => { const a = new Int32Array(await message("main")), out = new Int32Array(await message("main"), 4 * SIDE * r, SIDE); for (let j = 0; j < SIDE; j++) for (let k = 0; k < SIDE; k++) out[j] += a[r * SIDE + k] * a[k * SIDE + j]; postMessage("done", "main"); });
+const a = new Int32Array(new SharedArrayBuffer(4 * SIDE * SIDE)); a.set([1, 2, 3, -4]); const out = new Int32Array(new SharedArrayBuffer(a.byteLength)); for (let r = 0; r < SIDE; r++) for (const one of [a.buffer, out.buffer]) postMessage(one, `row${r}`); for (let r = 0; r < SIDE; r++) await message(`row${r}`); console.log([...out]);
+/// a pool of agents, and a barrier
+class Pool { #free; constructor(names) { this.#free = [...names]; } async run(job) { const name = this.#free.shift(); postMessage(job, name); const result = await message(name); this.#free.push(name); return result; } }
+const fib = (n) => (n < 2 ? n : fib(n - 1) + fib(n - 2)); for (const name of ["w1", "w2"]) agent(name, async () => { for (let job; (job = await message("boss")) !== null;) postMessage(`${name}: fib(${job}) = ${fib(job)}`, "boss"); });
+agent("boss", async () => { const pool = new Pool(["w1", "w2"]); for (const n of [5, 8, 10]) console.log(await pool.run(n)); for (const name of ["w1", "w2"]) postMessage(null, name); });
+const NAMES = "abc"; agent("gate", async () => { for (const name of NAMES) await message(name); for (const name of NAMES) postMessage(LATER, name); }); const LATER = "go"; for (const name of NAMES) agent(name, async () => { await turn(); postMessage("here", "gate"); const got = await message("gate"); if (name === "c") console.log(name, "may", got); });
+/// messages that an object of the script gives one by one, and texts of JSON
+class Mailbox { constructor(from) { this.from = from; this.seen = []; } async *[Symbol.asyncIterator]() { for (;;) { const text = await message(this.from); if (text === "bye") return; this.seen.push(text); yield text; } } }
+agent("alice", async () => { for (const text of ["hi", JSON.stringify({ to: "bob", tags: ["x"] }), "bye"]) postMessage(text, "bob"); }); agent("bob", async () => { const box = new Mailbox("alice"); for await (const text of box) console.log(text.startsWith("{") ? JSON.parse(text).tags : text); console.log(box.seen.length); });
+/// functions and classes that agents have in common
+class Base { kind() { return "base"; } }
+class Square extends Base { static unit = 1; #s; constructor(s) { super(); this.#s = s; } get area() { return this.#s ** 2 * Square.unit; } kind() { return `square, a ${super.kind()}`; } }
+function Old(n) { this.n = n; } Old.prototype.twice = function () { return 2 * this.n; }; const make = (Kind, ...all) => new Kind(...all);
+class Cube extends Square {} const kept = [new Cube(2), new Old(5)], weak = new WeakMap([[Cube, make]]);
+for (const name of ["a", "b"]) agent(name, async () => {
+  const kinds = { Square, Old, make }, map = new WeakMap([[Square, "s"]]), ref = new WeakRef(Old), list = [make(Square, 3), kinds.make(kinds.Old, 4)]; await turn(); gc(); if (name === "b") await message("a");
+  console.log(name, list[0].area, list[1].twice(), list[0].kind(), map.get(Square), ref.deref() === Old, list[0] instanceof Base, list[0].constructor === Square, Object.getPrototypeOf(list[1]) === Old.prototype); if (name === "a") postMessage(1, "b"); else postMessage(2, "main");
+});
+console.log(await message("b"), (gc(), kept[0].area), kept[1].twice(), weak.get(Cube) === make, kept[0] instanceof Base);
+/// agents that a function begins, with functions of the script
+function spawn(name, task) { agent(name, async () => { postMessage(task(await message("main")), "main"); }); return (value) => { postMessage(value, name); return message(name); }; }
+const double = spawn("double", (n) => 2 * n), shout = spawn("shout", (s) => s.toUpperCase() + "!"); console.log(await double(21), await shout("hey"));
+/// functions within agents, of what a loop captures
+const words = new Uint32Array(new SharedArrayBuffer(8)), n = words.length;
+for (let i = 0; i < 2; i++) agent(`w${i}`, async () => { const f = () => i, o = { f }, r = new WeakRef(o); await turn(); gc(); postMessage(`${r.deref() === o} ${o.f()} ${(() => f())()} ${n} ${n + 1}`, "main"); });
+for (let i = 0; i < 2; i++) console.log(await message(`w${i}`));
+/// functions of the language in agents, and a body with a name
+const log = (...all) => console.log("[log]", ...all), { max } = Math, parse = JSON.parse, send = postMessage, bound = console.log.bind(null, "bound");
+agent("a", async () => { const o = { max }, w = new WeakRef(o.max); await turn(); gc(); log("x", max(1, 2), parse("[1]").length, w.deref() === max, o.max(1, 3)); bound("y"); send(1, "w1"); });
+for (const i of [1, 2]) agent(`w${i}`, async function me() { await message(i === 1 ? "a" : "w1"); const o = { me }; await turn(); gc(); console.log(i, typeof me, me.name, typeof o.me); postMessage(1, i === 1 ? "w2" : "main"); });
+await message("w2"); console.log(new WeakRef(max).deref()(2, 4));
+/// a function and its prototype hold each other
+function Old(link) { this.link = link; } const refs = [new WeakRef(Old.prototype)]; let a = new Old(null); await turn(); gc(); console.log(refs[0].deref() === Old.prototype, Object.getPrototypeOf(a) === Old.prototype, new Old(a).link === a);
+let F = function () {}; let o = new F(); const w = new WeakRef(F), p = new WeakRef(F.prototype); F = null; await turn(); gc(); console.log(o.constructor === w.deref(), p.deref() === Object.getPrototypeOf(o));
+function* gen() { yield 1; } const g = new WeakRef(gen.prototype); await turn(); gc(); console.log(g.deref() === gen.prototype);

@@ -90,5 +90,37 @@ const o = {}; o.__defineGetter__("x", () => 1);
 Math.atan2(1, 2);
 /// write (...all) | arguments
 function f() { return arguments.length; } f(1, 2);
-/// fill is not taken | v.fill
-const v = new Uint32Array(new SharedArrayBuffer(4)); v.fill(1);
+/// map is not taken | v.map
+const v = new Uint32Array(new SharedArrayBuffer(4)); v.map((n) => n);
+/// no messages with itself | postMessage(1, "a")
+agent("a", async () => { postMessage(1, "a"); });
+/// no messages with itself | message("main")
+await message("main");
+/// write postMessage(value | onmessage
+onmessage = ({ data }) => console.log(data);
+/// write postMessage(value | self
+self.onmessage = ({ data }) => console.log(data);
+/// write postMessage(value | MessageChannel
+const { port1, port2 } = new MessageChannel();
+/// write postMessage(value | addEventListener
+agent("a", async () => { addEventListener("message", () => {}); });
+/// make it within the agent | names
+const names = ["x"]; agent("a", async () => { console.log(names.length); });
+/// send it with postMessage | words
+const words = new Uint32Array(new SharedArrayBuffer(4)); agent("a", async () => { console.log(words[0]); });
+/// make it within the agent | f.calls
+function f() {} f.calls = 0; agent("a", async () => { f.calls++; });
+/// waits for a message | turn()
+agent("a", async () => { const flag = new Int32Array(new SharedArrayBuffer(4)); postMessage(flag.buffer, "b"); while (Atomics.load(flag, 0) === 0) await turn(); }); agent("b", async () => { Atomics.store(new Int32Array(await message("a")), 0, 1); });
+/// compareExchange | Atomics.compareExchange(lock, 0, 0, 1)
+agent("a", async () => { const lock = new Int32Array(new SharedArrayBuffer(4)); while (Atomics.compareExchange(lock, 0, 0, 1) !== 0); });
+/// send it with postMessage | n
+let n = 1; agent("a", async () => { console.log(n); }); n = 2;
+/// belongs to another agent | n
+let n = 1; agent("a", async () => { n++; });
+/// make it within the agent | Cache
+class Cache { static all = new Map(); } agent("a", async () => { console.log(Cache.all.size); });
+/// make it within the agent | next
+function counter() { let n = 0; return () => ++n; } const next = counter(); agent("a", async () => { console.log(next()); });
+/// make it within the agent | go
+let go; const p = new Promise((act) => (go = act)); agent("a", async () => { go(5); });
