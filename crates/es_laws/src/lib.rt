@@ -1,5 +1,5 @@
 //! The laws of the definitions: what holds of every history, plan and run that they allow. Each is the
-//! contract of a function that does nothing, and no other crate waits for its proof.
+//! contract of a function that does nothing, and of other crates es_messages alone waits for them.
 #![tactic(auto)]
 
 mod laws;

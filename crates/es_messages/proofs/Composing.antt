@@ -17,7 +17,7 @@ use Rattle.es_cluster.specs.Moves.{with_drained}
 use Rattle.es_cluster.specs.State.{ClusterView, accounts, first_state, names_of}
 use Rattle.es_cluster.specs.Turns.{AllTurned, Turned}
 use Rattle.es_laws.specs.Races.{has_no_race}
-use Rattle.es_messages.specs.Alone.{GoFar, IsFree, IsSane, Local, Words, World, addressed, is_done}
+use Rattle.es_messages.specs.Alone.{AreDone, GoFar, IsFree, IsSane, Local, Words, World, addressed, is_done}
 use Rattle.es_messages.specs.Messages.{SayAlike}
 use Rattle.es_messages.specs.Renamed.{HasWords, local_of, world_of}
 use Rattle.es_messages.specs.Steps.{Along}
@@ -89,6 +89,15 @@ sane_first plan = record {
 
 pub from_first : (plan : Plan) (ns : List ℕ) (c : ClusterView) → AllTurned ns (first_state plan) c → GoesTo (length plan.agents) (world_of (first_state plan) (λ b x. 0)) c
 from_first plan ns c turned = far (length plan.agents) ns (first_state plan) (λ b x. 0) c (along_first plan) (words_first (length plan.agents)) turned
+
+-- where some steps lead to an end at which no two accesses race, none race in any list of turns that ends
+pub free_by_steps : (plan : Plan) (k : ℕ) (w : World) → GoFar (length plan.agents) k (world_of (first_state plan) (λ b x. 0)) w → AreDone w → IsFree w
+    → (ns : List ℕ) (c : ClusterView) (o : Outcome) → AllTurned ns (first_state plan) c → EndsIn (with_drained c) o → has_no_race c.ledger.history ≡ true
+free_by_steps plan k w steps done free ns c o turned ends =
+    let n = length plan.agents in
+    let x = from_first plan ns c turned in
+    no_race_by_names n c x.words x.along.number x.along.legal
+    (subst IsFree (one_end n k x.steps (world_of (first_state plan) (λ b x. 0)) w (world_of c x.words) steps x.far done (done_each c.ledger.agents c.ledger.history c.agents ends.agents.runs) free (sane_first plan)) free)
 
 -- So all lists of turns that end come to one world, where no two accesses of one of them race
 

@@ -70,7 +70,7 @@ turned_so plan ns c o q a left free ends =
     let both = says_alike plan ns x.turns c x.end q x.outcome left ends free x.turned x.ends in
     record { names = x.same.names ∙ sym both.names; histories = x.same.histories ∙ sym both.histories }
 
-turned_reports : (plan : Plan) (ns : List ℕ) (c : ClusterView) (o q : Outcome) → IsClusterOutcome plan o → AllTurned ns (first_state plan) c → has_no_race c.ledger.history ≡ true → EndsIn (with_drained c) q → report o ≡ report q
+pub turned_reports : (plan : Plan) (ns : List ℕ) (c : ClusterView) (o q : Outcome) → IsClusterOutcome plan o → AllTurned ns (first_state plan) c → has_no_race c.ledger.history ≡ true → EndsIn (with_drained c) q → report o ≡ report q
 turned_reports plan ns c o q a left free ends =
     let x = refines plan o a in
     let both = says_alike plan ns x.turns c x.end q x.outcome left ends free x.turned x.ends in

@@ -21,7 +21,7 @@ clashes None q = false
 clashes (Some t) None = false
 clashes (Some t) (Some u) = clash (touched_by [] t) (touched_by [] u)
 
-or_turned : (a b : Bool) → (a || b) ≡ (b || a)
+pub or_turned : (a b : Bool) → (a || b) ≡ (b || a)
 or_turned true true = refl
 or_turned true false = refl
 or_turned false true = refl
