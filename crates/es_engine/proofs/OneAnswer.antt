@@ -1,4 +1,4 @@
--- Where the agents of a plan share no word, what a run answers is the answer by turns.
+-- Where by turns no two accesses of a plan race, what a run answers is the answer by turns.
 use Rattle.std.proofs.Common.{◌≡◌, ℕ, Bool, true, false, sym, ◌∙◌, List, Option, Result, Ok, Err}
 use Rattle.std.specs.Prelude.{IfOk, OnOk}
 use Rattle.es_event.specs.declared.plan.Plan.{Plan}
@@ -7,7 +7,8 @@ use Rattle.es_options.specs.declared.options.Options.{Options}
 use Rattle.es_replay.proofs.Arriving.{plan_comes_to_an_end}
 use Rattle.es_refine.proofs.Converse.{outcome_of_run}
 use Rattle.es_messages.specs.Messages.{share_no_word}
-use Rattle.es_messages.proofs.Reports.{reports_in_threads}
+use Rattle.es_messages.specs.WithoutRaces.{HasNoRaceByTurns}
+use Rattle.es_messages.proofs.Reports.{reports_as_by_turns, reports_in_threads}
 use Rattle.es_script.specs.Grammar.{no_callback_collects}
 use Rattle.es_turns.specs.Answer.{IsAnswer}
 use Rattle.es_engine.specs.declared.run_fault.RunFault.{RunFault}
@@ -17,15 +18,26 @@ pub one_answer : (check a b : Bool) (plan : Plan) (s t : List ℕ) → share_no_
 one_answer true a b plan s t apart first second = first ∙ sym second
 one_answer false a b plan s t apart first second = first.3 ∙ reports_in_threads plan first.0 second.0 apart first.1 second.1 ∙ sym second.3
 
-as_by_turns : (check turns : Bool) (plan : Plan) (text : List ℕ) → all_name_others plan ≡ true → no_callback_collects plan ≡ true → share_no_word plan ≡ true → IsAnswer check turns plan text → IsAnswer check true plan text
-as_by_turns true turns plan text others quiet apart is = is
-as_by_turns false turns plan text others quiet apart is =
+-- what is answered of a plan that runs in threads is what its run by turns reports
+as_reported : (plan : Plan) (text : List ℕ) → all_name_others plan ≡ true → no_callback_collects plan ≡ true → HasNoRaceByTurns plan → IsAnswer false false plan text → IsAnswer false true plan text
+as_reported plan text others quiet free is =
     let e = plan_comes_to_an_end plan others quiet in
-    let outcome = outcome_of_run plan e.0 e.1 e.2 e.3 in
-    (e.1, outcome, (e.0, e.2, e.3), is.3 ∙ reports_in_threads plan is.0 e.1 apart is.1 outcome)
+    (e.1, outcome_of_run plan e.0 e.1 e.2 e.3, (e.0, e.2, e.3), is.3 ∙ reports_as_by_turns plan e.0 is.0 e.1 is.1 e.2 (free e.0 e.2) e.3)
+
+as_by_turns : (check turns : Bool) (plan : Plan) (text : List ℕ) → all_name_others plan ≡ true → no_callback_collects plan ≡ true → HasNoRaceByTurns plan → IsAnswer check turns plan text → IsAnswer check true plan text
+as_by_turns true turns plan text others quiet free is = is
+as_by_turns false true plan text others quiet free is = is
+as_by_turns false false plan text others quiet free is = as_reported plan text others quiet free is
+
+-- by turns a plan has one answer, and so it has in threads
+pub one_without_races : (check a b : Bool) (plan : Plan) (s t : List ℕ) → all_name_others plan ≡ true → no_callback_collects plan ≡ true → HasNoRaceByTurns plan → IsAnswer check a plan s → IsAnswer check b plan t → s ≡ t
+one_without_races true a b plan s t others quiet free first second = first ∙ sym second
+one_without_races false a b plan s t others quiet free first second =
+    let e = plan_comes_to_an_end plan others quiet in
+    first.3 ∙ reports_as_by_turns plan e.0 first.0 e.1 first.1 e.2 (free e.0 e.2) e.3 ∙ sym (reports_as_by_turns plan e.0 second.0 e.1 second.1 e.2 (free e.0 e.2) e.3) ∙ sym second.3
 
 pub runs_as_by_turns : (r : Result ℕ RunFault) (options : Options) (plan : Plan) (before after old new : Option (List ℕ)) → GavePlan before after plan → all_name_others plan ≡ true → no_callback_collects plan ≡ true
     → OnOk r (Answers options plan old new) → IfOk r (λ n. RunsAsByTurns options before after old new)
 runs_as_by_turns (Ok n) options plan before after old new gave others quiet answers =
-    (plan, gave, λ apart. (answers.0, as_by_turns options.check options.turns plan answers.0 others quiet apart answers.1, answers.2))
+    (plan, gave, λ free. (answers.0, as_by_turns options.check options.turns plan answers.0 others quiet free answers.1, answers.2))
 runs_as_by_turns (Err e) options plan before after old new gave others quiet answers = tt

@@ -6,7 +6,7 @@ use Rattle.es_event.specs.declared.plan.Plan.{Plan}
 use Rattle.es_options.specs.declared.options.Options.{Options}
 use Rattle.es_engine.specs.declared.run_fault.RunFault.{RunFault}
 use Rattle.es_engine.specs.declared.run_fault.RunFault.TheVariants.{Script, NoMemory, Mismatch, Read, Write}
-use Rattle.es_messages.specs.Messages.{share_no_word}
+use Rattle.es_messages.specs.WithoutRaces.{HasNoRaceByTurns}
 use Rattle.es_script.specs.Fault.{IsPlanOf, fault_of}
 use Rattle.es_turns.specs.Answer.{IsAnswer}
 
@@ -75,6 +75,6 @@ RunsTo options before after old new (Err Write) = GaveSomePlan before after
 abbrev pub with_turns : Options → Options
 with_turns o = record { check = o.check; turns = true; helpers = o.helpers; watch = o.watch }
 
--- where the agents of the plan that the reader gave share no word, the answer is the one by turns, however they ran
+-- where by turns no two accesses race of the plan that the reader gave, the answer is the one by turns, however its agents ran
 abbrev pub RunsAsByTurns : Options → Option (List ℕ) → Option (List ℕ) → Option (List ℕ) → Option (List ℕ) → Type 0
-RunsAsByTurns options before after old new = (p : Plan) × GavePlan before after p × (share_no_word p ≡ true → Answers (with_turns options) p old new)
+RunsAsByTurns options before after old new = (p : Plan) × GavePlan before after p × (HasNoRaceByTurns p → Answers (with_turns options) p old new)

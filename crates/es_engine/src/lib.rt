@@ -15,5 +15,5 @@ pub use complaint::{explain, note_audits};
 pub use ending::{Ending, status_for};
 pub use engine::{run, run_last};
 pub use input::read_all;
-pub use laws::a_plan_has_one_answer;
+pub use laws::{a_plan_has_one_answer, without_races_a_plan_has_one_answer};
 pub use run_fault::RunFault;
