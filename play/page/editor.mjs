@@ -37,6 +37,12 @@ export class Editor {
     if (this.text !== text) this.area.value = text;
   }
 
+  /** Writes letters in the place of others, as if they were typed. */
+  replace(start, end, text) {
+    this.area.setSelectionRange(start, end);
+    document.execCommand("insertText", false, text);
+  }
+
   /** Takes the text as it is now, and marks the letters of a place in it, or none. The kind is a class of the mark. */
   mark(place, kind = "fault") {
     this.place = place;
