@@ -88,6 +88,8 @@ class Rows:
             answer = f"KeptAlive lets go: {', '.join(map(agent.called, kept))}" if kept else ""
         if event["event"] == "taken":
             words = f"registration {event['registration']} of {agent.called(agent.targets[event['registration'] - 1])} taken"
+        if event["event"] == "did" and event["command"][0] == "let" and event["command"][2] is None:
+            answer = "undefined, a plan's null"
         is_plain = event["event"] not in ("did", "refused", "taken")
         self.add(name, agent.named(words) if is_plain else words, agent.named(answer))
         shown = words if len(words) <= LONGEST else f"{words[:LONGEST - 1]}…"

@@ -276,7 +276,7 @@ def picture(count, tab):
     dim = "[...document.querySelectorAll('#heap .node:not(.dim)')].map((it) => it.dataset.key)"
     count.expect("what is beside the chosen value", tab.value(dim), ["var ref", "n2", "n4"])
     count.expect("the words of the chosen value", tab.value(PANEL), [
-        "What leads to WeakRef 4 (ref):", "variable ref Cut", "It sees weakly its target object 2 (user).", "No collection has said yet what keeps WeakRef 4 (ref)."])
+        "What leads to WeakRef 4 (ref):", "variable ref Cut", "What it leads to: sees weakly its target object 2 (user).", "No collection has said yet what keeps WeakRef 4 (ref)."])
     scale = "Number(document.querySelector('#heap svg').dataset.scale)"
     before = tab.value(scale)
     tab.press("+", 187)

@@ -45,7 +45,7 @@ export class Chosen {
     const found = saidOfAll(heap, identity, { name, hides: (variable) => trace.hides(variable) });
     const said = [element("p", found.length === 0 ? `Nothing leads to ${name(identity)}.` : `What leads to ${name(identity)}:`)];
     if (found.length > 0) said.push(list("ul", found.map(({ edge, text }) => this.item(state, edge, text))));
-    if (led.length > 0) said.push(element("p", `It ${led.join("; ")}.`));
+    if (led.length > 0) said.push(element("p", `What it leads to: ${led.join("; ")}.`));
     return said;
   }
 

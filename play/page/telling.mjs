@@ -17,6 +17,7 @@ export class Telling {
     if (agent === null) return wordsOf(line);
     const name = (identity) => this.trace.told(agent, identity, number);
     const words = wordsOf(line, (value) => name(identityOf(value)));
+    if (isNull(line)) return { ...words, answer: "undefined, a plan's null" };
     if (line.event === "job ends") return { ...words, answer: letGo(letsGo.map(name)) };
     if (line.event !== "taken") return words;
     return { ...words, event: `registration ${line.registration} of ${name(target)} taken` };
@@ -29,6 +30,9 @@ export class Telling {
     return row === undefined ? null : this.where(row);
   }
 }
+
+/** Whether a line gives a variable what a plan writes as null. */
+const isNull = ({ event, command }) => event === "did" && command[0] === "let" && command[2] === null;
 
 /** What a job's end lets go, of which these are the names. */
 export const letGo = (names) => (names.length === 0 ? "" : `KeptAlive lets go: ${names.join(", ")}`);

@@ -74,6 +74,8 @@ export class Tracing {
     const { rows } = this.steps;
     this.row = Math.min(rows.length - 1, Math.max(0, row));
     this.at("step").textContent = rows.length === 0 ? "" : `${this.row + 1} of ${rows.length}`;
+    // A row may be longer than a narrow window.
+    this.at("row-told").textContent = rows.length === 0 ? "" : Object.values(this.current.words).join(" ");
     // A disabled button would lose the focus.
     for (const id of ["to-first", "back"]) this.at(id).ariaDisabled = this.row <= 0;
     for (const id of ["forward", "to-last"]) this.at(id).ariaDisabled = this.row >= rows.length - 1;
