@@ -251,6 +251,16 @@ def writing(count, tab):
     count.expect("a long link", "letters: some mail" in tab.value("at('fault').textContent"), True)
 
 
+def indents(count, tab):
+    """A new line begins where the one before it does, and behind a bracket further in."""
+    text = "if (true) {\n  let a = [1];"
+    for place, wanted in ((11, "if (true) {\n  \n  let a = [1];"), (len(text), text + "\n  "), (0, "\n" + text)):
+        pasted(tab, text)
+        tab.value(f"at('plan').focus(), at('plan').setSelectionRange({place}, {place})")
+        tab.call("Input.dispatchKeyEvent", type="keyDown", key="Enter", code="Enter", windowsVirtualKeyCode=13, text="\r")
+        count.expect(f"a new line at {place}", tab.value("at('plan').value"), wanted)
+
+
 def focus(count, tab):
     """The buttons to the ends keep the focus, so that the arrows go on."""
     pasted(tab, SCRIPT)
@@ -327,6 +337,10 @@ def leading(count, tab):
     count.expect("what is written stays", tab.value("[at('plan').value, at('step').textContent, at('answer').classList.contains('old')]"), [LEAK, "5 of 10", False])
     tab.value("at('edges').querySelector('button').focus(), at('edges').querySelector('button').click(), rest(300)")
     count.expect("the focus of a cut", tab.value("document.activeElement.getAttribute('aria-label')"), "Cut variable last")
+    tab.press("Escape", 27)
+    count.expect("back to the value", tab.value("document.activeElement.dataset.key"), "n2")
+    tab.press("ArrowDown", 40, modifiers=1)
+    count.expect("from the value to what is said of it", tab.value("document.activeElement.getAttribute('aria-label')"), "Cut variable last")
     tab.value("at('forward').click()")
     count.expect("a cut is said of its row alone", tab.value("at('cut').textContent"), "")
 
@@ -494,7 +508,7 @@ def in_browser(count, path, folder):
         page_looks.sized(tab, 1280, 800)
         page_browser.begin(tab, page_browser.PAGE)
         prepare(tab)
-        for part in (first, steps, printed, faults, writing, focus, picture, leading, leading_of_plan, helps, many, sizes, contrasts, time_of, without_engine):
+        for part in (first, steps, printed, faults, writing, indents, focus, picture, leading, leading_of_plan, helps, many, sizes, contrasts, time_of, without_engine):
             part(count, tab)
         thrown = [event["params"]["exceptionDetails"] for event in tab.events if event["method"] == "Runtime.exceptionThrown"]
         count.expect("what the page threw", thrown, [])

@@ -38,6 +38,13 @@ export class Chosen {
     this.at("why").replaceChildren(...this.why(state, name));
   }
 
+  /** Goes to what is said, if there is anything. */
+  focus() {
+    if (this.shown === null) return false;
+    (this.at("edges").querySelector("button") ?? this.at("reasons")).focus();
+    return true;
+  }
+
   // All that leads to it
 
   leading(state, name, led) {

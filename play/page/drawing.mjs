@@ -37,7 +37,7 @@ export function drawingOf({ nodes, edges }, layout, { width, height, zoom }, { l
   picture.append(heads(), ...drawn.map(lineOf));
   for (const node of nodes) {
     const marks = { lit: lit.has(node.key), touched: touched.has(node.key), dim: near !== null && !near.has(node.key) };
-    picture.append(nodeOf({ ...node, said: said.get(node.key).label, name: nameOf(node.identity) }, spots.get(node.key), marks));
+    picture.append(nodeOf({ ...node, said: said.get(node.key), name: nameOf(node.identity) }, spots.get(node.key), marks));
   }
   picture.append(...placedLabels(drawn, [...spots.values(), ...besidePoints(nodes, spots)], size).map(labelOf));
   return picture;
@@ -177,7 +177,7 @@ function nodeOf(node, spot, marks) {
 
 function rootOf({ key, label, title, identity, said }, { x, y, width, height }) {
   const held = identity === undefined ? { role: "img" } : { "data-identity": identity, role: "button" };
-  return element("g", { "class": "node root", "data-key": key, tabindex: 0, "aria-label": said, ...held },
+  return element("g", { "class": "node root", "data-key": key, tabindex: 0, "aria-label": said.label, ...held },
     element("title", {}, title),
     element("rect", { x: x - width / 2, y: y - height / 2, width, height, rx: height / 2 }),
     element("text", { x, y: y + 4, "text-anchor": "middle" }, clipped(label, MOST_LETTERS)));
@@ -188,8 +188,9 @@ function thingOf({ key, identity, kind, block, isGone, distance, said, name }, {
   const more = [block === null ? null : `block ${block}`, name].filter(Boolean).join(", ");
   return element("g", {
     "class": `node thing ${kind.toLowerCase()}${state}`, "data-key": key, "data-identity": identity, tabindex: 0, role: "button",
-    "aria-label": said,
+    "aria-label": said.label,
   },
+    element("title", {}, said.begun),
     element("rect", { x: x - width / 2, y: y - height / 2, width, height, rx: 6 }),
     element("text", { x, y: y - 4, "text-anchor": "middle", "class": "kind" }, kind),
     element("text", { x, y: y + 12, "text-anchor": "middle", "class": "number" },

@@ -27,6 +27,7 @@ export class HeapView {
     at("heap").addEventListener("keydown", (event) => this.press(event));
     for (const [id, by] of [["smaller", 1 / ZOOM.step], ["larger", ZOOM.step]]) at(id).addEventListener("click", () => this.zoomBy(by));
     at("fit").addEventListener("click", () => this.fit());
+    at("reasons").addEventListener("keydown", ({ key }) => { if (key === "Escape") this.focus(`n${this.chosen}`); });
     at("centre").addEventListener("change", () => this.put(Number(at("centre").value)));
     new ResizeObserver(() => this.draw()).observe(at("heap"));
   }
@@ -97,8 +98,12 @@ export class HeapView {
     const marks = { lit: this.lit(agent, heap), touched, chosen, nameOf: (identity) => names.nameOf(identity), said: this.said };
     place.replaceChildren(...before, drawingOf(graph, layout, size, marks));
     place.scrollTo(scrollLeft, scrollTop);
-    if (had) place.querySelector(`[data-key="${had}"]`)?.focus({ preventScroll: true });
+    if (had) this.focus(had);
     for (const key of touched) reveal(place, place.querySelector(`[data-key="${key}"]`));
+  }
+
+  focus(key) {
+    this.at("heap").querySelector(`[data-key="${key}"]`)?.focus({ preventScroll: true });
   }
 
   /** Draws what is around the chosen value, or around what the step is about: the whole would be too much. */
@@ -171,14 +176,15 @@ export class HeapView {
   }
 
   press(event) {
-    if (event.ctrlKey || event.metaKey || event.altKey) return;
+    if (event.altKey && event.key === "ArrowDown" && this.told.focus()) return event.preventDefault();
+    if (event.ctrlKey || event.metaKey || event.altKey) return null;
     const does = {
       "Enter": () => this.choose(event.target), " ": () => this.choose(event.target), "Escape": () => this.choose(this.at("heap")),
       "+": () => this.zoomBy(ZOOM.step), "-": () => this.zoomBy(1 / ZOOM.step), "0": () => this.fit(),
     }[event.key];
-    if (!does) return;
+    if (!does) return null;
     does();
-    event.preventDefault();
+    return event.preventDefault();
   }
 
   /** The agent's last collection, and the way to the chosen value that it told; null where nothing is chosen. */

@@ -4,6 +4,8 @@
 /** So many emptied values have a row; of more it is said how many they are. */
 const MOST = 100;
 
+const NONE = [];
+
 /** A row below another one, whose commands it shares; it is about some values. Its words are found when it is drawn, as that may
     take long. */
 class Note {
@@ -19,10 +21,10 @@ class Note {
 /** The rows below one that tells a row of the trace. */
 export function notesOf(told, telling) {
   const { line, agent, takes } = telling.trace.rows[told.row];
-  if (agent === null) return [];
+  if (agent === null) return NONE;
   const name = (identity) => telling.trace.told(agent, identity, told.row);
   if (takes !== null) return [new Note(told, [takes], () => ({ event: "KeptAlive takes", answer: name(takes) }))];
-  if (line.event !== "emptied") return [];
+  if (line.event !== "emptied") return NONE;
   const { identities } = line, more = identities.length - MOST;
   const notes = identities.slice(0, MOST).map((identity) => new Note(told, [identity], () => gone(name(identity), telling.since(agent, identity, told.row))));
   if (more > 0) notes.push(new Note(told, identities.slice(MOST), () => gone(`${more} more`, null)));

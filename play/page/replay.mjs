@@ -41,7 +41,7 @@ export class Trace {
 
   addOfAgent(line) {
     const { agent } = line, heap = this.heaps.get(agent);
-    const row = { line, agent, place: this.runs.get(agent).placeOf(line), kept: keptBy(line), takes: null, letsGo: [], target: null };
+    const row = { line, agent, place: this.runs.get(agent).placeOf(line), kept: keptBy(line), takes: null, letsGo: NONE, target: null };
     if (line.event === "job ends") row.letsGo = [...heap.keptAlive];
     if (line.event === "taken") row.target = heap.registrations.get(line.registration).first;
     const before = heap.keptAlive.size;
@@ -92,6 +92,7 @@ export class Trace {
   }
 }
 
+const NONE = [];
 const keptBy = ({ event }) => (event === "emptied" ? new Map() : null);
 
 /** How far an agent is in its plan: in which job or callback, and how many commands of it came. */

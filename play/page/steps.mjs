@@ -31,8 +31,13 @@ export class Steps {
   /** The rows: the steps, and below each what it is made of, if it is open, and its notes. Those of the ledger are there if they
       are asked for. */
   list() {
-    const rows = this.steps.flatMap((step) => [step, ...(step.isOpen ? step.commands : []), ...step.notes]);
-    this.rows = this.hasLedger ? rows : rows.filter(({ kind }) => kind !== "ledger");
+    this.rows = [];
+    const add = (row) => { if (this.hasLedger || row.kind !== "ledger") this.rows.push(row); };
+    for (const step of this.steps) {
+      add(step);
+      if (step.isOpen) step.commands.forEach(add);
+      step.notes.forEach(add);
+    }
     this.sheet.style.height = `${this.rows.length * HEIGHT}px`;
     this.sheet.style.setProperty("--count", `${String(this.rows.length).length}ch`);
   }
