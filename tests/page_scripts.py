@@ -356,6 +356,8 @@ def leading_of_plan(count, tab):
         "weakly: target of registration 1 of FinalizationRegistry 7 (r)", "weakly: token of registration 1 of FinalizationRegistry 7 (r)"])
     count.expect("what leads to a FinalizationRegistry", tab.value(f"press(7), {PANEL}")[:3], [
         "What leads to FinalizationRegistry 7 (r):", "variable r Cut", "it is a FinalizationRegistry, and none is ever emptied"])
+    inside = "document.querySelector('[data-identity=\"7\"]').getBoundingClientRect().bottom <= at('heap').getBoundingClientRect().bottom"
+    count.expect("the chosen value is in view", tab.value(f"rest(100).then(() => {inside})"), True)
     # A cut after the only collection: one after the last job shows what goes.
     tab.value("press(3)")
     count.expect("a cut after the last collection", cut(tab, 0), [

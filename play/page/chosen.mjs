@@ -14,8 +14,8 @@ function list(kind, items) {
 }
 
 export class Chosen {
-  /** `at` gives the elements of the page; `rows` says how the list counts and calls rows of the trace, and `ask` asks the engine for the
-      lines of a plan's trace. */
+  /** `at` gives the elements of the page; `rows` says how the list counts and calls rows of the trace, and `ask` asks the engine
+      for the lines of a plan's trace. */
   constructor(at, rows, ask) {
     Object.assign(this, { at, rows, ask, shown: null });
   }
@@ -27,10 +27,11 @@ export class Chosen {
 
   /** Shows what there is to say of a value of an agent after a row. `led` is what it leads to. */
   show(state, led) {
-    const { trace, agent, row, heap, identity } = state;
-    const isSame = this.shown?.trace === trace && this.shown.agent === agent && this.shown.row === row && this.shown.identity === identity;
-    // Drawn anew, a button would lose the focus.
-    if (isSame) return;
+    const { trace, agent, row, heap, identity } = state, count = this.rows.length;
+    // Drawn anew, a button would lose the focus. Where the list has more rows, or fewer, they are counted otherwise.
+    const parts = { trace, agent, row, identity, count };
+    if (this.shown !== null && Object.keys(parts).every((part) => this.shown.parts[part] === parts[part])) return;
+    Object.assign(state, { parts });
     this.shown = state;
     this.say([]);
     const name = (one, known) => trace.told(agent, one, row, known);

@@ -16,11 +16,12 @@ const ZOOM = { least: 0.25, most: 4, step: 1.25 };
 const element = (name, content) => Object.assign(document.createElement(name), { textContent: content });
 
 export class HeapView {
-  /** `at` gives the elements of the page; `rows` says how the list counts and calls rows of the trace, and `ask` asks the engine for
-      the lines of a plan's trace. */
+  /** `at` gives the elements of the page; `rows` says how the list counts and calls rows of the trace, and `ask` asks the engine
+      for the lines of a plan's trace. */
   constructor(at, rows, ask) {
     this.told = new Chosen(at, rows, ask);
     Object.assign(this, { at, trace: null, row: -1, from: 0, about: null, agent: "", chosen: null, layouts: new Map(), heap: null });
+    this.isNew = false;
     /** How large the picture is drawn; "fit" so that all of it is seen, and null so that it can be read. */
     this.zoom = null;
     at("heap").addEventListener("click", (event) => this.choose(event.target));
@@ -41,7 +42,7 @@ export class HeapView {
   /** Draws the heap of an agent after a step, which goes from one row of the trace to another. It is about some values, or about
       those that its commands read and give. */
   show(agent, { from, row, about = null }) {
-    Object.assign(this, { agent, from, row, about });
+    Object.assign(this, { agent, from, row, about, isNew: false });
     this.draw();
   }
 
@@ -99,7 +100,7 @@ export class HeapView {
     place.replaceChildren(...before, drawingOf(graph, layout, size, marks));
     place.scrollTo(scrollLeft, scrollTop);
     if (had) this.focus(had);
-    for (const key of touched) reveal(place, place.querySelector(`[data-key="${key}"]`));
+    for (const key of this.isNew ? [chosen] : touched) reveal(place, place.querySelector(`[data-key="${key}"]`));
   }
 
   focus(key) {
@@ -170,8 +171,10 @@ export class HeapView {
     this.put(identity === this.chosen ? null : identity);
   }
 
+  /** What is said of it takes some of the picture's room: so a new one is shown, as often as the room changes. */
   put(identity) {
     this.chosen = identity;
+    this.isNew = identity !== null;
     this.draw();
   }
 

@@ -180,11 +180,12 @@ function halt() {
 
 function stop() {
   const ended = halt();
-  if (ended?.isAside) return;
+  if (ended?.isAside) return say(at("cut"), "", "Stopped.");
   if (ended?.call === "trace") results.endTrace({ failure: "Stopped." });
   else if (ended !== null) results.stopped(ended.text);
   if (isPlan(editor.text)) look({ runs: false });
   else say(at("fault"), "", "Stopped.");
+  return undefined;
 }
 
 // Links

@@ -12,8 +12,8 @@ const MOST_LETTERS = 40;
 const element = (name, content) => Object.assign(document.createElement(name), { textContent: content });
 
 export class Tracing {
-  /** `at` gives the elements of the page; `changed` is called where another row is the current one, and `ask` asks the engine for the
-      lines of a plan's trace. */
+  /** `at` gives the elements of the page; `changed` is called where another row is the current one, and `ask` asks the engine
+      for the lines of a plan's trace. */
   constructor(at, changed, ask) {
     Object.assign(this, { at, changed, trace: null, row: 0 });
     this.steps = new Steps(at("rows"), (row) => this.go(row));
