@@ -3,7 +3,7 @@
 
 Usage: node_command.py
 
-- Words, files and pipes: statuses, standard output and standard error.
+- Words, files and pipes: statuses, standard output and standard error. All that leads to a value, worked out by hand.
 - In one process, by node_command.mjs: words that are none; each example's stored report and stored trace; of some the forms of
   a trace, all values too, beside the model of trace_model.py; faults in words, with the sentences of crates/es_explain.
 - Scripts in JavaScript, with a stand-in for what makes plans of them: plans, faults with their marks.
@@ -41,6 +41,8 @@ MISTAKES = [
     "run --helpers 0", "run --helpers 9", "run --helpers -1", "run --helpers two", "run --watch 1001", "run --watch 1.5", "run --watch=",
     "check --turns", "check a b", "explain --json", "trace --turns", "trace --json --dot", "trace --json --json", "run --all", "plan --json",
     "run __proto__ --toString", "run --engine", "run --engine v8", "run --engine=", "check --engine node", "run --engine node --engine node",
+    "trace --why", "trace --why 0", "trace --why one", "trace --why 1000001", "trace --why 1 --why 2", "trace --why 1 --json", "trace --dot --why 1",
+    "trace --why 1 --all", "run --why 1",
 ]
 HELPED = ["--help", "-h", "run --help", "trace x -h", "check -h", "explain --help", "plan --help"]
 # A plan's text, and the lines of `explain`.
@@ -136,6 +138,51 @@ def of_words(command):
     yield command.case("a folder", ["explain", command.room], (4, "", "cannot read\n"))
     yield command.case("a file that is spelled as an option", ["trace", "--", "--dot"], (4, "", "cannot read\n"))
     yield command.case("explain of a fault", ["explain"], (1, "".join(f"{line}\n" for line in EXPLAINED[0][1]), ""), EXPLAINED[0][0].encode())
+
+
+# A plan in which object 1 goes at the second collection, and object 2 is the held value of a registration of it; and its script.
+WHY = """{"version": 1, "agents": [
+  {"name": "main", "callbacks": {"c": []}, "jobs": [
+    {"run": [["new", "o"], ["new", "h"], ["set", "h", "p", "o"], ["weakmap", "m"], ["wmset", "m", "o", "h"], ["registry", "r", "c"],
+      ["register", "r", "o", "h", "o"], ["let", "o", null], ["collect"], ["delete", "x", "h", "p"], ["let", "h", null], ["collect"]]}]},
+  {"name": "b", "callbacks": {}, "jobs": [{"run": [["buffer", "s", 1], ["new", "t"], ["set", "t", "s", "s"]]}]}]}"""
+WHY_1 = """main  after collection 1 (job 1, command 9), object 1 (made as o) has
+main    property p of object 2 (h)
+main    weakly: key of WeakMap 3 (m)
+main    weakly: target of registration 1 of FinalizationRegistry 4 (r)
+main    weakly: token of registration 1 of FinalizationRegistry 4 (r)
+main  after collection 2 (job 1, command 12): object 1 (made as o) was emptied
+b     at its end, SharedArrayBuffer 1 (s) has
+b       variable s
+b       property s of object 2 (t)
+"""
+WHY_2 = """main  after collection 1 (job 1, command 9), object 2 (h) has
+main    variable h
+main    held value of registration 1 of FinalizationRegistry 4 (r)
+main    entry of WeakMap 3 (m) under object 1 (made as o), as long as both are reached
+main  after collection 2 (job 1, command 12), object 2 (made as h) has
+main    held value of registration 1 of FinalizationRegistry 4 (r)
+b     at its end, object 2 (t) has
+b       variable t
+"""
+# Of a script with the temporary that a statement has while it collects.
+WHY_SCRIPT = b"function f(a) { gc(); }\nf({ b: {} });\n"
+WHY_OF_SCRIPT = """main  after collection 1 (job 1, command 4), object 2 (b) has
+main    the statement that runs
+main    property b of object 1 (a)
+"""
+
+
+def of_why(command):
+    """All that leads to a value, by hand; a number of no value is refused with a line."""
+    plan = command.file("why.json", WHY.encode())
+    for number, wanted in ((1, WHY_1), (2, WHY_2)):
+        yield command.case(f"what leads to value {number}", ["trace", "--why", str(number), plan], (0, wanted, ""))
+    yield command.case("a number of no value", ["trace", plan, "--why=5"], (2, "", "error: no agent has a value 5: main made 4, b made 2\n"))
+    yield command.case("a value of standard input", ["trace", "--why", "1"], (2, "", "error: no agent has a value 1: a made 0\n"), EMPTY)
+    yield command.case("why of a plan with a fault", ["trace", "--why", "1"], (1, "", "refused S2\n"), b"[]")
+    script = command.file("why.js", WHY_SCRIPT)
+    yield command.case("what leads to a value of a script", ["trace", "--why", "2", script], (0, WHY_OF_SCRIPT, ""))
 
 
 # Lines as clusterrun has them, with why they may be otherwise; node's lines; whether there is any choice; and the table.
@@ -354,7 +401,7 @@ def main():
         command = Command(room)
         copied = copy_of_play(room)
         of_lines_compared(count)
-        count.expect_all([*of_words(command), *of_engine(command), *of_scripts(Command(room, os.path.join(copied, "bin.mjs")))], JOBS)
+        count.expect_all([*of_words(command), *of_why(command), *of_engine(command), *of_scripts(Command(room, os.path.join(copied, "bin.mjs")))], JOBS)
         asked = Asked(room)
         of_examples(asked, count)
         of_faults(asked, count)

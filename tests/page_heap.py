@@ -1,5 +1,5 @@
-"""What the page makes of traces, in node: words, heaps and distances beside those of trace_model.py. The lines are the
-model's own, so no program is needed."""
+"""What the page makes of traces, in node: words, heaps, distances, the rows of its list and all that leads to each value, beside
+those of trace_model.py. The lines are the model's own, so no program is needed."""
 
 import glob
 import json
@@ -7,6 +7,7 @@ import os
 import random
 import subprocess
 
+import page_rows
 import random_plans
 import rules
 import trace_check
@@ -93,6 +94,20 @@ def edges(heap):
             yield [f"n{registry}", f"n{one}", "weak", f"token {name}"]
 
 
+def leading(heap):
+    """All that leads to each value, by its number: the steps that keep it, and what only holds it weakly."""
+    names = {"registration": "held"}
+    found = {str(one): {(names.get(step[0], step[0]), *step[1:]) for step in heap.steps.get(one, [])} for one in heap.there}
+    weak = [*(("target", one, target) for one, target in heap.targets.items())]
+    weak += [("key", one, key) for one, entries in heap.entries.items() for key in entries]
+    weak += [("member", one, member) for one, members in heap.members.items() for member in members]
+    weak += [("registered", name, target) for name, (_, target) in heap.live.items()]
+    weak += [("token", name, token) for name, (_, token) in heap.tokens.items()]
+    for kind, one, value in weak:
+        found[str(value)].add((kind, one))
+    return {one: sorted(map(str, map(list, edges))) for one, edges in found.items()}
+
+
 def compare(count, script, what, data):
     turns, names = trace_check.model(data)
     lines = trace_check.written(trace_forms.Lines(), turns, names, True, lambda steps: steps[0])
@@ -102,6 +117,9 @@ def compare(count, script, what, data):
     marked = [row[3] and json.loads(row[3]) for row in got["rows"]]
     count.expect(f"the page's commands of {what}", marked, [*commands(turns)])
     heaps = [turn.heap for turn in turns if turn.heap]
+    count.expect(f"the page's list of {what}", got["listed"], page_rows.rows_of(data, False))
+    led = [{one: sorted(map(str, found)) for one, found in picture["leading"].items()} for picture in got["pictures"]]
+    count.expect(f"what leads to each value in {what}", led, [*map(leading, heaps)])
     for part, of_heap in (("nodes", nodes), ("edges", edges)):
         wanted = [sorted(map(str, of_heap(heap))) for heap in heaps]
         count.expect(f"the page's {part} in {what}", [sorted(map(str, one[part])) for one in got["pictures"]], wanted)

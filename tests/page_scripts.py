@@ -7,7 +7,8 @@ Usage: page_scripts.py [--pictures FOLDER]
   these; and of random scripts node prints them, if it collects and if it never does.
 - In a browser without a window: a script that is pasted, its steps and their marks, what it printed, its plan, and its fault;
   undo, reload, links and focus; the picture by keys and in words, with neighbours, and its labels with 24 and 60 values; sizes
-  of 390, 1280 and 1920 pixels; contrasts, light and dark.
+  of 390, 1280 and 1920 pixels; contrasts, light and dark. By hand: all that leads to a value, and what goes if that is cut, of
+  a script and of a plan; the help for the word at the caret.
 
 With --pictures the page is painted. What it left out, for want of a tool, it says before its last line, `N passed, M failed`.
 """
@@ -60,6 +61,24 @@ for (let i = 0; i < 58; i++) all.push({});
 for (let i = 0; i < 58; i++) { all[i].left = all[(i * 7 + 3) % 58]; all[i].right = all[(i * 13 + 5) % 58]; }
 const ref = new WeakRef(all[20]);
 """
+# Two ways to one object: a property of the table, and a variable.
+LEAK = """const table = { row: { cells: 3 } };
+let last = table.row;
+const ref = new WeakRef(last);
+await turn();
+gc();
+console.log(ref.deref() !== undefined);
+"""
+# The same in a plan: the object has two variables, a property, an entry, a WeakRef, a member, and two registrations, of one of
+# which it is the target and the token, and of the other the held value.
+EDGES = """{"version": 1, "agents": [{"name": "a", "callbacks": {"c": []}, "jobs": [
+ {"run": [["new", "o"], ["new", "k"], ["new", "b"], ["copy", "x", "o"], ["set", "b", "p", "o"], ["weakmap", "m"],
+   ["wmset", "m", "k", "o"], ["wmset", "m", "o", "k"], ["weakref", "w", "o"], ["weakset", "s"], ["wsadd", "s", "o"],
+   ["registry", "r", "c"], ["register", "r", "o", "k", "o"], ["register", "r", "k", "o"]]},
+ {"run": [["let", "k", null], ["collect"], ["get", "y", "b", "p"], ["set", "y", "q", "b"]]}]}]}"""
+# What the page says of the chosen value, line by line.
+PANEL = "[...document.querySelectorAll('#cut p, #edges p, #edges li, #why p, #why li')].map((it) => it.textContent)"
+OFFERED = "[...document.querySelectorAll('#offers li:not(.hint) code')].map((it) => it.textContent)"
 MANY = """const all = [];
 for (let i = 0; i < 250; i++) all.push({ next: {} });
 """
@@ -183,10 +202,11 @@ def steps(count, tab):
     statements = [line for line in SCRIPT.splitlines() if not line.startswith("await")]
     shown = [row[1].removeprefix("▸ ") for row in rows]
     count.expect("each statement has one step", [row for row in shown if row in statements], statements)
-    count.expect("what stands between", [row for row in shown if row not in statements], ["turn ends", "turn ends", "main ends"])
+    count.expect("what stands between", [row for row in shown if row not in statements], [
+        "KeptAlive takes", "turn ends", "nothing leads to object 2 (made as user)", "nothing leads to object 3", "turn ends", "main ends"])
     count.expect("what they answer", [row[2] for row in rows], [
-        "data = WeakMap 1", "user = object 2", "", "ref = WeakRef 4", "user holds no object", "now true 7",
-        "KeptAlive lets go: object 2 (user)", "collected 2 values", "later undefined", "", ""])
+        "data = WeakMap 1", "user = object 2", "", "ref = WeakRef 4", "object 2 (user)", "user holds no object", "now true 7",
+        "KeptAlive lets go: object 2 (made as user)", "collected 2 values", "since row 8 (turn ends)", "since row 8 (turn ends)", "later undefined", "", ""])
     tab.value("at('to-first').click(); at('forward').click(); at('forward').click()")
     count.expect("the statement is marked", tab.value("step()"), "data.set(user, { visits: 1 });")
     count.expect("its heap has no temporary", tab.value("drawn().nodes"), ["var data ", "var user ", "n1 ", "n2 ", "n3 ", "e1_2 "])
@@ -230,7 +250,7 @@ def faults(count, tab):
     got = pasted(tab, 'let a = 1;\nlet b = import("x");\n')
     count.expect("where a fault stands", (got["fault"].startswith("Line 2: "), got["marked"], got["old"]), (True, 'import("x")', True))
     count.expect("marks below it", tab.value("at('fault').querySelector('pre').textContent"), 'let b = import("x");\n        ^^^^^^^^^^^')
-    count.expect("the last run stays", tab.value("allRows().length"), 11)
+    count.expect("the last run stays", tab.value("allRows().length"), 14)
     got = pasted(tab, "let a = ;")
     count.expect("a fault of the grammar", (got["fault"].startswith("Line 1: "), got["marked"]), (True, ";"))
     got = pasted(tab, '{"version": 1, "agents": []}')
@@ -267,10 +287,20 @@ def writing(count, tab):
     count.expect("a long link", "letters: some mail" in tab.value("at('fault').textContent"), True)
 
 
+def indents(count, tab):
+    """A new line begins where the one before it does, and behind a bracket further in."""
+    text = "if (true) {\n  let a = [1];"
+    for place, wanted in ((11, "if (true) {\n  \n  let a = [1];"), (len(text), text + "\n  "), (0, "\n" + text)):
+        pasted(tab, text)
+        tab.value(f"at('plan').focus(), at('plan').setSelectionRange({place}, {place})")
+        tab.call("Input.dispatchKeyEvent", type="keyDown", key="Enter", code="Enter", windowsVirtualKeyCode=13, text="\r")
+        count.expect(f"a new line at {place}", tab.value("at('plan').value"), wanted)
+
+
 def focus(count, tab):
     """The buttons to the ends keep the focus, so that the arrows go on."""
     pasted(tab, SCRIPT)
-    for name, key, code, row in (("to-last", "ArrowLeft", 37, "10 of 11"), ("to-first", "ArrowRight", 39, "2 of 11")):
+    for name, key, code, row in (("to-last", "ArrowLeft", 37, "13 of 14"), ("to-first", "ArrowRight", 39, "2 of 14")):
         tab.value(f"at('{name}').focus(); at('{name}').click()")
         tab.press(key, code)
         count.expect(f"the focus of {name}", tab.value("[document.activeElement.id, at('step').textContent]"), [name, row])
@@ -280,14 +310,19 @@ def picture(count, tab):
     """The picture in words and by keys: edges, variables, neighbours, and its size."""
     tab.value("at('to-first').click(); for (let row = 0; row < 3; row += 1) at('forward').click()")
     words = "document.querySelector('[data-key=\"%s\"]').getAttribute('aria-label')"
-    count.expect("a WeakRef in words", tab.value(words % "n4"), "WeakRef 4, held by ref, target object 2 (weak)")
-    count.expect("an object in words", tab.value(words % "n2"), "object 2, held by user, held by KeptAlive, seen by WeakRef 4 (weak)")
-    count.expect("an entry's value in words", tab.value(words % "n3"), "object 3, held by the entry of WeakMap 1 under object 2")
+    count.expect("a WeakRef in words", tab.value(words % "n4"), "WeakRef 4 (ref), held by ref, sees weakly its target object 2 (user)")
+    count.expect("an object in words", tab.value(words % "n2"), "object 2 (user), held by user, held by KeptAlive, seen weakly by WeakRef 4 (ref)")
+    count.expect("an entry's value in words", tab.value(words % "n3"), "object 3, held by the entry of WeakMap 1 (data) under object 2 (user)")
+    count.expect("the whole picture in words", tab.value("[...document.querySelectorAll('#heard li')].map((it) => it.textContent)"), [
+        "variable data: holds WeakMap 1 (data)", "variable user: holds object 2 (user)", "variable ref: holds WeakRef 4 (ref)",
+        "KeptAlive: until the job ends: holds object 2 (user)", "WeakMap 1 (data): has an entry under object 2 (user) with object 3",
+        "object 2 (user): leads to nothing", "object 3: leads to nothing", "WeakRef 4 (ref): sees weakly its target object 2 (user)"])
     tab.value("document.querySelector('[data-key=\"var ref\"]').focus()")
     tab.press("Enter", 13)
     dim = "[...document.querySelectorAll('#heap .node:not(.dim)')].map((it) => it.dataset.key)"
     count.expect("what is beside the chosen value", tab.value(dim), ["var ref", "n2", "n4"])
-    count.expect("the words of the chosen value", tab.value("at('edges').textContent"), tab.value(words % "n4"))
+    count.expect("the words of the chosen value", tab.value(PANEL), [
+        "What leads to WeakRef 4 (ref):", "variable ref Cut", "What it leads to: sees weakly its target object 2 (user).", "No collection has said yet what keeps WeakRef 4 (ref)."])
     scale = "Number(document.querySelector('#heap svg').dataset.scale)"
     before = tab.value(scale)
     tab.press("+", 187)
@@ -307,6 +342,100 @@ def picture(count, tab):
     tab.value("at('enlarge').click(), rest(50)")
     count.expect("the picture alone", tab.value("[at('heap').clientHeight > innerHeight * 0.7, at('rows').clientHeight]"), [True, 0])
     tab.value("at('enlarge').click()")
+
+
+def cut(tab, number):
+    """Presses a button that cuts, and waits for what is said then."""
+    return tab.value(f"document.querySelectorAll('#edges button')[{number}].click(), (async () => {{"
+                     "do await rest(5); while (at('cut').textContent === '' || at('cut').textContent === 'running ..');"
+                     "return [...at('cut').children].map((it) => it.textContent); })()")
+
+
+def row_of(tab, text):
+    """Goes to the first row whose words begin so."""
+    tab.value(f"at('to-first').click(); while (!current()[1].startsWith({json.dumps(text)})) at('forward').click()")
+
+
+def leading(count, tab):
+    """All that leads to a value of a script, and what goes at the next collection if one of that is cut. The way that is cut
+    is one of two, so the value stays by the other."""
+    pasted(tab, LEAK)
+    row_of(tab, "turn ends")
+    count.expect("what leads to a value", tab.value(f"press(2), {PANEL}"), [
+        "What leads to object 2 (row):", "variable last Cut", "property row of object 1 (table) Cut", "weakly: target of WeakRef 3 (ref)",
+        "No collection has said yet what keeps object 2 (row)."])
+    count.expect("a cut of a variable", cut(tab, 0), [
+        "Without variable last after row 5 (turn ends), the next collection empties no more than it does now (0).",
+        "object 2 (row) stays: The property row of object 1 (table) holds object 2."])
+    count.expect("a cut of a property", cut(tab, 1), [
+        "Without property row of object 1 (table) after row 5 (turn ends), the next collection empties no more than it does now (0).",
+        "object 2 (made as row) stays: The variable last holds object 2 (made as row)."])
+    count.expect("what is written stays", tab.value("[at('plan').value, at('step').textContent, at('answer').classList.contains('old')]"), [LEAK, "5 of 10", False])
+    tab.value("at('edges').querySelector('button').focus(), at('edges').querySelector('button').click(), rest(300)")
+    count.expect("the focus of a cut", tab.value("document.activeElement.getAttribute('aria-label')"), "Cut variable last")
+    tab.press("Escape", 27)
+    count.expect("back to the value", tab.value("document.activeElement.dataset.key"), "n2")
+    tab.press("ArrowDown", 40, modifiers=1)
+    count.expect("from the value to what is said of it", tab.value("document.activeElement.getAttribute('aria-label')"), "Cut variable last")
+    tab.value("at('forward').click()")
+    count.expect("a cut is said of its row alone", tab.value("at('cut').textContent"), "")
+
+
+def leading_of_plan(count, tab):
+    """All that leads to a value of a plan, weak and strong; and a cut after which the value goes."""
+    pasted(tab, EDGES)
+    row_of(tab, "collect")
+    count.expect("all that leads to a value", tab.value(f"press(1), {PANEL}")[:11], [
+        "What leads to object 1 (o):", "variable o Cut", "variable x Cut", "held value of registration 2 of FinalizationRegistry 7 (r)",
+        "property p of object 3 (b) Cut", "entry of WeakMap 4 (m) under object 2 (made as k), as long as both are reached",
+        "weakly: key of WeakMap 4 (m)", "weakly: target of WeakRef 5 (w)", "weakly: member of WeakSet 6 (s)",
+        "weakly: target of registration 1 of FinalizationRegistry 7 (r)", "weakly: token of registration 1 of FinalizationRegistry 7 (r)"])
+    count.expect("what leads to a FinalizationRegistry", tab.value(f"press(7), {PANEL}")[:3], [
+        "What leads to FinalizationRegistry 7 (r):", "variable r Cut", "it is a FinalizationRegistry, and none is ever emptied"])
+    inside = "document.querySelector('[data-identity=\"7\"]').getBoundingClientRect().bottom <= at('heap').getBoundingClientRect().bottom"
+    count.expect("the chosen value is in view", tab.value(f"rest(100).then(() => {inside})"), True)
+    # A cut after the only collection: one after the last job shows what goes.
+    tab.value("press(3)")
+    count.expect("a cut after the last collection", cut(tab, 0), [
+        "Without variable b after row 20 (collect), a collection after the last job empties also object 3 (made as b).",
+        "Then get y b p is refused: TypeError: not an object."])
+    tab.value("at('to-last').click()")
+    count.expect("a cut at the end", cut(tab, 0), [
+        "Without variable b after row 24 (agent ends), a collection after the last job empties no more than it does now (0).",
+        "object 3 (made as b) stays: The property q of object 1 (o) holds object 3 (made as b)."])
+
+
+def helps(count, tab):
+    """Help for the word at the caret, by the keys alone: of plans the commands and keys, of scripts the host's calls."""
+    plan = '{"version": 1, "agents": [{"name": "a", "callbacks": {}, "jobs": [{"run": [["wea"], ["set", "o"]]}]}]}'
+
+    def caret(text, after):
+        pasted(tab, text)
+        place = text.index(after) + len(after)
+        tab.value(f"at('plan').focus(), at('plan').setSelectionRange({place}, {place}), at('plan').dispatchEvent(new Event('keyup'))")
+        return tab.value(OFFERED)
+
+    count.expect("commands that begin so", caret(plan, '"wea'), ["weakmap X", "weakref X Y", "weakset X"])
+    tab.press(" ", 32, modifiers=2)
+    tab.press("ArrowDown", 40)
+    chosen = "document.getElementById(at('offers').getAttribute('aria-activedescendant')).querySelector('code').textContent"
+    count.expect("the keys go through them", tab.value(f"[document.activeElement.id, {chosen}]"), ["offers", "weakref X Y"])
+    tab.press("Enter", 13)
+    count.expect("a word is written", tab.value("[document.activeElement.id, at('plan').value]"), ["plan", plan.replace("wea", "weakref")])
+    count.expect("what is heard", tab.value("at('heard-word').textContent"), "weakref X Y: X gets a new WeakRef to Y, which is kept alive to the end of the job.")
+    tab.call("Input.dispatchKeyEvent", type="rawKeyDown", key="z", code="KeyZ", windowsVirtualKeyCode=90, modifiers=2, commands=["undo"])
+    count.expect("Control and Z take it back", tab.value("at('plan').value"), plan)
+    count.expect("the command of an operand", caret(plan, '"set", "o'), ["set O K Y"])
+    count.expect("keys of a plan", caret(plan, '"jo'), ['"jobs"'])
+    count.expect("nothing without a letter", caret("let a = 1;\n", "\n"), [])
+    tab.press(" ", 32, modifiers=2)
+    count.expect("all calls, if they are asked for", len(tab.value(OFFERED)) > 20, True)
+    tab.press("Escape", 27)
+    count.expect("Escape goes back", tab.value("document.activeElement.id"), "plan")
+    count.expect("a call of the host", caret("let a = {}; await tur", "tur"), ["await turn()"])
+    count.expect("its meaning", tab.value("at('heard-word').textContent"), "await turn(): ends the job; what follows is a new job")
+    names = ["gc", "collectLater", "agent", "postMessage", "message", "setTimeout", "deref", "register"]
+    count.expect("each call is known", [caret(name, name) != [] for name in names], [True] * len(names))
 
 
 def many(count, tab):
@@ -417,7 +546,7 @@ def in_browser(count, path, folder):
         page_looks.sized(tab, 1280, 800)
         page_browser.begin(tab, page_browser.PAGE)
         prepare(tab)
-        for part in (first, steps, printed, faults, writing, focus, picture, many, sizes, contrasts, time_of, without_engine):
+        for part in (first, steps, printed, faults, writing, indents, focus, picture, leading, leading_of_plan, helps, many, sizes, contrasts, time_of, without_engine):
             part(count, tab)
         thrown = [event["params"]["exceptionDetails"] for event in tab.events if event["method"] == "Runtime.exceptionThrown"]
         count.expect("what the page threw", thrown, [])

@@ -1,15 +1,18 @@
-"""The trace in the kept page in a browser, beside trace_model.py: its rows, steps by buttons, keys and the pointer, the picture
-after each collection, and what keeps a value."""
+"""The trace in the kept page in a browser, beside trace_model.py: its rows, with the ledger's and without, steps by buttons, keys
+and the pointer, the picture after each collection, and what keeps a value."""
 
 import glob
 import itertools
 import json
 import os
 
+import page_rows
 import trace_check
-from page_heap import edges, nodes, rows
+from page_heap import edges, nodes
 
 TOP = os.path.dirname(os.path.dirname(os.path.abspath(__file__)))
+# Examples of which the ledger's rows are looked at too; those whose messages nobody takes are besides.
+WITH_LEDGER = ["gone", "worker", "two_buffers", "skipped"]
 
 # What the tests call in the page, beside the tools of page_browser.py.
 TOOLS = """
@@ -84,9 +87,13 @@ def examples(count, browser, call):
         name = os.path.basename(path).removesuffix(".json")
         call(browser, "chosen", "examples", name)
         with open(path, "rb") as file:
-            turns, names = trace_check.model(file.read())
-        got = call(browser, "allRows")
-        count.expect(f"{name}: the rows", [*settled(got)], [*settled([*rows(turns, names)])])
+            data = file.read()
+        turns, _ = trace_check.model(data)
+        count.expect(f"{name}: the rows", call(browser, "allRows"), page_rows.rows_of(data, False))
+        if len(turns[-1].ledger_events) > 0 or name in WITH_LEDGER:
+            browser.value("at('ledger').click()")
+            count.expect(f"{name}: the rows with the ledger's", [*settled(call(browser, "allRows"))], [*settled(page_rows.rows_of(data, True))])
+            browser.value("at('ledger').click()")
         heaps = [turn.heap for turn in turns if turn.heap]
         got = call(browser, "collections")
         count.expect(f"{name}: the collections", len(got), len(heaps))
@@ -99,20 +106,27 @@ def steps(count, browser, call):
     """The current row by keys, by the pointer and by buttons; it begins before the first collection."""
     call(browser, "chosen", "examples", "gone")
     where = "at('step').textContent"
-    count.expect("the first row that is shown", browser.value(where), "6 of 12")
+    count.expect("the first row that is shown", browser.value(where), "7 of 13")
     browser.value("at('rows').focus()")
-    for key, code, row in (("ArrowDown", 40, 7), ("ArrowRight", 39, 8), ("ArrowUp", 38, 7), ("ArrowLeft", 37, 6), ("End", 35, 12), ("Home", 36, 1)):
+    for key, code, row in (("ArrowDown", 40, 8), ("ArrowRight", 39, 9), ("ArrowUp", 38, 8), ("ArrowLeft", 37, 7), ("End", 35, 13), ("Home", 36, 1)):
         browser.press(key, code)
-        count.expect(f"{key}", browser.value(where), f"{row} of 12")
+        count.expect(f"{key}", browser.value(where), f"{row} of 13")
     browser.value("document.querySelector('#rows [data-row=\"2\"]').click()")
-    count.expect("a row that is pressed", browser.value("current()"), ["a", "weakref w a", "object 2"])
+    count.expect("a row that is pressed", browser.value("current()"), ["a", "weakref w a", "WeakRef 2 (w)"])
     count.expect("its command", browser.value("step()"), '["weakref", "w", "a"]')
     browser.value("at('to-last').click(), at('back').click(), at('back').click(), at('back').click()")
-    count.expect("that of another row", browser.value("step()"), '["say", "b"]')
+    count.expect("that of another row", browser.value("step()"), '["deref", "b", "w"]')
+    browser.value("at('forward').click()")
     count.expect("that of none", browser.value("at('forward').click(), step()"), None)
     count.expect("what fades is gone at the next event", browser.value(
-        "at('to-collection').click(), [drawn(), at('forward').click(), drawn()].filter(Boolean).map(({ nodes }) => nodes)"),
-        [["var w ", "n1 gone", "n2 "], ["var w ", "n2 "]])
+        "at('to-collection').click(), [drawn(), at('forward').click(), drawn(), at('forward').click(), drawn()].filter(Boolean).map(({ nodes }) => nodes)"),
+        [["var w ", "n1 gone", "n2 "], ["var w ", "n1 gone", "n2 "], ["var w ", "n2 "]])
+    browser.value("at('back').click()")
+    count.expect("the command of a note", browser.value("[step(), document.querySelector('.touched').dataset.key]"), ['["collect"]', "n1"])
+    browser.value("at('ledger').click()")
+    count.expect("the ledger's rows are asked for", browser.value("[at('step').textContent, at('rows').textContent.includes('a ended')]"), ["9 of 14", True])
+    browser.value("at('to-last').click(), at('ledger').click()")
+    count.expect("the row before one of the ledger", browser.value("[at('step').textContent, at('rows').textContent.includes('a ended')]"), ["13 of 13", False])
 
 
 def reasons(count, browser, call):
@@ -120,8 +134,8 @@ def reasons(count, browser, call):
     call(browser, "chosen", "examples", "ephemerons")
     browser.value("at('to-collection').click()")
     count.expect("what keeps an entry's value", browser.value("press(2)"), {
-        "said": ["Why object 2 stayed at the last collection (row 10):", "The variable m holds WeakMap 4.",
-                 "The variable k1 holds object 1.", "WeakMap 4 has object 2 under object 1: both are kept."],
+        "said": ["Why object 2 (made as k2) stayed at the last collection (row 10):", "The variable m holds WeakMap 4.",
+                 "The variable k1 holds object 1.", "WeakMap 4 (m) has object 2 (made as k2) under object 1 (k1): both are kept."],
         "lit": ["var k1", "var m", "n1", "n2", "n4", "e4_1"],
     })
     count.expect("a second press", browser.value("press(2)"), {"said": [], "lit": []})
@@ -129,14 +143,14 @@ def reasons(count, browser, call):
     browser.press("Enter", 13)
     browser.press("ArrowRight", 39)
     said = "[at('why').textContent, document.activeElement.dataset.identity, at('step').textContent]"
-    told = "Why WeakMap 4 stayed at the last collection (row 10):The variable m holds WeakMap 4."
-    count.expect("Enter, and an arrow", browser.value(said), [told, "4", "11 of 24"])
+    told = "Why WeakMap 4 (m) stayed at the last collection (row 10):The variable m holds WeakMap 4."
+    count.expect("Enter, and an arrow", browser.value(said), [told, "4", "11 of 28"])
     browser.press("Escape", 27)
     count.expect("Escape", browser.value("at('why').textContent"), "")
     browser.value("at('to-first').click(); at('forward').click()")
-    count.expect("before a collection", browser.value("press(1).said"), ["No collection has said yet what keeps object 1."])
+    count.expect("before a collection", browser.value("press(1).said"), ["No collection has said yet what keeps object 1 (k1)."])
     browser.value("at('to-last').click()")
-    count.expect("what was emptied", browser.value("[...document.querySelectorAll('#why p')].map((it) => it.textContent)"), ["object 1 was emptied."])
+    count.expect("what was emptied", browser.value("[...document.querySelectorAll('#why p')].map((it) => it.textContent)"), ["object 1 (made as k1) was emptied."])
 
 
 def agents(count, browser, call):
@@ -157,10 +171,14 @@ def large(count, browser, call):
     took = browser.value(f"{begun}.then(() => performance.now() - begun)")
     print(f"the trace of 30,600 commands in the page: {took:.0f} ms")
     count.expect("the time of a long trace", took < 10000, True)
-    said = "There are 301 values: more than 200 can't be read in one picture. Here is what surrounds object 1. A press on another value goes there."
+    said = "There are 301 values: more than 200 can't be read in one picture. Here is what surrounds object 1 (o). A press on another value goes there."
     count.expect("too many", browser.value("at('heap').querySelector('p').textContent"), said)
     count.expect("what is around one", browser.value("drawn().nodes"), ["var o ", "var x ", "n1 ", "n301 "])
-    browser.value("at('to-collection').click(); at('forward').click()")
+    # The collection is row 603, with a row for each of the first hundred.
+    browser.value("at('rows').scrollTop = 22 * 700, rest(100)")
+    browser.value("document.querySelector('#rows [data-row=\"703\"]').click()")
+    count.expect("so many of what was emptied have rows", browser.value("current()"), ["a", "emptied 199 more", ""])
+    browser.value("at('forward').click()")
     count.expect("few again", browser.value("drawn().nodes"), ["var o ", "var x ", "n1 ", "n301 "])
 
 

@@ -6,7 +6,7 @@ const COMMANDS = {
   run: { about: "Runs a plan by turns and writes its report", flags: ["turns"], numbers: { helpers: [1, 8], watch: [0, 1000] }, choices: { engine: ["node"] } },
   check: { about: "Says ok where the file is a plan", flags: [], numbers: {} },
   explain: { about: "Says what the first fault is, and where; or ok", flags: [], numbers: {} },
-  trace: { about: "Runs a plan by turns and writes what happened, a row for each event", flags: ["all", "json", "dot"], numbers: {} },
+  trace: { about: "Runs a plan by turns and writes what happened, a row for each event", flags: ["all", "json", "dot"], numbers: { why: [1, 1_000_000] } },
   plan: { about: "Writes the plan of a script in JavaScript", flags: [], numbers: {} },
 };
 const OPTIONS = {
@@ -16,14 +16,15 @@ const OPTIONS = {
   engine: "Run a script on node's own objects too, and compare its lines",
   all: "Tell of each value that stays what keeps it, not only of what is held weakly",
   json: "Write a line of JSON for each event",
+  why: "Say instead all that leads to value N after each collection",
   dot: "Draw each heap after a collection, in Graphviz's language",
 };
-const VALUES = { helpers: " N", watch: " K", engine: " node" };
+const VALUES = { helpers: " N", watch: " K", engine: " node", why: " N" };
 const USAGE = `Usage: clusterrun
        clusterrun run [FILE] [--turns] [--helpers N] [--watch K] [--engine node]
        clusterrun check [FILE]
        clusterrun explain [FILE]
-       clusterrun trace [FILE] [--all] [--json | --dot]
+       clusterrun trace [FILE] [--all] [--json | --dot | --why N]
        clusterrun plan [FILE]
 `;
 
@@ -55,8 +56,16 @@ function asked([command, ...words]) {
     else if (found.file !== null) throw new Mistake(`'${word}' is a second file`);
     else found.file = word;
   }
-  if (found.options.json && found.options.dot) throw new Mistake("'--json' may not stand beside '--dot'");
+  mayStandTogether(Object.keys(found.options));
   return found;
+}
+
+/** Words of which one alone may stand there. */
+const APART = [["json", "dot"], ["why", "all"], ["why", "json"], ["why", "dot"]];
+
+function mayStandTogether(given) {
+  const wrong = APART.find((pair) => pair.every((name) => given.includes(name)));
+  if (wrong) throw new Mistake(`'--${wrong[0]}' may not stand beside '--${wrong[1]}'`);
 }
 
 function takeOption({ command, options }, word, words) {

@@ -13,7 +13,8 @@ LIBRARY = "es_library"
 MADE = ["clusterrun.mjs", "index.html", "package.json"]
 OTHERS = [
     "play/build.py", "play/*.c", "play/lib/*.py", "play/module/*", "play/page/*", "play/script/*.mjs", "play/syntax/*.mjs",
-    "play/lessons/*.js", "examples/*.json", "examples/README.md", "engines/corpus/*/*.json", "docs/ERRORS.md", "crates/command_line/src/options.rt",
+    "play/lessons/*.js", "examples/*.json", "examples/README.md", "engines/corpus/*/*.json", "docs/ERRORS.md", "docs/SCRIPTS.md",
+    "docs/plan.schema.json", "crates/command_line/src/options.rt",
 ]
 # What only tests of a crate read.
 TESTS = re.compile(r"crates/\w+/src/tests(\.rt|/)")

@@ -1,7 +1,6 @@
 // The picture of a heap, as SVG: roots on the left, then the values by columns.
 
 import { clipped, placedLabels } from "./labels.mjs";
-import { saidOf } from "./said.mjs";
 
 const SVG = "http://www.w3.org/2000/svg";
 const BOX = { width: 112, height: 36 };
@@ -16,9 +15,9 @@ const MOST_LETTERS = 12;
 const SMALLEST = 0.75;
 
 /** Draws a graph by a layout, so wide and high if that can be read, so large (`zoom`), or as large as it fits (`"fit"`). `lit` are the keys of nodes that are to stand
-    out, and of edges as `FROM TO`; `touched` are those of nodes that the step is about; `names` has names of values by their
-    numbers. If a node is `chosen`, what is neither lit nor beside it steps back. */
-export function drawingOf({ nodes, edges }, layout, { width, height, zoom }, { lit, touched, chosen, names }) {
+    out, and of edges as `FROM TO`; `touched` are those of nodes that the step is about; `nameOf` gives the name of a value by its
+    number, and `said` the words of the nodes. If a node is `chosen`, what is neither lit nor beside it steps back. */
+export function drawingOf({ nodes, edges }, layout, { width, height, zoom }, { lit, touched, chosen, nameOf, said }) {
   for (const { shape, key } of nodes) if (shape !== "point") layout.placeOf(key);
   const gap = gapOf(layout.columns, width);
   const placed = nodes.filter(({ shape }) => shape !== "point");
@@ -35,11 +34,10 @@ export function drawingOf({ nodes, edges }, layout, { width, height, zoom }, { l
   const near = chosen === null ? null : besides(chosen, nodes, edges, lit);
   const drawn = [...joined(edges)].map((edge) => ({ ...edge, isLit: isLit(edge), isDim: near !== null && !(near.has(edge.from) && near.has(edge.to)) }));
   for (const edge of drawn) edge.curve = curveOf(spots.get(edge.from), spots.get(edge.to));
-  const words = saidOf(nodes, edges);
   picture.append(heads(), ...drawn.map(lineOf));
   for (const node of nodes) {
     const marks = { lit: lit.has(node.key), touched: touched.has(node.key), dim: near !== null && !near.has(node.key) };
-    picture.append(nodeOf({ ...node, said: words.get(node.key), name: names.get(node.identity) }, spots.get(node.key), marks));
+    picture.append(nodeOf({ ...node, said: said.get(node.key), name: nameOf(node.identity) }, spots.get(node.key), marks));
   }
   picture.append(...placedLabels(drawn, [...spots.values(), ...besidePoints(nodes, spots)], size).map(labelOf));
   return picture;
@@ -179,7 +177,7 @@ function nodeOf(node, spot, marks) {
 
 function rootOf({ key, label, title, identity, said }, { x, y, width, height }) {
   const held = identity === undefined ? { role: "img" } : { "data-identity": identity, role: "button" };
-  return element("g", { "class": "node root", "data-key": key, tabindex: 0, "aria-label": said, ...held },
+  return element("g", { "class": "node root", "data-key": key, tabindex: 0, "aria-label": said.label, ...held },
     element("title", {}, title),
     element("rect", { x: x - width / 2, y: y - height / 2, width, height, rx: height / 2 }),
     element("text", { x, y: y + 4, "text-anchor": "middle" }, clipped(label, MOST_LETTERS)));
@@ -190,8 +188,9 @@ function thingOf({ key, identity, kind, block, isGone, distance, said, name }, {
   const more = [block === null ? null : `block ${block}`, name].filter(Boolean).join(", ");
   return element("g", {
     "class": `node thing ${kind.toLowerCase()}${state}`, "data-key": key, "data-identity": identity, tabindex: 0, role: "button",
-    "aria-label": said,
+    "aria-label": said.label,
   },
+    element("title", {}, said.begun),
     element("rect", { x: x - width / 2, y: y - height / 2, width, height, rx: 6 }),
     element("text", { x, y: y - 4, "text-anchor": "middle", "class": "kind" }, kind),
     element("text", { x, y: y + 12, "text-anchor": "middle", "class": "number" },

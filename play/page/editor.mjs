@@ -11,6 +11,7 @@ export class Editor {
   constructor(area, numbers, marks) {
     Object.assign(this, { area, numbers, marks, starts: [0], place: null, kind: "" });
     area.addEventListener("scroll", () => this.draw());
+    area.addEventListener("keydown", (event) => this.indent(event));
     new ResizeObserver(() => this.draw()).observe(area);
   }
 
@@ -35,6 +36,23 @@ export class Editor {
       had?.focus({ preventScroll: true });
     }
     if (this.text !== text) this.area.value = text;
+  }
+
+  /** Writes letters in the place of others, as if they were typed. */
+  replace(start, end, text) {
+    this.area.setSelectionRange(start, end);
+    document.execCommand("insertText", false, text);
+  }
+
+  /** A new line begins with as many blanks as the one before it, and with two more behind an opening bracket. */
+  indent(event) {
+    if (event.key !== "Enter" || event.ctrlKey || event.metaKey || event.altKey || event.isComposing) return;
+    const { selectionStart: start, selectionEnd: end } = this.area;
+    const line = this.text.slice(this.text.lastIndexOf("\n", start - 1) + 1, start);
+    const blanks = line.match(/^[ \t]*/)[0] + (/[[{(]\s*$/.test(line) ? "  " : "");
+    if (blanks === "") return;
+    event.preventDefault();
+    this.replace(start, end, `\n${blanks}`);
   }
 
   /** Takes the text as it is now, and marks the letters of a place in it, or none. The kind is a class of the mark. */

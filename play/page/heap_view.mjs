@@ -1,11 +1,13 @@
-// The heap in the page: its picture after a row, what is said of it, and why a value of it stays.
+// The heap in the page: its picture after a row, and what is said of it and of the chosen value.
 
+import { Chosen } from "./chosen.mjs";
 import { drawingOf } from "./drawing.mjs";
 import { graphOf, plain } from "./graph.mjs";
 import { Layout, MOST_DRAWN } from "./layout.mjs";
 import { Around, around } from "./around.mjs";
 import { identityOf } from "./replay.mjs";
-import { reason, sourcesOf, wayTo } from "./words.mjs";
+import { linesOf, saidOf } from "./said.mjs";
+import { sourcesOf, wayTo } from "./words.mjs";
 
 /** The variables that hold no object, of which so many are told. */
 const MOST_PLAIN = 12;
@@ -14,15 +16,19 @@ const ZOOM = { least: 0.25, most: 4, step: 1.25 };
 const element = (name, content) => Object.assign(document.createElement(name), { textContent: content });
 
 export class HeapView {
-  /** `at` gives the elements of the page; `numberOf` says in which row an event of the trace is told. */
-  constructor(at, numberOf) {
-    Object.assign(this, { at, numberOf, trace: null, row: -1, from: 0, agent: "", chosen: null, layouts: new Map(), heap: null });
+  /** `at` gives the elements of the page; `rows` says how the list counts and calls rows of the trace, and `ask` asks the engine
+      for the lines of a plan's trace. */
+  constructor(at, rows, ask) {
+    this.told = new Chosen(at, rows, ask);
+    Object.assign(this, { at, trace: null, row: -1, from: 0, about: null, agent: "", chosen: null, layouts: new Map(), heap: null });
+    this.isNew = false;
     /** How large the picture is drawn; "fit" so that all of it is seen, and null so that it can be read. */
     this.zoom = null;
     at("heap").addEventListener("click", (event) => this.choose(event.target));
     at("heap").addEventListener("keydown", (event) => this.press(event));
     for (const [id, by] of [["smaller", 1 / ZOOM.step], ["larger", ZOOM.step]]) at(id).addEventListener("click", () => this.zoomBy(by));
     at("fit").addEventListener("click", () => this.fit());
+    at("reasons").addEventListener("keydown", ({ key }) => { if (key === "Escape") this.focus(`n${this.chosen}`); });
     at("centre").addEventListener("change", () => this.put(Number(at("centre").value)));
     new ResizeObserver(() => this.draw()).observe(at("heap"));
   }
@@ -33,14 +39,16 @@ export class HeapView {
     this.layouts.clear();
   }
 
-  /** Draws the heap of an agent after a step, which goes from one row of the trace to another. */
-  show(agent, { from, row }) {
-    Object.assign(this, { agent, from, row });
+  /** Draws the heap of an agent after a step, which goes from one row of the trace to another. It is about some values, or about
+      those that its commands read and give. */
+  show(agent, { from, row, about = null }) {
+    Object.assign(this, { agent, from, row, about, isNew: false });
     this.draw();
   }
 
   clear() {
-    for (const id of ["heap", "plain", "why", "edges"]) this.at(id).replaceChildren();
+    for (const id of ["heap", "heard", "plain"]) this.at(id).replaceChildren();
+    this.told.clear();
     this.at("legend").hidden = true;
   }
 
@@ -65,12 +73,14 @@ export class HeapView {
     this.tellPlain(agent, heap);
     const size = heap.things.size;
     at("centre").parentElement.hidden = size <= MOST_DRAWN;
+    this.said = new Map();
     if (size + heap.emptied.length === 0) place.replaceChildren(element("p", "There is no object yet."));
     else if (size > MOST_DRAWN) this.paintAround(place, agent, heap);
     else this.paint(place, agent, heap, graphOf(heap, this.emptied()), this.layout(agent));
-    this.at("why").replaceChildren(...this.why(agent, heap));
     this.at("legend").hidden = this.chosen !== null;
-    this.at("edges").textContent = this.chosen === null ? "" : place.querySelector(`[data-key="n${this.chosen}"]`)?.ariaLabel ?? "";
+    if (this.chosen === null) return this.told.clear();
+    const { trace, row, chosen: identity } = this;
+    return this.told.show({ trace, agent, row, heap, identity }, this.said.get(`n${identity}`)?.led ?? []);
   }
 
   /** What the step's collections emptied. */
@@ -82,12 +92,19 @@ export class HeapView {
   paint(place, agent, heap, graph, layout, ...before) {
     const had = place.contains(document.activeElement) ? document.activeElement.dataset.key : null;
     const size = { width: place.clientWidth - 4, height: place.clientHeight - 4, zoom: this.zoom }, touched = this.touched(agent);
-    const { scrollLeft, scrollTop } = place;
-    const marks = { lit: this.lit(agent, heap), touched, chosen: this.chosen === null ? null : `n${this.chosen}`, names: this.trace.names.get(agent) };
+    const { scrollLeft, scrollTop } = place, names = this.trace.names.get(agent);
+    this.said = saidOf(graph.nodes, graph.edges, (identity) => names.told(identity, this.row));
+    this.at("heard").replaceChildren(...linesOf(graph.nodes, this.said).map((line) => element("li", line)));
+    const chosen = this.chosen === null ? null : `n${this.chosen}`;
+    const marks = { lit: this.lit(agent, heap), touched, chosen, nameOf: (identity) => names.nameOf(identity), said: this.said };
     place.replaceChildren(...before, drawingOf(graph, layout, size, marks));
     place.scrollTo(scrollLeft, scrollTop);
-    if (had) place.querySelector(`[data-key="${had}"]`)?.focus({ preventScroll: true });
-    for (const key of touched) reveal(place, place.querySelector(`[data-key="${key}"]`));
+    if (had) this.focus(had);
+    for (const key of this.isNew ? [chosen] : touched) reveal(place, place.querySelector(`[data-key="${key}"]`));
+  }
+
+  focus(key) {
+    this.at("heap").querySelector(`[data-key="${key}"]`)?.focus({ preventScroll: true });
   }
 
   /** Draws what is around the chosen value, or around what the step is about: the whole would be too much. */
@@ -105,12 +122,13 @@ export class HeapView {
 
   paintPart(place, agent, heap, centre, said) {
     const graph = graphOf(heap, this.emptied()), part = around(graph, centre);
-    const what = `Here is what surrounds ${heap.kinds.get(Number(centre.slice(1)))} ${centre.slice(1)}. A press on another value goes there.`;
+    const what = `Here is what surrounds ${this.trace.told(agent, Number(centre.slice(1)), this.row)}. A press on another value goes there.`;
     this.paint(place, agent, heap, part, new Around(part, centre), element("p", `${said} ${what}`));
   }
 
   /** The keys of the values that the step reads or gives, if it is the drawn agent's. */
   touched(agent) {
+    if (this.about !== null) return new Set(this.trace.rows[this.row].agent === agent ? this.about.map((identity) => `n${identity}`) : []);
     const found = new Set();
     for (const { line, agent: actor } of this.trace.rows.slice(this.from, this.row + 1)) {
       if (actor !== agent) continue;
@@ -153,20 +171,23 @@ export class HeapView {
     this.put(identity === this.chosen ? null : identity);
   }
 
+  /** What is said of it takes some of the picture's room: so a new one is shown, as often as the room changes. */
   put(identity) {
     this.chosen = identity;
+    this.isNew = identity !== null;
     this.draw();
   }
 
   press(event) {
-    if (event.ctrlKey || event.metaKey || event.altKey) return;
+    if (event.altKey && event.key === "ArrowDown" && this.told.focus()) return event.preventDefault();
+    if (event.ctrlKey || event.metaKey || event.altKey) return null;
     const does = {
       "Enter": () => this.choose(event.target), " ": () => this.choose(event.target), "Escape": () => this.choose(this.at("heap")),
       "+": () => this.zoomBy(ZOOM.step), "-": () => this.zoomBy(1 / ZOOM.step), "0": () => this.fit(),
     }[event.key];
-    if (!does) return;
+    if (!does) return null;
     does();
-    event.preventDefault();
+    return event.preventDefault();
   }
 
   /** The agent's last collection, and the way to the chosen value that it told; null where nothing is chosen. */
@@ -187,27 +208,6 @@ export class HeapView {
       for (const key of keys) found.add(`${key} ${keys.at(-1) === key ? `n${identity}` : keys.at(-1)}`);
     }
     return found;
-  }
-
-  why(agent, heap) {
-    const way = this.way(agent);
-    if (way === null) return [];
-    const name = (identity) => this.named(agent, heap, identity);
-    const it = name(this.chosen), only = (said) => [element("p", said)];
-    if (!heap.kinds.has(this.chosen)) return only(`${it} is not there yet.`);
-    if (!heap.things.has(this.chosen)) return only(`${it} was emptied.`);
-    if (way.row < 0) return only(`No collection has said yet what keeps ${it}.`);
-    const row = this.numberOf(way.row);
-    if (way.values.length === 0) return only(`The last collection (row ${row}) says of nothing that it keeps ${it}.`);
-    const list = document.createElement("ol");
-    list.append(...way.values.map((identity) => element("li", reason(way.kept.get(identity), identity, name, this.trace))));
-    return [element("p", `Why ${it} stayed at the last collection (row ${row}):`), list];
-  }
-
-  /** A value by its kind and its number, and in a script by the name that it had first. */
-  named(agent, heap, identity) {
-    const first = this.trace.isScript ? this.trace.names.get(agent).get(identity) : undefined;
-    return `${heap.kinds.get(identity) ?? "value"} ${identity}${first ? ` (${first})` : ""}`;
   }
 }
 

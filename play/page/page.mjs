@@ -2,6 +2,7 @@
 
 import { Editor } from "./editor.mjs";
 import { Engine } from "./engine.mjs";
+import { Help } from "./helping.mjs";
 import { isPlan } from "./kinds.mjs";
 import { keep, kept } from "./keeping.mjs";
 import { carriedBy, linkOf, saidOfLink } from "./link.mjs";
@@ -30,7 +31,8 @@ const menu = new Menu(at("menu"), plans, (plan) => {
   forgetLink();
   openPlan(plan);
 });
-const results = new Results(at, editor, { ask: asked });
+const results = new Results(at, editor, { ask: asked, aside: (plan) => asked("trace", plan, { all: true }, true) });
+new Help({ area: at("plan"), list: at("offers"), heard: at("heard-word") }, editor, read("words"));
 /** The example that stands in the editor; null where its text was changed. */
 let opened = null;
 let resting = 0;
@@ -152,12 +154,13 @@ function scriptFault({ message, start, end }) {
   at("fault").append(Object.assign(document.createElement("pre"), { textContent: pointedLine(editor.text, place.start, place.end) }));
 }
 
-/** Asks the engine for a run or a trace, which may be stopped; null where it was. */
-async function asked(call, text, options) {
-  const mine = { call, text };
+/** Asks the engine for a run or a trace, which may be stopped; null where it was. What is asked for aside is not of what is
+    written. */
+async function asked(call, text, options, isAside = false) {
+  const mine = { call, text, isAside };
   running = mine;
   at("stop").hidden = false;
-  setTimeout(() => { if (running === mine) results.say("", "running .."); }, PATIENCE);
+  if (!isAside) setTimeout(() => { if (running === mine) results.say("", "running .."); }, PATIENCE);
   const answer = await engine.ask(call, text, options);
   if (running !== mine) return null;
   running = null;
@@ -177,10 +180,12 @@ function halt() {
 
 function stop() {
   const ended = halt();
+  if (ended?.isAside) return say(at("cut"), "", "Stopped.");
   if (ended?.call === "trace") results.endTrace({ failure: "Stopped." });
   else if (ended !== null) results.stopped(ended.text);
   if (isPlan(editor.text)) look({ runs: false });
   else say(at("fault"), "", "Stopped.");
+  return undefined;
 }
 
 // Links

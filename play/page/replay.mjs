@@ -1,6 +1,8 @@
 // What a run did, from the lines of its trace, and what each agent has after each of them. The engine says what happened and
 // what keeps a value; the heap is made of it here, for the picture.
 
+import { Names } from "./names.mjs";
+
 /** The number of an object or a symbol as a line has it; null of other values. */
 export function identityOf(value) {
   return value?.object ?? value?.symbol ?? null;
@@ -10,15 +12,18 @@ export function identityOf(value) {
 const TEMPORARY = /^_c?\d+$/;
 
 /** The rows of a trace: each is a line, with its agent (null of the ledger's), the place of its command in the plan (null where
-    it has none) and, after a collection, what keeps each value, by its number. The plan says which variable a message goes
-    to. A script's has temporaries, which are not told. */
+    it has none), what KeptAlive takes in or lets go by it, and, after a collection, what keeps each value, by its number. Of a
+    callback that is called it has the target of the registration. The plan says which variable a message goes to. A script's
+    has temporaries, which are not told. */
 export class Trace {
   constructor(text, plan, { isScript = false } = {}) {
+    this.plan = plan;
     this.agents = JSON.parse(plan).agents;
     this.isScript = isScript;
     this.rows = [];
-    /** By agents and numbers: the first variable or property that a value had. */
-    this.names = new Map(this.agents.map(({ name }) => [name, new Map()]));
+    /** By agents: what it has after the last row, and what its values are called. */
+    this.heaps = new Map(this.agents.map(({ name }) => [name, this.heap(name)]));
+    this.names = new Map([...this.heaps].map(([name, { kinds }]) => [name, new Names(kinds, (variable) => this.hides(variable))]));
     /** The blocks that messages carry, the oldest first, by sender and receiver. */
     this.ports = new Map();
     this.runs = new Map(this.agents.map(({ name }, number) => [name, new Run(number)]));
@@ -29,17 +34,38 @@ export class Trace {
 
   add(line) {
     BLOCKS[line.ledger]?.(this, line);
-    if (line.event === "did") this.name(line);
     if (line.event === "kept") this.rows.at(-1).kept.set(line.identity, line.by);
-    else if (line.event) this.rows.push({ line, agent: line.agent, place: this.runs.get(line.agent).placeOf(line), kept: keptBy(line) });
+    else if (line.event) this.addOfAgent(line);
     else this.rows.push({ line, agent: null, place: null, kept: null });
   }
 
+  addOfAgent(line) {
+    const { agent } = line, heap = this.heaps.get(agent);
+    const row = { line, agent, place: this.runs.get(agent).placeOf(line), kept: keptBy(line), takes: null, letsGo: NONE, target: null };
+    if (line.event === "job ends") row.letsGo = [...heap.keptAlive];
+    if (line.event === "taken") row.target = heap.registrations.get(line.registration).first;
+    const before = heap.keptAlive.size;
+    heap.apply(line);
+    if (heap.keptAlive.size > before) row.takes = [...heap.keptAlive].at(-1);
+    this.name(line, heap);
+    this.rows.push(row);
+  }
+
   /** A value without a name gets that of the variable that it is assigned to, or of the property. */
-  name({ agent, command: [word, first, key], values, answer }) {
-    const isSet = word === "set", identity = identityOf(isSet ? values[1] : answer?.gives);
-    const given = isSet ? key : first, names = this.names.get(agent);
-    if (identity !== null && !names.has(identity) && !this.hides(given)) names.set(identity, given);
+  name({ agent, event, command, values, value, answer, held, identities }, heap) {
+    const names = this.names.get(agent), row = this.rows.length;
+    if (event === "message") names.assign(heap.jobs[heap.passed].on[1], identityOf(value), row);
+    if (event === "taken") names.assign("held", identityOf(held), row);
+    if (event === "emptied") names.empty(identities, row);
+    if (event !== "did") return;
+    if (command[0] === "set") names.setProperty(identityOf(values[0]), command[2], identityOf(values[1]), row);
+    if (command[0] === "delete") names.setProperty(identityOf(values[0]), command[3], null, row);
+    if (answer?.gives !== undefined) names.assign(command[1], identityOf(answer.gives), row);
+  }
+
+  /** A value of an agent as it is told after a row. */
+  told(agent, identity, row, known) {
+    return this.names.get(agent).told(identity, row, known);
   }
 
   /** Whether a variable is not told. */
@@ -66,6 +92,7 @@ export class Trace {
   }
 }
 
+const NONE = [];
 const keptBy = ({ event }) => (event === "emptied" ? new Map() : null);
 
 /** How far an agent is in its plan: in which job or callback, and how many commands of it came. */
@@ -215,7 +242,7 @@ const COMMANDS = {
   wsdelete: (_, __, [{ thing }, { identity }]) => thing.members.delete(identity),
   register: (heap, _, [{ identity: registry }, { identity: target }, { value: held }, token]) => {
     heap.registered += 1;
-    heap.registrations.set(heap.registered, { registry, target, held, token: token?.identity ?? null });
+    heap.registrations.set(heap.registered, { registry, target, first: target, held, token: token?.identity ?? null });
   },
   unregister: (heap, _, [{ identity: registry }, { identity: token }]) => {
     for (const [number, cell] of heap.registrations) {

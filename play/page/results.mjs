@@ -18,8 +18,8 @@ export const WITHOUT_TEXT = {
 };
 
 export class Results {
-  /** `ask` asks the engine; it gives null if that is stopped. */
-  constructor(at, editor, { ask }) {
+  /** `ask` asks the engine; it gives null if that is stopped. `aside` asks for the trace of a plan that is not the written one. */
+  constructor(at, editor, { ask, aside }) {
     Object.assign(this, { at, editor, ask });
     /** What was run, and whether it went well; null before the first run. */
     this.text = null;
@@ -29,7 +29,7 @@ export class Results {
     this.plan = null;
     this.script = null;
     this.tabs = new Tabs(at, ["trace", "report", "printed", "planned"], () => this.showTab());
-    this.tracing = new Tracing(at, () => this.markStep());
+    this.tracing = new Tracing(at, () => this.markStep(), aside);
     this.printed = new Printed(at("printed"), (event) => this.tracing.goToEvent(event));
     this.planned = new Planned(at("planned"), (place) => this.tracing.goToPlace(place));
   }

@@ -1,5 +1,5 @@
-// The list of a trace's steps, of which one is the current one. A step may open to what it is made of. Only those that can be
-// seen are drawn, as there may be very many.
+// The list of a trace's steps, of which one is the current one. A step may open to what it is made of, and notes stand below it.
+// Only those that can be seen are drawn, as there may be very many.
 
 /** The height of a row in pixels; page.css has the same. */
 const HEIGHT = 22;
@@ -9,7 +9,7 @@ const AROUND = 2;
 export class Steps {
   /** `choose` is called with the number of a row that is clicked, or gone to by a key. */
   constructor(box, choose) {
-    Object.assign(this, { box, choose, steps: [], rows: [], current: 0 });
+    Object.assign(this, { box, choose, steps: [], rows: [], current: 0, hasLedger: false });
     this.sheet = box.appendChild(Object.assign(document.createElement("div"), { className: "sheet", role: "presentation" }));
     box.addEventListener("scroll", () => this.draw());
     box.addEventListener("click", (event) => this.click(event));
@@ -20,7 +20,7 @@ export class Steps {
   show(steps) {
     this.steps = steps;
     this.list();
-    const agents = new Set(steps.slice(0, 2000).map(({ agent }) => agent));
+    const agents = new Set(this.rows.slice(0, 2000).map(({ agent }) => agent));
     const letters = Math.max(1, ...[...agents].map((agent) => (agent ?? "-").length));
     this.sheet.style.setProperty("--name", `${Math.min(letters, 12)}ch`);
     this.sheet.classList.toggle("alone", agents.size < 2 && steps.some(({ commands }) => commands.length > 0));
@@ -28,17 +28,29 @@ export class Steps {
     this.draw();
   }
 
-  /** The rows: the steps, and below an open one what it is made of. */
+  /** The rows: the steps, and below each what it is made of, if it is open, and its notes. Those of the ledger are there if they
+      are asked for. */
   list() {
-    const some = this.steps.some(({ isOpen }) => isOpen);
-    this.rows = some ? this.steps.flatMap((step) => (step.isOpen ? [step, ...step.commands] : [step])) : this.steps;
+    this.rows = [];
+    const add = (row) => { if (this.hasLedger || row.kind !== "ledger") this.rows.push(row); };
+    for (const step of this.steps) {
+      add(step);
+      if (step.isOpen) step.commands.forEach(add);
+      step.notes.forEach(add);
+    }
     this.sheet.style.height = `${this.rows.length * HEIGHT}px`;
+    this.sheet.style.setProperty("--count", `${String(this.rows.length).length}ch`);
+  }
+
+  /** What a step opens to. */
+  inside({ commands }) {
+    return this.hasLedger ? commands : commands.filter(({ kind }) => kind !== "ledger");
   }
 
   /** Opens a step, or closes it. The current row is that step then. */
   toggle(row) {
     const step = this.rows[row];
-    if (!step || step.commands.length === 0) return;
+    if (!step || this.inside(step).length === 0) return;
     step.isOpen = !step.isOpen;
     this.list();
     this.choose(row);
@@ -84,6 +96,7 @@ export class Steps {
     row.className = `row ${step.kind}${step.may ? " may" : ""}${step.level > 0 ? " inner" : ""}`;
     row.id = `row-${number}`;
     row.dataset.row = number;
+    row.dataset.count = number + 1;
     row.style.top = `${number * HEIGHT}px`;
     row.role = "treeitem";
     row.ariaLevel = step.level + 1;
@@ -91,7 +104,7 @@ export class Steps {
     row.ariaPosInSet = number + 1;
     row.ariaSetSize = this.rows.length;
     row.append(...[step.agent ?? "-", event, answer].map(cell));
-    if (step.commands.length > 0) {
+    if (this.inside(step).length > 0) {
       row.ariaExpanded = step.isOpen;
       row.children[1].prepend(opener(step));
     }

@@ -1,14 +1,16 @@
 // What stands in the list of a trace: of a plan each row; of a script a step for each statement, which opens to its commands.
+// Below them stand notes.
 
 import { identityOf } from "./replay.mjs";
 import { plain } from "./graph.mjs";
+import { notesOf } from "./notes.mjs";
 import { statementAt } from "./statements.mjs";
-import { wordsOf } from "./words.mjs";
+import { letGo } from "./telling.mjs";
 
 /** A row as it is. Its words are found when it is drawn, as there may be very many. */
 class Row {
-  constructor({ line, agent, kept }, row, level = 0, place = null) {
-    Object.assign(this, { line, agent, row, from: row, level, place, commands: [], isOpen: false, may: null, collects: kept !== null });
+  constructor(telling, { line, agent, kept }, row, level = 0, place = null) {
+    Object.assign(this, { telling, line, agent, row, from: row, level, place, commands: [], isOpen: false, may: null, collects: kept !== null });
   }
 
   get kind() {
@@ -16,38 +18,40 @@ class Row {
   }
 
   get words() {
-    return wordsOf(this.line);
+    return this.telling.words(this.row);
+  }
+
+  get notes() {
+    return notesOf(this, this.telling);
   }
 }
 
 /** The steps of a plan's trace. */
-export const rowsOf = (trace) => trace.rows.map((one, row) => new Row(one, row));
+export const rowsOf = (telling) => telling.trace.rows.map((one, row) => new Row(telling, one, row));
 
 /** The steps of a script's trace. `script` has the source, the places of the plan's commands in it, its statements and what it
     printed. */
-export function statementRows(trace, script) {
-  const steps = new Told(trace, script);
-  trace.rows.forEach((row, number) => steps.add(row, number));
+export function statementRows(telling, script) {
+  const steps = new Told(telling, script);
+  telling.trace.rows.forEach((row, number) => steps.add(row, number));
   return steps.all;
 }
 
 /** A trace as it is told by the statements of its script. */
 class Told {
-  constructor(trace, { source, places, statements, lines }) {
-    Object.assign(this, { trace, source, places, statements });
+  constructor(telling, { source, places, statements, lines }) {
+    const { trace } = telling;
+    Object.assign(this, { telling, trace, source, places, statements });
     this.printed = new Map(lines.map((line) => [line.event, line]));
     this.all = [];
-    /** By agents: the step that goes on, the heap, and rows that have no step of their own yet. */
+    /** By agents: the step that goes on, and whether callbacks are called. */
     this.open = new Map();
-    this.heaps = new Map(trace.agents.map(({ name }) => [name, trace.heap(name)]));
+    this.cleaning = new Set();
   }
 
   add(row, number) {
-    const inner = new Row(row, number, 1, this.placeOf(row.place));
-    // What is let go at a job's end is told before it is; what a command makes afterwards.
-    const before = row.line.event === "job ends" ? this.told(row, number) : null;
-    this.heaps.get(row.agent)?.apply(row.line);
-    const told = before ?? (row.agent === null ? null : this.told(row, number));
+    const inner = new Row(this.telling, row, number, 1, this.placeOf(row.place));
+    const told = row.agent === null ? null : this.told(row, number);
     if (row.place) this.command(inner, told);
     else if (told) this.begin(inner, { ...told, statement: null });
     else this.all.at(-1)?.take(inner);
@@ -83,18 +87,20 @@ class Told {
   }
 
   /** What a row says in the words of a script; null where it has no step of its own. */
-  told({ line, agent }, number) {
+  told({ line, agent, letsGo, target }, number) {
     const printed = this.printed.get(number);
     if (printed) return { answer: printed.text, may: printed.may, kind: line.event === "refused" ? "refused" : "say" };
-    return TOLD[line.event]?.(line, { name: (value, variable) => this.named(agent, value, variable), heap: this.heaps.get(agent), trace: this.trace }) ?? null;
+    if (line.event === "cleanup job") this.cleaning.add(agent);
+    const isCleaning = line.event === "job ends" && this.cleaning.delete(agent);
+    const name = (value, known) => this.named(agent, value, number, known);
+    return TOLD[line.event]?.(line, { name, letsGo, target, isCleaning, trace: this.trace }) ?? null;
   }
 
-  /** A value; an object by its kind, its number, and the name that it had first, if that is not the variable's. */
-  named(agent, value, variable) {
+  /** A value after a row; an object by its kind, its number and its name, if that is not known. */
+  named(agent, value, number, known) {
     const identity = identityOf(value);
     if (identity === null) return value === null ? "undefined" : plain(value);
-    const name = this.trace.names.get(agent).get(identity);
-    return `${this.heaps.get(agent).kinds.get(identity) ?? "value"} ${identity}${name && name !== variable ? ` (${name})` : ""}`;
+    return this.trace.told(agent, identity, number, known);
   }
 }
 
@@ -114,6 +120,12 @@ class Step {
   /** What it opens to. */
   get commands() {
     return this.kind === "agent-ends" ? [] : this.inner.filter(({ place, agent }) => agent === null || (place && !place.temporary));
+  }
+
+  /** What the commands say besides, at the place of the statement. */
+  get notes() {
+    const { place, from, row } = this;
+    return this.inner.flatMap(({ notes }) => notes.map((note) => Object.assign(note, { place, from, row })));
   }
 
   /** Whether a command is of the same run of the same statement. */
@@ -148,12 +160,12 @@ const TOLD = {
     return command ? told : { ...told, event: "later collection ends" };
   },
   "message": ({ sender, value }, { name }) => ({ kind: "message", event: `message of ${sender}`, answer: name(value) }),
-  "taken": ({ held }, { name }) => ({ kind: "taken", event: "callback of the registry", answer: `held value ${name(held)}` }),
-  "job ends": (_, { heap, name }) => {
-    const kept = [...heap.keptAlive].map((identity) => name({ object: identity }));
-    const what = heap.isCleaning ? "callbacks end" : "turn ends";
-    return { kind: "job-ends", event: what, answer: kept.length === 0 ? "" : `KeptAlive lets go: ${kept.join(", ")}` };
-  },
+  "taken": ({ held }, { name, target }) => ({
+    kind: "taken", event: `callback of the registry for ${name({ object: target })}`, answer: `held value ${name(held)}`,
+  }),
+  "job ends": (_, { letsGo, name, isCleaning }) => ({
+    kind: "job-ends", event: isCleaning ? "callbacks end" : "turn ends", answer: letGo(letsGo.map((identity) => name({ object: identity }))),
+  }),
   "skipped": ({ sender }) => ({ kind: "skipped", event: `no message of ${sender}`, answer: "its turn is skipped" }),
   "agent ends": ({ agent }) => ({ kind: "agent-ends", event: `${agent} ends`, answer: "" }),
 };

@@ -4,20 +4,26 @@ import { HeapView } from "./heap_view.mjs";
 import { Trace } from "./replay.mjs";
 import { Steps } from "./steps.mjs";
 import { rowsOf, statementRows } from "./steps_of.mjs";
+import { Telling } from "./telling.mjs";
+
+/** The letters of a row that other rows tell. */
+const MOST_LETTERS = 40;
 
 const element = (name, content) => Object.assign(document.createElement(name), { textContent: content });
 
 export class Tracing {
-  /** `at` gives the elements of the page; `changed` is called where another row is the current one. */
-  constructor(at, changed) {
+  /** `at` gives the elements of the page; `changed` is called where another row is the current one, and `ask` asks the engine
+      for the lines of a plan's trace. */
+  constructor(at, changed, ask) {
     Object.assign(this, { at, changed, trace: null, row: 0 });
     this.steps = new Steps(at("rows"), (row) => this.go(row));
-    this.heap = new HeapView(at, (row) => this.numberOf(row));
+    this.heap = new HeapView(at, this, ask);
     for (const [id, by] of [["to-first", -Infinity], ["back", -1], ["forward", 1], ["to-last", Infinity]]) {
       at(id).addEventListener("click", () => this.go(this.row + by));
     }
     at("to-collection").addEventListener("click", () => this.goToCollection());
     at("whose").addEventListener("change", () => this.draw());
+    at("ledger").addEventListener("change", () => this.showLedger(at("ledger").checked));
     at("trace").addEventListener("keydown", (event) => this.step(event));
   }
 
@@ -30,8 +36,21 @@ export class Tracing {
     this.at("whose").parentElement.hidden = names.length < 2;
     this.heap.begin(this.trace);
     if (this.trace === null) this.steps.show([]);
-    else this.steps.show(script ? statementRows(this.trace, script) : rowsOf(this.trace));
+    else this.steps.show(this.listed(script));
     this.go(Math.max(0, this.steps.rows.findIndex(({ collects }) => collects) - 1));
+  }
+
+  listed(script) {
+    const telling = new Telling(this.trace, (row) => this.spelled(row));
+    return script ? statementRows(telling, script) : rowsOf(telling);
+  }
+
+  /** Shows the rows of the ledger or not. The current row stays, or the one before it that is there. */
+  showLedger(isShown) {
+    const { row: event } = this.current ?? { row: 0 };
+    this.steps.hasLedger = isShown;
+    this.steps.show(this.steps.steps);
+    this.go(this.steps.rows.findLastIndex(({ row }) => row <= event));
   }
 
   /** The current step; undefined where there is none. */
@@ -45,9 +64,9 @@ export class Tracing {
     return this.trace?.rows.slice(from, row + 1).flatMap(({ place }) => place ?? []) ?? [];
   }
 
-  /** How many steps there are. */
+  /** How many rows there are. */
   get length() {
-    return this.steps.steps.length;
+    return this.steps.rows.length;
   }
 
   /** Makes a row the current one, or the nearest that there is. */
@@ -55,6 +74,8 @@ export class Tracing {
     const { rows } = this.steps;
     this.row = Math.min(rows.length - 1, Math.max(0, row));
     this.at("step").textContent = rows.length === 0 ? "" : `${this.row + 1} of ${rows.length}`;
+    // A row may be longer than a narrow window.
+    this.at("row-told").textContent = rows.length === 0 ? "" : Object.values(this.current.words).join(" ");
     // A disabled button would lose the focus.
     for (const id of ["to-first", "back"]) this.at(id).ariaDisabled = this.row <= 0;
     for (const id of ["forward", "to-last"]) this.at(id).ariaDisabled = this.row >= rows.length - 1;
@@ -80,6 +101,12 @@ export class Tracing {
   /** The number of the row, from 1, in which an event of the trace is told. */
   numberOf(event) {
     return Math.max(0, this.steps.rows.findIndex(({ from, row }) => from <= event && event <= row)) + 1;
+  }
+
+  /** What the row is called in which an event of the trace is told. */
+  spelled(event) {
+    const number = this.numberOf(event), text = this.steps.rows[number - 1]?.words.event ?? "";
+    return `row ${number} (${text.length > MOST_LETTERS ? `${text.slice(0, MOST_LETTERS - 1)}…` : text})`;
   }
 
   /** The next collection, and after the last one the first. */

@@ -2,11 +2,16 @@
 
 import { plain } from "./graph.mjs";
 
-const valued = (value) => {
+const hasNumber = (value) => value?.object !== undefined || value?.symbol !== undefined;
+
+/** A value with a number as a trace has it. */
+const numbered = (value) => (value.symbol === undefined ? `object ${value.object}` : `symbol ${value.symbol}`);
+
+/** A value in words; `name` says what one with a number is called. */
+function valued(value, name = numbered) {
   if (value === null) return "undefined";
-  const [kind] = Object.keys(Object(value));
-  return kind === "object" || kind === "symbol" ? `${kind} ${value[kind]}` : plain(value);
-};
+  return hasNumber(value) ? name(value) : plain(value);
+}
 
 /** The operands that plans write as names, by the place from which on they do not; the others are literals, texts and numbers. */
 const PLAIN = { let: 1, symbolfor: 1, buffer: 1, load: 2, store: 1, add: 2 };
@@ -16,29 +21,29 @@ function command(words) {
   return words.map((word, place) => (place < from ? word : JSON.stringify(word))).join(" ");
 }
 
-/** The event of a line, and its answer, which is empty where there is none. */
-export function wordsOf(line) {
-  const [event, answer = ""] = line.event ? AGENT[line.event](line) : LEDGER[line.ledger](line);
+/** The event of a line, and its answer, which is empty where there is none; `name` says what values are called. */
+export function wordsOf(line, name = numbered) {
+  const [event, answer = ""] = line.event ? AGENT[line.event](line, name) : LEDGER[line.ledger](line);
   return { event, answer };
 }
 
 const AGENT = {
   "job": ({ job }) => [`job ${job}`],
-  "cleanup job": ({ registry }) => [`cleanup job of object ${registry}`],
-  "message": ({ sender, value }) => [`message of ${sender}`, valued(value)],
-  "did": (line) => [command(line.command), answered(line)],
+  "cleanup job": ({ registry }, name) => [`cleanup job of ${name({ object: registry })}`],
+  "message": ({ sender, value }, name) => [`message of ${sender}`, valued(value, name)],
+  "did": (line, name) => [command(line.command), answered(line, name)],
   "refused": (line) => [line.command ? command(line.command) : "message", `error ${line.error}`],
   "emptied": (line) => [line.command ? command(line.command) : "later collection ends", `emptied ${line.identities.length}`],
-  "taken": ({ registration, held }) => [`registration ${registration} taken`, `cleanup ${registration} held ${valued(held)}`],
+  "taken": ({ registration, held }, name) => [`registration ${registration} taken`, `cleanup ${registration} held ${valued(held, name)}`],
   "job ends": () => ["job ends"],
   "skipped": ({ job, sender }) => [`no message of ${sender}`, `skipped ${job}`],
   "agent ends": () => ["agent ends"],
 };
 
-function answered({ command: [word], values, answer }) {
-  if (word === "say") return `say ${valued(values[0])}`;
+function answered({ command: [word], values, answer }, name) {
+  if (word === "say") return `say ${valued(values[0], name)}`;
   if (answer === null) return "";
-  return answer.keys ? ["keys", ...answer.keys].join(" ") : valued(answer.gives);
+  return answer.keys ? ["keys", ...answer.keys].join(" ") : valued(answer.gives, name);
 }
 
 const message = (what) => ({ sender, receiver }) => [`message ${sender} to ${receiver} ${what}`];
@@ -83,9 +88,10 @@ export function wayTo(kept, identity) {
   return [...found];
 }
 
-/** A sentence on what keeps a value; `name` names values. In a script's trace a temporary is not told by its name. */
+/** A sentence on what keeps a value; `name` names values, and leaves out a name that is known. In a script's trace a temporary is
+    not told by its name. */
 export function reason(by, identity, name, trace) {
-  const it = name(identity);
+  const it = name(identity, by.variable ?? by.property);
   if (by.variable !== undefined) return trace.hides(by.variable) ? `The statement that runs holds ${it}.` : `The variable ${by.variable} holds ${it}.`;
   if (by.keptalive) return `KeptAlive has ${it} until the job ends.`;
   if (by.registry) return `${capital(it)} is kept as a FinalizationRegistry.`;
