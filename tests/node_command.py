@@ -193,6 +193,10 @@ console.log(typeof target);
         0, f"may differ  there\n{' ' * 12}({why})\n{same}object\nmay differ  gone\n{' ' * 12}(Node alone writes it.)\n", ""), unread)
     uncaught = b'setTimeout(() => console.log("later"), 0);\nthrow new TypeError("no");\n'
     yield command.case("an exception beside node", ["run", "--engine=node"], (0, f"{same}Uncaught TypeError: no\n{same}later\n", ""), uncaught)
+    # What a promise is rejected with, in an agent too, and what an agent's body throws.
+    rejected = b'agent("a", async () => { Promise.reject(5); await null; throw new TypeError("body"); });\nPromise.reject(new Error("lost"));\n'
+    yield command.case("rejected promises beside node", ["run", "--engine=node"], (
+        0, "".join(f"{same}Uncaught {line}\n" for line in ("(in promise) Error: lost", "(in promise) 5", "TypeError: body")), ""), rejected)
     plan = command.file("plan_beside.json", EMPTY)
     yield command.case("a plan beside node", ["run", plan, "--engine", "node"],
                        (1, "", f"{plan}: '--engine' takes a script in JavaScript, and this is a plan\n"))

@@ -2,13 +2,14 @@
 // engine may.
 
 import { spawnSync } from "node:child_process";
+import { fileURLToPath } from "node:url";
 import { faultText } from "./script.mjs";
 import { isPlan } from "../page/kinds.mjs";
 import { scriptRun } from "../page/scripting.mjs";
 
 const GOOD = 0, REFUSED = 1, NOT_STARTED = 125;
 const LONGEST = 60_000;
-const PRELUDE = new URL("prelude.mjs", import.meta.url).href;
+const ON_NODE = fileURLToPath(new URL("on_node.mjs", import.meta.url));
 
 /** What a script comes to here and on node: the table of its lines, and the status of a fault where node differs. */
 export function besideNode(name, source, engine) {
@@ -23,7 +24,7 @@ export function besideNode(name, source, engine) {
 
 /** The lines that node writes for a script, which has until LONGEST to end. */
 function linesOnNode(source) {
-  const words = ["--expose-gc", "--import", PRELUDE, "--input-type=module", "-"];
+  const words = ["--expose-gc", ON_NODE];
   const { error, status, signal, stdout, stderr } = spawnSync(process.execPath, words, { input: source, encoding: "utf8", timeout: LONGEST });
   if (error || status !== 0) return { failure: `does not end well: ${error?.code ?? signal ?? status}\n${stderr ?? ""}`.trimEnd() };
   return { lines: stdout.split("\n").slice(0, -1) };
