@@ -38,7 +38,10 @@ const plain = (text) => text.replace(/\b(object|symbol) \d+/g, "$1");
     which lines come is compared. */
 export function compared(ours, theirs, hasChosen) {
   const isOneAgent = new Set(ours.map(({ agent }) => agent)).size < 2;
-  const taken = (isOneAgent ? inOrder : inAnyOrder)(ours.map(({ text }) => plain(text)), theirs);
+  const texts = ours.map(({ text }) => plain(text));
+  // As many as can be of those that every engine prints, and then as many others.
+  const weights = ours.map(({ may }) => (may === null ? ours.length + 1 : 1));
+  const taken = isOneAgent ? inOrder(texts, theirs, weights) : inAnyOrder(texts, theirs);
   const rows = ours.map(({ text, may }, at) => {
     if (taken[at] !== null) return { verdict: SAME, text };
     return may === null ? { verdict: DIFFERS, text, why: "Node does not write it." } : { verdict: MAY, text, why: may };
@@ -48,18 +51,20 @@ export function compared(ours, theirs, hasChosen) {
   return [...rows, ...alone];
 }
 
-/** For each text the place of the same among others, in the order of both, for as many as can be; null for each left out. */
-function inOrder(texts, others) {
+/** For each text the place of the same among others, in the order of both, for as much weight as can be; null for each left out. */
+function inOrder(texts, others, weights) {
   const most = Array.from({ length: texts.length + 1 }, () => new Array(others.length + 1).fill(0));
   for (let i = texts.length - 1; i >= 0; i -= 1) {
     for (let j = others.length - 1; j >= 0; j -= 1) {
-      most[i][j] = texts[i] === others[j] ? most[i + 1][j + 1] + 1 : Math.max(most[i + 1][j], most[i][j + 1]);
+      const without = Math.max(most[i + 1][j], most[i][j + 1]);
+      most[i][j] = texts[i] === others[j] ? Math.max(most[i + 1][j + 1] + weights[i], without) : without;
     }
   }
   let j = 0;
   return texts.map((text, i) => {
-    while (j < others.length && text !== others[j] && most[i][j + 1] === most[i][j]) j += 1;
-    return j < others.length && text === others[j] ? j++ : null;
+    while (j < others.length && most[i][j + 1] === most[i][j]) j += 1;
+    const isTaken = j < others.length && text === others[j] && most[i][j] === most[i + 1][j + 1] + weights[i];
+    return isTaken ? j++ : null;
   });
 }
 
