@@ -16,17 +16,26 @@ export interface AgentPlaces {
 }
 
 /** What a script does with a variable, after so many of its agent's commands (`at`): it gets a value, an object or a symbol by its
-    number in the plan; or that is read. Or a function, by its number, may from now on read some variables when it is called. A
+    number in the plan; or that is read, in a job counted from 1. Or a function, by its number, may from now on read some variables when it is called. A
     `this`, and what an expression or the host still needs, is a variable without a name of the script. */
 export type Use =
   | { at: number; variable: number; name: string | null; identity: number | null }
-  | { at: number; variable: number; isRead: true }
+  | { at: number; variable: number; isRead: true; job: number }
   | { at: number; callee: number; variables: number[] };
 
-/** The uses of an agent's variables, in order. */
+/** What calls a job: a task by its number, and the function of the script that a timer calls; null of other tasks. */
+export interface Call {
+  task: number;
+  callee: { start: number; end: number } | null;
+}
+
+/** The uses of an agent's variables, in order; after how many commands of the agent `main` it was begun; and what called each job, with the
+    calls that waited then and that an engine may make before this one. */
 export interface AgentUses {
   name: string;
+  begunAfter: number;
   uses: Use[];
+  calls: (Call & { unsure: Call[] })[];
 }
 
 /** What a script becomes: the plan, its text with a command on each line, the places of its commands, the uses of its variables, and

@@ -193,6 +193,7 @@ COMPARED = [
     ([("a", "x", None), ("a", "y", None)], ["y"], True, [("differs", "x"), ("same", "y")]),
     ([("a", "x", None), ("b", "y", None)], ["y", "x"], False, [("same", "x"), ("same", "y")]),
     ([("a", "x", None), ("b", "x", None)], ["x"], False, [("same", "x"), ("differs", "x")]),
+    ([("a", "x", "why"), ("a", "y", None)], ["y", "x"], True, [("may differ", "x"), ("same", "y"), ("may differ", "x")]),
     ([("a", "object 3", None)], ["object", "y"], False, [("same", "object 3"), ("differs", "y")]),
 ]
 COMPARE = """
@@ -211,6 +212,13 @@ def of_lines_compared(count):
     found = json.loads(said or "[]")
     for number, (*_, wanted) in enumerate(COMPARED):
         count.expect(f"lines {number}", found[number] if number < len(found) else err, [list(row) for row in wanted])
+
+
+# The collections take node longer than both timers, so the interval comes late, and its next call not at all.
+LATE = b"""const timer = setInterval(() => console.log("tick"), 10);
+setTimeout(() => { clearInterval(timer); console.log("end"); }, 25);
+for (let i = 0; i < 300; i++) gc();
+"""
 
 
 def of_engine(command):
@@ -240,6 +248,12 @@ console.log(typeof target);
         0, f"may differ  there\n{' ' * 12}({why})\n{same}object\nmay differ  gone\n{' ' * 12}(Node alone writes it.)\n", ""), unread)
     uncaught = b'setTimeout(() => console.log("later"), 0);\nthrow new TypeError("no");\n'
     yield command.case("an exception beside node", ["run", "--engine=node"], (0, f"{same}Uncaught TypeError: no\n{same}later\n", ""), uncaught)
+    # What a promise is rejected with, in an agent too, and what an agent's body throws.
+    rejected = b'agent("a", async () => { Promise.reject(5); await null; throw new TypeError("body"); });\nPromise.reject(new Error("lost"));\n'
+    yield command.case("rejected promises beside node", ["run", "--engine=node"], (
+        0, "".join(f"{same}Uncaught {line}\n" for line in ("(in promise) Error: lost", "(in promise) 5", "TypeError: body")), ""), rejected)
+    why = f"{' ' * 12}(A timer may come later than its time.)\n"
+    yield command.case("a timer that comes late", ["run", "--engine=node"], (0, f"{same}tick\nmay differ  tick\n{why}{same}end\n", ""), LATE)
     plan = command.file("plan_beside.json", EMPTY)
     yield command.case("a plan beside node", ["run", plan, "--engine", "node"],
                        (1, "", f"{plan}: '--engine' takes a script in JavaScript, and this is a plan\n"))

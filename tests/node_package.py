@@ -10,7 +10,7 @@ import running
 
 TOP = os.path.dirname(os.path.dirname(os.path.abspath(__file__)))
 EXAMPLES = os.path.join(TOP, "examples")
-PAGES = ["effects", "graph", "json", "judging", "kinds", "leading", "names", "places", "replay", "scripting", "shape", "statements", "used", "words"]
+PAGES = ["calls", "effects", "graph", "json", "judging", "kinds", "leading", "names", "places", "replay", "scripting", "shape", "statements", "used", "words"]
 PACKED = [
     "LICENSE-APACHE", "LICENSE-MIT", "README.md", "bin.mjs", "clusterrun.d.ts", "clusterrun.mjs", "lessons/node.mjs", "package.json", "plan.schema.json",
     "script.d.ts", "script.mjs", "trace.schema.json", *(f"page/{name}.mjs" for name in PAGES),

@@ -102,7 +102,7 @@ JUDGED = [
     # A parameter, and what a timer will read.
     ("async function f(o) { const r = new WeakRef(o); await turn(); gc(); console.log(r.deref() === o); await turn(); gc(); "
      "console.log(r.deref() !== undefined); } await f({}); console.log('end');", ["true", "*true", "end"]),
-    ("const o = { p: 1 }, r = new WeakRef(o); setTimeout(() => console.log(o.p), 50); await turn(); gc(); console.log(r.deref() !== undefined);", ["true", "1"]),
+    ("const o = { p: 1 }, r = new WeakRef(o); await turn(); setTimeout(() => console.log(o.p), 5); gc(); console.log(r.deref() !== undefined);", ["true", "1"]),
     # `this` is read as a variable is.
     ("class A { async f() { const r = new WeakRef(this); await turn(); gc(); console.log(r.deref() === this); await turn(); gc(); "
      "console.log(r.deref() !== undefined); } } await new A().f();", ["true", "*true"]),
@@ -143,6 +143,38 @@ JUDGED = [
     # A choice comes to another agent with a message.
     ("agent('a', async () => { const r = new WeakRef({}); await turn(); gc(); postMessage(r.deref() === undefined, 'b'); }); "
      "agent('b', async () => { console.log(1); console.log(await message('a')); });", ["1", "*true"]),
+    # And to one that was begun after it, by variables, or as it may not be begun.
+    ("const r = new WeakRef({}); await turn(); const is = r.deref() !== undefined; agent('a', () => { console.log(is); console.log(1); });", ["*true", "1"]),
+    ("const r = new WeakRef({}); await turn(); if (r.deref()) agent('a', () => console.log(1));", ["*1"]),
+    ("agent('a', () => console.log(1)); function f() { return 1; } const r = new WeakRef({}); await turn(); if (r.deref()) f(); console.log(2);", ["*2", "1"]),
+    # Each agent has its own object of a class, and its own use of it.
+    ("class A {} class B {} const r = new WeakRef(A); agent('a', () => { new WeakRef(B); new WeakRef(A); }); await turn(); gc(); "
+     "console.log(r.deref() !== undefined); console.log(typeof A);", ["true", "function"]),
+    ("class A {} agent('a', async () => { const r = new WeakRef(A); await turn(); gc(); console.log(r.deref() !== undefined); console.log(typeof A); "
+     "await turn(); gc(); console.log(r.deref() !== undefined); });", ["true", "function", "*true"]),
+    # Of two timers one that was set earlier and is not longer comes first. A turn is one of 5 ms.
+    ("setTimeout(() => console.log(1), 5); setTimeout(() => console.log(2), 5); await turn(); console.log(3); setTimeout(() => console.log(4), 9);", list("1234")),
+    ("setTimeout(() => console.log(1), 1); setTimeout(() => console.log(0), 0);", ["1", "*0"]),
+    ("setTimeout(() => console.log(2), 50); await turn(); console.log(1);", ["1", "*2"]),
+    ("const t = setInterval(() => console.log(1), 10); setTimeout(() => { clearInterval(t); console.log(2); }, 25);", ["1", "*1", "2"]),
+    ("setImmediate(() => console.log(1)); setTimeout(() => console.log(2), 0);", ["1", "*2"]),
+    ("let n = 0; const t = setInterval(() => { console.log(1); if (n) clearInterval(t); n = 1; }, 5); const u = setInterval(() => { console.log(2); "
+     "if (n) clearInterval(u); }, 5);", list("121")),
+    # An interval is set again after its call, in a browser after what comes of that.
+    ("let n = 0; const t = setInterval(() => { console.log(1); if (n++) clearInterval(t); else setTimeout(() => console.log(2), 5); }, 5);", list("121")),
+    ("let n = 0; const t = setInterval(() => { console.log(1); if (n++) clearInterval(t); else queueMicrotask(() => setTimeout(() => console.log(2), 5)); }, 5);",
+     ["1", "1", "*2"]),
+    # In a chain of more than five timers one of 1 ms has 4 ms in a browser.
+    ("setTimeout(() => { setTimeout(() => console.log(2), 3); console.log(1); }, 1);", ["1", "2"]),
+    # What a timer changes and reads, it may change and read before, or later.
+    ("let n = 0; setTimeout(() => { n = 1; }, 50); await turn(); console.log(n); console.log(2);", ["*0", "2"]),
+    ("function f() { console.log(2); } setTimeout(() => f(), 50); console.log(0); await turn(); console.log(1);", ["0", "*1", "*2"]),
+    ("const o = { p: 1 }, r = new WeakRef(o); setTimeout(() => console.log(o.p), 50); await turn(); gc(); console.log(r.deref() !== undefined);", ["*true", "*1"]),
+    # Two that wait, of which neither calls a function of the script.
+    ("const rest = (ms) => new Promise((go) => setTimeout(go, ms)); async function f() { await rest(20); console.log(2); } f(); console.log(0); await rest(10); "
+     "console.log(1);", ["0", "*1", "*2"]),
+    # A message may come at any time.
+    ("agent('a', async () => { setTimeout(() => console.log(2), 1); console.log(await message('main')); }); postMessage(1, 'a');", ["1", "*2"]),
 ]
 
 

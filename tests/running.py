@@ -13,16 +13,16 @@ WAYS = {
     "watched": (["--watch", "1000"], "audits 1000\n"),
 }
 OUT_OF_MEMORY = (3, "", "out of memory\n")
-LIMIT = 60  # the seconds of a run
+LIMIT = 300  # the seconds of a run, on a machine that may be loaded
 
 
 def answer(words, data=b"", limit=LIMIT, **how):
-    """The status (below 0 the signal that ended it), what was written, and what stands on standard error; or that the
-    run did not end."""
+    """The status (below 0 the signal that ended it), what was written, and what stands on standard error. A run that does
+    not end has None for its status, and what is said of that in the place of an error."""
     try:
         ran = subprocess.run(words, input=data, capture_output=True, timeout=limit, check=False, **how)
     except subprocess.TimeoutExpired:
-        return f"no end after {limit} seconds"
+        return None, "", f"no end after {limit} seconds"
     return ran.returncode, ran.stdout.decode(errors="replace"), ran.stderr.decode(errors="replace")
 
 

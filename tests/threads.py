@@ -55,7 +55,7 @@ import time
 import random_plans
 import rules
 
-LIMIT = 60  # the seconds of a run
+LIMIT = 300  # the seconds of a run
 MOST = 16384  # the most words of a block
 TOGETHER = 20  # the runs whose times count or do not count together
 PAIRS = 5

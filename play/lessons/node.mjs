@@ -49,7 +49,11 @@ Object.assign(globalThis, {
     return blockOf(both[0]) === blockOf(both[1]);
   },
   agent(name, body) {
-    setTimeout(() => current.run(name, () => body()), 0);
+    setTimeout(() => {
+      const ended = current.run(name, () => body());
+      // What a body throws is no promise's, as in a worker.
+      if (ended instanceof Promise) ended.catch((error) => queueMicrotask(() => { throw error; }));
+    }, 0);
   },
   postMessage(value, receiver) {
     const { messages, waiting } = port(self(), receiver);

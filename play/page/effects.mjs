@@ -16,9 +16,10 @@ const LEAVING = new Set([
 export class Effects {
   constructor(statements) {
     this.statements = statements.filter(({ isParameters }) => !isParameters);
-    this.own = new Set(statements.flatMap(({ node }) => [...within(node)].flatMap(nameOfMethod)));
-    /** The names of variables that have a choice. */
-    this.names = new Set();
+    this.all = new Set(statements.flatMap(({ node }) => [...within(node)]));
+    this.own = new Set([...this.all].flatMap(nameOfMethod));
+    /** The names of variables that have a choice, each with why an engine may choose. */
+    this.names = new Map();
     /** The statements that have one, each with why an engine may choose. */
     this.nodes = new Map();
     /** Why all that follows hangs on a choice; null where it does not. */
@@ -55,22 +56,34 @@ export class Effects {
 
   nameIsChosen(name, reason) {
     if (this.names.has(name)) return;
-    this.names.add(name);
+    this.names.set(name, reason);
     for (const { node } of this.statements) if (mentions(node, name)) this.choose(node, reason);
   }
 
   /** A FinalizationRegistry is made: from now on its callback may be called at any time. */
   begin(node, reason) {
     const made = node && [...within(node)].find(({ type, callee }) => type === "NewExpression" && callee.name === "FinalizationRegistry");
-    const body = made && this.functionOf(made.arguments[0])?.body;
-    if (!body) this.ofAll ??= reason;
-    else for (const part of body.type === "BlockStatement" ? body.body : [body]) this.beginPart(part, reason);
+    this.beginCall(made && this.functionOf(made.arguments[0]), reason);
   }
 
-  /** A part of a callback's body. It prints, and that is all, or what it changes hangs on a choice. */
-  beginPart(node, reason) {
-    if (!givenNames(node) && this.isContained(node)) return;
-    this.choose(node, reason);
+  /** A function may be called at any time from now on, unless it is not known. It prints, and that is all, or what it changes hangs
+      on a choice. */
+  beginCall(callee, reason) {
+    if (!callee) this.ofAll ??= reason;
+    else for (const part of partsOfBody(callee)) if (!this.isQuiet(part)) this.choose(part, reason);
+  }
+
+  /** Whether all that a function at some place does is to print. */
+  onlyPrints(place) {
+    return partsOfBody(this.functionAt(place)).every((part) => this.isQuiet(part));
+  }
+
+  isQuiet(node) {
+    return !givenNames(node) && this.isContained(node);
+  }
+
+  functionAt({ start, end }) {
+    return [...this.all].find((node) => node.start === start && node.end === end && node.body);
   }
 
   /** The function that an expression is, or that its name was declared as. */
@@ -113,6 +126,8 @@ function nameOfMethod({ type, key, kind, method }) {
   const isMethod = type === "MethodDefinition" || (type === "Property" && (method || kind !== "init"));
   return isMethod && key.type === "Identifier" ? [key.name] : [];
 }
+
+const partsOfBody = ({ body }) => (body.type === "BlockStatement" ? body.body : [body]);
 
 /** Whether a node is a whole statement, which gives nothing to what stands around it. */
 const isWhole = ({ type }) => type === "ExpressionStatement" || type === "IfStatement" || type === "BlockStatement";

@@ -2,6 +2,7 @@
 // when it calls the callbacks of a FinalizationRegistry. docs/PAGE.md has the criterion.
 
 import { placed } from "../script/lines.mjs";
+import { orderOf } from "./calls.mjs";
 import { Effects } from "./effects.mjs";
 import { Heap, identityOf } from "./replay.mjs";
 import { statementAt } from "./statements.mjs";
@@ -11,6 +12,7 @@ const REASONS = {
   callback: "An engine calls this callback when it likes, or never.",
   deref: "An engine may collect sooner or later, or never.",
   unread: (name) => `Nothing that runs later reads ${name ? `what '${name}' holds` : "the variables that lead to it"}, so an engine may let go of it.`,
+  timer: "A timer may come later than its time.",
   after: (why) => `What came before may be otherwise in another engine. ${why}`,
 };
 
@@ -31,26 +33,32 @@ export function judged(lines, trace, { places, uses, statements }) {
 class Judge {
   constructor(places, uses, statements) {
     this.statements = statements;
-    this.agents = new Map(places.map(({ name, jobs }, at) => [name, new Agent(jobs, uses[at].uses, new Effects(statements))]));
+    this.agents = new Map(uses.map((one) => [one.name, new Agent(one, new Effects(statements))]));
+    this.main = this.agents.get("main") ?? null;
   }
 
   /** Takes over an event, and says why a line that it ends may be otherwise; null where it may not. */
   see(line, place) {
     const agent = this.agents.get(line.agent);
     if (!agent) return null;
-    if (line.command) agent.used.command();
+    if (line.command) agent.count();
+    if (line.event === "job") agent.beginJob(line.job);
+    if (this.main !== null && agent !== this.main) agent.takeOver(this.main);
     const reason = agent.effects.isAll ? null : (agent.chooses(line) ?? (this.comes(line) ? REASONS.deref : null));
     const statement = place && statementAt(this.statements, place);
     if (reason !== null) agent.effects.choose(statement?.node ?? null, reason);
     agent.apply(line, statement);
+    agent.note();
     if (!place) return null;
     if (agent.isCleaning) return REASONS.callback;
+    if (agent.isLoose) return REASONS.timer;
     return agent.effects.reasonAt(place) ?? (agent.effects.isAll ? REASONS.after(agent.effects.ofAll) : null);
   }
 
   /** Whether an engine may choose anything: what is asked for, or whether a callback comes. */
   get hasChosen() {
-    return [...this.agents.values()].some(({ effects, heap }) => effects.hasChosen || effects.nodes.size > 0 || heap.registered > 0);
+    return [...this.agents.values()].some(({ effects, heap, order }) => (
+      effects.hasChosen || effects.nodes.size > 0 || heap.registered > 0 || order.some(({ isLoose }) => isLoose)));
   }
 
   /** Whether something comes from another agent for which something was chosen. */
@@ -62,17 +70,44 @@ class Judge {
 
 /** An agent as far as it has run. */
 class Agent {
-  constructor(jobs, uses, effects) {
-    this.heap = new Heap({ jobs: jobs.map(() => ({ on: ["", ""] })) });
-    this.used = new Used(uses, (name) => effects.names.has(name));
-    this.effects = effects;
+  constructor({ uses, calls, begunAfter }, effects) {
+    Object.assign(this, { effects, begunAfter, order: orderOf(calls, effects) });
+    this.heap = new Heap({ jobs: calls.map(() => ({ on: ["", ""] })) });
+    this.used = new Used(uses, (name) => effects.names.has(name), (job) => this.order[job - 1].isLoose);
     this.isCleaning = false;
+    /** Whether another engine may have begun the job that runs before, or may begin it later. */
+    this.isLoose = false;
+    this.commands = 0;
+    /** After how many commands all that follows hangs on a choice. */
+    this.allAfter = Infinity;
     /** What KeptAlive has in every engine: not what a deref gave that may give nothing. */
     this.keptAlive = new Set();
     /** Where FinalizationRegistries were made in the job that runs: no callback is called before its end. */
     this.made = [];
     /** The tokens of registrations that were taken, with the numbers of their registries. */
     this.taken = new Set();
+  }
+
+  count() {
+    this.commands += 1;
+    this.used.command();
+  }
+
+  note() {
+    if (this.effects.isAll) this.allAfter = Math.min(this.allAfter, this.commands);
+  }
+
+  beginJob(job) {
+    const { isLoose, isSure, begins } = this.order[job - 1];
+    this.isLoose = isLoose;
+    for (const callee of begins) this.effects.beginCall(this.effects.functionAt(callee), REASONS.timer);
+    if (!isSure) this.effects.ofAll ??= REASONS.timer;
+  }
+
+  /** What was chosen for the agent around this one: whether this one was begun, and in variables that this one may read. */
+  takeOver({ effects, allAfter }) {
+    if (allAfter <= this.begunAfter) this.effects.ofAll ??= effects.ofAll;
+    for (const [name, reason] of effects.names) this.effects.nameIsChosen(name, reason);
   }
 
   /** Why an engine may choose what a command asks for: it was emptied, or may be at any time. Null where it may not. */
@@ -111,7 +146,7 @@ class Agent {
   }
 
   endJob() {
-    this.isCleaning = false;
+    this.isCleaning = this.isLoose = false;
     this.keptAlive.clear();
     for (const node of this.made.splice(0)) this.effects.begin(node, REASONS.deref);
   }

@@ -12,9 +12,9 @@ export class Used {
   /** The variables that a function may read, by the function's number. */
   #captured = new Map();
 
-  /** A variable of some names is doubtful: an engine may choose what it holds. */
-  constructor(uses, isDoubtful) {
-    this.uses = withNext(uses);
+  /** A variable of some names is doubtful: an engine may choose what it holds. What a loose job reads it may have read before. */
+  constructor(uses, isDoubtful, isLoose) {
+    this.uses = withNext(uses.filter(({ job }) => job === undefined || !isLoose(job)));
     this.isDoubtful = isDoubtful;
     this.holds = (heap, identity) => this.#heldBy(heap, identity);
   }

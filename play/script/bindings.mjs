@@ -21,7 +21,10 @@ export class Binding {
 
   /** The value, which from now on some variable of the plan holds. */
   read(node, writer, temporaries) {
-    if (this.scope.agent.writer !== writer) return this.value;
+    if (this.scope.agent.writer !== writer) {
+      this.scope.agent.world.common.read(this.value);
+      return this.value;
+    }
     writer.uses.read(this);
     if (this.isCaptured) {
       const { environment } = this.scope;

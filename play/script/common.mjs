@@ -35,9 +35,17 @@ function codeOf(callee) {
   return [...found].every((thing) => isFunction(thing) || prototypes.has(thing)) ? found : null;
 }
 
+/** The map of an agent, in a map. */
+function mapOf(maps, agent) {
+  if (!maps.has(agent)) maps.set(agent, new Map());
+  return maps.get(agent);
+}
+
 export class Common {
   #things = new Set();
+  /** By agents and things: what the agent's plan has of the thing, and what holds it there. */
   #states = new Map();
+  #holding = new Map();
   #current = null;
 
   /** From now on an agent runs. */
@@ -62,16 +70,24 @@ export class Common {
     return true;
   }
 
-  /** A thing is from now on as an agent knows it. What an agent has of it, it holds to its end. */
-  #turn(thing, agent) {
-    this.#known(this.#current).set(thing, stateOf(thing));
-    const known = this.#known(agent).get(thing);
-    Object.assign(thing, known ?? newState());
-    if (known === undefined) new Held(WHOLE, agent.writer, thing.properties.get("name")?.value || "prototype", thing, []);
+  /** The agent that runs reads a variable of another one. */
+  read(thing) {
+    mapOf(this.#holding, this.#current).get(thing)?.use(this.#current.writer);
   }
 
-  #known(agent) {
-    if (!this.#states.has(agent)) this.#states.set(agent, new Map());
-    return this.#states.get(agent);
+  /** The number of a thing in an agent's plan. */
+  numberOf(thing, agent) {
+    const isCurrent = agent === this.#current || !this.#things.has(thing);
+    return isCurrent ? thing.number : (mapOf(this.#states, agent).get(thing)?.number ?? 0);
+  }
+
+  /** A thing is from now on as an agent knows it. What an agent has of it, it holds to its end. */
+  #turn(thing, agent) {
+    mapOf(this.#states, this.#current).set(thing, stateOf(thing));
+    const known = mapOf(this.#states, agent).get(thing);
+    Object.assign(thing, known ?? newState());
+    if (known !== undefined) return;
+    const held = new Held(WHOLE, agent.writer, thing.properties.get("name")?.value || "prototype", thing, []);
+    mapOf(this.#holding, agent).set(thing, held);
   }
 }

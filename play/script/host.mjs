@@ -5,6 +5,7 @@ import { Held } from "./bindings.mjs";
 import { ownFunction } from "./common.mjs";
 import { runWhole } from "./coroutines.mjs";
 import { ScriptFault } from "./faults.mjs";
+import { IMMEDIATE, TIMERS } from "./order.mjs";
 import { newPromise, resolve } from "./promises.mjs";
 import { nameOfError, sayValues, shown } from "./saying.mjs";
 import { Sym, Thing, hasIdentity, isCallable, isThing } from "./values.mjs";
@@ -51,23 +52,27 @@ class Timer {
 function installTimers(realm) {
   const timers = new Map();
   let last = 0;
-  const set = (isRepeated) => function* (cx, node, self, [callback, delay, ...values]) {
+  const set = ({ isRepeated = false, queue = TIMERS }) => function* (cx, node, self, [callback, delay, ...values]) {
     if (!isCallable(callback)) raise(cx, node, "TypeError", 'The "callback" argument must be of type function.');
     const id = (last += 1);
     const timer = new Timer(cx, node, [callback, ...values]);
     timers.set(id, timer);
-    const wait = Math.max(1, Math.trunc(Number(delay)) || 0);
+    const wait = Math.max(0, Math.trunc(Number(delay)) || 0);
+    const setFor = (agent, more) => { timer.task = agent.schedule(node, Math.max(1, wait), go, { queue, wait, callee: callback, ...more }); };
     const go = function* (inner) {
       timer.rounds += 1;
       if (timer.rounds > MOST_ROUNDS) {
         throw new ScriptFault("this interval is called more than 100 times: a plan has an end; clearInterval ends it", node);
       }
-      if (isRepeated) timer.task = inner.agent.schedule(node, wait, go);
-      else timer.use(inner.writer);
-      yield* realm.invoke(inner, node, callback, undefined, values);
-      if (!isRepeated) clear(inner, node, id);
+      if (!isRepeated) timer.use(inner.writer);
+      try {
+        yield* realm.invoke(inner, node, callback, undefined, values);
+      } finally {
+        if (!isRepeated) clear(inner, node, id);
+        else if (timers.has(id)) setFor(inner.agent, { isAgain: true });
+      }
     };
-    timer.task = cx.agent.schedule(node, wait, go);
+    setFor(cx.agent);
     return id;
   };
   const clear = (cx, node, id) => {
@@ -78,9 +83,10 @@ function installTimers(realm) {
     timer.end(node, cx.writer);
   };
   const clearing = function* (cx, node, self, [id]) { clear(cx, node, id); };
-  const timing = { setTimeout: set(false), setInterval: set(true), clearTimeout: clearing, clearInterval: clearing };
+  const timing = { setTimeout: set({}), setInterval: set({ isRepeated: true }), clearTimeout: clearing, clearInterval: clearing, clearImmediate: clearing };
   for (const [name, act] of Object.entries(timing)) realm.define(name, realm.native(name, act));
-  realm.define("setImmediate", realm.native("setImmediate", (cx, node, self, [callback]) => set(false)(cx, node, self, [callback, 0])));
+  const immediate = set({ queue: IMMEDIATE });
+  realm.define("setImmediate", realm.native("setImmediate", (cx, node, self, [callback, ...values]) => immediate(cx, node, self, [callback, 0, ...values])));
 }
 
 function installTurns(realm) {
@@ -90,7 +96,7 @@ function installTurns(realm) {
     cx.agent.schedule(node, TURN, function* (inner) {
       yield* resolve(inner, node, promise, undefined);
       held.end(node, inner.writer);
-    });
+    }, { queue: TIMERS, wait: TURN });
     return promise;
   }));
   realm.define("queueMicrotask", realm.native("queueMicrotask", function* (cx, node, self, [callback]) {
@@ -136,8 +142,9 @@ function installAgents(realm) {
   realm.define("message", realm.native("message", function* (cx, node, self, [name]) {
     const promise = newPromise(cx.agent);
     const held = new Held(node, cx.writer, "message", promise, cx.temporaries);
+    const sender = nameOfAgent(cx, node, name);
     cx.agent.schedule(node, 0, null, {
-      sender: nameOfAgent(cx, node, name),
+      queue: `messages of ${sender}`, sender,
       received: (inner, value) => {
         runWhole(resolve(inner, node, promise, value));
         held.end(node, inner.writer);

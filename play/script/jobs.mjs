@@ -9,6 +9,7 @@ import { Again, ScriptFault, Thrown } from "./faults.mjs";
 import { nameLike } from "./keys.mjs";
 import { proceed } from "./promises.mjs";
 import { installAll } from "./installing.mjs";
+import { comesFirst, placeOf } from "./order.mjs";
 import { Writer } from "./writer.mjs";
 import { Thing, hasIdentity, isInPlan, planned } from "./values.mjs";
 
@@ -30,22 +31,31 @@ export class Agent {
   hasEnded = false;
   isCleaning = false;
   #order = 0;
+  /** Of how many timers in a chain the last one called what runs. */
+  #level = 0;
   #registries = 0;
 
-  /** An agent begins after some steps of the script. */
-  constructor(world, name, begun) {
-    Object.assign(this, { world, name, begun });
+  /** An agent begins after some steps of the script, and after some commands of the agent around it. */
+  constructor(world, name, begun, begunAfter) {
+    Object.assign(this, { world, name, begun, begunAfter });
     this.writer = new Writer(world.found.answers.get(name));
     this.realm = installAll(this);
   }
 
   // Tasks
 
-  /** Something is to be done in a job of its own. */
-  schedule(node, delay, act, more = {}) {
-    const task = { node, time: this.now + delay, order: (this.#order += 1), act, ...more };
+  /** Something is to be done in a job of its own, where a timer calls a function (`callee`). An interval is set again (`isAgain`)
+      after its call, or after what comes of that. */
+  schedule(node, delay, act, { queue = null, wait = 0, isAgain = false, ...more } = {}) {
+    const order = (this.#order += 1);
+    const task = { node, time: this.now + delay, order, latest: isAgain ? null : order, act, ...placeOf(queue, wait, this.#level), ...more };
     this.tasks.push(task);
     return task;
+  }
+
+  /** What an interval's call led to is set: so the interval is, in every engine. */
+  #settle() {
+    for (const task of this.tasks) task.latest ??= (this.#order += 1);
   }
 
   cancel(task) {
@@ -97,8 +107,10 @@ export class Agent {
     if (this.jobs.length === MOST_JOBS) throw new ScriptFault(TOO_MANY_JOBS, task.node);
     this.cancel(task);
     this.now = Math.max(this.now, task.time);
-    const job = { run: new Run() };
+    const job = { run: new Run(), task, unsure: this.tasks.filter((other) => !comesFirst(task, other)) };
     this.jobs.push(job);
+    this.writer.uses.job = this.jobs.length;
+    this.#level = task.level;
     if (task.sender) job.on = [task.sender, null];
     if (task.sender && this.world.port(task.sender, this.name).length === 0) this.#skip(task, job);
     else this.#run(task, job);
@@ -120,6 +132,7 @@ export class Agent {
       task.received(cx, writer.machine.value(job.on[1]));
     } else this.attempt(task.node, cx, task.act);
     this.#drain();
+    this.#settle();
     writer.endTemporaries(task.node, cx.temporaries);
     for (const { promise, node } of this.rejected) {
       if (!promise.isHandled) this.#say(cx, node, promise.isBody ? "Uncaught " : "Uncaught (in promise) ", promise.value);
@@ -158,7 +171,7 @@ export class Agent {
   #drain() {
     while (this.microtasks.length > 0) {
       if (this.writer.hasRefused) {
-        this.tasks.push({ node: WHOLE, time: this.now, order: 0, act: function* () {} });
+        this.tasks.push({ node: WHOLE, time: this.now, order: 0, latest: 0, act: function* () {}, ...placeOf(null, 0, 0) });
         return;
       }
       const { node, act, carried, held } = this.microtasks.shift();

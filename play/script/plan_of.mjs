@@ -50,7 +50,13 @@ const placesFor = (agents) => agents.map(({ name, callbacks, jobs }) => ({
   name, callbacks: each(callbacks, ({ places }) => places), jobs: jobs.map(({ run }) => run.places),
 }));
 
-const usesFor = (agents) => agents.map(({ name, writer }) => ({ name, uses: writer.uses.told() }));
+/** What calls a job, and the function of the script that it calls. */
+const callOf = ({ order, callee }) => ({ task: order, callee: callee?.node ? { start: callee.node.start, end: callee.node.end } : null });
+
+const usesFor = ({ common }, agents) => agents.map((agent) => ({
+  name: agent.name, begunAfter: agent.begunAfter, uses: agent.writer.uses.told((thing) => common.numberOf(thing, agent)),
+  calls: agent.jobs.map(({ task, unsure }) => ({ ...callOf(task), unsure: unsure.map(callOf) })),
+}));
 
 /** A plan's text with a command on each line. */
 function textOf({ version, agents }) {
@@ -84,7 +90,7 @@ export function planOf(source, { engine }) {
     const other = confirm(traced, agents, fault !== null);
     if (other !== null) answer(found.answers, other);
     else if (fault !== null) throw fault;
-    else return { plan, text, places: placesFor(agents), uses: usesFor(agents), trace: traced };
+    else return { plan, text, places: placesFor(agents), uses: usesFor(world, agents), trace: traced };
   }
   throw broken("the engine's answers lead to no plan");
 }

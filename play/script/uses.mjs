@@ -9,8 +9,9 @@ export class Uses {
   /** The uses in their order. Each has the number of the agent's commands before it (`at`). */
   #events = [];
   #numbers = new Map();
-  /** How many commands were written. */
+  /** How many commands were written, and the job that runs, counted from 1. */
   commands = 0;
+  job = 0;
   /** Whether a callback of a FinalizationRegistry runs: no engine has to call it, so it keeps nothing by what it reads. */
   isCleaning = false;
 
@@ -22,7 +23,7 @@ export class Uses {
   }
 
   read(variable) {
-    if (this.#numbers.has(variable) && !this.isCleaning) this.#add({ variable: this.#number(variable), isRead: true });
+    if (this.#numbers.has(variable) && !this.isCleaning) this.#add({ variable: this.#number(variable), isRead: true, job: this.job });
   }
 
   /** From now on a function may read these variables when it is called. */
@@ -40,10 +41,10 @@ export class Uses {
   }
 
   /** The uses with the numbers of the plan's objects in the place of the values. Of a function that is none nothing is told. */
-  told() {
-    return this.#events.filter(({ callee }) => callee?.number !== 0).map(({ value, callee, ...event }) => {
-      if (callee) return { ...event, callee: callee.number };
-      return event.isRead ? event : { ...event, identity: value?.number || null };
+  told(numberOf) {
+    return this.#events.filter(({ callee }) => !callee || numberOf(callee) !== 0).map(({ value, callee, ...event }) => {
+      if (callee) return { ...event, callee: numberOf(callee) };
+      return event.isRead ? event : { ...event, identity: value ? numberOf(value) || null : null };
     });
   }
 }

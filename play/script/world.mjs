@@ -29,7 +29,7 @@ export class World {
   }
 
   add(name) {
-    const agent = new Agent(this, name, this.steps);
+    const agent = new Agent(this, name, this.steps, this.find("main")?.writer.uses.commands ?? 0);
     this.agents.push(agent);
     return agent;
   }
