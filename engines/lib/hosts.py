@@ -116,11 +116,20 @@ def workers(turns="job", seed=1):
     return Engine("workers", alone.command, lambda scripts: [*words, *scripts], version)
 
 
+def jsc_agents(turns="job", seed=1):
+    """JavaScriptCore's shell with an agent of `$262.agent` for each agent, which is a thread with a heap of its own."""
+    alone = jsc()
+    words = [host("jsc-agents.js"), "--", host("threads"), turns, str(seed)]
+    version = f"{alone.version}, an agent a thread, {HOW[turns]}"
+    return Engine("jsc-agents", alone.command, lambda scripts: [*words, *scripts], version)
+
+
 HOW = {"job": "by turns", "command": "by turns of a command", "none": "at once"}
 ENGINES = {
-    "node": node, "workers": workers, "d8": d8, "jsc": jsc, "js": js, "qjs": qjs, "gjs": gjs, "chromium": chromium,
-    "firefox": firefox,
+    "node": node, "workers": workers, "d8": d8, "jsc": jsc, "jsc-agents": jsc_agents, "js": js, "qjs": qjs, "gjs": gjs,
+    "chromium": chromium, "firefox": firefox,
 }
+IN_THREADS = {"workers": workers, "jsc-agents": jsc_agents}  # those whose agents are threads
 
 
 def engine(name):
@@ -128,4 +137,4 @@ def engine(name):
 
 
 IN_PAGES = ("chromium", "firefox")  # those whose words are those of a script that drives a browser
-WITH_MESSAGES = ("node", "workers", "chromium")  # those whose hosts can clone a SharedArrayBuffer
+WITH_MESSAGES = ("node", *IN_THREADS, "chromium")  # those whose hosts can clone a SharedArrayBuffer
