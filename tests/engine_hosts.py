@@ -316,36 +316,44 @@ def agents_of_jsc(tests, folder):
     tests.check(ran.returncode == 0, f"compare jsc-agents: {ran.returncode}: {ran.stdout}{ran.stderr}")
 
 
-def suites(tests, engine, folder):
+def suites(tests, name, folder, environment=None):
     """Exported tests in a shell: they pass, whatever harness is named, and fail with a fault that they speak of."""
     run(EXPORT, os.path.join(folder, "tests"), os.path.join(CORPUS, "ephemerons"))
-    paths = [path for path in files_in(os.path.join(folder, "tests", "conforming")) if "symbol" not in path]
-    harness = os.path.join(folder, "harness")
-    os.makedirs(harness, exist_ok=True)
+    paths = [path for path in files_in(os.path.join(folder, "tests", "conforming")) if "symbol" not in path][::2]
+    harness = tempfile.mkdtemp(dir=folder)
     shutil.copy(os.path.join(engines.ENGINES, "harness", "stand-in", "assert.js"), harness)
-    ran = run(SUITE, engine.name, "--harness", harness, *paths[:2])
+    ran = run(SUITE, name, "--harness", harness, *paths[:2], env=environment)
     tests.check(ran.returncode == 2 and "sta.js" in ran.stderr, f"suite without sta.js: {ran.returncode}: {ran.stderr}")
     write(harness, "sta.js", "globalThis.hasSta = true;")
     looks = write(folder, "looks.js", "assert.sameValue(hasSta, true);")
-    ran = run(SUITE, engine.name, "--harness", harness, *paths, looks)
-    right = ran.returncode == 0 and ran.stdout == f"{len(paths) + 1} passed, 0 failed\n" and len(paths) > 20
+    ran = run(SUITE, name, "--harness", harness, *paths, looks, env=environment)
+    right = ran.returncode == 0 and ran.stdout == f"{len(paths) + 1} passed, 0 failed\n" and len(paths) > 10
     tests.check(right, f"suite: {ran.stdout}{ran.stderr}")
-    ran = run(SUITE, engine.name, "--fault", "all-lost", *paths, looks)
+    ran = run(SUITE, name, "--fault", "all-lost", *paths, looks, env=environment)
     failed = ran.stdout.count("not ok ")
-    tests.check(ran.returncode == 1 and failed > 15, f"suite --fault all-lost, {failed} fail: {ran.stdout}{ran.stderr}")
+    tests.check(ran.returncode == 1 and failed > 8, f"suite --fault all-lost, {failed} fail: {ran.stdout}{ran.stderr}")
     tests.check("looks.js" in ran.stdout, f"suite, a test that throws: {ran.stdout}")
-    ran = run(SUITE, engine.name, folder + "/nowhere")
+    ran = run(SUITE, name, folder + "/nowhere", env=environment)
     tests.check(ran.returncode == 2 and "Traceback" not in ran.stderr, f"suite of a place that is none: {ran.stderr}")
 
 
-def slices(tests, js):
-    """SpiderMonkey with collections that go by slices between the commands: nothing is contradicted, and they are seen."""
-    if js.command != hosts.BUILT_JS:
-        print("skipped: slices, which only our own shell over SpiderMonkey's library has")
+def spidermonkey(tests, js, folder):
+    """SpiderMonkey with collections that go by slices between the commands: nothing is contradicted, and they are seen.
+    Its own shell, which Debian names js102, takes plans with messages besides, and exported tests."""
+    own = shutil.which("js102")
+    for command in filter(None, [js.command, own]):
+        environment = {**os.environ, "JS": command}
+        ran = run(COMPARE, "js", "--stress", "--random", "40", "--table", "--no-shrink", env=environment)
+        seen = re.search(r"^([1-9]\d*) times canaries showed a collection", ran.stdout, re.MULTILINE)
+        tests.check(ran.returncode == 0 and seen, f"{command} --stress: {ran.returncode}: {ran.stdout}{ran.stderr}")
+    if not own:
+        print("skipped: js102 is not installed")
         return
-    ran = run(COMPARE, "js", "--stress", "--random", "40", "--table", "--no-shrink")
-    seen = re.search(r"^([1-9]\d*) times canaries showed a collection", ran.stdout, re.MULTILINE)
-    tests.check(ran.returncode == 0 and seen, f"compare js --stress: {ran.returncode}: {ran.stdout}{ran.stderr}")
+    environment = {**os.environ, "JS": own}
+    suites(tests, "js", folder, environment)
+    ran = run(COMPARE, "js", *engine_faults.places("messages registrations"), "--table", env=environment)
+    right = ran.returncode == 0 and "skipped" not in ran.stdout
+    tests.check(right, f"js102: {ran.returncode}: {ran.stdout}{ran.stderr}")
 
 
 def failed_hosts(tests, engine, folder):
@@ -379,11 +387,11 @@ def main():
         for engine in filter(None, [node, *map(found_engine, ("workers", "jsc", "js", "gjs"))]):
             failed_hosts(tests, engine, folder)
             if engine.name in ("jsc", "js"):
-                suites(tests, engine, folder)
+                suites(tests, engine.name, folder)
             if engine.name == "jsc":
                 agents_of_jsc(tests, folder)
             if engine.name == "js":
-                slices(tests, engine)
+                spidermonkey(tests, engine, folder)
         if node:
             features(tests, node, folder)
             threads(tests, folder)

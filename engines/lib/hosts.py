@@ -58,8 +58,10 @@ def jsc():
 
 def js():
     command = os.environ.get("JS") or shutil.which("js") or built_js()
-    version = said(command, "--version") if command != BUILT_JS else said(command)
-    return Engine("js", command, lambda scripts: [*scripts, host("js.js")], f"SpiderMonkey {version}")
+    if command == BUILT_JS:
+        return Engine("js", command, lambda scripts: [*scripts, host("js.js")], f"SpiderMonkey {said(command)}")
+    filed = lambda scripts: [word for script in [*scripts, host("js.js")] for word in ("-f", script)]
+    return Engine("js", command, filed, f"SpiderMonkey's shell {said(command, '--version')}")
 
 
 BUILT_JS = os.path.join(HERE, "out", "js")
