@@ -11,6 +11,7 @@ import json
 import os
 import random
 import re
+import shutil
 import subprocess
 import sys
 import tempfile
@@ -28,7 +29,8 @@ import rules
 import running
 import session
 
-THREADS = os.path.join(engines.ENGINES, "threads")
+THREADS, SUITE = os.path.join(engines.ENGINES, "threads"), os.path.join(engines.ENGINES, "suite")
+COMPARE, CORPUS = os.path.join(engines.ENGINES, "compare"), os.path.join(engines.ENGINES, "corpus")
 EXPORT, RUNNER = os.path.join(engines.ENGINES, "export"), os.path.join(engines.ENGINES, "runner.mjs")
 # each fault with the folders of the corpus whose tests speak of it; of those that the tests of comparisons have, without
 # what needs several agents, or counts what was done in the plans before
@@ -80,6 +82,12 @@ TWO_WEAKREFS = [
     [["new", "a"], ["weakref", "v", "a"], ["weakref", "w", "a"], ["let", "a", None]],
     [["deref", "b", "v"], ["let", "b", None], ["let", "v", None], ["collect"], ["deref", "b", "w"], ["say", "b"]],
 ]
+
+# a block with a property that leads to itself goes to another agent without its properties
+CYCLIC = {"version": 1, "agents": [
+    {"name": "a", "callbacks": {}, "jobs": [{"run": [["buffer", "b", 1], ["set", "b", "p", "b"], ["post", "b", "b"]]}]},
+    {"name": "b", "callbacks": {}, "jobs": [{"on": ["a", "x"], "run": [["keys", "x"], ["get", "y", "x", "p"]]}]},
+]}
 
 
 def run(*words, **more):
@@ -265,6 +273,7 @@ def threads(tests, folder):
         ran = run(THREADS, "--fault", fault, "--random", "12", "--no-shrink")
         right = ran.returncode == 1 and "contradiction" in ran.stdout
         tests.check(right, f"threads --fault {fault}: {ran.stdout}{ran.stderr}")
+    recorded(tests, folder)
     ran = run(THREADS, folder + "/nowhere")
     tests.check(ran.returncode == 2 and "Traceback" not in ran.stderr, f"threads of a place that is none: {ran.stderr}")
     texts = drawing.draw(random.Random(engines.SEED), 12, False, True)
@@ -275,14 +284,76 @@ def threads(tests, folder):
         tests.check(right, f"{found.name}, in threads: {found.trouble()}: {found.text}")
 
 
-def slices(tests, js):
-    """SpiderMonkey with collections that go by slices between the commands: nothing is contradicted, and they are seen."""
-    if js.command != hosts.BUILT_JS:
-        print("skipped: slices, which only our own shell over SpiderMonkey's library has")
+def recorded(tests, folder):
+    """What `threads --json` and `compare --json` print becomes rows of two tables."""
+    files = []
+    for words in ([THREADS, "--random", "2"], [THREADS, "--random", "3"], [COMPARE, "node", "--random", "4"]):
+        files.append(write(folder, f"{len(files)}.json", run(*words, "--json").stdout))
+    for name in ("engines", "docs"):
+        os.mkdir(os.path.join(folder, name))
+    record = shutil.copy(os.path.join(engines.ENGINES, "record"), os.path.join(folder, "engines"))
+    page = write(os.path.join(folder, "docs"), "COMPARING.md", "a\n<!-- made by engines/record -->\nb\n<!-- end -->\nc\n")
+    ran = run(record, *files)
+    with open(page, encoding="utf-8") as file:
+        text = file.read()
+    right = ran.returncode == 0 and text.startswith("a\n<!-- ") and text.endswith(" -->\nc\n") and "\nb\n" not in text
+    tests.check(right and re.search(r"^\| node [^|]*\| random \| 4 \| 0 \|", text, re.MULTILINE), f"record: {ran}: {text}")
+    wanted = r"^\| node [^|]*, by turns of a command \| random \| 5 \| 5 \| 0 \| 0 \| 0 \|"
+    tests.check(re.search(wanted, text, re.MULTILINE), f"record, rows of threads: {text}")
+
+
+def agents_of_jsc(tests, folder):
+    """Plans of several agents on the agents of JavaScriptCore's shell: nothing is contradicted, a torn word is found."""
+    cyclic = write(folder, "cyclic.json", json.dumps(CYCLIC))
+    for turns in ("command", "none"):
+        for places in ([], [cyclic]):
+            ran = run(THREADS, "--engine", "jsc-agents", "--turns", turns, *places)
+            right = ran.returncode == 0 and "contradiction" not in ran.stdout and "not decided" not in ran.stdout
+            tests.check(right, f"jsc-agents --turns {turns} {places}: {ran.returncode}: {ran.stdout}{ran.stderr}")
+    ran = run(THREADS, "--engine", "jsc-agents", "--fault", "torn", "--random", "12", "--no-shrink")
+    tests.check(ran.returncode == 1 and "Atomics.load" in ran.stdout, f"jsc-agents, a torn word: {ran.stdout}{ran.stderr}")
+    ran = run(COMPARE, "jsc-agents", os.path.join(CORPUS, "messages"), "--table")
+    tests.check(ran.returncode == 0, f"compare jsc-agents: {ran.returncode}: {ran.stdout}{ran.stderr}")
+
+
+def suites(tests, name, folder, environment=None):
+    """Exported tests in a shell: they pass, whatever harness is named, and fail with a fault that they speak of."""
+    run(EXPORT, os.path.join(folder, "tests"), os.path.join(CORPUS, "ephemerons"))
+    paths = [path for path in files_in(os.path.join(folder, "tests", "conforming")) if "symbol" not in path][::2]
+    harness = tempfile.mkdtemp(dir=folder)
+    shutil.copy(os.path.join(engines.ENGINES, "harness", "stand-in", "assert.js"), harness)
+    ran = run(SUITE, name, "--harness", harness, *paths[:2], env=environment)
+    tests.check(ran.returncode == 2 and "sta.js" in ran.stderr, f"suite without sta.js: {ran.returncode}: {ran.stderr}")
+    write(harness, "sta.js", "globalThis.hasSta = true;")
+    looks = write(folder, "looks.js", "assert.sameValue(hasSta, true);")
+    ran = run(SUITE, name, "--harness", harness, *paths, looks, env=environment)
+    right = ran.returncode == 0 and ran.stdout == f"{len(paths) + 1} passed, 0 failed\n" and len(paths) > 10
+    tests.check(right, f"suite: {ran.stdout}{ran.stderr}")
+    ran = run(SUITE, name, "--fault", "all-lost", *paths, looks, env=environment)
+    failed = ran.stdout.count("not ok ")
+    tests.check(ran.returncode == 1 and failed > 8, f"suite --fault all-lost, {failed} fail: {ran.stdout}{ran.stderr}")
+    tests.check("looks.js" in ran.stdout, f"suite, a test that throws: {ran.stdout}")
+    ran = run(SUITE, name, folder + "/nowhere", env=environment)
+    tests.check(ran.returncode == 2 and "Traceback" not in ran.stderr, f"suite of a place that is none: {ran.stderr}")
+
+
+def spidermonkey(tests, js, folder):
+    """SpiderMonkey with collections that go by slices between the commands: nothing is contradicted, and they are seen.
+    Its own shell, which Debian names js102, takes plans with messages besides, and exported tests."""
+    own = shutil.which("js102")
+    for command in filter(None, [js.command, own]):
+        environment = {**os.environ, "JS": command}
+        ran = run(COMPARE, "js", "--stress", "--random", "40", "--table", "--no-shrink", env=environment)
+        seen = re.search(r"^([1-9]\d*) times canaries showed a collection", ran.stdout, re.MULTILINE)
+        tests.check(ran.returncode == 0 and seen, f"{command} --stress: {ran.returncode}: {ran.stdout}{ran.stderr}")
+    if not own:
+        print("skipped: js102 is not installed")
         return
-    ran = run(os.path.join(engines.ENGINES, "compare"), "js", "--stress", "--random", "40", "--table", "--no-shrink")
-    seen = re.search(r"^([1-9]\d*) times canaries showed a collection", ran.stdout, re.MULTILINE)
-    tests.check(ran.returncode == 0 and seen, f"compare js --stress: {ran.returncode}: {ran.stdout}{ran.stderr}")
+    environment = {**os.environ, "JS": own}
+    suites(tests, "js", folder, environment)
+    ran = run(COMPARE, "js", *engine_faults.places("messages registrations"), "--table", env=environment)
+    right = ran.returncode == 0 and "skipped" not in ran.stdout
+    tests.check(right, f"js102: {ran.returncode}: {ran.stdout}{ran.stderr}")
 
 
 def failed_hosts(tests, engine, folder):
@@ -315,8 +386,12 @@ def main():
     with tempfile.TemporaryDirectory() as folder:
         for engine in filter(None, [node, *map(found_engine, ("workers", "jsc", "js", "gjs"))]):
             failed_hosts(tests, engine, folder)
+            if engine.name in ("jsc", "js"):
+                suites(tests, engine.name, folder)
+            if engine.name == "jsc":
+                agents_of_jsc(tests, folder)
             if engine.name == "js":
-                slices(tests, engine)
+                spidermonkey(tests, engine, folder)
         if node:
             features(tests, node, folder)
             threads(tests, folder)

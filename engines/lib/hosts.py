@@ -58,8 +58,10 @@ def jsc():
 
 def js():
     command = os.environ.get("JS") or shutil.which("js") or built_js()
-    version = said(command, "--version") if command != BUILT_JS else said(command)
-    return Engine("js", command, lambda scripts: [*scripts, host("js.js")], f"SpiderMonkey {version}")
+    if command == BUILT_JS:
+        return Engine("js", command, lambda scripts: [*scripts, host("js.js")], f"SpiderMonkey {said(command)}")
+    filed = lambda scripts: [word for script in [*scripts, host("js.js")] for word in ("-f", script)]
+    return Engine("js", command, filed, f"SpiderMonkey's shell {said(command, '--version')}")
 
 
 BUILT_JS = os.path.join(HERE, "out", "js")
@@ -116,11 +118,20 @@ def workers(turns="job", seed=1):
     return Engine("workers", alone.command, lambda scripts: [*words, *scripts], version)
 
 
+def jsc_agents(turns="job", seed=1):
+    """JavaScriptCore's shell with an agent of `$262.agent` for each agent, which is a thread with a heap of its own."""
+    alone = jsc()
+    words = [host("jsc-agents.js"), "--", host("threads"), turns, str(seed)]
+    version = f"{alone.version}, an agent a thread, {HOW[turns]}"
+    return Engine("jsc-agents", alone.command, lambda scripts: [*words, *scripts], version)
+
+
 HOW = {"job": "by turns", "command": "by turns of a command", "none": "at once"}
 ENGINES = {
-    "node": node, "workers": workers, "d8": d8, "jsc": jsc, "js": js, "qjs": qjs, "gjs": gjs, "chromium": chromium,
-    "firefox": firefox,
+    "node": node, "workers": workers, "d8": d8, "jsc": jsc, "jsc-agents": jsc_agents, "js": js, "qjs": qjs, "gjs": gjs,
+    "chromium": chromium, "firefox": firefox,
 }
+IN_THREADS = {"workers": workers, "jsc-agents": jsc_agents}  # those whose agents are threads
 
 
 def engine(name):
@@ -128,4 +139,4 @@ def engine(name):
 
 
 IN_PAGES = ("chromium", "firefox")  # those whose words are those of a script that drives a browser
-WITH_MESSAGES = ("node", "workers", "chromium")  # those whose hosts can clone a SharedArrayBuffer
+WITH_MESSAGES = ("node", *IN_THREADS, "chromium")  # those whose hosts can clone a SharedArrayBuffer

@@ -5,7 +5,7 @@ import os
 import hosts
 
 PRESSING = os.path.join(hosts.HERE, "pressing.js")
-SLICES = os.path.join(hosts.HERE, "slices.js")  # for our own shell over SpiderMonkey's library
+SLICES = os.path.join(hosts.HERE, "slices.js")  # for SpiderMonkey's shell, and ours over its library
 # What follows are switches of engines, by a name: words that are added, and words of the host's that are left out.
 V8_THREADS = ["--single-threaded", "--single-threaded-gc"]
 V8_MARKING = ["--stress-incremental-marking", "--stress-marking=50"]
@@ -57,9 +57,14 @@ def with_flags(engine, flags):
     return Way(engine, getattr(engine, "how", "flags"), flags)
 
 
+def has_zeal(engine):
+    """Whether a shell of SpiderMonkey was built with zeal: else it bears the word, and does nothing."""
+    return engine.command != hosts.BUILT_JS and "ignored in non-gc-zeal builds" not in hosts.said(engine.command, "--help")
+
+
 def stressed(engine):
     """The engine under each of its switches, and with garbage between the commands, which each engine bears."""
-    switches = SWITCHES.get(engine.name, {}) if engine.command != hosts.BUILT_JS else {}
+    switches = SWITCHES.get(engine.name, {}) if engine.name != "js" or has_zeal(engine) else {}
     ways = [Way(engine, how, *words) for how, words in switches.items()]
-    ways += [Way(engine, "slices", after=[SLICES])] if engine.command == hosts.BUILT_JS else []
+    ways += [Way(engine, "slices", after=[SLICES])] if engine.name == "js" else []
     return [*ways, Way(engine, "pressing", after=[PRESSING])]
