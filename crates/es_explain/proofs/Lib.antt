@@ -1,1 +1,2 @@
 pub mod ExamplePlaces
+pub mod Counts

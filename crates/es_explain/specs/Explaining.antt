@@ -1,4 +1,5 @@
--- To believe: what is said of a plan's text for people: that it is a plan, or its first fault, where that is, and what was found.
+-- To believe: what is said of a plan's text for people: that it is a plan, or its first fault,
+-- where that is, what it is (Causes), and what was found.
 use Rattle.std.specs.Prelude.{ℕ, zero, suc, ◌≡◌, ◌==◌, ◌-◌, ◌<◌, ◌≤◌, Bool, false, List, [], ◌∷◌, ◌++◌, length, take, Option, Some, None, option_and_then, codes, decimal, string_bytes, if◌then◌else◌}
 use Rattle.std.specs.Str.{chars, IsCharBoundary}
 use Rattle.std.specs.Char.{encode_utf8}
@@ -7,28 +8,17 @@ use Rattle.serde_json.specs.Find.{at, get, pointer as points_to}
 use Rattle.serde_json.specs.Written.{IsInOrder, has_float, compact_text}
 use Rattle.es_event.specs.declared.plan.Plan.{Plan}
 use Rattle.es_reading.specs.declared.fault.FaultCode.{FaultCode}
-use Rattle.es_reading.specs.declared.fault.FaultCode.TheVariants.{NotJson, Shape, Version, AgentCount, Name, Unknown, Operands, Profile, Collection, Limit}
+use Rattle.es_reading.specs.declared.fault.FaultCode.TheVariants.{Version, AgentCount, Name, Limit}
 use Rattle.es_reading.specs.declared.fault.Place.{Place}
 use Rattle.es_reading.specs.declared.fault.Place.TheVariants.{Whole, Agent, Callback, Job}
 use Rattle.es_reading.specs.declared.fault.ScriptFault.{ScriptFault}
 use Rattle.es_reading.specs.Numbers.{number_of}
 use Rattle.es_reading.specs.Parts.{members_in}
 use Rattle.es_script.specs.Fault.{IsPlanOf, fault_of, json_value}
+use Rattle.es_explain.specs.Causes.{cause}
+use Rattle.es_explain.specs.declared.found.Said.{Said}
 use Rattle.es_explain.specs.declared.explanation.Explanation.{Explanation}
 use Rattle.es_explain.specs.declared.explanation.Explanation.TheVariants.{Plan as IsPlan, Fault}
-
--- the sentence of each fault
-abbrev pub sentence : FaultCode → List ℕ
-sentence NotJson = codes "The text is no JSON in UTF-8."
-sentence Shape = codes "The value has not the shape of a plan."
-sentence Version = codes "The version is neither 1 nor 2."
-sentence AgentCount = codes "A plan has 1 to 8 agents."
-sentence Name = codes "A name is not spelled as one, or an earlier agent has it."
-sentence Unknown = codes "No callback, or no other agent, has this name."
-sentence Operands = codes "The command is unknown, or its operands are of a wrong number or JSON kind."
-sentence Profile = codes "A number or a text is outside what a plan may have."
-sentence Collection = codes "A callback may not collect."
-sentence Limit = codes "There are more callbacks, jobs, commands or words than the limits allow."
 
 -- Where a fault is: the JSON Pointer (RFC 6901) of the part of the value that has it
 
@@ -119,17 +109,31 @@ Shows (Some d) shown = (text : List ℕ) × IsInOrder text d × (has_float d ≡
 
 -- What is said
 
--- the pointer as JSON has a text, in quotation marks, and what was found
-abbrev pub Locates : Option Data → ScriptFault → List ℕ → List ℕ → Type 0
-Locates o f place shown = (place ≡ compact_text (string (pointer o f))) × Shows (option_and_then (λ d. found_in d (pointer o f) f) o) shown
+-- the part of the value that the sentence is about, and that is shown
+abbrev pub part_at : Option Data → List ℕ → ScriptFault → Option Data
+part_at o place f = option_and_then (λ d. found_in d place f) o
 
--- that the bytes stand for a plan; or their first fault, its place in their value, and what was found there
+abbrev pub sentence : Option Data → ScriptFault → Option Data → List ℕ
+sentence None f part = codes "The text is no JSON in UTF-8."
+sentence (Some d) f None = []
+sentence (Some d) f (Some part) = cause f d part
+
+-- the sentence, and what was found at the place
+pub record IsSaid (o : Option Data) (place : List ℕ) (f : ScriptFault) (said : Said) : Type 0 where
+  pub sentence : string_bytes said.sentence ≡ sentence o f (part_at o place f)
+  pub found : Shows (part_at o place f) (string_bytes said.found)
+
+-- the pointer as JSON has a text, in quotation marks, and what is said of the place
+abbrev pub Locates : Option Data → ScriptFault → List ℕ → Said → Type 0
+Locates o f place said = (place ≡ compact_text (string (pointer o f))) × IsSaid o (pointer o f) f said
+
+-- that the bytes stand for a plan; or their first fault, its place in their value, and what is said of it
 abbrev pub Explains : List ℕ → Explanation → Type 0
 Explains bytes IsPlan = (p : Plan) × IsPlanOf bytes p
-Explains bytes (Fault fault place found) = (fault_of bytes ≡ Some fault) × Locates (json_value bytes) fault (string_bytes place) (string_bytes found)
+Explains bytes (Fault fault place said) = (fault_of bytes ≡ Some fault) × Locates (json_value bytes) fault (string_bytes place) said
 
-abbrev pub fault_lines : FaultCode → List ℕ → List ℕ
-fault_lines code place = codes "S" ++ decimal (number_of code) ++ codes " " ++ place ++ codes "\n" ++ sentence code ++ codes "\n"
+abbrev pub fault_lines : FaultCode → List ℕ → List ℕ → List ℕ
+fault_lines code place sentence = codes "S" ++ decimal (number_of code) ++ codes " " ++ place ++ codes "\n" ++ sentence ++ codes "\n"
 
 -- none where nothing was found
 abbrev pub found_line : List ℕ → List ℕ
@@ -138,4 +142,4 @@ found_line (x ∷ xs) = codes "found " ++ (x ∷ xs) ++ codes "\n"
 
 abbrev pub explanation_text : Explanation → List ℕ
 explanation_text IsPlan = codes "ok\n"
-explanation_text (Fault fault place found) = fault_lines fault.code (string_bytes place) ++ found_line (string_bytes found)
+explanation_text (Fault fault place said) = fault_lines fault.code (string_bytes place) (string_bytes said.sentence) ++ found_line (string_bytes said.found)

@@ -1,2 +1,5 @@
+pub mod Words
+pub mod Causes
+pub mod Coded
 pub mod Explaining
 pub mod Told
