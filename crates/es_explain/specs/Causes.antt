@@ -1,5 +1,4 @@
--- To believe: the sentence that says what a fault is, but for a text that is no JSON and a value that has not the shape of a
--- plan.
+-- To believe: the sentence that says what a fault of a plan's value is.
 use Rattle.std.specs.Prelude.{ℕ, zero, suc, ◌+◌, ◌-◌, ◌==◌, not, nat_le, nat_lt, Bool, true, false, List, [], ◌∷◌, ◌++◌, length, Option, Some, None, option_and_then, option_map, unwrap_or, codes, decimal, if◌then◌else◌}
 use Rattle.std.specs.Str.{bytes_eq, chars}
 use Rattle.std.specs.Char.{encode_utf8}
@@ -20,34 +19,15 @@ use Rattle.es_reading.specs.Versions.{version_of}
 use Rattle.es_reading.specs.Parts.{items_in, members_in, text_in}
 use Rattle.es_reading.specs.Forms.{OperandType, name, literal, text, callback, agent, whole, words, Form, form, is_whole, fits}
 use Rattle.es_explain.specs.Words.{table, letters_in, nearest}
+use Rattle.es_explain.specs.Texts.{◌▸◌, quoted, letter, value_text}
+use Rattle.es_explain.specs.Misshapen.{sentence_of, plan_trouble}
 
--- Texts in a sentence
-
--- a text, and then another
-infixr 20 ◌▸◌
-abbrev pub ◌▸◌ : List ℕ → List ℕ → List ℕ
-s ▸ t = s ++ t
-
--- so many letters of a text, and two dots where it has more
-abbrev pub first_letters : ℕ → List ℕ → List ℕ
-first_letters n [] = []
-first_letters zero (c ∷ cs) = codes ".."
-first_letters (suc n) (c ∷ cs) = encode_utf8 c ++ first_letters n cs
-
--- a text as JSON has it, in quotation marks; 32 letters are shown
-abbrev pub quoted : List ℕ → List ℕ
-quoted s = compact_text (string (first_letters 32 (chars s)))
+-- What is no name
 
 -- the first letter that fails the test
 abbrev pub first_other : (ℕ → Bool) → List ℕ → Option ℕ
 first_other test [] = None
 first_other test (c ∷ cs) = if test c then first_other test cs else Some c
-
--- the letter in quotation marks
-abbrev pub letter : ℕ → List ℕ
-letter c = quoted (encode_utf8 c)
-
--- What is no name
 
 -- a text of which all letters may stand in a name is none where it is empty, too long, or begins with a digit
 abbrev pub ill_formed : List ℕ → List ℕ
@@ -137,20 +117,6 @@ type_text callback = codes "the name of a callback"
 type_text agent = codes "the name of an agent"
 type_text whole = codes "a number"
 type_text words = codes "a number"
-
--- of a whole number the digits
-abbrev pub number_name : Num → List ℕ
-number_name x = if is_float x then codes "a number" else codes "the number " ▸ number_text x
-
--- what a value is
-abbrev pub value_text : Data → List ℕ
-value_text null = codes "null"
-value_text (boolean true) = codes "true"
-value_text (boolean false) = codes "false"
-value_text (number x) = number_name x
-value_text (string s) = codes "the text " ▸ quoted s
-value_text (array ds) = codes "a list"
-value_text (object ms) = codes "an object"
 
 -- whether an operand of the type has the fault
 abbrev pub is_wrong : FaultCode → OperandType → Data → Bool
@@ -311,7 +277,7 @@ inside c d a part = []
 
 -- outside of commands, where this part of the value has the fault
 abbrev pub beside : FaultCode → Data → Place → Data → List ℕ
-beside Shape d p part = codes "The value has not the shape of a plan."
+beside Shape d p part = sentence_of (plan_trouble d)
 beside WrongVersion d p part = codes "The version is 1 or 2."
 beside AgentCount d p part = agent_count (items_len (items_in (Some part)))
 beside Name d p part = name_sentence p part

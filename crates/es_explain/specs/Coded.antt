@@ -1,5 +1,5 @@
 -- Internal: what the code's types stand for in the definitions.
-use Rattle.std.specs.Prelude.{ℕ, ◌≡◌, ◌==◌, Bool, List, map, Option, option_map}
+use Rattle.std.specs.Prelude.{ℕ, Bool, List, map, string_bytes}
 use Rattle.serde_json.specs.View.{view}
 use Rattle.es_value.specs.Spelling.{is_name_byte, is_text_byte}
 use Rattle.es_reading.specs.Forms as forms
@@ -9,7 +9,12 @@ use Rattle.es_explain.specs.declared.kinds.Kind.TheVariants.{Name, Literal, Text
 use Rattle.es_explain.specs.declared.spelling.Alphabet.{Alphabet}
 use Rattle.es_explain.specs.declared.spelling.Alphabet.TheVariants.{Names, Texts}
 use Rattle.es_explain.specs.declared.wrong.Wrong.{Wrong}
+use Rattle.es_explain.specs.declared.members.Trouble.{Trouble}
+use Rattle.es_explain.specs.declared.unread.Position.{Position}
+use Rattle.es_explain.specs.declared.unread.Unread.{Unread}
+use Rattle.es_explain.specs.Unread as unread
 use Rattle.es_explain.specs.Words as words
+use Rattle.es_explain.specs.Misshapen as misshapen
 use Rattle.es_explain.specs.Causes as causes
 
 abbrev pub rows_of : List Row → List words.Row
@@ -35,3 +40,12 @@ has_letter Texts = is_text_byte
 
 abbrev pub wrong_of : Wrong → causes.Wrong
 wrong_of w = record { number = w.number; type = type_of w.kind; operand = view w.operand.now }
+
+abbrev pub trouble_of : Trouble → misshapen.Trouble
+trouble_of t = record { place = string_bytes t.place; sentence = string_bytes t.sentence }
+
+abbrev pub position_of : Position → unread.Position
+position_of p = record { line = p.line; column = p.column }
+
+abbrev pub TellsUnread : List ℕ → Unread → Type 0
+TellsUnread bytes u = unread.IsUnread bytes (string_bytes u.place) u.said

@@ -8,13 +8,13 @@ ghost use Rattle.serde_json.specs.Find.{get, as_number, as_i64};
 ghost use Rattle.es_value.specs.Spelling.{is_text_byte};
 ghost use Rattle.es_reading.specs.Versions.{version_of};
 ghost use Rattle.es_explain.specs.Words.{table, letters_in};
-ghost use Rattle.es_explain.specs.Causes.{advice, command_sentence, form_sentence, if_wrong, ill_number, ill_size, ill_text, ill_words, inside, is_negative, meant, misfit, misnamed, no_word, number_name, operand_text, operands_here, operands_sentence, outside, type_text, unknown_name, value_text, version_in, wrong_count, wrong_operand};
+ghost use Rattle.es_explain.specs.Causes.{advice, command_sentence, form_sentence, if_wrong, ill_number, ill_size, ill_text, ill_words, inside, is_negative, meant, misfit, misnamed, no_word, operand_text, operands_here, operands_sentence, outside, type_text, unknown_name, version_in, wrong_count, wrong_operand};
 ghost use Rattle.es_explain.specs.Coded.{type_of, types_of, wrong_of};
 
 use crate::kinds::{Kind, kinds_of};
 use crate::names::{no_agent, no_callback, no_name, text_of};
 use crate::spelling::{Alphabet, first_other};
-use crate::text::{quoted, quoted_letter};
+use crate::text::{quoted, quoted_letter, value_text};
 use crate::words::{letters_of, nearest};
 use crate::wrong::{Wrong, first_wrong};
 use es_reading::{FaultCode, Version};
@@ -256,35 +256,6 @@ fn type_text(kind: Kind) -> &'static str
         Kind::Whole => "a number",
         Kind::Words => "a number",
     }
-}
-
-/// What a value is.
-fn value_text(alloc: Global, value: &Value) -> Result<String, AllocError>
-    ensures { IfOk result (λ s. string_bytes s ≡ value_text (view value.now)) }
-{
-    match value {
-        Value::Null => String::from_str(alloc, "null"),
-        Value::Bool(true) => String::from_str(alloc, "true"),
-        Value::Bool(false) => String::from_str(alloc, "false"),
-        Value::Number(number) => number_name(alloc, number),
-        Value::String(text) => {
-            let shown = quoted(alloc, text.as_str())?;
-            format!(in alloc; "the text {shown}")
-        }
-        Value::Array(_) => String::from_str(alloc, "a list"),
-        Value::Object(_) => String::from_str(alloc, "an object"),
-    }
-}
-
-/// A number, of which the digits are shown where it is whole.
-fn number_name(alloc: Global, number: &Number) -> Result<String, AllocError>
-    ensures { IfOk result (λ s. string_bytes s ≡ number_name (number_view number.now)) }
-{
-    if number.is_f64() {
-        return String::from_str(alloc, "a number");
-    }
-    let digits = Value::Number(*number).to_string(alloc)?;
-    format!(in alloc; "the number {digits}")
 }
 
 /// That an operand is no name.

@@ -10,6 +10,7 @@ ghost use Rattle.es_explain.specs.Told.{Tells};
 use crate::found::{Said, said_of};
 use crate::pointer::pointer_of;
 use crate::text::as_json;
+use crate::unread::{Unread, said_of_unread};
 use es_reading::{FaultCode, ReadFault, ScriptFault};
 use es_script::read_plan;
 use es_value::NoMemory;
@@ -27,7 +28,8 @@ pub enum Explanation {
     Fault {
         /// What is wrong.
         fault: ScriptFault,
-        /// Where: a JSON Pointer (RFC 6901), in quotation marks, as JSON has a text.
+        /// Where: a JSON Pointer (RFC 6901), in quotation marks, as JSON has a text; or of a text that is no
+        /// JSON its line and column.
         place: String,
         /// What is said of it.
         said: Said,
@@ -47,24 +49,33 @@ pub fn explained(alloc: Global, bytes: &[u8]) -> Result<Explanation, NoMemory>
 }
 
 fn told(alloc: Global, bytes: &[u8], fault: ScriptFault) -> Result<Explanation, NoMemory>
-    ensures { IfOk result (Tells (json_value bytes.now) fault) }
+    ensures { IfOk result (Tells bytes.now (json_value bytes.now) fault) }
 {
     let value = value_of(alloc, bytes)?;
-    Ok(told_of(alloc, value.as_ref(), fault)?)
+    Ok(told_by(alloc, bytes, value.as_ref(), fault)?)
 }
 
-/// The same of a text's value; there is none where the text is no JSON.
-fn told_of(
+/// The same by the value of the text, if it is JSON.
+fn told_by(
     alloc: Global,
+    bytes: &[u8],
     value: Option<&Value>,
     fault: ScriptFault,
 ) -> Result<Explanation, AllocError>
-    ensures { IfOk result (Tells (option_map (λ v. view v.now) value.entry) fault) }
+    ensures { IfOk result (Tells bytes.now (option_map (λ v. view v.now) value.entry) fault) }
 {
-    let pointer = pointer_of(alloc, value, fault)?;
-    let said = said_of(alloc, value, pointer.as_str(), fault)?;
-    let place = as_json(alloc, pointer)?;
-    Ok(Explanation::Fault { fault, place, said })
+    match value {
+        Some(value) => {
+            let pointer = pointer_of(alloc, Some(value), fault)?;
+            let said = said_of(alloc, value, pointer.as_str(), fault)?;
+            let place = as_json(alloc, pointer)?;
+            Ok(Explanation::Fault { fault, place, said })
+        }
+        None => {
+            let Unread { place, said } = said_of_unread(alloc, bytes)?;
+            Ok(Explanation::Fault { fault, place, said })
+        }
+    }
 }
 
 /// The value of a JSON text, if it is one.

@@ -27,28 +27,11 @@ pub struct Said {
 /// What is said of a fault where the pointer leads. Of a callback's key that is no name the key was found.
 pub(crate) fn said_of(
     alloc: Global,
-    value: Option<&Value>,
-    pointer: &str,
-    fault: ScriptFault,
-) -> Result<Said, AllocError>
-    ensures { IfOk result (IsSaid (option_map (λ v. view v.now) value.entry) pointer.now fault) }
-{
-    match value {
-        Some(value) => said_in(alloc, value, pointer, fault),
-        None => Ok(Said {
-            sentence: String::from_str(alloc, "The text is no JSON in UTF-8.")?,
-            found: String::new(alloc),
-        }),
-    }
-}
-
-fn said_in(
-    alloc: Global,
     value: &Value,
     pointer: &str,
     fault: ScriptFault,
 ) -> Result<Said, AllocError>
-    ensures { IfOk result (IsSaid (Some (view value.now)) pointer.now fault) }
+    ensures { IfOk result (IsSaid (view value.now) pointer.now fault) }
 {
     if is_of_key(fault) {
         let key = String::from_str(alloc, key_at(Some(value), fault.place))?;

@@ -5,11 +5,14 @@ mod command;
 mod explanation;
 mod found;
 mod kinds;
+mod members;
 mod names;
 mod pointer;
 mod sentence;
+mod shape;
 mod spelling;
 mod text;
+mod unread;
 mod words;
 mod wrong;
 

@@ -10,6 +10,7 @@ ghost use Rattle.es_explain.specs.Causes.{agent_count, agent_limit, agent_of, be
 
 use crate::command::{count_of, inside};
 use crate::names::{awaited_sentence, items_of, name_sentence};
+use crate::shape::sentence_of_trouble;
 use es_reading::{FaultCode, Place, ScriptFault, member_count};
 use es_value::{MOST_CALLBACKS, MOST_COMMANDS, MOST_JOBS};
 use serde_json::Value;
@@ -41,7 +42,7 @@ fn beside(
     ensures { IfOk result (λ s. string_bytes s ≡ beside code (view plan.now) place (view part.now)) }
 {
     match code {
-        FaultCode::Shape => { String::from_str(alloc, "The value has not the shape of a plan.") }
+        FaultCode::Shape => sentence_of_trouble(alloc, plan),
         FaultCode::Version => String::from_str(alloc, "The version is 1 or 2."),
         FaultCode::AgentCount => agent_count(alloc, count_of(items_of(Some(part)))),
         FaultCode::Name => name_sentence(alloc, place, part),

@@ -1,7 +1,7 @@
 use Rattle.std.proofs.Common.{ℕ, zero, suc, ◌≡◌, ◌≢◌, ◌-◌, List, [], ◌∷◌, ◌++◌, length, chars, sym, ◌∙◌, ap, refl, append_assoc, append-nil, arith}
 use Rattle.std.proofs.lemmas.Str.{IsUtf8-past_char, chars_past_char, chars-nil}
 use Rattle.std.specs.Char.{encode_utf8}
-use Rattle.es_explain.specs.Causes.{first_letters}
+use Rattle.es_explain.specs.Texts.{first_letters}
 use Rattle.es_explain.proofs.text.first_letters.Goals as goal
 
 nothing_left : (n : ℕ) (rest : List ℕ) → length rest ≡ 0 → first_letters n (chars rest) ≡ []

@@ -1,6 +1,6 @@
 use Rattle.std.proofs.Common.{◌≡◌, ◌++◌, IsUtf8, chars, string_bytes}
 use Rattle.std.specs.Str.Iter.{chars_rest}
-use Rattle.es_explain.specs.Causes.{first_letters}
+use Rattle.es_explain.specs.Texts.{first_letters}
 use Rattle.es_explain.proofs.text.first_letters.Given as goal
 
 -- what is shown so far, and what the rest adds, is what the whole text shows
