@@ -268,43 +268,42 @@ explained_agent() {
     shift
     explained "{\"version\":1,\"agents\":[{\"name\":\"a\",$parts}]}" "$@"
 }
-name_fault="A name is not spelled as one, or an earlier agent has it."
-operand_fault="The command is unknown, or its operands are of a wrong number or JSON kind."
-explained '{"version":1' 'S1 ""' "The text is no JSON in UTF-8."
-explained '{"version":1}' 'S2 ""' "The value has not the shape of a plan." 'found {"version":1}'
-explained '{"version":3,"agents":[]}' 'S3 "/version"' "The version is neither 1 nor 2." "found 3"
-explained '{"version":1,"agents":[]}' 'S4 "/agents"' "A plan has 1 to 8 agents." "found []"
-explained '{"version":1,"agents":[{"name":"1","callbacks":{},"jobs":[]}]}' 'S5 "/agents/0/name"' "$name_fault" 'found "1"'
-explained_agent '"callbacks":{"b/c":[]},"jobs":[]' 'S5 "/agents/0/callbacks/b~1c"' "$name_fault" 'found "b/c"'
-explained_agent '"callbacks":{"a":[],"~~1\n\"é":[]},"jobs":[]' 'S5 "/agents/0/callbacks/~0~01\n\"é"' "$name_fault" \
+explained '{"version":1' 'S1 line 1 column 1' "This { is never closed."
+explained '{"version":1}' 'S2 ""' "A plan has version and agents: agents is missing." 'found {"version":1}'
+explained '{"version":3,"agents":[]}' 'S3 "/version"' "The version is 1 or 2." "found 3"
+explained '{"version":1,"agents":[]}' 'S4 "/agents"' "A plan has 1 to 8 agents, and here are none." "found []"
+explained '{"version":1,"agents":[{"name":"1","callbacks":{},"jobs":[]}]}' 'S5 "/agents/0/name"' '"1" is no name: it begins with a digit.' 'found "1"'
+explained_agent '"callbacks":{"b/c":[]},"jobs":[]' 'S5 "/agents/0/callbacks/b~1c"' '"b/c" is no name: it has "/".' 'found "b/c"'
+explained_agent '"callbacks":{"a":[],"~~1\n\"é":[]},"jobs":[]' 'S5 "/agents/0/callbacks/~0~01\n\"é"' '"~~1\n\"é" is no name: it has "~".' \
     'found "~~1\n\"é"'
 # a key of 300 bytes stands whole in the place
 key=$(printf '%0300d' 0 | tr 0 k)
-explained_agent "\"callbacks\":{\"$key\":[]},\"jobs\":[]" "S5 \"/agents/0/callbacks/$key\"" "$name_fault" \
+explained_agent "\"callbacks\":{\"$key\":[]},\"jobs\":[]" "S5 \"/agents/0/callbacks/$key\"" \
+    "\"$(printf %.32s "$key")..\" is no name: it has 300 letters, and a name has at most 32." \
     "found \"$(printf %.59s "$key").."
 explained_agent '"callbacks":{},"jobs":[{"run":[]},{"on":["b","1"],"run":[]}]},{"name":"b","callbacks":{},"jobs":[]' \
-    'S5 "/agents/0/jobs/1/on"' "$name_fault" 'found ["b","1"]'
+    'S5 "/agents/0/jobs/1/on"' '"1" is no name: it begins with a digit.' 'found ["b","1"]'
 explained_agent '"callbacks":{},"jobs":[{"on":["b","x"],"run":[]}]' 'S6 "/agents/0/jobs/0/on"' \
-    "No callback, or no other agent, has this name." 'found ["b","x"]'
+    'There is no agent "b" to wait for. Other agents: none.' 'found ["b","x"]'
 explained_agent '"callbacks":{},"jobs":[{"run":[]},{"run":[["new","a"],["nwe","b"]]}]' 'S7 "/agents/0/jobs/1/run/1"' \
-    "$operand_fault" 'found ["nwe","b"]'
+    'There is no command "nwe". Did you mean new?' 'found ["nwe","b"]'
 explained_agent '"callbacks":{},"jobs":[{"run":[["let","a",9007199254740992]]}]' 'S8 "/agents/0/jobs/0/run/0"' \
-    "A number or a text is outside what a plan may have." 'found ["let","a",9007199254740992]'
+    "Operand 2 of let is not from -9007199254740991 to 9007199254740991." 'found ["let","a",9007199254740992]'
 explained_agent '"callbacks":{"b":[],"c":[["new","x"],["collect"]]},"jobs":[]' 'S9 "/agents/0/callbacks/c/1"' \
-    "A callback may not collect." 'found ["collect"]'
+    "collect can't stand in a callback: collect in a job." 'found ["collect"]'
 explained_agent '"callbacks":{},"jobs":[{"run":[["buffer","b",16385]]}]' 'S10 "/agents/0/jobs/0/run/0"' \
-    "There are more callbacks, jobs, commands or words than the limits allow." 'found ["buffer","b",16385]'
+    "A buffer has at most 16384 words." 'found ["buffer","b",16385]'
 explained_agent '"callbacks":{},"jobs":[{"run":[["abcdefghijklmnopqrstuvwxyzabcdefghijklmnopqrstuvwxyzabcd"]]}]' \
-    'S7 "/agents/0/jobs/0/run/0"' "$operand_fault" 'found ["abcdefghijklmnopqrstuvwxyzabcdefghijklmnopqrstuvwxyzabcd"]'
+    'S7 "/agents/0/jobs/0/run/0"' 'There is no command "abcdefghijklmnopqrstuvwxyzabcdef..".' 'found ["abcdefghijklmnopqrstuvwxyzabcdefghijklmnopqrstuvwxyzabcd"]'
 explained_agent '"callbacks":{},"jobs":[{"run":[["abcdefghijklmnopqrstuvwxyzabcdefghijklmnopqrstuvwxyzabcde"]]}]' \
-    'S7 "/agents/0/jobs/0/run/0"' "$operand_fault" 'found ["abcdefghijklmnopqrstuvwxyzabcdefghijklmnopqrstuvwxyzabcde"..'
+    'S7 "/agents/0/jobs/0/run/0"' 'There is no command "abcdefghijklmnopqrstuvwxyzabcdef..".' 'found ["abcdefghijklmnopqrstuvwxyzabcdefghijklmnopqrstuvwxyzabcde"..'
 # a letter of two bytes of which the second is byte 60, 61 and 62
 explained_agent '"callbacks":{},"jobs":[{"run":[["abcdefghijklmnopqrstuvwxyzabcdefghijklmnopqrstuvwxyzabcdé.."]]}]' \
-    'S7 "/agents/0/jobs/0/run/0"' "$operand_fault" 'found ["abcdefghijklmnopqrstuvwxyzabcdefghijklmnopqrstuvwxyzabcdé..'
+    'S7 "/agents/0/jobs/0/run/0"' 'There is no command "abcdefghijklmnopqrstuvwxyzabcdef..".' 'found ["abcdefghijklmnopqrstuvwxyzabcdefghijklmnopqrstuvwxyzabcdé..'
 explained_agent '"callbacks":{},"jobs":[{"run":[["abcdefghijklmnopqrstuvwxyzabcdefghijklmnopqrstuvwxyzabcdeé."]]}]' \
-    'S7 "/agents/0/jobs/0/run/0"' "$operand_fault" 'found ["abcdefghijklmnopqrstuvwxyzabcdefghijklmnopqrstuvwxyzabcde..'
+    'S7 "/agents/0/jobs/0/run/0"' 'There is no command "abcdefghijklmnopqrstuvwxyzabcdef..".' 'found ["abcdefghijklmnopqrstuvwxyzabcdefghijklmnopqrstuvwxyzabcde..'
 explained_agent '"callbacks":{},"jobs":[{"run":[["abcdefghijklmnopqrstuvwxyzabcdefghijklmnopqrstuvwxyzabcdefé"]]}]' \
-    'S7 "/agents/0/jobs/0/run/0"' "$operand_fault" 'found ["abcdefghijklmnopqrstuvwxyzabcdefghijklmnopqrstuvwxyzabcdef..'
+    'S7 "/agents/0/jobs/0/run/0"' 'There is no command "abcdefghijklmnopqrstuvwxyzabcdef..".' 'found ["abcdefghijklmnopqrstuvwxyzabcdefghijklmnopqrstuvwxyzabcdef..'
 usage "another word" fly
 usage "help as a word" help
 usage "two dashes alone" --

@@ -66,7 +66,7 @@ def try_read(refusing, row):
     """A plan that is only read, and one whose last byte is wrong, which is explained."""
     what, data, _ = row
     refusing.all(f"{what}, checked", ["check"], data, (0, "ok\n", ""))
-    fault = 'S1 ""\nThe text is no JSON in UTF-8.\n'
+    fault = "S1 line 1 column 1\nThis { is never closed.\n"
     refusing.all(f"{what}, explained", ["explain"], data[:-1], (1, fault, ""))
 
 

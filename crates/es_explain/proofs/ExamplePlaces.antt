@@ -9,6 +9,7 @@ use Rattle.es_reading.specs.declared.fault.FaultCode.TheVariants.{Shape, Version
 use Rattle.es_reading.specs.declared.fault.Place.TheVariants.{Whole, Agent, Callback, Job}
 use Rattle.es_reading.specs.declared.fault.ScriptFault.{ScriptFault}
 use Rattle.es_reading.specs.Places.{at}
+use Rattle.es_explain.specs.Misshapen.{plan_trouble, agents_trouble, agent_trouble, name_trouble, callbacks_trouble, callback_trouble, jobs_trouble, job_trouble, run_trouble, on_trouble, command_trouble, version_trouble}
 use Rattle.es_explain.specs.Explaining.{pointer, found_in}
 
 -- the command `nwe`
@@ -33,7 +34,9 @@ plan = object (member (codes "agents") (array (item agent no_items)) (member (co
 abbrev Leads : ScriptFault → List ℕ → Data → Type 0
 Leads f place part = (pointer (Some plan) f ≡ place) × (points_to place plan ≡ Some part)
 
-whole : Leads (at Whole 0 Shape) [] plan
+-- the first part that is misshapen: on is no list of two texts
+whole : Leads (at Whole 0 Shape) (codes "/agents/0/jobs/1/on") (array no_items)
+unfolding digits chars serde_json_on_literals plan_trouble agents_trouble agent_trouble name_trouble callbacks_trouble callback_trouble jobs_trouble job_trouble run_trouble on_trouble command_trouble version_trouble
 whole = (refl, refl)
 
 version : Leads (at Whole 0 Version) (codes "/version") (number (unsigned 3))

@@ -1,1 +1,5 @@
 pub mod ExamplePlaces
+pub mod ExampleWords
+pub mod ExampleCauses
+pub mod Counts
+pub mod Pairs

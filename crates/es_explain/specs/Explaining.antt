@@ -1,4 +1,5 @@
--- To believe: what is said of a plan's text for people: that it is a plan, or its first fault, where that is, and what was found.
+-- To believe: what is said of a plan's text for people: that it is a plan, or its first fault,
+-- where that is, what it is (Causes), and what was found.
 use Rattle.std.specs.Prelude.{ℕ, zero, suc, ◌≡◌, ◌==◌, ◌-◌, ◌<◌, ◌≤◌, Bool, false, List, [], ◌∷◌, ◌++◌, length, take, Option, Some, None, option_and_then, codes, decimal, string_bytes, if◌then◌else◌}
 use Rattle.std.specs.Str.{chars, IsCharBoundary}
 use Rattle.std.specs.Char.{encode_utf8}
@@ -7,41 +8,22 @@ use Rattle.serde_json.specs.Find.{at, get, pointer as points_to}
 use Rattle.serde_json.specs.Written.{IsInOrder, has_float, compact_text}
 use Rattle.es_event.specs.declared.plan.Plan.{Plan}
 use Rattle.es_reading.specs.declared.fault.FaultCode.{FaultCode}
-use Rattle.es_reading.specs.declared.fault.FaultCode.TheVariants.{NotJson, Shape, Version, AgentCount, Name, Unknown, Operands, Profile, Collection, Limit}
+use Rattle.es_reading.specs.declared.fault.FaultCode.TheVariants.{Shape, Version, AgentCount, Name, Limit}
 use Rattle.es_reading.specs.declared.fault.Place.{Place}
 use Rattle.es_reading.specs.declared.fault.Place.TheVariants.{Whole, Agent, Callback, Job}
 use Rattle.es_reading.specs.declared.fault.ScriptFault.{ScriptFault}
 use Rattle.es_reading.specs.Numbers.{number_of}
 use Rattle.es_reading.specs.Parts.{members_in}
 use Rattle.es_script.specs.Fault.{IsPlanOf, fault_of, json_value}
+use Rattle.es_explain.specs.Texts.{escaped}
+use Rattle.es_explain.specs.Misshapen.{place_of, plan_trouble}
+use Rattle.es_explain.specs.Causes.{cause}
+use Rattle.es_explain.specs.Unread.{IsUnread}
+use Rattle.es_explain.specs.declared.found.Said.{Said}
 use Rattle.es_explain.specs.declared.explanation.Explanation.{Explanation}
 use Rattle.es_explain.specs.declared.explanation.Explanation.TheVariants.{Plan as IsPlan, Fault}
 
--- the sentence of each fault
-abbrev pub sentence : FaultCode → List ℕ
-sentence NotJson = codes "The text is no JSON in UTF-8."
-sentence Shape = codes "The value has not the shape of a plan."
-sentence Version = codes "The version is neither 1 nor 2."
-sentence AgentCount = codes "A plan has 1 to 8 agents."
-sentence Name = codes "A name is not spelled as one, or an earlier agent has it."
-sentence Unknown = codes "No callback, or no other agent, has this name."
-sentence Operands = codes "The command is unknown, or its operands are of a wrong number or JSON kind."
-sentence Profile = codes "A number or a text is outside what a plan may have."
-sentence Collection = codes "A callback may not collect."
-sentence Limit = codes "There are more callbacks, jobs, commands or words than the limits allow."
-
 -- Where a fault is: the JSON Pointer (RFC 6901) of the part of the value that has it
-
--- a letter of a key: `~0` stands for `~`, and `~1` for `/`
-abbrev pub escape : ℕ → List ℕ
-escape c = if c == 126 then codes "~0" else (if c == 47 then codes "~1" else encode_utf8 c)
-
-abbrev pub escape_all : List ℕ → List ℕ
-escape_all [] = []
-escape_all (c ∷ cs) = escape c ++ escape_all cs
-
-abbrev pub escaped : List ℕ → List ℕ
-escaped key = escape_all (chars key)
 
 -- the key of the member that has so many before it
 abbrev pub key_from : ℕ → Members → List ℕ
@@ -67,10 +49,11 @@ job_place a j = codes "/agents/" ++ (decimal a ++ (codes "/jobs/" ++ decimal j))
 abbrev pub index_of : ℕ → Option ℕ
 index_of n = if n == 0 then None else Some (n - 1)
 
-abbrev pub whole_part : FaultCode → List ℕ
-whole_part Version = codes "/version"
-whole_part AgentCount = codes "/agents"
-whole_part c = []
+abbrev pub whole_part : Option Data → FaultCode → List ℕ
+whole_part o Shape = place_of (option_and_then plan_trouble o)
+whole_part o Version = codes "/version"
+whole_part o AgentCount = codes "/agents"
+whole_part o c = []
 
 abbrev pub agent_part : ℕ → FaultCode → List ℕ
 agent_part a Name = codes "/agents/" ++ (decimal a ++ codes "/name")
@@ -87,7 +70,7 @@ job_part place None Limit = place ++ codes "/run"
 job_part place None c = place ++ codes "/on"
 
 abbrev pub placed : Option Data → Place → ℕ → FaultCode → List ℕ
-placed o Whole n c = whole_part c
+placed o Whole n c = whole_part o c
 placed o (Agent a) n c = agent_part a c
 placed o (Callback a k) n c = callback_part (callback_place a (key_at o (Callback a k))) (index_of n)
 placed o (Job a j) n c = job_part (job_place a (j - 1)) (index_of n) c
@@ -119,17 +102,27 @@ Shows (Some d) shown = (text : List ℕ) × IsInOrder text d × (has_float d ≡
 
 -- What is said
 
--- the pointer as JSON has a text, in quotation marks, and what was found
-abbrev pub Locates : Option Data → ScriptFault → List ℕ → List ℕ → Type 0
-Locates o f place shown = (place ≡ compact_text (string (pointer o f))) × Shows (option_and_then (λ d. found_in d (pointer o f) f) o) shown
+abbrev pub sentence : ScriptFault → Data → Option Data → List ℕ
+sentence f d None = []
+sentence f d (Some part) = cause f d part
 
--- that the bytes stand for a plan; or their first fault, its place in their value, and what was found there
+-- the sentence on a fault at this place, and what was found there
+pub record IsSaid (d : Data) (place : List ℕ) (f : ScriptFault) (said : Said) : Type 0 where
+  pub sentence : string_bytes said.sentence ≡ sentence f d (found_in d place f)
+  pub found : Shows (found_in d place f) (string_bytes said.found)
+
+-- the pointer as JSON has a text, in quotation marks, and what is said of the place; or that there is no value
+abbrev pub Locates : List ℕ → Option Data → ScriptFault → List ℕ → Said → Type 0
+Locates bytes None f place said = IsUnread bytes place said
+Locates bytes (Some d) f place said = (place ≡ compact_text (string (pointer (Some d) f))) × IsSaid d (pointer (Some d) f) f said
+
+-- that the bytes stand for a plan; or their first fault, its place, and what is said of it
 abbrev pub Explains : List ℕ → Explanation → Type 0
 Explains bytes IsPlan = (p : Plan) × IsPlanOf bytes p
-Explains bytes (Fault fault place found) = (fault_of bytes ≡ Some fault) × Locates (json_value bytes) fault (string_bytes place) (string_bytes found)
+Explains bytes (Fault fault place said) = (fault_of bytes ≡ Some fault) × Locates bytes (json_value bytes) fault (string_bytes place) said
 
-abbrev pub fault_lines : FaultCode → List ℕ → List ℕ
-fault_lines code place = codes "S" ++ decimal (number_of code) ++ codes " " ++ place ++ codes "\n" ++ sentence code ++ codes "\n"
+abbrev pub fault_lines : FaultCode → List ℕ → List ℕ → List ℕ
+fault_lines code place sentence = codes "S" ++ decimal (number_of code) ++ codes " " ++ place ++ codes "\n" ++ sentence ++ codes "\n"
 
 -- none where nothing was found
 abbrev pub found_line : List ℕ → List ℕ
@@ -138,4 +131,4 @@ found_line (x ∷ xs) = codes "found " ++ (x ∷ xs) ++ codes "\n"
 
 abbrev pub explanation_text : Explanation → List ℕ
 explanation_text IsPlan = codes "ok\n"
-explanation_text (Fault fault place found) = fault_lines fault.code (string_bytes place) ++ found_line (string_bytes found)
+explanation_text (Fault fault place said) = fault_lines fault.code (string_bytes place) (string_bytes said.sentence) ++ found_line (string_bytes said.found)

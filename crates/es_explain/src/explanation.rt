@@ -1,17 +1,16 @@
 //! What there is to say of a plan's text.
 
-ghost use Rattle.std.specs.Prelude.{◌≡◌, option_map, string_bytes, IfOk, OnOk};
+ghost use Rattle.std.specs.Prelude.{◌≡◌, option_map, IfOk, OnOk};
 ghost use Rattle.std.specs.Io.KnownBytes.{Appends};
-ghost use Rattle.serde_json.specs.Data.{string};
 ghost use Rattle.serde_json.specs.View.{view};
-ghost use Rattle.serde_json.specs.Written.{compact_text};
 ghost use Rattle.es_script.specs.Fault.{json_value};
 ghost use Rattle.es_explain.specs.Explaining.{Explains, explanation_text, fault_lines, found_line};
 ghost use Rattle.es_explain.specs.Told.{Tells};
 
-use crate::found::found_at;
+use crate::found::{Said, said_of};
 use crate::pointer::pointer_of;
-use crate::sentence::write_sentence;
+use crate::text::as_json;
+use crate::unread::{Unread, said_of_unread};
 use es_reading::{FaultCode, ReadFault, ScriptFault};
 use es_script::read_plan;
 use es_value::NoMemory;
@@ -29,15 +28,16 @@ pub enum Explanation {
     Fault {
         /// What is wrong.
         fault: ScriptFault,
-        /// Where: a JSON Pointer (RFC 6901), in quotation marks, as JSON has a text.
+        /// Where: a JSON Pointer (RFC 6901), in quotation marks, as JSON has a text; or of a text that is no
+        /// JSON its line and column.
         place: String,
-        /// What was found there: JSON on one line, cut at 60 bytes. It is empty where the text is no JSON.
-        found: String,
+        /// What is said of it.
+        said: Said,
     },
 }
 
 /// What there is to say of a text: that it is a plan, or its first fault (`docs/PLANS.md`, Faults of a
-/// plan), where that is, and what was found there. Fails for want of memory alone.
+/// plan), where that is, what it is, and what was found there. Fails for want of memory alone.
 pub fn explained(alloc: Global, bytes: &[u8]) -> Result<Explanation, NoMemory>
     ensures { IfOk result (Explains bytes.now) }
 {
@@ -49,24 +49,33 @@ pub fn explained(alloc: Global, bytes: &[u8]) -> Result<Explanation, NoMemory>
 }
 
 fn told(alloc: Global, bytes: &[u8], fault: ScriptFault) -> Result<Explanation, NoMemory>
-    ensures { IfOk result (Tells (json_value bytes.now) fault) }
+    ensures { IfOk result (Tells bytes.now (json_value bytes.now) fault) }
 {
     let value = value_of(alloc, bytes)?;
-    let pointer = pointer_of(alloc, value.as_ref(), fault)?;
-    let found = found_at(alloc, value.as_ref(), pointer.as_str(), fault)?;
-    let place = quoted(alloc, pointer)?;
-    Ok(Explanation::Fault {
-        fault,
-        place,
-        found,
-    })
+    Ok(told_by(alloc, bytes, value.as_ref(), fault)?)
 }
 
-/// A text as JSON has it, in quotation marks.
-fn quoted(alloc: Global, text: String) -> Result<String, AllocError>
-    ensures { IfOk result (λ s. string_bytes s ≡ compact_text (string (string_bytes text))) }
+/// The same by the value of the text, if it is JSON.
+fn told_by(
+    alloc: Global,
+    bytes: &[u8],
+    value: Option<&Value>,
+    fault: ScriptFault,
+) -> Result<Explanation, AllocError>
+    ensures { IfOk result (Tells bytes.now (option_map (λ v. view v.now) value.entry) fault) }
 {
-    Value::String(text).to_string(alloc)
+    match value {
+        Some(value) => {
+            let pointer = pointer_of(alloc, Some(value), fault)?;
+            let said = said_of(alloc, value, pointer.as_str(), fault)?;
+            let place = as_json(alloc, pointer)?;
+            Ok(Explanation::Fault { fault, place, said })
+        }
+        None => {
+            let Unread { place, said } = said_of_unread(alloc, bytes)?;
+            Ok(Explanation::Fault { fault, place, said })
+        }
+    }
 }
 
 /// The value of a JSON text, if it is one.
@@ -91,24 +100,24 @@ pub fn write_explanation<W: Write>(
 {
     match explanation {
         Explanation::Plan => writer.write_all(b"ok\n"),
-        Explanation::Fault {
-            fault,
-            place,
-            found,
-        } => {
-            write_fault(fault.code, place.as_str(), writer)?;
-            write_found(found.as_str(), writer)
+        Explanation::Fault { fault, place, said } => {
+            write_fault(fault.code, place.as_str(), said.sentence.as_str(), writer)?;
+            write_found(said.found.as_str(), writer)
         }
     }
 }
 
-fn write_fault<W: Write>(code: FaultCode, place: &str, writer: &mut W) -> Result<(), io::Error>
-    ensures { OnOk result (Appends (W.contents writer.old) (W.contents writer.new) (fault_lines code place.now)) }
+fn write_fault<W: Write>(
+    code: FaultCode,
+    place: &str,
+    sentence: &str,
+    writer: &mut W,
+) -> Result<(), io::Error>
+    ensures { OnOk result (Appends (W.contents writer.old) (W.contents writer.new) (fault_lines code place.now sentence.now)) }
 {
     let number = code.number();
     writeln!(writer, "S{number} {place}")?;
-    write_sentence(code, writer)?;
-    writer.write_all(b"\n")
+    writeln!(writer, "{sentence}")
 }
 
 fn write_found<W: Write>(found: &str, writer: &mut W) -> Result<(), io::Error>

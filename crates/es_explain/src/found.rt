@@ -1,10 +1,13 @@
-//! What was found at a fault's place, as JSON, and no longer than a line may be.
+//! What is said of a fault's place: what is wrong there, and what was found, as JSON and no longer than a
+//! line may be.
 
-ghost use Rattle.std.specs.Prelude.{◌≡◌, Some, option_map, option_and_then, string_bytes, IfOk};
+ghost use Rattle.std.specs.Prelude.{◌≡◌, Some, option_map, string_bytes, IfOk};
 ghost use Rattle.serde_json.specs.View.{view};
-ghost use Rattle.es_explain.specs.Explaining.{IsCut, Shows, found_in, is_of_key};
+ghost use Rattle.es_explain.specs.Explaining.{IsCut, IsSaid, Shows, is_of_key};
+ghost use Rattle.es_explain.specs.Told.{SaysOf};
 
 use crate::pointer::key_at;
+use crate::sentence::cause;
 use es_reading::{FaultCode, Place, ScriptFault};
 use serde_json::Value;
 use std::alloc::{AllocError, Global};
@@ -12,35 +15,29 @@ use std::alloc::{AllocError, Global};
 /// How many bytes of what was found are shown.
 const MOST_SHOWN: usize = 60;
 
-/// What was found where the pointer leads, as JSON on one line, cut at 60 bytes; a callback's key that is
-/// no name stands for itself, and nothing was found where the text is no JSON.
-pub(crate) fn found_at(
-    alloc: Global,
-    value: Option<&Value>,
-    pointer: &str,
-    fault: ScriptFault,
-) -> Result<String, AllocError>
-    ensures { IfOk result (λ s. Shows (option_and_then (λ d. found_in d pointer.now fault) (option_map (λ v. view v.now) value.entry)) (string_bytes s)) }
-{
-    match value {
-        Some(value) => found_in(alloc, value, pointer, fault),
-        None => Ok(String::new(alloc)),
-    }
+/// What is said of a fault's place.
+#[derive(Debug, Drop)]
+pub struct Said {
+    /// What is wrong there, in a sentence or two.
+    pub sentence: String,
+    /// What was found there: JSON on one line, cut at 60 bytes. It is empty where the text is no JSON.
+    pub found: String,
 }
 
-fn found_in(
+/// What is said of a fault where the pointer leads. Of a callback's key that is no name the key was found.
+pub(crate) fn said_of(
     alloc: Global,
     value: &Value,
     pointer: &str,
     fault: ScriptFault,
-) -> Result<String, AllocError>
-    ensures { IfOk result (λ s. Shows (found_in (view value.now) pointer.now fault) (string_bytes s)) }
+) -> Result<Said, AllocError>
+    ensures { IfOk result (IsSaid (view value.now) pointer.now fault) }
 {
     if is_of_key(fault) {
         let key = String::from_str(alloc, key_at(Some(value), fault.place))?;
-        return cut(alloc, &Value::String(key));
+        return said_by(alloc, value, Some(&Value::String(key)), fault);
     }
-    part(alloc, value.pointer(pointer))
+    said_by(alloc, value, value.pointer(pointer), fault)
 }
 
 /// Whether what is wrong is the key of a callback.
@@ -56,12 +53,25 @@ fn is_of_key(fault: ScriptFault) -> bool
     }
 }
 
-fn part(alloc: Global, value: Option<&Value>) -> Result<String, AllocError>
-    ensures { IfOk result (λ s. Shows (option_map (λ v. view v.now) value.entry) (string_bytes s)) }
+/// What is said of a fault of this part of a value.
+fn said_by(
+    alloc: Global,
+    value: &Value,
+    part: Option<&Value>,
+    fault: ScriptFault,
+) -> Result<Said, AllocError>
+    ensures { IfOk result (SaysOf (view value.now) (option_map (λ v. view v.now) part.entry) fault) }
 {
-    match value {
-        Some(value) => cut(alloc, value),
-        None => Ok(String::new(alloc)),
+    match part {
+        Some(part) => {
+            let sentence = cause(alloc, fault, value, part)?;
+            let found = cut(alloc, part)?;
+            Ok(Said { sentence, found })
+        }
+        None => Ok(Said {
+            sentence: String::new(alloc),
+            found: String::new(alloc),
+        }),
     }
 }
 

@@ -4,8 +4,10 @@ ghost use Rattle.std.specs.Prelude.{◌≡◌, option_map, option_and_then, stri
 ghost use Rattle.serde_json.specs.Find.{at, get};
 ghost use Rattle.serde_json.specs.View.{view, members_view};
 ghost use Rattle.es_reading.specs.Parts.{members_in};
-ghost use Rattle.es_explain.specs.Explaining.{agent_part, callback_part, callback_place, callbacks_in, escape, escaped, index_of, job_part, job_place, key_at, key_from, pointer, whole_part};
+ghost use Rattle.es_explain.specs.Texts.{escape, escaped};
+ghost use Rattle.es_explain.specs.Explaining.{agent_part, callback_part, callback_place, callbacks_in, index_of, job_part, job_place, key_at, key_from, pointer, whole_part};
 
+use crate::shape::place_of_trouble;
 use es_reading::{FaultCode, Place, ScriptFault};
 use serde_json::{Map, Value};
 use std::alloc::{AllocError, Global};
@@ -20,7 +22,7 @@ pub(crate) fn pointer_of(
     ensures { IfOk result (λ s. string_bytes s ≡ pointer (option_map (λ v. view v.now) value.entry) fault) }
 {
     match fault.place {
-        Place::Whole => in_whole(alloc, fault.code),
+        Place::Whole => in_whole(alloc, value, fault.code),
         Place::Agent(agent) => in_agent(alloc, agent, fault.code),
         Place::Callback(agent, _) => {
             let place = callback_place(alloc, agent, key_at(value, fault.place))?;
@@ -43,10 +45,11 @@ fn index_of(command: usize) -> Option<usize>
     Some(command - 1)
 }
 
-fn in_whole(alloc: Global, code: FaultCode) -> Result<String, AllocError>
-    ensures { IfOk result (λ s. string_bytes s ≡ whole_part code) }
+fn in_whole(alloc: Global, value: Option<&Value>, code: FaultCode) -> Result<String, AllocError>
+    ensures { IfOk result (λ s. string_bytes s ≡ whole_part (option_map (λ v. view v.now) value.entry) code) }
 {
     match code {
+        FaultCode::Shape => place_of_trouble(alloc, value),
         FaultCode::Version => String::from_str(alloc, "/version"),
         FaultCode::AgentCount => String::from_str(alloc, "/agents"),
         _ => String::from_str(alloc, ""),
@@ -79,7 +82,7 @@ fn callback_place(alloc: Global, agent: usize, key: &str) -> Result<String, Allo
 }
 
 /// A key as a part of a JSON Pointer.
-fn escaped(alloc: Global, key: &str) -> Result<String, AllocError>
+pub(crate) fn escaped(alloc: Global, key: &str) -> Result<String, AllocError>
     ensures { IfOk result (λ s. string_bytes s ≡ escaped key.now) }
 {
     let mut text = String::new(alloc);

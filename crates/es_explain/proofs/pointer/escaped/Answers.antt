@@ -1,6 +1,6 @@
 use Rattle.std.proofs.Common.{ℕ, ◌≡◌, List, [], ◌∷◌, length, chars, sym, ◌∙◌, refl, append_assoc, append-nil}
 use Rattle.std.proofs.lemmas.Str.{IsUtf8-past_char, chars_past_char, chars-nil}
-use Rattle.es_explain.specs.Explaining.{escape_all}
+use Rattle.es_explain.specs.Texts.{escape_all}
 use Rattle.es_explain.proofs.pointer.escaped.Goals as goal
 
 nothing_left : (rest : List ℕ) → length rest ≡ 0 → escape_all (chars rest) ≡ []

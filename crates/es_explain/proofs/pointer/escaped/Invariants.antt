@@ -1,6 +1,6 @@
 use Rattle.std.proofs.Common.{◌≡◌, ◌++◌, IsUtf8, chars, string_bytes}
 use Rattle.std.specs.Str.Iter.{chars_rest}
-use Rattle.es_explain.specs.Explaining.{escape_all, escaped}
+use Rattle.es_explain.specs.Texts.{escape_all, escaped}
 use Rattle.es_explain.proofs.pointer.escaped.Given as goal
 
 -- what is written, and what the rest becomes, is what the whole key becomes

@@ -1,0 +1,108 @@
+//! What the operands of each command are.
+
+ghost use Rattle.std.specs.Prelude.{◌≡◌, option_map};
+ghost use Rattle.es_reading.specs.Forms.{form, later_form, weak_form, shared_form, registry_form, register_form};
+ghost use Rattle.es_explain.specs.Causes.{types};
+ghost use Rattle.es_explain.specs.Coded.{types_of};
+
+use es_reading::Version;
+
+/// What an operand is: a variable or a property's key, a literal, a text, the name of a callback or of
+/// another agent, a number, or a number of words.
+#[derive(Clone, Copy, Debug)]
+pub(crate) enum Kind {
+    Name,
+    Literal,
+    Text,
+    Callback,
+    Agent,
+    Whole,
+    Words,
+}
+
+/// What the operands of a command of a version are, by its word and how many operands are there; nothing
+/// for a word that is none.
+pub(crate) fn kinds_of(version: Version, word: &str, count: usize) -> Option<&'static [Kind]>
+    ensures { option_map (λ ks. types_of ks.now) result ≡ types (form version word.now count) }
+{
+    match word {
+        "let" => Some(&[Kind::Name, Kind::Literal]),
+        "new" => Some(&[Kind::Name]),
+        "symbol" => Some(&[Kind::Name]),
+        "symbolfor" => Some(&[Kind::Name, Kind::Text]),
+        "copy" => Some(&[Kind::Name, Kind::Name]),
+        "same" => Some(&[Kind::Name, Kind::Name, Kind::Name]),
+        "say" => Some(&[Kind::Name]),
+        "set" => Some(&[Kind::Name, Kind::Name, Kind::Name]),
+        "get" => Some(&[Kind::Name, Kind::Name, Kind::Name]),
+        "delete" => Some(&[Kind::Name, Kind::Name, Kind::Name]),
+        "keys" => Some(&[Kind::Name]),
+        "collect" => Some(&[]),
+        "collectlater" => later_kinds(version),
+        _ => weak_kinds(word, count),
+    }
+}
+
+fn later_kinds(version: Version) -> Option<&'static [Kind]>
+    ensures { option_map (λ ks. types_of ks.now) result ≡ types (later_form version) }
+{
+    match version {
+        Version::One => None,
+        Version::Two => Some(&[]),
+    }
+}
+
+fn weak_kinds(word: &str, count: usize) -> Option<&'static [Kind]>
+    ensures { option_map (λ ks. types_of ks.now) result ≡ types (weak_form word.now count) }
+{
+    match word {
+        "weakref" => Some(&[Kind::Name, Kind::Name]),
+        "deref" => Some(&[Kind::Name, Kind::Name]),
+        "weakmap" => Some(&[Kind::Name]),
+        "wmset" => Some(&[Kind::Name, Kind::Name, Kind::Name]),
+        "wmget" => Some(&[Kind::Name, Kind::Name, Kind::Name]),
+        "wmhas" => Some(&[Kind::Name, Kind::Name, Kind::Name]),
+        "wmdelete" => Some(&[Kind::Name, Kind::Name, Kind::Name]),
+        "weakset" => Some(&[Kind::Name]),
+        "wsadd" => Some(&[Kind::Name, Kind::Name]),
+        "wshas" => Some(&[Kind::Name, Kind::Name, Kind::Name]),
+        "wsdelete" => Some(&[Kind::Name, Kind::Name, Kind::Name]),
+        _ => shared_kinds(word, count),
+    }
+}
+
+fn shared_kinds(word: &str, count: usize) -> Option<&'static [Kind]>
+    ensures { option_map (λ ks. types_of ks.now) result ≡ types (shared_form word.now count) }
+{
+    match word {
+        "buffer" => Some(&[Kind::Name, Kind::Words]),
+        "length" => Some(&[Kind::Name, Kind::Name]),
+        "sameblock" => Some(&[Kind::Name, Kind::Name, Kind::Name]),
+        "load" => Some(&[Kind::Name, Kind::Name, Kind::Whole]),
+        "store" => Some(&[Kind::Name, Kind::Whole, Kind::Whole]),
+        "add" => Some(&[Kind::Name, Kind::Name, Kind::Whole, Kind::Whole]),
+        "post" => Some(&[Kind::Agent, Kind::Name]),
+        _ => registry_kinds(word, count),
+    }
+}
+
+fn registry_kinds(word: &str, count: usize) -> Option<&'static [Kind]>
+    ensures { option_map (λ ks. types_of ks.now) result ≡ types (registry_form word.now count) }
+{
+    match word {
+        "registry" => Some(&[Kind::Name, Kind::Callback]),
+        "register" => register_kinds(count),
+        "unregister" => Some(&[Kind::Name, Kind::Name, Kind::Name]),
+        _ => None,
+    }
+}
+
+/// The fourth is the token, where there is one.
+fn register_kinds(count: usize) -> Option<&'static [Kind]>
+    ensures { option_map (λ ks. types_of ks.now) result ≡ types (register_form count) }
+{
+    if count == 4 {
+        return Some(&[Kind::Name, Kind::Name, Kind::Name, Kind::Name]);
+    }
+    Some(&[Kind::Name, Kind::Name, Kind::Name])
+}
