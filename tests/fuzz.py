@@ -93,7 +93,7 @@ def checked(data):
 def explained(program, data):
     """The code that `explain` says, or `ok`, as the rules have it; or all that it said where it ended as it may not."""
     status, out, errors = running.answer([program, "explain"], data)
-    first = re.match(r'(ok|S\d+)( "|\n)', out)
+    first = re.match(r'(ok|S\d+)( "| line \d+ column \d+\n|\n)', out)
     return (status, first[1]) if first and not errors and status in (0, 1) else (status, out, errors)
 
 

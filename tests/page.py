@@ -111,8 +111,11 @@ def by_program(program, words, plan):
 
 
 def led_to(program, plan):
-    """The value to which the pointer of a fault leads, as JSON; None where it leads to the whole."""
+    """The value to which the pointer of a fault leads, as JSON; None where it leads to the whole, and of S1 and S2, of which
+    the page marks what it finds itself."""
     _, said, _ = running.answer([program, "explain"], plan)
+    if said.startswith(("S1 ", "S2 ")):
+        return None
     pointer = json.loads(said.split("\n")[0].split(" ", 1)[1])
     if not pointer:
         return None

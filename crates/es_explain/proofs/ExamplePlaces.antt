@@ -1,5 +1,5 @@
 -- Places of faults in a value, and that each pointer leads to the part that has the fault.
-use Rattle.std.proofs.Common.{ℕ, ◌≡◌, refl, Some, codes, List, []}
+use Rattle.std.proofs.Common.{ℕ, ◌≡◌, refl, Some, codes, List}
 use Rattle.std.specs.Fmt.{digits}
 use Rattle.std.specs.Str.{chars}
 use Rattle.serde_json.specs.Data.{Data, number, unsigned, string, array, object, no_items, item, no_members, member}

@@ -1,11 +1,9 @@
 -- To believe: the sentence that says what a fault of a plan's value is.
-use Rattle.std.specs.Prelude.{ℕ, zero, suc, ◌+◌, ◌-◌, ◌==◌, not, nat_le, nat_lt, Bool, true, false, List, [], ◌∷◌, ◌++◌, length, Option, Some, None, option_and_then, option_map, unwrap_or, codes, decimal, if◌then◌else◌}
+use Rattle.std.specs.Prelude.{ℕ, ◌+◌, ◌==◌, not, nat_le, nat_lt, Bool, true, false, List, [], ◌∷◌, ◌++◌, length, Option, Some, None, option_and_then, option_map, unwrap_or, codes, decimal, if◌then◌else◌}
 use Rattle.std.specs.Str.{bytes_eq, chars}
-use Rattle.std.specs.Char.{encode_utf8}
-use Rattle.serde_json.specs.Data.{Data, null, boolean, number, string, array, object, Num, unsigned, negative, float, Items, no_items, item, Members, no_members, member}
+use Rattle.serde_json.specs.Data.{Data, number, string, array, Num, unsigned, negative, float, Items, no_items, item, Members, no_members, member}
 use Rattle.serde_json.specs.Events.{items_len, members_len}
 use Rattle.serde_json.specs.Find.{at, get, as_number, as_i64, is_float}
-use Rattle.serde_json.specs.Written.{compact_text, number_text}
 use Rattle.es_value.specs.Limits.{longest_name, longest_text, most_callbacks, most_jobs, most_commands, most_words}
 use Rattle.es_value.specs.Spelling.{is_name, is_name_byte, is_text, is_text_byte}
 use Rattle.es_reading.specs.declared.fault.FaultCode.{FaultCode}

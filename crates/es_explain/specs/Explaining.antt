@@ -1,8 +1,7 @@
 -- To believe: what is said of a plan's text for people: that it is a plan, or its first fault,
 -- where that is, what it is (Causes), and what was found.
 use Rattle.std.specs.Prelude.{ℕ, zero, suc, ◌≡◌, ◌==◌, ◌-◌, ◌<◌, ◌≤◌, Bool, false, List, [], ◌∷◌, ◌++◌, length, take, Option, Some, None, option_and_then, codes, decimal, string_bytes, if◌then◌else◌}
-use Rattle.std.specs.Str.{chars, IsCharBoundary}
-use Rattle.std.specs.Char.{encode_utf8}
+use Rattle.std.specs.Str.{IsCharBoundary}
 use Rattle.serde_json.specs.Data.{Data, string, Members, no_members, member}
 use Rattle.serde_json.specs.Find.{at, get, pointer as points_to}
 use Rattle.serde_json.specs.Written.{IsInOrder, has_float, compact_text}

@@ -1,5 +1,5 @@
 -- To believe: what is said of a text that is no JSON.
-use Rattle.std.specs.Prelude.{ℕ, ◌+◌, ◌≡◌, ◌≤◌, ◌==◌, ◌&&◌, nat_le, nat_lt, List, [], ◌∷◌, ◌++◌, length, take, codes, decimal, string_bytes, if◌then◌else◌}
+use Rattle.std.specs.Prelude.{ℕ, ◌+◌, ◌≡◌, ◌≤◌, ◌==◌, ◌&&◌, nat_le, nat_lt, List, [], ◌∷◌, length, take, codes, decimal, string_bytes, if◌then◌else◌}
 use Rattle.es_explain.specs.declared.unread.Mistake.{Mistake}
 use Rattle.es_explain.specs.declared.unread.Mistake.TheVariants.{Empty, NotUtf8, ByteOrderMark, Comment, Quotes, BareName, Word, NumberForm, NumberRange, CommaMissing, CommaBeforeEnd, ColonMissing, ValueMissing, NameMissing, ListOpen, ObjectOpen, ListEndWanted, ObjectEndWanted, TextOpen, ControlLetter, Escape, HalfPair, TooDeep, AfterEnd, Stray}
 use Rattle.es_explain.specs.declared.found.Said.{Said}

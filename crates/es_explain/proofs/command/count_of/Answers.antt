@@ -1,4 +1,4 @@
-use Rattle.std.proofs.Common.{sym, ◌∙◌}
+use Rattle.std.proofs.Common.{sym}
 use Rattle.serde_json.proofs.Views.{items_len-items_view}
 use Rattle.es_explain.proofs.command.count_of.Goals as goal
 

@@ -1,4 +1,4 @@
-use Rattle.std.proofs.Common.{ℕ, ◌≡◌, Bool, List, [], ◌∷◌, length, chars, sym, ◌∙◌, refl, true, false, Option, Some, None, arith}
+use Rattle.std.proofs.Common.{ℕ, ◌≡◌, Bool, List, [], ◌∷◌, length, chars, sym, ◌∙◌, refl, true, false, Some, None, arith}
 use Rattle.std.proofs.lemmas.Str.{IsUtf8-past_char, chars_past_char, chars-nil}
 use Rattle.es_explain.specs.Causes.{first_other}
 use Rattle.es_explain.specs.Coded.{has_letter}
