@@ -90,9 +90,10 @@ export class Agent {
         return;
       }
     }
-    if (teller === null) {
-      writer.do(node, ["copy", writer.temporary(carried), writer.operand(node, value, [])], undefined, { temporary: true });
-    }
+    if (teller !== null) return;
+    const [name] = planned(value).variables;
+    if (name === undefined) writer.operand(node, value, carried);
+    else writer.do(node, ["copy", writer.temporary(carried), name], undefined, { temporary: true });
   }
 
   // Jobs
