@@ -194,7 +194,7 @@ const WITH_SHARED = [
   (dice) => `{ const held = new WeakRef(${code(dice)}); await turn(); gc(); console.log(me, typeof held.deref(), held.deref() === ${code(dice)}); }`,
   (dice) => `console.log(me, ${own(dice)} instanceof ${dice.one(["Node", "Leaf", "Old", "Mine"])}, Node.of(n).constructor === Node, Node.kind, Leaf.name);`,
   (dice) => `console.log(me, id(weak.get(${code(dice)})), weak.has(${code(dice)}));`,
-  (dice) => `setTimeout((x) => console.log(me, "timer", id(x), twice(2)), 0, ${either(dice)}); await turn();`,
+  (dice) => `setTimeout((x) => console.log(me, "timer", id(x), twice(2)), 5, ${either(dice)}); await turn();`,
   (dice) => `try { ${own(dice)}.missing(); } catch (e) { console.log(me, e.name); }`,
 ];
 
