@@ -164,6 +164,11 @@ JUDGED = [
     ("let n = 0; const t = setInterval(() => { console.log(1); if (n++) clearInterval(t); else setTimeout(() => console.log(2), 5); }, 5);", list("121")),
     ("let n = 0; const t = setInterval(() => { console.log(1); if (n++) clearInterval(t); else queueMicrotask(() => setTimeout(() => console.log(2), 5)); }, 5);",
      ["1", "1", "*2"]),
+    # Node calls with a timer of 5 ms what else has waited so long; and it counts an interval from its call's beginning.
+    ("setTimeout(() => console.log(1), 5); setTimeout(() => { setTimeout(() => console.log(2), 1); setTimeout(() => console.log(3), 5); }, 4);", ["*1", "2", "*3"]),
+    ("setTimeout(() => { setTimeout(() => console.log(2), 1); setTimeout(() => console.log(3), 5); }, 4);", ["2", "3"]),
+    ("setTimeout(() => console.log(1), 9); await turn(); setTimeout(() => console.log(2), 1); setTimeout(() => console.log(3), 9);", ["2", "*1", "*3"]),
+    ("let n = 0; const t = setInterval(() => { console.log(1); if (n++) clearInterval(t); else setTimeout(() => console.log(2), 3); }, 5);", ["1", "*2", "1"]),
     # In a chain of more than five timers one of 1 ms has 4 ms in a browser.
     ("setTimeout(() => { setTimeout(() => console.log(2), 3); console.log(1); }, 1);", ["1", "2"]),
     # What a timer changes and reads, it may change and read before, or later.

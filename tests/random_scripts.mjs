@@ -33,6 +33,8 @@ const make = (link) => new Node(link);
 function holder(kept) { let own = kept; return { get: () => own, put(value) { own = value; }, peek() { return id(own); } }; }
 function* each(...all) { for (const one of all) yield one; }
 async function later(value) { await null; return value; }
+const soon = async (value) => ({ id: 13, link: value });
+function* last(value) { yield null; return { id: 14, link: value }; }
 const pick = ({ link, ...rest }) => ({ link, count: Object.keys(rest).length, id: rest.id });
 const cache = new Map([["n", 1], ["o", 2]]), gone = [];
 const registry = new FinalizationRegistry((held) => console.log("${name} cleaned", held));
@@ -61,7 +63,8 @@ const OBJECTS = ["a", "b", "c", "d"];
 const any = (dice) => dice.one([...OBJECTS, "Node.cache", "viaThis.it", "list.find((o) => o?.id > 3)", "[...map.values()].at(-1)", "h.get()", "list[0]", "list.at(-1)", 'map.get("x")', 'map.get("y")', "a?.link", "b?.link", "[...set][0]"]);
 const fresh = (dice) => dice.one([
   `new Node(${any(dice)})`, `new Leaf(${any(dice)}, ${any(dice)})`, `new Sub(${any(dice)})`, `collected(${any(dice)})`, `{ id: ${100 + dice.below(900)}, link: ${any(dice)} }`, `make(${any(dice)})`,
-  `await later(make(${any(dice)}))`, `(() => ({ id: ${1000 + dice.below(900)}, link: ${any(dice)} }))()`, `pick({ id: 7, link: ${any(dice)}, x: 1 })`,
+  `await later(make(${any(dice)}))`, `await soon(${any(dice)})`, `last(${any(dice)}).return({ id: 15, link: ${any(dice)} }).value`,
+  `(() => { const one = last(${any(dice)}); one.next(); return one.next().value; })()`, `(() => ({ id: ${1000 + dice.below(900)}, link: ${any(dice)} }))()`, `pick({ id: 7, link: ${any(dice)}, x: 1 })`,
 ]);
 /** A value; some with a collection in the midst of the expression. */
 const value = (dice) => (dice.below(25) === 0 ? `(gc(), ${plain(dice)})` : plain(dice));
@@ -157,10 +160,63 @@ agent("b", async () => { const me = "b"; let words = new Uint32Array(await messa
 `;
 }
 
-/** A script of some statements, with the name that its callbacks say; each tenth is one of two agents. */
+/** Functions and classes that stand outside of the agents. */
+const SHARED = `
+const unit = 3, word = "shared";
+function id(o) { return o?.id ?? o ?? "none"; }
+function twice(n) { return n * 2; }
+const compose = (f, g) => (x) => f(g(x)), link = (id, link = null) => ({ id, link });
+class Node { #secret; static kind = "node"; constructor(id, link) { this.id = id; this.link = link; this.#secret = link; } get secret() { return this.#secret; } static of(id) { return new this(id, null); } swap() { const s = this.#secret; this.#secret = this.link; this.link = s; return this; } }
+class Leaf extends Node { more = null; constructor(id, link, more) { super(id, link); this.more = more; } get both() { return [this.link, this.more].map(id); } swap() { return super.swap(); } }
+function holder(o) { return { get: () => o, put(v) { o = v; return this; } }; }
+function* walk(o) { for (let at = o, left = 5; at?.id !== undefined && left > 0; at = at.link, left--) yield at.id; }
+const later = async (o) => { await null; return o; };
+function Old(id) { this.id = id; } Old.prototype.link = null; Old.prototype.twice = function () { return twice(this.id); };
+`;
+const OWN = ["o", "p", "q"];
+const own = (dice) => dice.one([...OWN, ...OWN, "list[0]", "list.at(-1)", "o?.link", "p?.link", "h.get()", "ref?.deref()", "weak.get(Node)"]);
+const madeBy = (dice) => dice.one([`new Node(n++, ${own(dice)})`, `new Leaf(n++, ${own(dice)}, ${own(dice)})`, `link(n++, ${own(dice)})`, "Node.of(n++)", "Leaf.of(n++)",
+  "new Old(n++)", `await later(link(n++, ${own(dice)}))`, `holder(new Node(n++, ${own(dice)})).get()`, `new Mine(n++, ${own(dice)})`]);
+const either = (dice) => (dice.below(2) ? madeBy(dice) : own(dice));
+const code = (dice) => dice.one(["id", "twice", "link", "Node", "Leaf", "later", "walk", "Old", "Old.prototype", "Node.prototype", "Leaf.prototype.swap", "Mine"]);
+
+/** What an agent does with functions and classes that others have too. */
+const WITH_SHARED = [
+  ...Array(3).fill((dice) => `${dice.one(OWN)} = ${either(dice)};`),
+  (dice) => `${dice.one(OWN)} = null; ${dice.one(OWN)} = null;`,
+  (dice) => `console.log(me, [...walk(${either(dice)})].join(), id(${own(dice)}), twice(n), compose(twice, (x) => x + unit)(n), word);`,
+  (dice) => `o?.swap?.(); console.log(me, id(o?.secret), ${own(dice)}?.both, p?.twice?.());`,
+  (dice) => `h = ${dice.one([`holder(${either(dice)})`, `h.put(${either(dice)})`])};`,
+  (dice) => `list = [...list, ${either(dice)}].slice(-3);`,
+  (dice) => `ref = new WeakRef(${dice.one([madeBy(dice), "o ?? twice", code(dice)])});`,
+  (dice) => `weak.set(${dice.one([code(dice), "o ?? Node"])}, ${either(dice)});`,
+  () => 'await turn(); gc(); console.log(me, "ref", id(ref?.deref()?.name ?? ref?.deref()));',
+  (dice) => `{ const held = new WeakRef(${code(dice)}); await turn(); gc(); console.log(me, typeof held.deref(), held.deref() === ${code(dice)}); }`,
+  (dice) => `console.log(me, ${own(dice)} instanceof ${dice.one(["Node", "Leaf", "Old", "Mine"])}, Node.of(n).constructor === Node, Node.kind, Leaf.name);`,
+  (dice) => `console.log(me, id(weak.get(${code(dice)})), weak.has(${code(dice)}));`,
+  (dice) => `setTimeout((x) => console.log(me, "timer", id(x), twice(2)), 5, ${either(dice)}); await turn();`,
+  (dice) => `try { ${own(dice)}.missing(); } catch (e) { console.log(me, e.name); }`,
+];
+
+/** Two agents that use the same functions and classes, each with objects of its own, and that wait for each other now and then. */
+function randomSharing(dice) {
+  const body = (me, other) => {
+    const acts = Array.from({ length: 5 + dice.below(10) }, () => dice.one(WITH_SHARED)(dice)).join("\n  ");
+    return `agent("${me}", async () => { const me = "${me}", weak = new WeakMap(); let n = 1, o = null, p = null, q = null, list = [], h = holder(null), ref = null;
+  class Mine extends ${dice.one(["Node", "Leaf"])} { get own() { return twice(this.id); } }
+  ${acts}
+  postMessage(n, "${other}"); console.log(me, await message("${other}"));
+  console.log(me, "end", OWN.map(id), id(h.get()), list.map(id), [ref, weak, id, twice, compose, link, Node, Leaf, Mine, holder, walk, later, Old].length); });
+`.replace("OWN", `[${OWN}]`);
+  };
+  return SHARED + body("a", "b") + body("b", "a");
+}
+
+/** A script of some statements, with the name that its callbacks say; each tenth is one of two agents, over a block or with functions
+    in common. */
 export function randomScript(seed) {
   const dice = new Dice(seed);
-  if (seed % 10 === 0) return randomAgents(dice);
+  if (seed % 10 === 0) return seed % 20 === 0 ? randomAgents(dice) : randomSharing(dice);
   const name = `s${seed}`;
   const body = Array.from({ length: 4 + dice.below(14) }, () => dice.one(STATEMENTS)(dice));
   return `${HEAD(name)}${body.join("\n")}\n${TAIL}`;

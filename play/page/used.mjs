@@ -55,7 +55,7 @@ export class Used {
   }
 
   #leads(heap, from, identity) {
-    return distances(heap, from, this.holds).has(identity);
+    return from.includes(identity) || distances(heap, from, this.holds).has(identity);
   }
 
   /** What a value holds by itself. A function has what it may read of its scopes, and a FinalizationRegistry the held values. */

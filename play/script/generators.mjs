@@ -25,16 +25,22 @@ function* beginGenerator(cx, inner, node, callee, values) {
   yield* bindParameters(cx, inner, node, callee, values);
   made.coroutine = new Coroutine((function* () {
     try {
-      return yield* runBody(inner, callee.node);
+      return needed(inner, yield* runBody(inner, callee.node));
     } catch (signal) {
       if (!(signal instanceof Returned)) throw signal;
-      return signal.value;
+      return needed(inner, signal.value);
     } finally {
       leave(inner, callee.node, cx.writer);
     }
   })());
   Object.assign(made, { state: "new", inner, body: callee.node, requests: [] });
   return made;
+}
+
+/** The last value is needed until the caller has it: the generator's variables end before. */
+function needed({ writer }, value) {
+  writer.need(value);
+  return value;
 }
 
 /** What the caller keeps of a value that the generator gave: the generator's temporaries end when it goes on. */
@@ -55,7 +61,9 @@ function resume(cx, node, generator, how, value) {
   try {
     const step = generator.coroutine.next({ how, value });
     generator.state = step.done ? "done" : "waiting";
-    return { value: keep(cx, node, step.done ? step.value : step.value.yielded), done: step.done };
+    const given = keep(cx, node, step.done ? step.value : step.value.yielded);
+    if (step.done) cx.writer.needNoMore(given, cx.temporaries);
+    return { value: given, done: step.done };
   } catch (error) {
     generator.state = "done";
     throw error;
@@ -121,7 +129,11 @@ function answerNext(cx, generator) {
   proceed(cx, generator.coroutine, {
     resume: { how, value },
     yielded: (inner, found) => give(inner, found, false),
-    ended: (found, inner) => { generator.state = "done"; give(inner, found, true); },
+    ended: (found, inner) => {
+      generator.state = "done";
+      give(inner, found, true);
+      inner.writer.needNoMore(found, inner.temporaries);
+    },
     failed: (thrown, inner) => { generator.state = "done"; done(inner, () => reject(inner, node, promise, thrown.value)); },
   });
 }

@@ -31,6 +31,8 @@ export class Agent {
   hasEnded = false;
   isCleaning = false;
   #order = 0;
+  /** What was set last before the job began. */
+  #begun = 0;
   /** Of how many timers in a chain the last one called what runs. */
   #level = 0;
   #registries = 0;
@@ -45,10 +47,11 @@ export class Agent {
   // Tasks
 
   /** Something is to be done in a job of its own, where a timer calls a function (`callee`). An interval is set again (`isAgain`)
-      after its call, or after what comes of that. */
+      after its call, or after what comes of that; in node it counts from the call's beginning. */
   schedule(node, delay, act, { queue = null, wait = 0, isAgain = false, ...more } = {}) {
     const order = (this.#order += 1);
-    const task = { node, time: this.now + delay, order, latest: isAgain ? null : order, act, ...placeOf(queue, wait, this.#level), ...more };
+    const place = placeOf({ queue, wait, from: isAgain ? this.#begun : order, level: this.#level }, this.tasks);
+    const task = { node, time: this.now + delay, order, latest: isAgain ? null : order, act, ...place, ...more };
     this.tasks.push(task);
     return task;
   }
@@ -90,9 +93,10 @@ export class Agent {
         return;
       }
     }
-    if (teller === null) {
-      writer.do(node, ["copy", writer.temporary(carried), writer.operand(node, value, [])], undefined, { temporary: true });
-    }
+    if (teller !== null) return;
+    const [name] = planned(value).variables;
+    if (name === undefined) writer.operand(node, value, carried);
+    else writer.do(node, ["copy", writer.temporary(carried), name], undefined, { temporary: true });
   }
 
   // Jobs
@@ -111,6 +115,7 @@ export class Agent {
     this.jobs.push(job);
     this.writer.uses.job = this.jobs.length;
     this.#level = task.level;
+    this.#begun = this.#order;
     if (task.sender) job.on = [task.sender, null];
     if (task.sender && this.world.port(task.sender, this.name).length === 0) this.#skip(task, job);
     else this.#run(task, job);
@@ -171,7 +176,8 @@ export class Agent {
   #drain() {
     while (this.microtasks.length > 0) {
       if (this.writer.hasRefused) {
-        this.tasks.push({ node: WHOLE, time: this.now, order: 0, latest: 0, act: function* () {}, ...placeOf(null, 0, 0) });
+        const place = placeOf({ queue: null, wait: 0, from: 0, level: 0 }, []);
+        this.tasks.push({ node: WHOLE, time: this.now, order: 0, latest: 0, act: function* () {}, ...place });
         return;
       }
       const { node, act, carried, held } = this.microtasks.shift();

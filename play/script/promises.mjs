@@ -126,10 +126,23 @@ export function proceed(cx, coroutine, { resume, ended, failed, yielded }) {
   return subscribe(cx, node, awaits, { fulfilled: go(false), rejected: go(true) });
 }
 
+/** A call that never waited has ended before its caller has the promise: from now on a temporary of the caller holds that. */
+function giveOver({ writer, temporaries }, node, promise, held) {
+  if (isInPlan(promise)) {
+    writer.do(node, ["copy", writer.temporary(temporaries), [...promise.variables][0]], undefined, { temporary: true });
+  }
+  held.end(node, writer);
+}
+
 /** A call of an async function: it runs at once up to where it first waits, and gives a promise. */
 function beginAsync(cx, inner, node, callee, values) {
   const promise = newPromise(cx.agent);
   const held = new Held(node, cx.writer, "promise", promise, cx.temporaries);
+  const state = { hasEnded: false, isGiven: false };
+  const finish = () => {
+    state.hasEnded = true;
+    if (state.isGiven) held.end(node, cx.writer);
+  };
   inner.strand = { guards: 1 };
   const coroutine = new Coroutine((function* () {
     try {
@@ -142,13 +155,15 @@ function beginAsync(cx, inner, node, callee, values) {
     }
   })());
   proceed(cx, coroutine, {
-    ended: () => held.end(node, cx.writer),
+    ended: finish,
     failed: (thrown, there) => {
       reject(there, thrown.node, promise, thrown.value);
       thrown.held?.end(thrown.node, cx.writer);
-      held.end(node, cx.writer);
+      finish();
     },
   });
+  state.isGiven = true;
+  if (state.hasEnded) giveOver(cx, node, promise, held);
   return promise;
 }
 

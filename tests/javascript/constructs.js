@@ -706,3 +706,18 @@ await message("w2"); console.log(new WeakRef(max).deref()(2, 4));
 function Old(link) { this.link = link; } const refs = [new WeakRef(Old.prototype)]; let a = new Old(null); await turn(); gc(); console.log(refs[0].deref() === Old.prototype, Object.getPrototypeOf(a) === Old.prototype, new Old(a).link === a);
 let F = function () {}; let o = new F(); const w = new WeakRef(F), p = new WeakRef(F.prototype); F = null; await turn(); gc(); console.log(o.constructor === w.deref(), p.deref() === Object.getPrototypeOf(o));
 function* gen() { yield 1; } const g = new WeakRef(gen.prototype); await turn(); gc(); console.log(g.deref() === gen.prototype);
+/// an async function that never waits
+const f = async () => ({ n: 1 }), g = async (o) => { throw o; }; const { n } = await f(), r = [await f()]; console.log(n, r[0].n, (await (async () => f())()).n);
+f(); const p = f(); await turn(); gc(); console.log((await p).n, (await Promise.all([1, 2].map(f))).map((o) => o.n)); f().then((o) => console.log("then", o.n));
+try { await g({ n: 2 }); } catch (o) { gc(); console.log(o.n); } g({ n: 3 }).catch((o) => console.log("caught", o.n)); await null;
+const w = new WeakRef(await f()); await turn(); gc(); console.log(w.deref());
+/// a generator that returns an object
+function* g() { return { n: 1 }; } function* h() { const x = yield* g(); yield x; return x; } console.log(g().next().value.n); const i = h(); console.log(i.next().value.n, i.next().value.n, i.next().value);
+const j = h(); j.next(); gc(); console.log(j.return({ n: 7 }).value.n); async function* a() { yield { n: 3 }; gc(); return { n: 4 }; } const k = a(); console.log((await k.next()).value.n, (await k.next()).value.n);
+for await (const o of a()) console.log(o.n); const l = a(); l.next(); console.log((await l.return({ n: 5 })).value.n); const r = new WeakRef(g().next().value); await turn(); gc(); console.log(r.deref());
+/// an interval is set again after its call
+let n = 0; const t = setInterval(() => { console.log("round", ++n); if (n === 2) clearInterval(t); else setTimeout(() => console.log("between"), 20); }, 20);
+/// a timer's function that throws holds nothing any more
+let o = { n: 1 }; const r = new WeakRef(o); setTimeout((x) => { throw new Error(`thrown ${x.n}`); }, 1, o); o = null; await turn(); await turn(); gc(); console.log(r.deref());
+/// promises that are rejected, and exceptions
+Promise.reject({ name: "none" }).catch(() => {}); Promise.reject(5); (async () => { throw new TypeError("in async"); })(); setTimeout(() => { throw new RangeError("in a timer"); }, 1); await turn(); throw new Error("at the top");
