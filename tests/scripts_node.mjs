@@ -5,8 +5,8 @@ import "../play/lessons/node.mjs";
 const rest = () => new Promise((go) => setImmediate(go));
 const LONGEST = 60_000;
 
-/** Whether a timer of the script is still to come. */
-const isWaiting = () => process.getActiveResourcesInfo().includes("Timeout");
+/** Whether something that the script set is still to come. */
+const isWaiting = () => process.getActiveResourcesInfo().some((name) => name === "Timeout" || name === "Immediate");
 
 const nameOf = (error) => (error instanceof Error ? `${error.name}: ${error.message}` : String(error));
 

@@ -58,7 +58,9 @@ function installTimers(realm) {
     const timer = new Timer(cx, node, [callback, ...values]);
     timers.set(id, timer);
     const wait = Math.max(0, Math.trunc(Number(delay)) || 0);
-    const setFor = (agent, more) => { timer.task = agent.schedule(node, Math.max(1, wait), go, { queue, wait, callee: callback, ...more }); };
+    const setFor = (agent, more) => {
+      timer.task = agent.schedule(node, Math.max(1, wait), go, { queue, wait, callee: callback, ...more });
+    };
     const go = function* (inner) {
       timer.rounds += 1;
       if (timer.rounds > MOST_ROUNDS) {
@@ -83,10 +85,13 @@ function installTimers(realm) {
     timer.end(node, cx.writer);
   };
   const clearing = function* (cx, node, self, [id]) { clear(cx, node, id); };
-  const timing = { setTimeout: set({}), setInterval: set({ isRepeated: true }), clearTimeout: clearing, clearInterval: clearing, clearImmediate: clearing };
+  const timing = {
+    setTimeout: set({}), setInterval: set({ isRepeated: true }), clearTimeout: clearing, clearInterval: clearing, clearImmediate: clearing,
+  };
   for (const [name, act] of Object.entries(timing)) realm.define(name, realm.native(name, act));
   const immediate = set({ queue: IMMEDIATE });
-  realm.define("setImmediate", realm.native("setImmediate", (cx, node, self, [callback, ...values]) => immediate(cx, node, self, [callback, 0, ...values])));
+  const now = (cx, node, self, [callback, ...values]) => immediate(cx, node, self, [callback, 0, ...values]);
+  realm.define("setImmediate", realm.native("setImmediate", now));
 }
 
 function installTurns(realm) {
