@@ -5,7 +5,7 @@ Usage: node_command.py
 
 - Words, files and pipes: statuses, standard output and standard error. All that leads to a value, worked out by hand.
 - In one process, by node_command.mjs: words that are none; each example's stored report and stored trace; of some the forms of
-  a trace, all values too, beside the model of trace_model.py; faults in words, with the sentences of crates/es_explain.
+  a trace, all values too, beside the model of trace_model.py; each row of mistakes.py and some more in words, with their places.
 - Scripts in JavaScript, with a stand-in for what makes plans of them: plans, faults with their marks.
 - Scripts beside node's own objects: what is the same, what may differ, and what differs.
 - The package: what `npm pack` would pack, its types beside docs/trace.schema.json, and what the module says in a node that is

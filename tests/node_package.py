@@ -10,12 +10,12 @@ import running
 
 TOP = os.path.dirname(os.path.dirname(os.path.abspath(__file__)))
 EXAMPLES = os.path.join(TOP, "examples")
-PAGES = ["calls", "effects", "graph", "json", "judging", "kinds", "leading", "names", "places", "replay", "scripting", "shape", "statements", "used", "words"]
+PAGES = ["calls", "effects", "graph", "json", "judging", "kinds", "leading", "names", "replay", "scripting", "statements", "used", "words"]
 PACKED = [
     "LICENSE-APACHE", "LICENSE-MIT", "README.md", "bin.mjs", "clusterrun.d.ts", "clusterrun.mjs", "lessons/node.mjs", "package.json", "plan.schema.json",
     "script.d.ts", "script.mjs", "trace.schema.json", *(f"page/{name}.mjs" for name in PAGES),
 ]
-FOLDERS = ["command", "script", "syntax"]
+FOLDERS = ["command", "page/mistakes", "script", "syntax"]
 # Copied into the folder while it is packed.
 FROM_ABOVE = ["LICENSE-APACHE", "LICENSE-MIT", "docs/plan.schema.json", "docs/trace.schema.json"]
 FLAG = "--experimental-wasm-memory64"
