@@ -62,7 +62,7 @@ EXPLAINED = [
     ('"callbacks":{},"jobs":[{"run":[["let","a",18446744073709551615]]}]',
      ['S8 "/agents/0/jobs/0/run/0"', "Operand 2 of let is not from -9007199254740991 to 9007199254740991.", 'found ["let","a",18446744073709551615]']),
     ('"callbacks":{},"jobs":[{"run":[["new",1e2,1.50,0.00001,123e18,[1E-9]]]}]',
-     ['S7 "/agents/0/jobs/0/run/0"', "new takes X, and here are 5 operands.", 'found ["new",100.0,1.5,0.00001,1.23e20,[1e-9]]']),
+     ['S7 "/agents/0/jobs/0/run/0"', "new takes X, and here are 5 operands.", 'found ["new",100.0,1.5,0.00001,1.23e+20,[1e-9]]']),
     ('"callbacks":{},"jobs":[{"run":[["say" , 1.5]]}]',
      ['S7 "/agents/0/jobs/0/run/0"', "Operand 1 of say is a name, and here stands a number.", 'found ["say",1.5]']),
     (f'"callbacks":{{}},"jobs":[{{"run":[["{LETTERS}"]]}}]', ['S7 "/agents/0/jobs/0/run/0"', NO_LETTERS, f'found ["{LETTERS}"]']),

@@ -16,7 +16,7 @@ export function compact(value) {
 function floatText(number) {
   const [, sign, first, rest = "", exponent] = number.toExponential().match(/^(-?)(\d)(?:\.(\d+))?e([+-]\d+)$/);
   const power = Number(exponent), digits = first + rest, minus = Object.is(number, -0) ? "-" : sign;
-  if (power < LEAST || power > MOST) return `${minus}${first}${rest && `.${rest}`}e${power}`;
+  if (power < LEAST || power > MOST) return `${minus}${first}${rest && `.${rest}`}e${exponent}`;
   if (power < 0) return `${minus}0.${"0".repeat(-power - 1)}${digits}`;
   return `${minus}${digits.slice(0, power + 1).padEnd(power + 1, "0")}.${digits.slice(power + 1) || "0"}`;
 }
