@@ -5,7 +5,7 @@ Usage: node_command.py
 
 - Words, files and pipes: statuses, standard output and standard error. All that leads to a value, worked out by hand.
 - In one process, by node_command.mjs: words that are none; each example's stored report and stored trace; of some the forms of
-  a trace, all values too, beside the model of trace_model.py; faults in words, with the sentences of crates/es_explain.
+  a trace, all values too, beside the model of trace_model.py; each row of mistakes.py and some more in words, with their places.
 - Scripts in JavaScript, with a stand-in for what makes plans of them: plans, faults with their marks.
 - Scripts beside node's own objects: what is the same, what may differ, and what differs.
 - The package: what `npm pack` would pack, its types beside docs/trace.schema.json, and what the module says in a node that is
@@ -17,11 +17,11 @@ What it left out, for want of node or npm, it says before its last line, `N pass
 import glob
 import json
 import os
-import re
 import shutil
 import sys
 import tempfile
 
+import mistakes
 import node_package
 import running
 import trace_check
@@ -45,41 +45,31 @@ MISTAKES = [
     "trace --why 1 --all", "run --why 1",
 ]
 HELPED = ["--help", "-h", "run --help", "trace x -h", "check -h", "explain --help", "plan --help"]
-# A plan's text, and the lines of `explain`.
-EXPLAINED = [
-    ('{"version":1', ['S1 ""', "The text is no JSON in UTF-8."]),
-    ('\ufeff{"version":1}', ['S1 ""', "The text is no JSON in UTF-8."]),
-    ('{"version" : 1}', ['S2 ""', "The value has not the shape of a plan.", 'found {"version":1}']),
-    ('{"version":3,"agents":[]}', ['S3 "/version"', "The version is neither 1 nor 2.", "found 3"]),
-    ('{"version":1,"agents":[]}', ['S4 "/agents"', "A plan has 1 to 8 agents.", "found []"]),
-]
+# Parts of a plan with one agent, and the lines of `explain`: what no row of mistakes.txt has.
 AGENT = '{"version":1,"agents":[{"name":"a",%s}]}'
-NAME_FAULT = "A name is not spelled as one, or an earlier agent has it."
-OPERAND_FAULT = "The command is unknown, or its operands are of a wrong number or JSON kind."
 LETTERS = "abcdefghijklmnopqrstuvwxyzabcdefghijklmnopqrstuvwxyzabcd"
-# The same of a plan with one agent, of which these are the callbacks and jobs.
-EXPLAINED_AGENT = [
-    ('"callbacks":{"b/c":[]},"jobs":[]', ['S5 "/agents/0/callbacks/b~1c"', NAME_FAULT, 'found "b/c"']),
+NO_LETTERS = f'There is no command "{LETTERS[:32]}..".'
+SLASH = 'it has "/".'
+EXPLAINED = [
+    ('"callbacks":{"b/c":[]},"jobs":[]', ['S5 "/agents/0/callbacks/b~1c"', f'"b/c" is no name: {SLASH}', 'found "b/c"']),
     ('"callbacks":{"a":[],"~~1\\n\\"é":[]},"jobs":[]',
-     ['S5 "/agents/0/callbacks/~0~01\\n\\"é"', NAME_FAULT, 'found "~~1\\n\\"é"']),
-    ('"callbacks":{},"jobs":[{"on":["b","x"],"run":[]}]',
-     ['S6 "/agents/0/jobs/0/on"', "No callback, or no other agent, has this name.", 'found ["b","x"]']),
-    ('"callbacks":{},"jobs":[{"run":[]},{"run":[["new","a"],["nwe" , "b"]]}]',
-     ['S7 "/agents/0/jobs/1/run/1"', OPERAND_FAULT, 'found ["nwe","b"]']),
-    ('"callbacks":{},"jobs":[{"run":[["let","a",9007199254740992]]}]',
-     ['S8 "/agents/0/jobs/0/run/0"', "A number or a text is outside what a plan may have.", 'found ["let","a",9007199254740992]']),
-    ('"callbacks":{"c":[["new","x"],["collect"]],"b":[]},"jobs":[]',
-     ['S9 "/agents/0/callbacks/c/1"', "A callback may not collect.", 'found ["collect"]']),
-    ('"callbacks":{},"jobs":[{"run":[["buffer","b",16385]]}]',
-     ['S10 "/agents/0/jobs/0/run/0"', "There are more callbacks, jobs, commands or words than the limits allow.",
-      'found ["buffer","b",16385]']),
-    (f'"callbacks":{{}},"jobs":[{{"run":[["{LETTERS}"]]}}]',
-     ['S7 "/agents/0/jobs/0/run/0"', OPERAND_FAULT, f'found ["{LETTERS}"]']),
-    (f'"callbacks":{{}},"jobs":[{{"run":[["{LETTERS}e"]]}}]',
-     ['S7 "/agents/0/jobs/0/run/0"', OPERAND_FAULT, f'found ["{LETTERS}e"..']),
-    (f'"callbacks":{{}},"jobs":[{{"run":[["{LETTERS}eé"]]}}]',
-     ['S7 "/agents/0/jobs/0/run/0"', OPERAND_FAULT, f'found ["{LETTERS}e..']),
+     ['S5 "/agents/0/callbacks/~0~01\\n\\"é"', '"~~1\\n\\"é" is no name: it has "~".', 'found "~~1\\n\\"é"']),
+    ('"callbacks":{"c":[],"B":[["new"]],"c":[["say","\U0001F600"]]},"jobs":[]',
+     ['S7 "/agents/0/callbacks/B/0"', "new takes X, and here are no operands.", 'found ["new"]']),
+    ('"callbacks":{},"jobs":[{"run":[["let","a",-0]]}]',
+     ['S8 "/agents/0/jobs/0/run/0"', "Operand 2 of let has a point or an exponent, is -0, or is too large: "
+      "a number is whole, from -9007199254740991 to 9007199254740991.", 'found ["let","a",-0.0]']),
+    ('"callbacks":{},"jobs":[{"run":[["let","a",18446744073709551615]]}]',
+     ['S8 "/agents/0/jobs/0/run/0"', "Operand 2 of let is not from -9007199254740991 to 9007199254740991.", 'found ["let","a",18446744073709551615]']),
+    ('"callbacks":{},"jobs":[{"run":[["new",1e2,1.50,0.00001,123e18,[1E-9]]]}]',
+     ['S7 "/agents/0/jobs/0/run/0"', "new takes X, and here are 5 operands.", 'found ["new",100.0,1.5,0.00001,1.23e+20,[1e-9]]']),
+    ('"callbacks":{},"jobs":[{"run":[["say" , 1.5]]}]',
+     ['S7 "/agents/0/jobs/0/run/0"', "Operand 1 of say is a name, and here stands a number.", 'found ["say",1.5]']),
+    (f'"callbacks":{{}},"jobs":[{{"run":[["{LETTERS}"]]}}]', ['S7 "/agents/0/jobs/0/run/0"', NO_LETTERS, f'found ["{LETTERS}"]']),
+    (f'"callbacks":{{}},"jobs":[{{"run":[["{LETTERS}e"]]}}]', ['S7 "/agents/0/jobs/0/run/0"', NO_LETTERS, f'found ["{LETTERS}e"..']),
+    (f'"callbacks":{{}},"jobs":[{{"run":[["{LETTERS}eé"]]}}]', ['S7 "/agents/0/jobs/0/run/0"', NO_LETTERS, f'found ["{LETTERS}e..']),
 ]
+UNREAD = "S1 line 1 column 1\nThis { is never closed.\n"
 # Makes a plan of a script in which each statement is a new object.
 STAND_IN = """import { parse } from "../syntax/parse.mjs";
 export function planOf(source, { engine }) {
@@ -137,7 +127,7 @@ def of_words(command):
     yield command.case("no file", ["run", os.path.join(command.room, "missing")], (4, "", "cannot read\n"))
     yield command.case("a folder", ["explain", command.room], (4, "", "cannot read\n"))
     yield command.case("a file that is spelled as an option", ["trace", "--", "--dot"], (4, "", "cannot read\n"))
-    yield command.case("explain of a fault", ["explain"], (1, "".join(f"{line}\n" for line in EXPLAINED[0][1]), ""), EXPLAINED[0][0].encode())
+    yield command.case("explain of a fault", ["explain"], (1, UNREAD, ""), b'{"version":1')
 
 
 # A plan in which object 1 goes at the second collection, and object 2 is the held value of a registration of it; and its script.
@@ -301,14 +291,20 @@ def formed(count, words, answer, form, is_all):
 
 
 def of_faults(asked, count):
-    """Faults in words."""
-    texts = [text for text, _ in EXPLAINED] + [AGENT % parts for parts, _ in EXPLAINED_AGENT]
-    for number, (text, (_, lines)) in enumerate(zip(texts, EXPLAINED + EXPLAINED_AGENT)):
+    """Faults in words: each row of mistakes.py, and the lines above."""
+    rows = [*mistakes.written(), *mistakes.made(), *((parts, (AGENT % parts).encode(), lines) for parts, lines in EXPLAINED)]
+    for number, (name, data, lines) in enumerate(rows):
         path = os.path.join(asked.room, f"faulty{number}.json")
         with open(path, "wb") as file:
-            file.write(text.encode())
-        wanted = {"status": 1, "text": "\n".join(lines) + "\n"}
-        asked.add(["explain", path], lambda _, answer, text=text, wanted=wanted: count.expect(f"explain {text}", answer, wanted))
+            file.write(data)
+        asked.add(["explain", path], lambda _, answer, name=name, lines=lines: count.expect(f"explain {name}", said_in(answer, lines), (1, lines)))
+
+
+def said_in(answer, wanted):
+    """The status and the lines; None for a line that may be any."""
+    said = answer.get("text", "").split("\n")[:-1]
+    free = [None if row < len(wanted) and wanted[row] is None else line for row, line in enumerate(said)]
+    return answer.get("status"), free
 
 
 def of_mistakes(asked, count):
@@ -317,13 +313,6 @@ def of_mistakes(asked, count):
         for line in lines:
             asked.add(line.split(" "), lambda words, answer, kind=kind: count.expect(
                 f"the words {words}", (len(answer), "Usage: clusterrun" in answer.get(kind, "")), (1, True)))
-
-
-def sentences(count):
-    """The sentences of `explain` are the program's, in the order of its faults."""
-    wanted = re.findall(r'b"([A-Z][^"]*\.)"', read("crates", "es_explain", "src", "sentence.rt"))
-    got = re.findall(r'^  S\d+: "(.*)",$', read("play", "command", "explain.mjs"), re.M)
-    count.expect("the sentences of explain", got, wanted)
 
 
 def ends(command, count):
@@ -421,7 +410,6 @@ def main():
         of_faults(asked, count)
         of_mistakes(asked, count)
         asked.ask()
-        sentences(count)
         ends(command, count)
         much(command, count)
         pipes(command, count)

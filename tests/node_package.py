@@ -10,12 +10,12 @@ import running
 
 TOP = os.path.dirname(os.path.dirname(os.path.abspath(__file__)))
 EXAMPLES = os.path.join(TOP, "examples")
-PAGES = ["calls", "effects", "graph", "json", "judging", "kinds", "leading", "names", "places", "replay", "scripting", "shape", "statements", "used", "words"]
+PAGES = ["calls", "effects", "graph", "json", "judging", "kinds", "leading", "names", "replay", "scripting", "statements", "used", "words"]
 PACKED = [
     "LICENSE-APACHE", "LICENSE-MIT", "README.md", "bin.mjs", "clusterrun.d.ts", "clusterrun.mjs", "lessons/node.mjs", "package.json", "plan.schema.json",
-    "script.d.ts", "script.mjs", "trace.schema.json", *(f"page/{name}.mjs" for name in PAGES),
+    "explain.d.ts", "explain.mjs", "script.d.ts", "script.mjs", "trace.schema.json", *(f"page/{name}.mjs" for name in PAGES),
 ]
-FOLDERS = ["command", "script", "syntax"]
+FOLDERS = ["command", "page/mistakes", "script", "syntax"]
 # Copied into the folder while it is packed.
 FROM_ABOVE = ["LICENSE-APACHE", "LICENSE-MIT", "docs/plan.schema.json", "docs/trace.schema.json"]
 FLAG = "--experimental-wasm-memory64"
@@ -26,6 +26,7 @@ import { readFileSync } from "node:fs";
 import { createRequire } from "node:module";
 const require = createRequire(import.meta.url);
 const { run } = await import("clusterrun");
+const { explain } = await import("clusterrun/explain");
 const { ScriptFault, linesOf, planOf } = await import("clusterrun/script");
 const planned = planOf('console.log("a", 1);');
 const lines = linesOf(planned.trace, planned.places).map(({ text }) => text);
@@ -36,10 +37,17 @@ function faultOf(source) {
     return [error instanceof ScriptFault, error.start];
   }
 }
+const told = ["[]", new TextEncoder().encode("[").buffer, Uint8Array.of(255), JSON.stringify(planOf("1;").plan)].map((one) => explain(one).text);
 const { version } = require("clusterrun/package.json");
 const [plan, trace] = ["plan", "trace"].map((name) => require(`clusterrun/${name}.schema.json`));
-console.log(JSON.stringify([run("[]").text, version, plan.title, trace.title, lines, faultOf("let a; let a;")]));
+console.log(JSON.stringify([run("[]").text, version, plan.title, trace.title, lines, faultOf("let a; let a;"), told]));
 """
+
+# What `explain` says of a list, of a text that is cut off, of a byte that is none of a text, and of a plan.
+EXPLAINED = [
+    'S2 ""\nA plan is an object, and here stands a list.\nfound []\n', "S1 line 1 column 1\nThis [ is never closed.\n",
+    "S1 line 1 column 1\nThis byte is no UTF-8.\n", "ok\n",
+]
 
 
 def read(*path):
@@ -101,7 +109,7 @@ def installed(count, room, package):
     flags = [] if is_wide() else [FLAG]
     titles = [json.loads(read("docs", f"{name}.schema.json"))["title"] for name in ("plan", "trace")]
     version = json.loads(read("play", "package.json"))["version"]
-    wanted = (0, json.dumps(["refused S2", version, *titles, ["a 1"], [True, 11]], separators=(",", ":")) + "\n", "")
+    wanted = (0, json.dumps(["refused S2", version, *titles, ["a 1"], [True, 11], EXPLAINED], separators=(",", ":")) + "\n", "")
     status, out, err = running.answer(["node", *flags, script])
     count.expect("what may be imported", (status, out, re.sub(r".*Warning.*\n|\(Use .*\n", "", err)), wanted)
 

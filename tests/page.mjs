@@ -1,26 +1,27 @@
 // Asks the kept module for plans: each comes on standard input after its length in four bytes, and is answered by a line of
-// JSON with what `run`, `check` and `trace` give, and the letters at the place of its fault.
+// JSON with what `run`, `check` and `trace` give, the letters at the place of its fault, and what `explain` says of it.
 //
 // Usage: node page.mjs CLUSTERRUN_MJS
 
 import { pathToFileURL } from "node:url";
-import { placeOf } from "../play/page/places.mjs";
+import { explained } from "../play/command/explain.mjs";
+import { mistakeOf } from "../play/page/mistakes/mistake.mjs";
 import { read, write } from "./page_pipe.mjs";
 
 const { run, check, trace } = await import(pathToFileURL(process.argv[2]));
 const decoder = new TextDecoder("utf-8", { ignoreBOM: true });
 
 /** The letters at the place of a fault. */
-function marked({ status, text }, plan) {
-  if (status !== 1) return null;
-  const place = placeOf(text, plan);
-  return place && plan.slice(place.start, place.end);
+function marked(fault, plan) {
+  const { start, end } = mistakeOf(fault, plan).place;
+  return plan.slice(start, end);
 }
 
 for (let head = read(4); head !== null; head = read(4)) {
   const plan = read(head.readUInt32LE(0));
-  const answer = run(plan);
+  const answer = run(plan), isFaulty = answer.status === 1;
   const traced = [trace(plan), trace(plan, { all: true })];
-  const line = { ran: answer, checked: check(plan), traced, marked: marked(answer, decoder.decode(plan)) };
+  const line = { ran: answer, checked: check(plan), traced };
+  if (isFaulty) Object.assign(line, { marked: marked(answer.text, decoder.decode(plan)), explained: explained(answer.text, plan) });
   write(`${JSON.stringify(line)}\n`);
 }

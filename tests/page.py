@@ -5,9 +5,9 @@ Usage: page.py PROGRAM [--long] [--pictures FOLDER]
 
 - The kept files are what play/build.py makes of the kept module, if their sources have not changed since, and the module
   is what it makes of es_library, if the crates below that are built. If they have changed it says so.
-- In node: reports and traces of the examples and of 300 random plans, and what tests/page_calls.mjs says of the calls. The
-  marked letters of each fault are those to which the pointer of `clusterrun explain` leads. What the page makes of traces,
-  words and heaps, is what tests/trace_model.py gives.
+- In node: reports and traces of the examples and of 300 random plans, and what tests/page_calls.mjs says of the calls. What
+  the scripts say of each fault is what `clusterrun explain` says, and the marked letters are those to which its pointer leads.
+  What the page makes of traces, words and heaps, is what tests/trace_model.py gives.
 - In a browser without a window, from the disk: each example's report is the stored one; its trace, step by step, with the
   picture after each collection and what keeps a value; the marks of faults, keys, links, the time of 60,000 commands, a run
   that is stopped, and a plan that takes more memory than there is.
@@ -110,11 +110,10 @@ def by_program(program, words, plan):
     return {"status": status, "text": out if status == 0 else err.removesuffix("\n")}
 
 
-def led_to(program, plan):
-    """The value to which the pointer of a fault leads, as JSON; None where it leads to the whole, and of S1 and S2, of which
-    the page marks what it finds itself."""
-    _, said, _ = running.answer([program, "explain"], plan)
-    if said.startswith(("S1 ", "S2 ")):
+def led_to(said, plan):
+    """The value to which the pointer of a fault leads, as JSON, or a key that is wrong; None where it leads to the whole, and of
+    S1, which has no pointer."""
+    if said.startswith("S1 "):
         return None
     pointer = json.loads(said.split("\n")[0].split(" ", 1)[1])
     if not pointer:
@@ -123,19 +122,21 @@ def led_to(program, plan):
     parts = [part.replace("~1", "/").replace("~0", "~") for part in pointer.split("/")[1:]]
     for part in parts:
         value = value[int(part)] if isinstance(value, list) else value[part]
-    is_key = parts[-2:-1] == ["callbacks"] and said.startswith("S5 ")
+    is_key = (parts[-2:-1] == ["callbacks"] and said.startswith("S5 ")) or (said.startswith("S2 ") and " has no member " in said)
     return json.dumps(parts[-1] if is_key else value)
 
 
 def compare(count, program, asked, name, plan):
-    """Counts one plan, and the place of its fault."""
+    """Counts one plan, and what is said of its fault, with its place."""
     got = asked.ask(plan)
     wanted = {"ran": by_program(program, ["run", "--turns"], plan), "checked": by_program(program, ["check"], plan)}
     wanted["traced"] = [by_program(program, ["trace", "--json", *words], plan) for words in ([], ["--all"])]
     count.expect(f"{name}: {plan[:300]!r}", {key: got[key] for key in wanted}, wanted)
-    if got["ran"]["status"] == 1 and (place := led_to(program, plan)) is not None:
-        marked = got["marked"] and json.dumps(json.loads(got["marked"]))
-        count.expect(f"the mark of {name}: {plan[:300]!r}", marked, place)
+    if got["ran"]["status"] == 1:
+        _, said, _ = running.answer([program, "explain"], plan)
+        count.expect(f"explain of {name}: {plan[:300]!r}", got["explained"], said)
+        if (place := led_to(said, plan)) is not None:
+            count.expect(f"the mark of {name}: {plan[:300]!r}", json.dumps(json.loads(got["marked"])), place)
 
 
 def in_node(count, left_out, program, plans):

@@ -50,7 +50,8 @@ const typed = (text, runs) => {
 # Plans with a fault, of which the page marks the letters between the signs. The first command of the first job stands for
 # the plan, where a text begins with a bracket.
 MARKED = [
-    '{"version": 1,«', '{"version": 1, "agents": [«}»', '{"version": 1«x»}', '{"version": «n»ul', '{"version": 1, "agents": [{"name": «"»\\ud800"',
+    '«{»"version": 1,', '{"version": 1, "agents": [«}»', '{"version": «1»x}', '{"version": «n»ul', '{"version": 1, "agents": [{"name": "«\\»ud800"',
+    '{"version": 1, "agents": [«é»]}',
     '{"version": 1, "agents": [], «"agnets"»: []}', '«{}»', '{"version": «"1"», "agents": []}',
     '{"version": 1, "agents": [«{"name": "a", "jobs": []}»]}',
     '{"version": 1, "agents": [{"name": "a", "callbacks": {}, "jobs": [{"run": [«[1]»]}]}]}',
@@ -100,8 +101,7 @@ def marks(count, browser):
         before, _, marked = whole(text).partition("«")
         marked, _, after = marked.partition("»")
         got = call(browser, "typed", before + marked + after, False)
-        # Behind the last letter a blank is marked.
-        count.expect(f"the mark of {text}", got["marked"], marked or " ")
+        count.expect(f"the mark of {text}", got["marked"], marked)
         count.expect(f"an older report beside {text}", got["old"], True)
 
 

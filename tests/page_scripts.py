@@ -76,6 +76,13 @@ EDGES = """{"version": 1, "agents": [{"name": "a", "callbacks": {"c": []}, "jobs
    ["wmset", "m", "k", "o"], ["wmset", "m", "o", "k"], ["weakref", "w", "o"], ["weakset", "s"], ["wsadd", "s", "o"],
    ["registry", "r", "c"], ["register", "r", "o", "k", "o"], ["register", "r", "k", "o"]]},
  {"run": [["let", "k", null], ["collect"], ["get", "y", "b", "p"], ["set", "y", "q", "b"]]}]}]}"""
+# Plans with a mistake, what the page says of it, and the letters that it marks.
+MISTAKES = [
+    ('{"version": 1,\n "agents": [\n  {"name": "é" "jobs": []}]}', "Line 3, column 16, S1: A comma is missing before this.", '"'),
+    ('{"version": 1,\n "agent": []}', 'Line 2, S2: A plan has no member "agent": it has version and agents.', '"agent"'),
+    ('{"version": 1, "agents": [{"name": "a", "callbacks": {},\n "jobs": [{"run": [["new", "o"],\n  ["nwe", "a"]]}]}]}',
+     'Line 3, S7: There is no command "nwe". Did you mean new?', '["nwe", "a"]'),
+]
 # What the page says of the chosen value, line by line.
 PANEL = "[...document.querySelectorAll('#cut p, #edges p, #edges li, #why p, #why li')].map((it) => it.textContent)"
 OFFERED = "[...document.querySelectorAll('#offers li:not(.hint) code')].map((it) => it.textContent)"
@@ -292,6 +299,9 @@ def faults(count, tab):
     count.expect("a fault of the grammar", (got["fault"].startswith("Line 1: "), got["marked"]), (True, ";"))
     got = pasted(tab, '{"version": 1, "agents": []}')
     count.expect("a plan in JSON", (got["fault"].split(":")[0].endswith("S4"), tab.value("at('plan-title').textContent")), (True, "Plan"))
+    for text, said, marked in MISTAKES:
+        got = pasted(tab, text)
+        count.expect(f"the mistake of {text}", (got["fault"], got["marked"]), (said, marked))
 
 
 def writing(count, tab):

@@ -35,7 +35,7 @@ function ofPlan(command, bytes, options, engine) {
   if (status === GOOD) return { status, text };
   if (status === MISTAKEN) return { status, error };
   if (status !== REFUSED) return { status, error: ERRORS[status] };
-  return command === "explain" ? { status, text: explained(text, textOf(bytes)) } : { status, error: `${text}\n` };
+  return command === "explain" ? { status, text: explained(text, bytes) } : { status, error: `${text}\n` };
 }
 
 const COMMANDS = {

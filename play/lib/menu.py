@@ -1,4 +1,4 @@
-"""What the page knows beside the engine: the scripts and the plans of its menu, and the words of faults."""
+"""What the page knows beside the engine: the scripts and the plans of its menu."""
 
 import glob
 import itertools
@@ -45,12 +45,6 @@ def plans():
         group, name = os.path.relpath(path, corpus.FOLDER).removesuffix(".json").split(os.sep)
         found.append({"group": group, "name": name, **corpus.about(path), "text": read(path)})
     return found
-
-
-def faults():
-    """What is wrong with each fault, and its cure: two columns of docs/ERRORS.md."""
-    rows = re.findall(r"^\| (S\d+) \| .* \| `refused [^|]*` \| (.*) \| (.*) \|$", read("docs", "ERRORS.md"), re.M)
-    return {code: {"wrong": plain(wrong), "cure": plain(cure)} for code, wrong, cure in rows}
 
 
 def plain(text):

@@ -62,7 +62,7 @@ def page(script_text, built):
     lines = sum(read(name).count("\n") for name in ("heap.c", "wide.c"))
     values = {
         **said(built), "lines": str(lines), "css": "\n" + read("page", "page.css"),
-        "plans": embedded(menu.plans()), "faults": embedded(menu.faults()), "words": embedded(helping.words()),
+        "plans": embedded(menu.plans()), "words": embedded(helping.words()),
         "engine": "\n" + ready(script_text) + bundled("page/worker.mjs"), "page": "\n" + bundled("page/page.mjs"),
     }
     for word in ("engine", "page"):

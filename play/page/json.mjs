@@ -15,7 +15,8 @@ class NotJson extends Error {
 }
 
 /** The value of a text, or where the text ceases to be JSON. A value has `start` and `end`; an array `items` besides, and an
-    object `members`: by each name the last one's `key` and `value`. A text and a number have `content`. */
+    object `members`: by each name the last one's `key` and `value`. A text and a number have `content`, and a number and a word
+    have their letters (`written`). */
 export function readJson(text) {
   try {
     const reader = new Reader(text);
@@ -27,6 +28,23 @@ export function readJson(text) {
     if (error instanceof NotJson) return { value: null, wrong: error.at };
     throw error;
   }
+}
+
+/** Whether the program reads a number as a float: it is not written as a whole one, is -0, or too large for 64 bits. */
+export function isFloat({ written }) {
+  if (!/^-?\d+$/.test(written) || written === "-0") return true;
+  const number = BigInt(written);
+  return number < -(2n ** 63n) || number >= 2n ** 64n;
+}
+
+/** The keys of an object in the order of their bytes, which is that of their letters' codes. So the program keeps them. */
+export const namesOf = ({ members }) => [...members.keys()].sort(byCodes);
+
+function byCodes(one, other) {
+  const left = [...one], right = [...other];
+  const at = left.findIndex((letter, place) => letter !== right[place]);
+  if (at < 0) return left.length - right.length;
+  return at < right.length ? left[at].codePointAt(0) - right[at].codePointAt(0) : 1;
 }
 
 class Reader {
@@ -96,10 +114,11 @@ class Reader {
     const number = this.take(NUMBER);
     if (number !== null) {
       if (!Number.isFinite(Number(number))) throw new NotJson(start);
-      return { content: Number(number) };
+      return { content: Number(number), written: number };
     }
-    if (this.take(WORD) === null) throw new NotJson(start);
-    return {};
+    const written = this.take(WORD);
+    if (written === null) throw new NotJson(start);
+    return { written };
   }
 
   /** A text. It ends in no half of a pair, and has none. */

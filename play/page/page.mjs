@@ -7,7 +7,7 @@ import { isPlan } from "./kinds.mjs";
 import { keep, kept } from "./keeping.mjs";
 import { carriedBy, linkOf, saidOfLink } from "./link.mjs";
 import { Menu } from "./menu.mjs";
-import { partsOf, placeOf } from "./places.mjs";
+import { mistakeOf } from "./mistakes/mistake.mjs";
 import { pointedLine } from "../syntax/fault.mjs";
 import { Results, WITHOUT_TEXT } from "./results.mjs";
 import { split } from "./split.mjs";
@@ -23,7 +23,6 @@ const MOST_AT_REST = 20_000;
 
 const NO_ENGINE = "This browser has no 64-bit WebAssembly memory, which the engine needs. Chromium 156 and Firefox 153 have it.";
 
-const faults = read("faults");
 const plans = read("plans");
 const engine = new Engine(at("engine").textContent);
 const editor = new Editor(at("plan"), at("numbers"), at("marks"));
@@ -84,8 +83,9 @@ async function look({ runs }) {
 
 /** Says whether a plan has a fault, and marks the fault's place. */
 function tell({ status, text, failure }) {
-  const place = status === 1 ? placeOf(text, editor.text) : null;
-  tellFault(place, status === 1 ? inWords(text, place) : withoutText({ status, failure }));
+  if (status !== 1) return tellFault(null, withoutText({ status, failure }));
+  const mistake = mistakeOf(text, editor.text);
+  return tellFault(mistake.place, inWords(mistake));
 }
 
 /** Why there is no answer; null where there is one. */
@@ -104,11 +104,10 @@ function tellFault(place, wrong) {
   if (wrong === null) results.markStep();
 }
 
-/** A fault of a plan in words, as docs/ERRORS.md has them. */
-function inWords(fault, place) {
-  const { code } = partsOf(fault);
-  const where = place === null ? "" : `Line ${editor.line(place.start)}, `;
-  return `${where}${code}: ${faults[code].wrong}. Cure: ${faults[code].cure}.`;
+/** A mistake of a plan in words, as `clusterrun explain` has them. */
+function inWords({ code, line, column, sentence, place }) {
+  const where = line === undefined ? `Line ${editor.line(place.start)}` : `Line ${line}, column ${column}`;
+  return `${where}, ${code}: ${sentence}`;
 }
 
 // Runs
