@@ -1,7 +1,7 @@
 #!/usr/bin/env python3
 """Scripts in the kept page: what it shows of them, and what it does with what is written.
 
-Usage: page_scripts.py [--pictures FOLDER]
+Usage: page_scripts.py [--pictures FOLDER] [--firefox]
 
 - In node: which lines of scripts every engine has to print, by the rules. Of the lessons, what node may leave out is none of
   these; and of random scripts node prints them, if it collects and if it never does.
@@ -10,7 +10,7 @@ Usage: page_scripts.py [--pictures FOLDER]
   of 390, 1280 and 1920 pixels; contrasts, light and dark. By hand: all that leads to a value, and what goes if that is cut, of
   a script and of a plan; the help for the word at the caret.
 
-With --pictures the page is painted. What it left out, for want of a tool, it says before its last line, `N passed, M failed`.
+With --pictures the page is painted. With --firefox some of these parts are tried in Firefox, and nothing else. What it left out, for want of a tool, it says before its last line, `N passed, M failed`.
 """
 
 import argparse
@@ -21,6 +21,7 @@ import subprocess
 import tempfile
 
 import browser
+import firefox
 import page
 import page_browser
 import page_looks
@@ -602,10 +603,33 @@ def in_browser(count, path, folder):
             pictures(tab, folder)
 
 
+def in_firefox(count, path):
+    """The parts that ask nothing of a browser's own protocol."""
+    tools = [page_browser.TOOLS, page_trace.TOOLS, page_looks.TOOLS]
+    with firefox.Firefox(path, tools) as tab:
+        tab.sized(1280, 900)
+        page_browser.begin(tab, page_browser.PAGE)
+        prepare(tab)
+        for part in (first, steps, printed, faults, focus, picture, leading, leading_of_plan):
+            part(count, tab)
+
+
+def only_firefox():
+    count, path = running.Count(), firefox.found()
+    if path is None:
+        print("Left out: all, as there is no firefox.")
+    else:
+        in_firefox(count, path)
+    count.end()
+
+
 def main():
     parser = argparse.ArgumentParser(description=__doc__, formatter_class=argparse.RawDescriptionHelpFormatter)
     parser.add_argument("--pictures", metavar="FOLDER")
+    parser.add_argument("--firefox", action="store_true")
     given = parser.parse_args()
+    if given.firefox:
+        return only_firefox()
     count, left_out = running.Count(), []
     judgements(count, left_out)
     surely(count)

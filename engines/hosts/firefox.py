@@ -95,12 +95,13 @@ def free_port():
         return free.getsockname()[1]
 
 
-def started(command, profile, port):
+def started(command, profile, port, output=None):
+    """The browser; `output` is where its standard output goes, which is ours if nothing is said."""
     with open(os.path.join(profile, "user.js"), "w", encoding="utf-8") as file:
         for name, value in {"marionette.port": port, **PREFERENCES}.items():
             file.write(f"user_pref({json.dumps(name)}, {json.dumps(value)});\n")
     quiet = {"stdin": subprocess.DEVNULL, "stderr": subprocess.DEVNULL}
-    return subprocess.Popen([command, *OPTIONS, profile], start_new_session=True, **quiet)
+    return subprocess.Popen([command, *OPTIONS, profile], start_new_session=True, stdout=output, **quiet)
 
 
 def end(browser):
