@@ -1,4 +1,4 @@
--- To believe: what the program knows of its reader and its writer once it has run, explained or traced a plan.
+-- To believe: what the program knows of its reader and its writer once it has run or explained a plan, or told of its trace or its races.
 use Rattle.std.specs.Prelude.{ℕ, ◌≡◌, ⊤, List, Option, Some, None, Result, Ok, Err}
 use Rattle.std.specs.Io.KnownBytes.{Appends}
 use Rattle.es_reading.specs.declared.fault.ScriptFault.{ScriptFault}
@@ -9,11 +9,13 @@ use Rattle.es_explain.specs.Explaining.{Explains, explanation_text}
 use Rattle.es_engine.specs.declared.run_fault.RunFault.{RunFault}
 use Rattle.es_engine.specs.declared.run_fault.RunFault.TheVariants.{Script, NoMemory, Mismatch, Read, Write}
 use Rattle.es_options.specs.declared.options.Options.{Options}
-use Rattle.es_options.specs.declared.view.View.{View}
 use Rattle.es_engine.specs.Engine.{GaveAll, GaveSomePlan, audits_of}
 use Rattle.es_turns.specs.declared.fault.TurnsFault.{TurnsFault}
 use Rattle.es_turns.specs.declared.fault.TurnsFault.TheVariants.{Script as TurnsScript, NoMemory as TurnsNoMemory, TooLong}
 use Rattle.es_tracing.specs.Tracing.{IsTraceOf}
+use Rattle.es_racing.specs.Races.{TellsRaces}
+use Rattle.clusterrun.specs.declared.telling.Telling.{Telling}
+use Rattle.clusterrun.specs.declared.telling.Telling.TheVariants.{Trace, Races}
 
 -- it gave a plan, and the number is that of the audits that were asked for; or it gave what has the fault; else nothing is known
 abbrev pub ReadsTo : Options → Option (List ℕ) → Option (List ℕ) → Result ℕ RunFault → Type 0
@@ -56,39 +58,44 @@ ExplainsTo old new before after (Err Mismatch) = ⊥
 ExplainsTo old new before after (Err Read) = ⊤
 ExplainsTo old new before after (Err Write) = (bytes : List ℕ) × GaveAll old new bytes
 
--- why there is no trace: a longer text than a plan has at most counts as one that could not be read
-abbrev pub trace_fault : TurnsFault → RunFault
-trace_fault (TurnsScript f) = Script f
-trace_fault TurnsNoMemory = NoMemory
-trace_fault TooLong = Read
+-- what the text says of the plan that the bytes stand for: its trace, as the view shows it; or its races
+abbrev pub tells : Telling → (bytes text : List ℕ) → Type 0
+tells (Trace v) bytes text = IsTraceOf v bytes text
+tells Races bytes text = TellsRaces bytes text
+
+-- why nothing is told: a longer text than a plan has at most counts as one that could not be read
+abbrev pub telling_fault : TurnsFault → RunFault
+telling_fault (TurnsScript f) = Script f
+telling_fault TurnsNoMemory = NoMemory
+telling_fault TooLong = Read
 
 -- these bytes have the fault, or there was no memory
-abbrev pub IsTraceFault : List ℕ → RunFault → Type 0
-IsTraceFault bytes (Script f) = fault_of bytes ≡ Some f
-IsTraceFault bytes NoMemory = ⊤
-IsTraceFault bytes Mismatch = ⊥
-IsTraceFault bytes Read = ⊤
-IsTraceFault bytes Write = ⊥
+abbrev pub IsTellingFault : List ℕ → RunFault → Type 0
+IsTellingFault bytes (Script f) = fault_of bytes ≡ Some f
+IsTellingFault bytes NoMemory = ⊤
+IsTellingFault bytes Mismatch = ⊥
+IsTellingFault bytes Read = ⊤
+IsTellingFault bytes Write = ⊥
 
--- the reader gave bytes that stand for a plan with this trace, as the view shows it
-abbrev pub TracesAll : View → (old new : Option (List ℕ)) → List ℕ → Type 0
-TracesAll v old new text = (bytes : List ℕ) × GaveAll old new bytes × IsTraceOf v bytes text
+-- the reader gave bytes of which the text tells
+abbrev pub TellsAll : Telling → (old new : Option (List ℕ)) → List ℕ → Type 0
+TellsAll t old new text = (bytes : List ℕ) × GaveAll old new bytes × tells t bytes text
 
--- the same of some trace; or it gave what has the fault; or there was no memory, or reading or writing failed. No histories are
+-- the same of some text; or it gave what has the fault; or there was no memory, or reading or writing failed. No histories are
 -- compared
-abbrev pub TracesRead : {A : Type 0} → View → (old new : Option (List ℕ)) → Result A RunFault → Type 0
-TracesRead v old new (Ok done) = (text : List ℕ) × TracesAll v old new text
-TracesRead v old new (Err (Script f)) = (bytes : List ℕ) × GaveAll old new bytes × (fault_of bytes ≡ Some f)
-TracesRead v old new (Err NoMemory) = ⊤
-TracesRead v old new (Err Mismatch) = ⊥
-TracesRead v old new (Err Read) = ⊤
-TracesRead v old new (Err Write) = ⊤
+abbrev pub TellsRead : {A : Type 0} → Telling → (old new : Option (List ℕ)) → Result A RunFault → Type 0
+TellsRead t old new (Ok done) = (text : List ℕ) × TellsAll t old new text
+TellsRead t old new (Err (Script f)) = (bytes : List ℕ) × GaveAll old new bytes × (fault_of bytes ≡ Some f)
+TellsRead t old new (Err NoMemory) = ⊤
+TellsRead t old new (Err Mismatch) = ⊥
+TellsRead t old new (Err Read) = ⊤
+TellsRead t old new (Err Write) = ⊤
 
--- of one that was added to what the writer holds; or writing failed, once there was a trace
-abbrev pub TracesTo : {A : Type 0} → View → (old new : Option (List ℕ)) (before after : Option (List ℕ)) → Result A RunFault → Type 0
-TracesTo v old new before after (Ok done) = (text : List ℕ) × TracesAll v old new text × Appends before after text
-TracesTo v old new before after (Err (Script f)) = (bytes : List ℕ) × GaveAll old new bytes × (fault_of bytes ≡ Some f)
-TracesTo v old new before after (Err NoMemory) = ⊤
-TracesTo v old new before after (Err Mismatch) = ⊥
-TracesTo v old new before after (Err Read) = ⊤
-TracesTo v old new before after (Err Write) = (text : List ℕ) × TracesAll v old new text
+-- of one that was added to what the writer holds; or writing failed, once there was a text
+abbrev pub TellsTo : {A : Type 0} → Telling → (old new : Option (List ℕ)) (before after : Option (List ℕ)) → Result A RunFault → Type 0
+TellsTo t old new before after (Ok done) = (text : List ℕ) × TellsAll t old new text × Appends before after text
+TellsTo t old new before after (Err (Script f)) = (bytes : List ℕ) × GaveAll old new bytes × (fault_of bytes ≡ Some f)
+TellsTo t old new before after (Err NoMemory) = ⊤
+TellsTo t old new before after (Err Mismatch) = ⊥
+TellsTo t old new before after (Err Read) = ⊤
+TellsTo t old new before after (Err Write) = (text : List ℕ) × TellsAll t old new text

@@ -5,7 +5,7 @@ use Rattle.std.specs.Result.{IsErrAnd}
 use Rattle.std.specs.Prelude.{not, ◌&&◌, ◌==◌}
 use Rattle.std.specs.Borrow.{Bor}
 use Rattle.std.proofs.lemmas.Bool.{and_parts}
-use Rattle.clap.specs.Words.{App, Rule, Text, AddsConflicts, kind_of, one_of, one_text, rows_of, rule_of, takes}
+use Rattle.clap.specs.Words.{App, Row, Rule, Text, AddsConflicts, kind_of, one_of, one_text, rows_of, rule_of, takes}
 use Rattle.clap.specs.declared.error.Error.{Error}
 use Rattle.clap.specs.declared.error.kind.ErrorKind.TheVariants.{OutOfMemory}
 use Rattle.clap.specs.declared.parser.matches.Found.{Found}
@@ -14,7 +14,8 @@ use Rattle.clap.specs.declared.builder.arg.Arg.{Arg}
 use Rattle.clap.proofs.WalkLemmas.{one_text-rows}
 use Rattle.es_options.specs.declared.options.Options.{Options}
 use Rattle.es_options.specs.declared.view.View.{View}
-use Rattle.command_line.specs.CommandLine.{AsksRun, AsksTrace, IsFlag, form_asked}
+use Rattle.command_line.specs.declared.request.Request.{Request}
+use Rattle.command_line.specs.CommandLine.{AsksCheck, AsksPlainly, AsksRequest, AsksRun, AsksTrace, IsFlag, check_asked, form_asked}
 
 pub asks_rows : (f : Found) (o : Options) → AsksRun (one_text f) o → AsksRun (λ id. one_of id (rows_of f)) o
 asks_rows f o h = record {
@@ -34,6 +35,16 @@ asks_view f v dot json is_dot is_json form all = record {
   form = form;
   all = rw (← one_text-rows f _) all;
 }
+
+pub asks_check : (f : Found) (r : Request) (races : Bool) → IsFlag (one_text f (codes "races")) races → r ≡ check_asked races → AsksCheck (λ id. one_of id (rows_of f)) r
+asks_check f r races is same = (races, rw (← one_text-rows f _) is, same)
+
+-- no other word than run
+pub asks_plainly : (explain trace check : Bool) (rows : List Row) (r : Request) → false ≡ explain → false ≡ trace → false ≡ check → AsksPlainly rows r → AsksRequest explain trace check rows r
+asks_plainly false false false rows r x y z is = is
+asks_plainly true trace check rows r x y z is = cc
+asks_plainly false true check rows r x y z is = cc
+asks_plainly false false true rows r x y z is = cc
 
 -- one more conflict
 

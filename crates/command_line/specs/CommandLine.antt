@@ -13,7 +13,7 @@ use Rattle.es_options.specs.declared.view.Form.{Form}
 use Rattle.es_options.specs.declared.view.Form.TheVariants.{Rows, Lines, Pictures}
 use Rattle.es_options.specs.declared.view.View.{View}
 use Rattle.command_line.specs.declared.request.Request.{Request}
-use Rattle.command_line.specs.declared.request.Request.TheVariants.{Run, Explain, Trace}
+use Rattle.command_line.specs.declared.request.Request.TheVariants.{Run, Races, Explain, Trace}
 
 -- Its arguments
 
@@ -42,7 +42,7 @@ run_line =
     with_rule (with_rule (with_rule (with_rule (new_app (codes "run")) file_rule) (flag_rule (codes "turns"))) (number_rule (codes "helpers") 1 8)) (number_rule (codes "watch") 0 1000)
 
 abbrev pub check_line : App
-check_line = with_rule (new_app (codes "check")) file_rule
+check_line = with_rule (with_rule (new_app (codes "check")) file_rule) (flag_rule (codes "races"))
 
 abbrev pub explain_line : App
 explain_line = with_rule (new_app (codes "explain")) file_rule
@@ -83,9 +83,13 @@ pub record AsksRun (text : Text → Option Text) (o : Options) : Type 0 where
   pub helpers : IsNumber 8 1 8 1 (text (codes "helpers")) o.helpers
   pub watch : IsNumber 16 0 1000 0 (text (codes "watch")) o.watch
 
-abbrev pub AsksOptions : Bool → List Row → Options → Type 0
-AsksOptions true rows o = o ≡ record { check = true; turns = false; helpers = 1; watch = 0 }
-AsksOptions false rows o = AsksRun (λ id. one_of id rows) o
+-- a check, or its races alone where --races is there
+abbrev pub check_asked : (races : Bool) → Request
+check_asked true = Races
+check_asked false = Run (record { check = true; turns = false; helpers = 1; watch = 0 })
+
+abbrev pub AsksCheck : (text : Text → Option Text) → Request → Type 0
+AsksCheck text r = (races : Bool) × IsFlag (text (codes "races")) races × (r ≡ check_asked races)
 
 -- pictures, where --dot is there; else lines, where --json is; else rows. That not both are there is clap's to see to
 abbrev pub form_asked : (dot json : Bool) → Form
@@ -102,19 +106,30 @@ pub record AsksTrace (text : Text → Option Text) (v : View) : Type 0 where
   pub form : v.form ≡ form_asked dot json
   pub all : IsFlag (text (codes "all")) v.all
 
--- the word explain, the word trace with its view, or else a run's or a check's options
-abbrev pub AsksRequest : (explain trace : Bool) → Text → List Row → Request → Type 0
-AsksRequest true trace name rows r = r ≡ Explain
-AsksRequest false true name rows (Run o) = ⊥
-AsksRequest false true name rows Explain = ⊥
-AsksRequest false true name rows (Trace v) = AsksTrace (λ id. one_of id rows) v
-AsksRequest false false name rows Explain = ⊥
-AsksRequest false false name rows (Trace v) = ⊥
-AsksRequest false false name rows (Run o) = AsksOptions (bytes_eq name (codes "check")) rows o
+-- a run's options
+abbrev pub AsksPlainly : List Row → Request → Type 0
+AsksPlainly rows (Run o) = AsksRun (λ id. one_of id rows) o
+AsksPlainly rows Races = ⊥
+AsksPlainly rows Explain = ⊥
+AsksPlainly rows (Trace v) = ⊥
+
+-- a trace with its view
+abbrev pub AsksView : List Row → Request → Type 0
+AsksView rows (Run o) = ⊥
+AsksView rows Races = ⊥
+AsksView rows Explain = ⊥
+AsksView rows (Trace v) = AsksTrace (λ id. one_of id rows) v
+
+-- the word explain, the word trace, the word check, or else run
+abbrev pub AsksRequest : (explain trace check : Bool) → List Row → Request → Type 0
+AsksRequest true trace check rows r = r ≡ Explain
+AsksRequest false true check rows r = AsksView rows r
+AsksRequest false false true rows r = AsksCheck (λ id. one_of id rows) r
+AsksRequest false false false rows r = AsksPlainly rows r
 
 -- the command of this name, with what was found for its arguments, asks for this and this file
 pub record Asks (name : Text) (rows : List Row) (r : Request) (file : Option Text) : Type 0 where
-  pub request : AsksRequest (bytes_eq name (codes "explain")) (bytes_eq name (codes "trace")) name rows r
+  pub request : AsksRequest (bytes_eq name (codes "explain")) (bytes_eq name (codes "trace")) (bytes_eq name (codes "check")) rows r
   pub file_is : file ≡ first_of (codes "FILE") rows
 
 -- no command asks for a plain run
@@ -131,5 +146,6 @@ pub record IsBound (o : Options) : Type 0 where
 
 abbrev pub KeepsBounds : Request → Type 0
 KeepsBounds (Run o) = IsBound o
+KeepsBounds Races = Unit {0}
 KeepsBounds Explain = Unit {0}
 KeepsBounds (Trace v) = Unit {0}

