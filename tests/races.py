@@ -7,9 +7,10 @@ The gate runs 300 plans. --part K/N makes those plans whose number is K-1 modulo
 of a seed and a number is always the same. Without the program all is tried by rules.py alone. Prints each fault, how
 many plans were of what kind, and `N passed, M failed` last.
 
-First come the rows of races.txt, by hand: they are as those of scripts.py, and have a line `no race`; or lines `race: ONE;
-OTHER` for all accesses that race, of which the program tells some two, and `two reports` or `one report: WHY`; or `refused:
-FAULT`. Then come random plans of racing_plans.py. Which accesses race says racing.py, in the run by turns of rules.py.
+First come the rows of races.txt, by hand: they are as those of scripts.py, and have a line `no race`; or lines
+`race: ONE; OTHER` for all accesses that race, of which the program tells some two, and `two reports` or
+`one report: WHY`; or `refused: FAULT`. The examples are next, and then random plans of racing_plans.py. Which accesses
+race says racing.py, in the run by turns of rules.py.
 
 - The program says `no race` of those without one. Where it tells a race, the two accesses race, and their places and
   commands are right.
@@ -25,6 +26,7 @@ FAULT`. Then come random plans of racing_plans.py. Which accesses race says raci
 import argparse
 import collections
 import functools
+import glob
 import multiprocessing
 import os
 import random
@@ -37,6 +39,9 @@ import running
 import scripts
 
 ROWS = os.path.join(running.TOP, "races.txt")
+EXAMPLES = os.path.join(os.path.dirname(running.TOP), "examples")
+# what is said of the only example in which two agents race
+RACING = ("races.json", "race\nmain, job 1, command 3: store b 0 7\nworker, job 1, command 1: load x m 0\n")
 PAIRS = 10  # of so many racing pairs the later one is let come first
 LISTS = 10  # random lists of turns
 RUNS = 3  # in threads
@@ -88,9 +93,16 @@ class Row(scripts.Row):
         except rules.Refused as refused:
             return [(1, "", f"{refused}\n")], None
         run = racing.by_turns(plan)
+        return [(0, text, "") for text in texts_of(run)], why_of(plan, run)
+
+
+def why_of(plan, run):
+    """Why a plan has one report, or that it has two."""
+    try:
         kinds = racing_orders.Raced(plan, run).kinds()
-        why = TWO if kinds is None else " ".join({*kinds.values()}) or "no race"
-        return [(0, text, "") for text in texts_of(run)], why
+    except AssertionError as wrong:
+        return str(wrong)
+    return TWO if kinds is None else "; or ".join(sorted({*kinds.values()})) or "no race"
 
 
 def try_rows(program, count):
@@ -102,6 +114,18 @@ def try_rows(program, count):
             count.add(row.title, None if got in row.answers() else f"wanted one of {row.answers()}\n  got {got}")
 
 
+def try_examples(program, count):
+    """The examples, of which one alone has a race."""
+    for path in sorted(glob.glob(os.path.join(EXAMPLES, "*.json"))):
+        with open(path, "rb") as file:
+            data = file.read()
+        name = os.path.basename(path)
+        text = RACING[1] if name == RACING[0] else "no race\n"
+        count.expect(f"{name}, by rules.py", texts_of(racing.by_turns(rules.read_plan(data))), [text])
+        if program:
+            count.expect(name, running.answer([program, "check", "--races", path]), (0, text, ""))
+
+
 # Random plans
 
 
@@ -111,7 +135,7 @@ class Trial:
     def __init__(self, program, seed, number):
         self.program, self.number, self.title = program, number, f"plan {number} of seed {seed}"
         self.rng = random.Random(f"{seed} {number}")
-        self.data, self.plan, _ = racing_plans.random_plan(self.rng)
+        self.data, self.plan = racing_plans.random_plan(self.rng)
         self.run = racing.by_turns(self.plan)
         self.report, self.outline = self.run.report(), self.run.outline()
         self.kinds, self.faults = [], []
@@ -127,8 +151,9 @@ class Trial:
             self.told()
         if pairs:
             self.kinds = ["race", *self.raced()]
+            self.kinds += ["race in a callback"] * any("callback" in racing.text_of(pair) for pair in pairs)
         else:
-            self.kinds = ["no race", *(["no race, for words that agents share"] if racing.shares(self.run.accesses()) else [])]
+            self.kinds = ["no race"] + ["no race, and words that agents share"] * racing.shares(self.run.accesses())
             self.alike()
 
     def told(self):
@@ -223,6 +248,7 @@ def main():
         words.error("either PROGRAM or --without-program")
     count = running.Count()
     try_rows(given.program, count)
+    try_examples(given.program, count)
     try_plans(given, count)
     count.end()
 

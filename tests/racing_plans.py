@@ -1,9 +1,9 @@
 """Random plans of two to five agents that share words, of which about half have no race.
 
 Most are `grown`: each agent's next job and command is chosen where the others have come to in the run by turns, as in
-random_plans.py. A careful agent makes no access that races with one before it; a careless one makes some. In others blocks go
-from hand to hand, and in half of these some agents use a block once more after they posted it on. The rest are of
-agents that share, from random_plans.py.
+random_plans.py. A careful agent makes no access that races with one before it; a careless one makes some. In others
+blocks go from hand to hand, and in half of these some agents use a block once more after they posted it on. The rest are
+of agents that share, from random_plans.py.
 """
 
 import json
@@ -31,7 +31,7 @@ class Sharer(racing.Marking, random_plans.Growing):
 
     def __init__(self, rng, plan, ledger, agents, care):
         super().__init__(rng, plan, ledger, agents, {})
-        self.left, self.care = rng.choice([1, 2, 3, 3, 4, 5]), care
+        self.left, self.care = rng.choice([2, 3, 3, 4, 5]), care
 
     def filled(self):
         return [name for name in BUFFERS if random_plans.suits(self, "b", name)]
@@ -93,7 +93,7 @@ class Sharer(racing.Marking, random_plans.Growing):
             case "buffer":
                 return [["buffer", self.rng.choice(BUFFERS[:2]), self.rng.choice([1, 2, 3])]]
             case "property":
-                return self.rng.choice([[["new", "o"], ["set", "o", "p", one]], [["new", "o"], ["get", other, "o", "p"]]])
+                return [["new", "o"], ["set", "o", "p", one], ["get", other, "o", "p"]]
             case "entry":
                 return [["weakmap", "w"], ["wmset", "w", "w", one], ["wmget", other, "w", "w"]]
             case "same":
@@ -146,7 +146,7 @@ def callback(rng):
 
 
 def grown(rng):
-    """A plan whose agents are careful, or careless, or one of whom is; mostly some word is one for which they could race."""
+    """A plan whose agents are careful, or careless, or one of whom is. Mostly there is a word for which they could race."""
     names = rng.sample(random_plans.AGENTS, rng.choice([2, 2, 3, 3, 4, 5]))
     cares = rng.choice([[1] * 5, [1] * 5, [1] * 5, [0.9] * 5, [0.5] * 5, [0] * 5, [1, 0, 1, 1, 1], [1, 1, 1, 0.7, 0.7]])
     for _ in range(rng.choice([1, 8, 8, 8])):
@@ -161,7 +161,7 @@ def grown(rng):
 
 
 def handed_on(rng):
-    """A plan in which blocks go from hand to hand; in half of these some are used once more after they were posted on."""
+    """A plan in which blocks go from hand to hand. In half of these some are used once more after they were posted on."""
     plan = threads.handed_on(rng)
     if rng.random() < 0.5:
         return plan
@@ -177,14 +177,13 @@ def shared(rng):
 
 
 def random_plan(rng):
-    """A plan without a fault, as it is written and as it is read, and what kind it is."""
+    """A plan without a fault, as it is written and as it is read."""
     while True:
-        kind = rng.choices([grown, handed_on, shared], [84, 12, 4])[0]
-        plan = kind(rng)
+        plan = rng.choices([grown, handed_on, shared], [84, 12, 4])[0](rng)
         data = json.dumps(plan).encode()
         if not 2 <= len(plan["agents"]) <= MOST or len(data) > LONGEST:
             continue
         try:
-            return data, rules.read_plan(data), kind.__name__
+            return data, rules.read_plan(data)
         except rules.Refused:
             continue
