@@ -828,10 +828,14 @@ class Growing(rules.Agent):
     def next_job(self):
         if self.done == len(self.jobs) and self.left > 0:
             self.left -= 1
-            self.jobs.append({"run": []})
-            if self.others() and self.rng.random() < 0.55:
-                self.jobs[-1]["on"] = [self.sender(), self.rng.choice(NAMES + PLACES["buffer"])]
+            self.jobs.append({"run": [], **self.waiting()})
         return super().next_job()
+
+    def waiting(self):
+        """What the next job waits for, if it does."""
+        if self.others() and self.rng.random() < 0.55:
+            return {"on": [self.sender(), self.rng.choice(NAMES + PLACES["buffer"])]}
+        return {}
 
     def sender(self):
         """Whom the next job waits for: one of whom a message is there, or one that has not ended, or any."""
