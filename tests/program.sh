@@ -206,6 +206,15 @@ run check
 expect "check" 0 "$room/ok" ""
 run check "$room/plan.json"
 expect "check of a file" 0 "$room/ok" ""
+printf 'no race\n' >"$room/no_race"
+run check --races
+expect "races" 0 "$room/no_race" ""
+run check --races "$room/plan.json"
+expect "races of a file" 0 "$room/no_race" ""
+run check "$room/plan.json" --races
+expect "the option behind the file" 0 "$room/no_race" ""
+run check --races "$room/missing.json"
+expect "races of no file" 4 "$room/nothing" "cannot read"
 run explain
 expect "explain" 0 "$room/ok" ""
 run explain "$room/plan.json"
@@ -334,8 +343,15 @@ usage "an option of run beside check" check --turns
 usage "helpers beside check" check --helpers 1
 usage "a watch beside check" check --watch 1
 usage "both commands" check run p
+usage "races twice" check --races --races
+usage "a value of races" check --races=1
+usage "races beside run" run --races
+usage "races beside trace" trace --races
+usage "two files, and their races" check --races a b
 usage "a word that is no text" run "$(printf '\377')"
 help check --help
+help --races check --help
+help "check \[FILE\] \[--races\]" --help
 help check -h
 help --helpers run --help
 help FILE check --help
