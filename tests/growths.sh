@@ -124,6 +124,8 @@ each_growth 0 run "$examples/two_buffers.json" --turns
 each_growth 0 run "$examples/nobody_takes.json" --turns
 each_growth 0 run "$examples/later.json" --turns
 each_growth 0 check "$examples/refusals.json"
+each_growth 0 check --races "$examples/races.json"
+each_growth 0 check --races "$examples/ordered.json"
 each_growth 0 explain "$examples/refusals.json"
 each_growth 0 trace "$examples/queue.json"
 each_growth 0 trace "$examples/later.json"
@@ -198,6 +200,7 @@ each_growth 0 run "$room/later.json" --turns
 # a fault in the last command of the last agent, so that all before it is read
 sed 's/\["keys", "x"\]/["keys", "1x"]/' "$examples/agents.json" >"$room/faulty.json"
 each_growth 1 run "$room/faulty.json" --turns
+each_growth 1 check --races "$room/faulty.json"
 each_growth 1 explain "$room/faulty.json"
 each_growth 1 trace "$room/faulty.json"
 

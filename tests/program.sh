@@ -53,7 +53,7 @@ help() {
     expect "help by $*" 0 - ""
 }
 
-# faulty NAME ERRORS: the plan in the file script has this fault, by both commands
+# faulty NAME ERRORS: the plan in the file script has this fault, by each command
 faulty() {
     run run "$room/script"
     expect "$1" 1 "$room/nothing" "$2"
@@ -61,6 +61,8 @@ faulty() {
     expect "$1, checked" 1 "$room/nothing" "$2"
     run trace "$room/script"
     expect "$1, traced" 1 "$room/nothing" "$2"
+    run check --races "$room/script"
+    expect "$1, its races" 1 "$room/nothing" "$2"
 }
 
 # commands COMMAND..: each is given in words, in which null and whole numbers are the only literals
