@@ -103,15 +103,8 @@ fn after(walk: Walk, event: &Event) -> Walk
     match event {
         Event::JobBegun { job } => begun(walk, Section::Job(*job)),
         Event::Taken { registration, .. } => begun(walk, Section::Callback(*registration)),
-        Event::Did(_) => Walk {
-            commands: walk.commands + 1,
-            accesses: walk.accesses + usize::from(access_in(event).is_some()),
-            ..walk
-        },
-        Event::Emptied { .. } => Walk {
-            commands: walk.commands + 1,
-            ..walk
-        },
+        Event::Did(_) => done(walk, usize::from(access_in(event).is_some())),
+        Event::Emptied { .. } => done(walk, 0),
         Event::CleanupBegun { .. }
         | Event::Received { .. }
         | Event::Refused { .. }
@@ -121,6 +114,21 @@ fn after(walk: Walk, event: &Event) -> Walk
     }
 }
 
+/// One more command was done, with so many accesses to words.
+fn done(walk: Walk, accesses: usize) -> Walk
+    requires commands { walk.commands < 2 ^ 63 }
+    requires accesses { walk.accesses < 2 ^ 63 }
+    requires one { accesses ≤ 1 }
+    ensures { result ≡ record { section = walk.section; commands = walk.commands + 1; accesses = walk.accesses + accesses } }
+{
+    Walk {
+        section: walk.section,
+        commands: walk.commands + 1,
+        accesses: walk.accesses + accesses,
+    }
+}
+
+/// A section began.
 fn begun(walk: Walk, section: Section) -> Walk
     ensures { result ≡ record { section = section; commands = 0; accesses = walk.accesses } }
 {
