@@ -1,3 +1,5 @@
+mod ExamplePlaces
 mod Found
+mod OnePlace
 mod Splitting
 mod Words
