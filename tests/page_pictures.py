@@ -74,11 +74,10 @@ def draw(count, tab, name, window):
 
 
 def chosen(count, tab, name, window):
-    """The rules where a value is chosen, and what is not beside it steps back; in the dark, and in the light."""
+    """The rules where a value is chosen, and what is not beside it steps back."""
+    page_looks.dark(tab, False)
     tab.value(f"press({PLANS[name][1]}), rest(60)")
-    for is_dark in (True, False):
-        page_looks.dark(tab, is_dark)
-        keeps_rules(count, tab, f"{name} values at {window[0]} pixels, one chosen, {'dark' if is_dark else 'light'}")
+    keeps_rules(count, tab, f"{name} values at {window[0]} pixels, one chosen")
 
 
 def planted(count, tab):
