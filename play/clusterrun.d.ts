@@ -7,8 +7,39 @@
  * browser that has it. Where it is missing, the import fails with an Error that says so.
  */
 
-/** The bytes of a plan, or its text, which stands for its bytes in UTF-8. */
-export type Plan = string | ArrayBuffer | ArrayBufferView;
+/**
+ * The bytes of a plan; its text, which stands for its bytes in UTF-8; or a plain object, which stands for what JSON.stringify
+ * makes of it.
+ */
+export type Plan = string | ArrayBuffer | ArrayBufferView | PlanObject;
+
+/**
+ * A plan as an object. The types say which parts it has, and a call says whether each command is right. In a list JSON.stringify
+ * makes null of undefined, of NaN and of a function; and null stands for undefined in a plan.
+ */
+export interface PlanObject {
+  /** 1 or 2. */
+  version: number;
+  agents: readonly PlanAgent[];
+}
+
+/** An agent of a plan. */
+export interface PlanAgent {
+  name: string;
+  /** The commands of each callback, by its name. */
+  callbacks: Readonly<Record<string, readonly PlanCommand[]>>;
+  jobs: readonly PlanJob[];
+}
+
+/** A job of a plan. */
+export interface PlanJob {
+  /** If it waits for a message: the name of the agent that posts it, and the variable that gets its value. */
+  on?: readonly string[];
+  run: readonly PlanCommand[];
+}
+
+/** A command of a plan: its word and its operands, as `["new", "a"]`. */
+export type PlanCommand = readonly PlainValue[];
 
 /** How a call may go. */
 export interface Options {
@@ -48,16 +79,18 @@ export interface Answer {
 /**
  * Runs a plan.
  *
- * @throws TypeError where the plan is neither text nor bytes, RangeError where `memory` is no number of bytes.
+ * @throws TypeError where the plan is neither text nor bytes nor a plain object, or the options are no object; RangeError where `memory`
+ * is no number of bytes.
  */
-export function run(plan: Plan, options?: Options): Answer;
+export function run(plan: Plan, options?: Options | null): Answer;
 
 /**
  * Checks a plan and does not run it.
  *
- * @throws TypeError where the plan is neither text nor bytes, RangeError where `memory` is no number of bytes.
+ * @throws TypeError where the plan is neither text nor bytes nor a plain object, or the options are no object; RangeError where `memory`
+ * is no number of bytes.
  */
-export function check(plan: Plan, options?: Options): Answer;
+export function check(plan: Plan, options?: Options | null): Answer;
 
 /**
  * Runs a plan, and tells what happened, event by event: a JSON object on each line, as docs/TRACES.md of the repository says.
@@ -65,9 +98,10 @@ export function check(plan: Plan, options?: Options): Answer;
  *
  *     const lines: TraceLine[] = trace(plan).text.trimEnd().split("\n").map((line) => JSON.parse(line));
  *
- * @throws TypeError where the plan is neither text nor bytes, RangeError where `memory` is no number of bytes.
+ * @throws TypeError where the plan is neither text nor bytes nor a plain object, or the options are no object; RangeError where `memory`
+ * is no number of bytes.
  */
-export function trace(plan: Plan, options?: TraceOptions): Answer;
+export function trace(plan: Plan, options?: TraceOptions | null): Answer;
 
 /** Which version this is, the commit of its sources, and the Rattle kit that proved them. */
 export const built: Readonly<{ version: string; commit: string; kit: string }>;

@@ -6,7 +6,12 @@ import { explained } from "./command/explain.mjs";
 
 export function explain(plan, options) {
   const { status, text } = check(plan, options);
-  return { status, text: status === 1 ? explained(text, typeof plan === "string" ? plan : bytesOf(plan)) : text };
+  return { status, text: status === 1 ? explained(text, written(plan)) : text };
 }
 
-const bytesOf = (plan) => (plan instanceof ArrayBuffer ? new Uint8Array(plan) : new Uint8Array(plan.buffer, plan.byteOffset, plan.byteLength));
+/** A plan as text or bytes. `check` took it, so an object that is neither is a plain one. */
+function written(plan) {
+  if (typeof plan === "string") return plan;
+  if (plan instanceof ArrayBuffer) return new Uint8Array(plan);
+  return ArrayBuffer.isView(plan) ? new Uint8Array(plan.buffer, plan.byteOffset, plan.byteLength) : JSON.stringify(plan);
+}

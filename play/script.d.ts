@@ -1,4 +1,4 @@
-import type { TraceLine } from "./clusterrun.d.ts";
+import type { PlanObject, TraceLine } from "./clusterrun.d.ts";
 
 /** A part of a script: from the letter `start` to the one before `end`, counted from 0 in UTF-16 code units. */
 export interface Place {
@@ -41,7 +41,7 @@ export interface AgentUses {
 /** What a script becomes: the plan, its text with a command on each line, the places of its commands, the uses of its variables, and
     the trace of its run. */
 export interface Planned {
-  plan: object;
+  plan: PlanObject;
   text: string;
   places: AgentPlaces[];
   uses: AgentUses[];

@@ -37,16 +37,17 @@ function faultOf(source) {
     return [error instanceof ScriptFault, error.start];
   }
 }
-const told = ["[]", new TextEncoder().encode("[").buffer, Uint8Array.of(255), JSON.stringify(planOf("1;").plan)].map((one) => explain(one).text);
+const told = ["[]", new TextEncoder().encode("[").buffer, Uint8Array.of(255), planOf("1;").plan, {}].map((one) => explain(one).text);
 const { version } = require("clusterrun/package.json");
 const [plan, trace] = ["plan", "trace"].map((name) => require(`clusterrun/${name}.schema.json`));
 console.log(JSON.stringify([run("[]").text, version, plan.title, trace.title, lines, faultOf("let a; let a;"), told]));
 """
 
-# What `explain` says of a list, of a text that is cut off, of a byte that is none of a text, and of a plan.
+# What `explain` says of a list, of a text that is cut off, of a byte that is none of a text, of a plan as an object, and of an empty object.
 EXPLAINED = [
     'S2 ""\nA plan is an object, and here stands a list.\nfound []\n', "S1 line 1 column 1\nThis [ is never closed.\n",
     "S1 line 1 column 1\nThis byte is no UTF-8.\n", "ok\n",
+    'S2 ""\nA plan has version and agents: version is missing.\nfound {}\n',
 ]
 
 

@@ -9,8 +9,8 @@ Usage: page.py PROGRAM [--long] [--pictures FOLDER]
   the scripts say of each fault is what `clusterrun explain` says, and the marked letters are those to which its pointer leads.
   What the page makes of traces, words and heaps, is what tests/trace_model.py gives.
 - In a browser without a window, from the disk: each example's report is the stored one; its trace, step by step, with the
-  picture after each collection and what keeps a value; the marks of faults, keys, links, the time of 60,000 commands, a run
-  that is stopped, and a plan that takes more memory than there is.
+  picture after each collection and what keeps a value; the marks of faults, keys, links, the documents that the foot
+  names, the time of 60,000 commands, a run that is stopped, and a plan that takes more memory than there is.
 
 With --long there are 5,000 plans. With --pictures the page is painted, wide and narrow, dark and light. What it left out, for
 want of a tool, it says before its last line, `N passed, M failed`.

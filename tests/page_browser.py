@@ -4,6 +4,8 @@ import base64
 import glob
 import json
 import os
+import shutil
+import tempfile
 import zlib
 
 import page_trace
@@ -123,6 +125,19 @@ def links(count, browser):
     count.expect("a link that is none", browser.value("at('about').textContent").strip().endswith("can't be read."), True)
 
 
+def documents(count, browser):
+    """The documents that the foot names are links where the page lies in its repository, and words elsewhere."""
+    names, leads = "document.querySelectorAll('footer .document')", "[...document.querySelectorAll('footer a')].map((it) => it.href)"
+    begin(browser, PAGE)
+    named = browser.value(f"[...{names}].map((it) => it.textContent)")
+    count.expect("documents are named", "docs/PLANS.md" in named and all(os.path.exists(os.path.join(TOP, name)) for name in named), True)
+    count.expect("links to them", browser.value(leads), [f"file://{os.path.join(TOP, name)}" for name in named])
+    with tempfile.TemporaryDirectory() as room:
+        shutil.copy(PAGE.removeprefix("file://"), room)
+        begin(browser, f"file://{room}/index.html")
+        count.expect("a page elsewhere", browser.value(f"[[...{names}].map((it) => it.textContent), {leads}]"), [named, []])
+
+
 def keys(count, browser):
     """Control and Enter run the plan, F8 shows the fault, and the menu goes by arrows and its field."""
     call(browser, "typed", whole('[["say", "x"]]'), False)
@@ -215,7 +230,7 @@ def pictures(browser, folder):
 def try_all(count, path, folder):
     with Browser(path) as browser:
         begin(browser, PAGE)
-        for part in (examples, traces, marks, keys, times, stopped, without_memory, network, links):
+        for part in (examples, traces, marks, keys, times, stopped, without_memory, network, links, documents):
             part(count, browser)
         thrown = [event["params"]["exceptionDetails"] for event in browser.events if event["method"] == "Runtime.exceptionThrown"]
         count.expect("what the page threw", thrown, [])

@@ -1,10 +1,11 @@
-// What the calls of the module promise besides the answer: strings and bytes, a limit of memory after which the next call
-// begins anew, and what is no plan. Prints each that is not kept, and `N passed, M failed` last.
+// What the calls of the module promise besides the answer: strings, bytes and plain objects, a limit of memory after which the next
+// call begins anew, and what is no plan and no options. Prints each that is not kept, and `N passed, M failed` last.
 //
 // Usage: node page_calls.mjs CLUSTERRUN_MJS FOLDER. FOLDER has the examples.
 
 import { readFileSync } from "node:fs";
 import { pathToFileURL } from "node:url";
+import { runInNewContext } from "node:vm";
 
 const { run, check, trace, built } = await import(pathToFileURL(process.argv[2]));
 const read = (name) => readFileSync(`${process.argv[3]}/${name}`);
@@ -41,8 +42,24 @@ expect("a trace of all values", [kept({ all: true }) > kept(), kept({ all: false
 expect("no bytes", run(new Uint8Array()), { status: 1, text: "refused S1" });
 expect("a string beyond ASCII", check(text.replace('"a"', '"é"')), { status: 1, text: "refused S5 agent 0" });
 expect("a lone half of a pair", check('"\ud800'), { status: 1, text: "refused S1" });
-for (const wrong of [undefined, null, 1, {}, [], Symbol.iterator]) {
-  expect(`no plan: ${String(wrong)}`, thrown(() => run(wrong)), "TypeError");
+const object = JSON.parse(text);
+expect("a plain object", run(object), good);
+expect("a check of one", check(object), { status: 0, text: "ok\n" });
+expect("a trace of one", trace(object), trace(text));
+expect("one of another realm", run(runInNewContext(`(${text})`)), good);
+expect("one without a prototype", run(Object.assign(Object.create(null), object)), good);
+expect("one with a fault", [run({}), check({ ...object, version: 3 })], [{ status: 1, text: "refused S2" }, { status: 1, text: "refused S3" }]);
+expect("undefined in a command", check({ version: 1, agents: [{ name: "a", callbacks: {}, jobs: [{ run: [["let", "x", undefined]] }] }] }).status, 0);
+const cycle = { version: 1 };
+cycle.agents = cycle;
+const others = [[], [object], new Map(), new Date(), Promise.resolve(text), () => object, new (class { version = 1; })(), { toJSON() {} }, cycle, { version: 1n }];
+for (const wrong of [undefined, null, 1, 1n, true, Symbol.iterator, ...others]) {
+  expect(`no plan: ${typeof wrong} ${wrong?.constructor?.name}`, thrown(() => run(wrong)), "TypeError");
+}
+expect("no options", [run(plan, null), run(plan, undefined), run(plan, {}), run(plan, { memory: undefined })], [good, good, good, good]);
+expect("none of a trace", trace(plan, null), trace(plan));
+for (const wrong of [0, 2 ** 26, "1", true, () => ({})]) {
+  expect(`no options: ${String(wrong)}`, [run, check, trace].map((call) => thrown(() => call(plan, wrong))), ["TypeError", "TypeError", "TypeError"]);
 }
 for (const wrong of [-1, 1.5, NaN, "1", null]) {
   expect(`no memory: ${wrong}`, thrown(() => run(plan, { memory: wrong })), "RangeError");

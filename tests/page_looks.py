@@ -1,4 +1,5 @@
-"""How the page looks, as far as numbers say it: the contrast of its texts, and labels of pictures that lie on each other."""
+"""How the page looks, as far as numbers say it: the contrast of its texts and lines, texts of pictures that lie on each other or
+that leave their boxes, and what is cut or stands outside of the window."""
 
 # What the tests call in the page, beside the tools of page_browser.py.
 TOOLS = """
@@ -45,6 +46,12 @@ const pale = (least) => {
   const found = texts.map((it) => [contrastOf(it), `${it.tagName} ${it.closest("[class],[id]")?.className.baseVal ?? it.className} ${it.textContent.slice(0, 30)}`]);
   return { count: texts.length, pale: found.filter(([value]) => value < least).map(([value, what]) => `${value.toFixed(2)} ${what}`) };
 };
+// The lines of the picture, without what has stepped back, of which the contrast is lower than that.
+const thin = (least) => {
+  const lines = [...document.querySelectorAll("#heap .edge:not(.dim) path, #heap .thing:not(.dim) rect")];
+  const found = lines.map((it) => [contrast(numbersOf(getComputedStyle(it).stroke).slice(0, 3), behind(it.closest("svg"))), it.parentElement.className.baseVal]);
+  return [...new Set(found.filter(([value]) => value < least).map(([value, what]) => `${value.toFixed(2)} ${what}`))];
+};
 // The ink of the editor on what marks a place in it.
 const marked = () => {
   const root = getComputedStyle(at("plan")), ink = numbersOf(root.color).slice(0, 3);
@@ -56,18 +63,52 @@ const marked = () => {
     return value;
   });
 };
-// The labels that lie on another one or on a node.
+// The room of a part of the picture, without the edge of letters, which some browsers count.
+const room = (it) => {
+  const { x, y, width, height } = it.getBBox(), { a, e, f } = it.getScreenCTM();
+  return { left: a * x + e, right: a * (x + width) + e, top: a * y + f, bottom: a * (y + height) + f };
+};
+// The labels of edges, and what is written beside points, that lie on another one or on a node.
 const covered = () => {
-  // Without the edge of letters, which some browsers count.
-  const room = (it) => {
-    const { x, y, width, height } = it.getBBox(), { a, e, f } = it.getScreenCTM();
-    return { left: a * x + e, right: a * (x + width) + e, top: a * y + f, bottom: a * (y + height) + f };
-  };
-  const labels = [...document.querySelectorAll("#heap .label text")], boxes = [...document.querySelectorAll("#heap .node rect")];
+  const labels = [...document.querySelectorAll("#heap .label text, #heap .point text")], boxes = [...document.querySelectorAll("#heap .node rect")];
   const meets = (one, other) => one.left < other.right - 1 && other.left < one.right - 1 && one.top < other.bottom - 2 && other.top < one.bottom - 2;
   const on = labels.filter((it, place) => [...labels.slice(place + 1), ...boxes].some((other) => meets(room(it), room(other))));
   return { labels: labels.length, covered: on.map((it) => it.textContent) };
 };
+// The texts of values and roots that are wider than their boxes.
+const bursting = () => {
+  const bursts = (node) => [...node.querySelectorAll("text")].some((text) => {
+    const inside = room(text), outside = room(node.querySelector("rect"));
+    return inside.left < outside.left || inside.right > outside.right;
+  });
+  return [...document.querySelectorAll("#heap .node:not(.point)")].filter(bursts).map((it) => it.textContent);
+};
+// What may be longer than its place: it scrolls, or is told in full elsewhere.
+const SCROLLS = "#rows, #heap, .editor, #offers, .said, .heard, #report, #printed, #planned, dialog";
+// The texts that are cut, or that stand outside of the window; the page itself may scroll down where it is narrow.
+const cut = () => {
+  const page = { left: 0, top: 0, right: innerWidth, bottom: Math.max(innerHeight, document.body.getBoundingClientRect().bottom + scrollY) };
+  const leaves = (one, other) => one.left < other.left - 1 || one.right > other.right + 1 || one.top < other.top - 1 || one.bottom > other.bottom + 1;
+  const found = [...document.querySelectorAll("body *")].filter((it) => hasText(it) && isSeen(it) && it.checkVisibility() && !it.closest(SCROLLS)).filter((it) => {
+    const range = document.createRange();
+    range.selectNodeContents(it);
+    const { left, right, top, bottom } = range.getBoundingClientRect();
+    const place = { left, right, top: top + scrollY, bottom: bottom + scrollY };
+    if (leaves(place, page)) return true;
+    for (let one = it; one; one = one.parentElement) {
+      if (getComputedStyle(one).overflow === "visible" || one === document.body) continue;
+      if (leaves({ left, right, top, bottom }, one.getBoundingClientRect())) return true;
+    }
+    return false;
+  });
+  return found.map((it) => it.textContent.trim().slice(0, 60));
+};
+// What of these is not to be seen where it stands: the current row, and the marked letters of what is written.
+const unseen = () => [["#rows [aria-selected=true]", "#rows"], ["mark.step", ".paper"]].flatMap(([what, where]) => {
+  const one = document.querySelector(what)?.getBoundingClientRect(), place = document.querySelector(where).getBoundingClientRect();
+  const isSeen = !one || (one.left >= place.left - 1 && one.left < place.right && one.top >= place.top - 1 && one.bottom <= place.bottom + 1);
+  return isSeen ? [] : [what];
+});
 """
 
 

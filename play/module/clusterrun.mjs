@@ -76,12 +76,31 @@ function bytesOf(plan) {
   if (typeof plan === "string") return encoder.encode(plan);
   if (plan instanceof ArrayBuffer) return new Uint8Array(plan);
   if (ArrayBuffer.isView(plan)) return new Uint8Array(plan.buffer, plan.byteOffset, plan.byteLength);
-  throw new TypeError("a plan is a string, an ArrayBuffer or a view of one");
+  // What a toJSON leaves nothing of is no plan either.
+  const text = isPlain(plan) ? JSON.stringify(plan) : undefined;
+  if (text === undefined) throw new TypeError("a plan is a string, an ArrayBuffer or a view of one, or a plain object");
+  return encoder.encode(text);
+}
+
+/** Whether a value is an object as `{}` or JSON.parse makes it, in this realm or in another one. A Map, a Promise or a list is none:
+    JSON.stringify would make something of it that nobody meant. */
+function isPlain(value) {
+  if (typeof value !== "object" || value === null) return false;
+  const above = Object.getPrototypeOf(value);
+  return above === null || Object.getPrototypeOf(above) === null;
+}
+
+/** What a call was given to go by: null is nothing, as undefined is. */
+function optionsOf(given) {
+  if (given === undefined || given === null) return {};
+  if (typeof given !== "object") throw new TypeError("options are an object, as { memory: 67108864 }");
+  return given;
 }
 
 /** Asks the kept instance, or else a new one. Only a new one may say that memory ran out, so that no plan has less memory
     for another that was run before it. Where a call throws, its instance is given up. */
-function answer(name, plan, more, { memory = MEMORY } = {}) {
+function answer(name, plan, more, options) {
+  const { memory = MEMORY } = optionsOf(options);
   if (!Number.isSafeInteger(memory) || memory < 0) throw new RangeError("memory is a number of bytes");
   const bytes = bytesOf(plan);
   const last = kept;

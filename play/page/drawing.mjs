@@ -3,29 +3,33 @@
 import { clipped, placedLabels } from "./labels.mjs";
 
 const SVG = "http://www.w3.org/2000/svg";
-const BOX = { width: 112, height: 36 };
-const ROOT = { width: 92, height: 24 };
+const BOX = { width: 120, height: 36 };
+const ROOT = { width: 100, height: 24 };
 const ROW = 50;
 const MARGIN = 14;
+/** The room to the right of the values, for lines that go beside them. */
+const BESIDE = 56;
 /** The room between two columns, at least and at most. */
-const GAP = { least: 50, most: 110 };
+const GAP = { least: 60, most: 110 };
 /** The letters of a name that have room: of a root's, and of a property's. */
 const MOST_LETTERS = 12;
-/** No picture is made smaller than this to fit. */
-const SMALLEST = 0.75;
+/** No picture is made smaller than this, where it was not asked to fit: its smallest letters have 9 pixels then. */
+const SMALLEST = 0.8;
 
-/** Draws a graph by a layout, so wide and high if that can be read, so large (`zoom`), or as large as it fits (`"fit"`). `lit` are the keys of nodes that are to stand
-    out, and of edges as `FROM TO`; `touched` are those of nodes that the step is about; `nameOf` gives the name of a value by its
-    number, and `said` the words of the nodes. If a node is `chosen`, what is neither lit nor beside it steps back. */
+/** Draws a graph by a layout, so wide and high if that can be read, so large (`zoom`), or as large as it fits (`"fit"`). `lit` are
+    the keys of nodes that are to stand out, and of edges as `FROM TO`; `touched` are those of nodes that the step is about; `nameOf`
+    gives the name of a value by its number, and `said` the words of the nodes. If a node is `chosen`, what is neither lit nor beside
+    it steps back. */
 export function drawingOf({ nodes, edges }, layout, { width, height, zoom }, { lit, touched, chosen, nameOf, said }) {
   for (const { shape, key } of nodes) if (shape !== "point") layout.placeOf(key);
   const gap = gapOf(layout.columns, width);
   const placed = nodes.filter(({ shape }) => shape !== "point");
   const spots = new Map(placed.map((node) => [node.key, spotOf(node, layout.placeOf(node.key), gap)]));
   placePoints(nodes, spots);
-  const size = { width: Math.ceil(right(layout.columns - 1, gap) + 56), height: 2 * MARGIN + layout.rows * ROW };
-  const fits = [width / size.width, height / size.height];
-  const scale = zoom === "fit" ? Math.min(1, ...fits) : zoom ?? scaleOf(...fits);
+  // The picture ends where what is drawn now ends. It is as large as the whole run's can be read, so that no step changes that.
+  const size = sizeOf(spots), whole = { width: right(layout.columns - 1, gap) + BESIDE, height: 2 * MARGIN + layout.rows * ROW };
+  const fits = ({ width: wide, height: high }) => [width / wide, height / high];
+  const scale = zoom === "fit" ? Math.min(1, ...fits(size)) : zoom ?? scaleOf(...fits(whole));
   const picture = element("svg", {
     width: Math.floor(size.width * scale), height: Math.floor(size.height * scale), viewBox: `0 0 ${size.width} ${size.height}`,
     "data-scale": scale,
@@ -84,6 +88,12 @@ function spotOf({ shape }, { column, row }, gap) {
   return { x: leftOf(column, gap) + width / 2, y: MARGIN + row * ROW + ROW / 2, width, height };
 }
 
+/** The room that is taken, with what lines and labels need beside it. */
+function sizeOf(spots) {
+  const all = [...spots.values()], most = (end) => Math.ceil(Math.max(...all.map(end)));
+  return { width: most(({ x, width }) => x + width / 2) + BESIDE, height: most(({ y }) => y) + ROW / 2 + MARGIN };
+}
+
 /** The point of an entry stands to the right of its WeakMap and its key, between them; no two on one spot. */
 function placePoints(nodes, spots) {
   const taken = [];
@@ -126,8 +136,8 @@ function lineOf({ from, to, kind, curve, isLit, isDim }) {
   return element("g", group, element("path", { d: pathOf(curve), ...head }));
 }
 
-function labelOf({ kind, isDim, text, all, x, y }) {
-  const group = { "class": `edge label ${kind}${isDim ? " dim" : ""}` };
+function labelOf({ from, to, kind, isDim, text, all, x, y }) {
+  const group = { "class": `edge label ${kind}${isDim ? " dim" : ""}`, "data-of": `${from} ${to}` };
   return element("g", group, element("title", {}, all), element("text", { x, y, "text-anchor": "middle" }, text));
 }
 

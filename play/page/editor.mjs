@@ -76,12 +76,27 @@ export class Editor {
     this.area.focus();
     this.area.setSelectionRange(start, end);
     this.area.scrollTop = Math.max(0, (this.line(start) - 1) * HEIGHT - this.area.clientHeight / 3);
+    this.revealAcross();
   }
 
   /** Scrolls so far that the marked place can be seen. */
   reveal() {
     const top = PADDING + (this.line(this.place.start) - 1) * HEIGHT, { scrollTop, clientHeight } = this.area;
     if (top < scrollTop || top > scrollTop + clientHeight - 2 * HEIGHT) this.area.scrollTop = top - clientHeight / 3;
+    this.revealAcross();
+  }
+
+  /** The same to the left and to the right: a long line is shown from its beginning, if the place can be seen so. */
+  revealAcross() {
+    this.draw();
+    const [first] = this.marks.querySelector("mark")?.getClientRects() ?? [];
+    if (first === undefined) return;
+    const { scrollLeft, clientWidth } = this.area, left = first.left - this.area.getBoundingClientRect().left + scrollLeft;
+    // Of a place that has no room its beginning is to be seen.
+    const right = Math.min(left + first.width, left + clientWidth / 2);
+    if (left >= scrollLeft && right <= scrollLeft + clientWidth) return;
+    this.area.scrollLeft = right <= clientWidth ? 0 : left - clientWidth / 3;
+    this.draw();
   }
 
   draw() {

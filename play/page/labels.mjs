@@ -2,7 +2,7 @@
 
 /** The letters of a label that have room, and how much a letter takes, in pixels. */
 const MOST_OF_LABEL = 16;
-const LETTER = 6.6;
+const LETTER = 6.9;
 const HEIGHT = 13;
 /** The parts of a curve at which a label may stand, the best first. */
 const PARTS = [0.5, 0.4, 0.6, 0.3, 0.7, 0.22, 0.78];
@@ -15,8 +15,8 @@ export const clipped = (text, most) => (text.length > most ? `${text.slice(0, mo
 export function placedLabels(edges, spots, { width, height }) {
   const taken = spots.map(({ x, y, width: wide, height: high }) => ({ left: x - wide / 2, right: x + wide / 2, top: y - high / 2, bottom: y + high / 2 }));
   const isFree = (box) => box.left >= 0 && box.top >= 0 && box.right <= width && box.bottom <= height && !taken.some((other) => meets(box, other));
-  // What stands out has the first choice.
-  const labelled = edges.filter(({ labels }) => labels.length > 0).sort((one, other) => one.isDim - other.isDim);
+  // What stands out has the first choice, and of the others the shortest: a long one has room elsewhere.
+  const labelled = edges.filter(({ labels }) => labels.length > 0).sort((one, other) => one.isDim - other.isDim || spanOf(one) - spanOf(other));
   return labelled.flatMap((edge) => {
     const all = edge.labels.join(", "), text = clipped(all, MOST_OF_LABEL);
     const place = places(edge.curve).find((one) => isFree(boxOf(one, text)));
@@ -25,6 +25,9 @@ export function placedLabels(edges, spots, { width, height }) {
     return [{ ...edge, ...place, all, text }];
   });
 }
+
+/** How far the ends of an edge are from each other. */
+const spanOf = ({ curve: [start, , , end] }) => Math.hypot(end.x - start.x, end.y - start.y);
 
 function* placesOn(curve) {
   const isBack = curve[0].x > curve[3].x;

@@ -6,7 +6,7 @@ import { distances } from "./graph.mjs";
 
 /** A heap with more values is not drawn. */
 export const MOST_DRAWN = 200;
-/** The rows of a column. One with more becomes several beside each other. */
+/** The rows of a column. One with more becomes several beside each other, if the roots do not take more. */
 const MOST_ROWS = 12;
 /** How many values are looked at for the columns, over all rows together: a long run shall not make the page wait. */
 const MOST_LOOKED_AT = 2_000_000;
@@ -20,14 +20,15 @@ export class Layout {
     this.columns = lives.reduce((most, { column }) => Math.max(most, column), 0) + 1;
     this.fill(lives.filter(({ column }) => column === 0).sort((one, other) => other.isFixed - one.isFixed || one.from - other.from));
     for (let column = 1; column < this.columns; column += 1) this.fill(lives.filter((life) => life.column === column));
-    this.fold();
+    this.fold(lives.filter(({ column, isFixed }) => column === 0 && isFixed));
   }
 
-  fold() {
-    const old = this.places;
+  /** Roots that a collection finds stay in one column. Beside them values stand as far down as they do, next to what holds them. */
+  fold(roots) {
+    const old = this.places, most = Math.max(MOST_ROWS, ...roots.map(({ key }) => old.get(key).row + 1));
     this.places = new Map();
     this.rows = 0;
-    for (const [key, { column, row }] of folded(old, ({ column }) => column > 0)) this.put(key, column, row);
+    for (const [key, { column, row }] of folded(old, ({ column }) => column > 0, most)) this.put(key, column, row);
   }
 
   /** The column and the row of a node. What was not looked at comes last. */
@@ -55,25 +56,27 @@ export class Layout {
     }
   }
 
-  /** The row that is wished for: that of the first root, or the middle of those of the values that lead there. */
+  /** The row that is wished for: that of the uppermost root, as those that a collection finds stand above the others; or the middle
+      of those of the values that lead there. */
   wished({ column, sources }) {
     const wanted = [...sources].filter((key) => key.startsWith("n") === column > 1);
     const rows = wanted.flatMap((key) => this.places.get(key)?.row ?? []);
-    if (rows.length === 0 || column === 1) return rows[0] ?? 0;
+    if (rows.length === 0) return 0;
+    if (column === 1) return Math.min(...rows);
     return Math.round(rows.reduce((sum, row) => sum + row, 0) / rows.length);
   }
 }
 
 /** Places of which no column is long: such a one becomes several, if it may. */
-export function folded(places, mayFold) {
+export function folded(places, mayFold, most = MOST_ROWS) {
   const heights = [];
   for (const place of places.values()) {
     const rows = mayFold(place) ? place.row + 1 : 1;
     heights[place.column] = Math.max(heights[place.column] ?? 1, rows);
   }
   const firsts = [0];
-  for (let column = 0; column < heights.length; column += 1) firsts.push(firsts[column] + Math.ceil((heights[column] ?? 1) / MOST_ROWS));
-  const moved = ({ column, row }) => ({ column: firsts[column] + Math.floor(row / MOST_ROWS), row: row % MOST_ROWS });
+  for (let column = 0; column < heights.length; column += 1) firsts.push(firsts[column] + Math.ceil((heights[column] ?? 1) / most));
+  const moved = ({ column, row }) => ({ column: firsts[column] + Math.floor(row / most), row: row % most });
   return new Map([...places].map(([key, place]) => [key, mayFold(place) ? moved(place) : { ...place, column: firsts[place.column] }]));
 }
 

@@ -1,5 +1,6 @@
 // The page: what its parts do with each other.
 
+import { linkDocuments } from "./documents.mjs";
 import { Editor } from "./editor.mjs";
 import { Engine } from "./engine.mjs";
 import { Help } from "./helping.mjs";
@@ -239,4 +240,5 @@ addEventListener("keydown", (event) => {
   event.preventDefault();
   meant();
 });
+linkDocuments(document.querySelectorAll(".document"), location);
 openLink(plans[0]);
