@@ -35,11 +35,7 @@ pub(crate) fn write_race<W: Write>(
     write_line(later, plan, writer)
 }
 
-fn write_line<W: Write>(
-    spot: Spot<'_>,
-    plan: &AgentPlan,
-    writer: &mut W,
-) -> Result<(), io::Error>
+fn write_line<W: Write>(spot: Spot<'_>, plan: &AgentPlan, writer: &mut W) -> Result<(), io::Error>
     requires access { TellsAccess spot.place }
     ensures { OnOk result (Appends (W.contents writer.old) (W.contents writer.new) (line_text spot.entry)) }
 {
