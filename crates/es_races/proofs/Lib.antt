@@ -1,0 +1,4 @@
+mod Holding
+mod Knowing
+mod Noting
+mod Racing
