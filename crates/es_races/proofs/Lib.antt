@@ -1,4 +1,5 @@
 mod Holding
 mod Knowing
+mod Mail
 mod Noting
 mod Racing

@@ -1,0 +1,4 @@
+use Rattle.es_races.proofs.pass.Pass.note.Goals as goal
+
+pub returns : goal.returns
+returns c = ?
