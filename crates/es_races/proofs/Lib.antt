@@ -3,3 +3,4 @@ mod Knowing
 mod Mail
 mod Noting
 mod Racing
+mod Through

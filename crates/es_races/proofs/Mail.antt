@@ -1,5 +1,5 @@
 -- What a port has after a change of one port.
-use Rattle.std.proofs.Common.{◌≡◌, ℕ, Bool, true, false, cond, ◌&&◌, nat_eq, List, [], Option, Result, Ok, Err, OnOk, Some, refl, ◌∙◌, ap, eqb-true}
+use Rattle.std.proofs.Common.{◌≡◌, ℕ, Bool, true, false, cond, ◌&&◌, nat_eq, List, [], Option, Some, refl, ◌∙◌, ap, eqb-true}
 use Rattle.std.specs.Option.{option_map_or}
 use Rattle.std.proofs.lemmas.Bool.{and_parts}
 use Rattle.std.specs.declared.alloc.Global.{Global}
@@ -25,7 +25,3 @@ port_after old new a b v updates f is s r = case_of (nat_eq a s && nat_eq b r) r
         let y : b ≡ r = eqb-true b r p.1 in
         ap queued_in (rw here at (updates (s, r))) ∙ is ∙ ap (λ k. f k b) x ∙ ap (f s) y ∙ rw here refl
     case_of false other = ap queued_in (rw other at (updates (s, r))) ∙ rw other refl
-
-pub on_ok : {A E : Type 0} {P Q : Type 0} (r : Result A E) → (P → Q) → OnOk r P → OnOk r Q
-on_ok (Ok a) f p = f p
-on_ok (Err e) f p = tt

@@ -2,7 +2,8 @@
 use Rattle.std.proofs.Common.{◌≡◌, ◌≢◌, ℕ, ◌+◌, ◌<◌, ◌≤◌, ◌^◌, ◌==◌, ◌&&◌, ◌||◌, max, nat_eq, Bool, true, false, cond, sym, ◌∙◌, ap, refl, subst, arith, List, [], ◌∷◌, ◌++◌, drop, length, map, Option, Some, None, is_some, eq-eqb, eqb-true}
 use Rattle.std.specs.Prelude.{nat_lt, slice_get}
 use Rattle.std.specs.List.{list_any}
-use Rattle.std.specs.Option.{option_and_then}
+use Rattle.std.specs.Option.{option_and_then, option_map_or}
+use Rattle.std.specs.HashMap.{get}
 use Rattle.std.proofs.lemmas.Bool.{and_parts, ltb-false}
 use Rattle.std.proofs.lemmas.Bool.Decides.{nat_tests}
 use Rattle.std.specs.declared.alloc.Global.{Global}
@@ -24,7 +25,7 @@ use Rattle.es_races.specs.declared.ports.Message.{Message}
 use Rattle.es_races.specs.declared.race.Mark.{Mark}
 use Rattle.es_races.specs.declared.tickets.Ticket.{Ticket}
 use Rattle.es_races.specs.declared.words.Word.{Word}
-use Rattle.es_races.specs.Pass.{Carry, Has, IsUnknown, Map, Says, Stands, add_posted, add_ticket, count_in, hand_some, hand_ticket, highest, known_in, made_by, meets, newest_at, pair_eq, queue_in, ticket_in}
+use Rattle.es_races.specs.Pass.{Carry, Has, IsUnknown, Map, Says, Stands, add_posted, add_ticket, count_in, hand_some, hand_ticket, highest, known_in, made_by, meets, newest_at, newest_in, pair_eq, queue_in, ticket_in}
 use Rattle.es_races.specs.Verdict.{race_at, said}
 use Rattle.es_races.proofs.Holding.{ticket_at, added, few_holders, few_receivers, few_senders, handed, posted, taken}
 use Rattle.es_races.proofs.Knowing.{IsFirst, carry_first, carry_last, carry_rest, few_made, has_same, joined, made_one, none_knew, raised, told_less}
@@ -194,13 +195,13 @@ noted true false e new this here top k same is now = now ∙ same refl
 noted false true e new this here top k same is now = now ∙ is
 noted false false e new this here top k same is now = now ∙ is
 
-module _ (l : Ledger) (s i w : ℕ) (m : Change) (a : ℕ) (r : Row) (old : Pass) (stands : Stands (Accessed s i m w) l old) (holder : holder_of l s ≡ Some (a, r)) where
+module _ (l : Ledger) (s i w : ℕ) (m : Change) (a b : ℕ) (r : Row) (old : Pass) (stands : Stands (Accessed s i m w) l old) (holder : holder_of l s ≡ Some (a, r)) (block : r.block ≡ b) where
   abbrev this : WordAccess
-  this = record { agent = a; block = r.block; index = i; change = m; old = w }
+  this = record { agent = a; block = b; index = i; change = m; old = w }
 
   -- the one access of the event
   one : accessed l (Accessed s i m w) ≡ this ∷ []
-  one = ap (λ o. access_by o i m w) holder
+  one = ap (λ o. access_by o i m w) holder ∙ ap (λ b. record { agent = a; block = b; index = i; change = m; old = w } ∷ []) block
 
   few_agent : a < 8
   few_agent = let small = few_holders stands.agents l s a r stands.legal.1 holder in omega (arith, small, stands.few)
@@ -211,43 +212,43 @@ module _ (l : Ledger) (s i w : ℕ) (m : Change) (a : ℕ) (r : Row) (old : Pass
   pub small_count : known_in old.known a a + 1 < 2 ^ 64
   small_count = let most = few_made a l in omega (arith, made, most, stands.short)
 
-  pub race_told : (found : Mark) (number : ℕ) (writes : Bool) (newest known_now : Clock) → writes ≡ is_some (written m w) → ((j : ℕ) → count_in newest j ≡ newest_at old.words writes r.block i j) → ((j : ℕ) → count_in known_now j ≡ known_in old.known a j)
+  pub race_told : (found : Mark) (number : ℕ) (writes : Bool) (newest known_now : Clock) → writes ≡ is_some (written m w) → ((j : ℕ) → count_in newest j ≡ newest_at old.words writes b i j) → ((j : ℕ) → count_in known_now j ≡ known_in old.known a j)
       → number ≡ count_in known_now a → IsUnknown newest known_now a found → race_at (Accessed s i m w ∷ l) (said found) (a, number) ≡ true
   race_told found number writes newest known_now is newest_is known_is number_is unknown =
       let count : number ≡ made_by a (accesses l) = number_is ∙ known_is a ∙ made in
-      let top : highest (meets (is_write this) r.block i) found.agent (marked l) ≡ found.number + 1
-      = ap (λ b. highest (meets b r.block i) found.agent (marked l)) (sym is) ∙ sym (stands.says.words writes r.block i found.agent unknown.few) ∙ sym (newest_is found.agent) ∙ unknown.newest_one in
+      let top : highest (meets (is_write this) b i) found.agent (marked l) ≡ found.number + 1
+      = ap (λ t. highest (meets t b i) found.agent (marked l)) (sym is) ∙ sym (stands.says.words writes b i found.agent unknown.few) ∙ sym (newest_is found.agent) ∙ unknown.newest_one in
       let less : known_in old.known a found.agent ≤ found.number = omega (arith, known_is found.agent, unknown.unknown) in
       subst (λ k. race_at (Accessed s i m w ∷ l) (said found) (a, k) ≡ true) (sym count)
       (subst (λ xs. list_any (λ x. list_any (λ y. is_mark (said found) x.mark && (is_mark (a, made_by a (accesses l)) y.mark && race x y)) (map (marked_after l) xs ++ marked l)) (map (marked_after l) xs ++ marked l) ≡ true) (sym one)
       (races (marked_after l this) (marked l) (known_in old.known a) found.agent found.number (stands.says.agents a few_agent) (all_marked stands.agents l stands.few stands.legal.1) unknown.few unknown.other top less
       (none_knew l a (made_by a (accesses l)) (omega arith))))
 
-  pub access_says : (writes : Bool) (ws : Map (ℕ × ℕ) Word) (ks : Clocks) → writes ≡ is_some (written m w) → ((j : ℕ) → j < 8 → a ≢ j → newest_at old.words writes r.block i j ≤ known_in old.known a j)
-      → ((v : Bool) (b k j : ℕ) → j < 8 → newest_at ws v b k j ≡ cond (pair_eq (r.block, i) (b, k)) (cond ((v || writes) && (a == j)) (max (newest_at old.words v r.block i j) (known_in old.known a a + 1)) (newest_at old.words v r.block i j)) (newest_at old.words v b k j))
+  pub access_says : (writes : Bool) (ws : Map (ℕ × ℕ) Word) (ks : Clocks) → writes ≡ is_some (written m w) → ((j : ℕ) → j < 8 → a ≢ j → newest_at old.words writes b i j ≤ known_in old.known a j)
+      → ((v : Bool) (d k j : ℕ) → j < 8 → newest_at ws v d k j ≡ cond (pair_eq (b, i) (d, k)) (cond ((v || writes) && (a == j)) (max (newest_at old.words v b i j) (known_in old.known a a + 1)) (newest_at old.words v b i j)) (newest_at old.words v d k j))
       → ((c j : ℕ) → c < 8 → j < 8 → known_in ks c j ≡ cond (a == c) (cond (a == j) (max (known_in old.known a j) (known_in old.known a a + 1)) (known_in old.known a j)) (known_in old.known c j))
       → Says (Accessed s i m w ∷ l) (record old { words = ws; known = ks })
   access_says writes ws ks is known_before words clocks = let says = stands.says in record {
     tickets = says.tickets;
     ports = says.ports;
-    words = λ v b k j few. subst (λ xs. newest_at ws v b k j ≡ highest (meets v b k) j (map (marked_after l) xs ++ marked l)) (sym one) (word_next v b k j few);
+    words = λ v d k j few. subst (λ xs. newest_at ws v d k j ≡ highest (meets v d k) j (map (marked_after l) xs ++ marked l)) (sym one) (word_next v d k j few);
     agents = λ c few. subst (λ xs. Has (known_in ks c) (marks_of c (accesses l) xs ++ (known l).knows c)) (sym one) (knows_next c (a == c) refl few);
     own = λ c few. subst (λ xs. known_in ks c c ≡ made_by c (xs ++ accesses l)) (sym one) (own_next c (a == c) refl few (clocks c c few few));
     free = subst (λ xs. free (map (marked_after l) xs ++ marked l) ≡ true) (sym one)
         (free_more (marked_after l this) (marked l) (known_in old.known a) (says.agents a few_agent) (all_marked stands.agents l stands.few stands.legal.1)
-        (λ j few other. subst (λ n. n ≤ known_in old.known a j) (says.words writes r.block i j few ∙ ap (λ b. highest (meets b r.block i) j (marked l)) is) (known_before j few other)) says.free);
+        (λ j few other. subst (λ n. n ≤ known_in old.known a j) (says.words writes b i j few ∙ ap (λ t. highest (meets t b i) j (marked l)) is) (known_before j few other)) says.free);
   }
     where
-      same_word : (v : Bool) (b k j : ℕ) → pair_eq (r.block, i) (b, k) ≡ true → newest_at old.words v r.block i j ≡ newest_at old.words v b k j
-      same_word v b k j at =
-          let parts = and_parts (nat_eq r.block b) (nat_eq i k) at in
-          ap (λ b. newest_at old.words v b i j) (eqb-true r.block b parts.0) ∙ ap (λ k. newest_at old.words v b k j) (eqb-true i k parts.1)
-      word_next : (v : Bool) (b k j : ℕ) → j < 8 → newest_at ws v b k j ≡ cond (meets v b k this && (a == j)) (max (highest (meets v b k) j (marked l)) (made_by a (accesses l) + 1)) (highest (meets v b k) j (marked l))
-      word_next v b k j few =
-          let here = stands.says.words v b k j few in
-          noted (pair_eq (r.block, i) (b, k)) (v || writes) (a == j) _ _ _ _ _ (λ at. same_word v b k j at ∙ here) here (words v b k j few)
-          ∙ ap (λ x. cond (((v || x) && pair_eq (r.block, i) (b, k)) && (a == j)) (max (highest (meets v b k) j (marked l)) (known_in old.known a a + 1)) (highest (meets v b k) j (marked l))) is
-          ∙ ap (λ x. cond (meets v b k this && (a == j)) (max (highest (meets v b k) j (marked l)) (x + 1)) (highest (meets v b k) j (marked l))) made
+      same_word : (v : Bool) (d k j : ℕ) → pair_eq (b, i) (d, k) ≡ true → newest_at old.words v b i j ≡ newest_at old.words v d k j
+      same_word v d k j at =
+          let parts = and_parts (nat_eq b d) (nat_eq i k) at in
+          ap (λ d. newest_at old.words v d i j) (eqb-true b d parts.0) ∙ ap (λ k. newest_at old.words v d k j) (eqb-true i k parts.1)
+      word_next : (v : Bool) (d k j : ℕ) → j < 8 → newest_at ws v d k j ≡ cond (meets v d k this && (a == j)) (max (highest (meets v d k) j (marked l)) (made_by a (accesses l) + 1)) (highest (meets v d k) j (marked l))
+      word_next v d k j few =
+          let here = stands.says.words v d k j few in
+          noted (pair_eq (b, i) (d, k)) (v || writes) (a == j) _ _ _ _ _ (λ at. same_word v d k j at ∙ here) here (words v d k j few)
+          ∙ ap (λ x. cond (((v || x) && pair_eq (b, i) (d, k)) && (a == j)) (max (highest (meets v d k) j (marked l)) (known_in old.known a a + 1)) (highest (meets v d k) j (marked l))) is
+          ∙ ap (λ x. cond (meets v d k this && (a == j)) (max (highest (meets v d k) j (marked l)) (x + 1)) (highest (meets v d k) j (marked l))) made
       knows_next : (c : ℕ) (t : Bool) → (a == c) ≡ t → c < 8 → Has (known_in ks c) (cond t (mark_of (accesses l) this ∷ []) [] ++ (known l).knows c)
       knows_next c true at few =
           subst (λ c. Has (known_in ks c) ((a, made_by a (accesses l)) ∷ (known l).knows c)) (eqb-true a c at)
@@ -271,3 +272,32 @@ module _ (l : Ledger) (s i w : ℕ) (m : Change) (a : ℕ) (r : Row) (old : Pass
           let counted : ◌≡◌ {A = ℕ} (cond (a == c) 1 0) 0 = ap (λ b. cond {A = ℕ} b 1 0) at in
           let before = stands.says.own c few in
           omega (arith, own, more, counted, before)
+
+-- the words after what is kept of one was put back
+pub word_put : (old new : Map (ℕ × ℕ) Word) (b i : ℕ) (word more : Word) (a count : ℕ) (writes : Bool) → ((q : ℕ × ℕ) → get pair_eq new q ≡ cond (pair_eq (b, i) q) (Some more) (get pair_eq old q))
+    → ((v : Bool) (j : ℕ) → count_in (newest_in word v) j ≡ newest_at old v b i j)
+    → ((v : Bool) (j : ℕ) → j < 8 → count_in (newest_in more v) j ≡ cond ((v || writes) && (a == j)) (max (count_in (newest_in word v) j) count) (count_in (newest_in word v) j))
+    → (v : Bool) (d k j : ℕ) → j < 8 → newest_at new v d k j ≡ cond (pair_eq (b, i) (d, k)) (cond ((v || writes) && (a == j)) (max (newest_at old v b i j) count) (newest_at old v b i j)) (newest_at old v d k j)
+word_put old new b i word more a count writes updates before raised v d k j few =
+    ap (λ o. option_map_or (λ w. count_in (newest_in w v) j) o 0) (updates (d, k)) ∙ by_test (pair_eq (b, i) (d, k))
+  where
+    here : count_in (newest_in more v) j ≡ cond ((v || writes) && (a == j)) (max (newest_at old v b i j) count) (newest_at old v b i j)
+    here = raised v j few ∙ ap (λ n. cond ((v || writes) && (a == j)) (max n count) n) (before v j)
+    by_test : (t : Bool) → option_map_or (λ w. count_in (newest_in w v) j) (cond t (Some more) (get pair_eq old (d, k))) 0
+        ≡ cond t (cond ((v || writes) && (a == j)) (max (newest_at old v b i j) count) (newest_at old v b i j)) (newest_at old v d k j)
+    by_test true = here
+    by_test false = refl
+
+-- through a ticket that nobody holds nothing is accessed
+pub unheld_says : (l : Ledger) (s i w : ℕ) (m : Change) (old : Pass) → Stands (Accessed s i m w) l old → holder_of l s ≡ None → Says (Accessed s i m w ∷ l) old
+unheld_says l s i w m old stands nobody = let says = stands.says in record {
+  tickets = says.tickets;
+  ports = says.ports;
+  words = λ v d k j few. subst (λ xs. newest_at old.words v d k j ≡ highest (meets v d k) j (map (marked_after l) xs ++ marked l)) (sym none) (says.words v d k j few);
+  agents = λ c few. subst (λ xs. Has (known_in old.known c) (marks_of c (accesses l) xs ++ (known l).knows c)) (sym none) (says.agents c few);
+  own = λ c few. subst (λ xs. known_in old.known c c ≡ made_by c (xs ++ accesses l)) (sym none) (says.own c few);
+  free = subst (λ xs. free (map (marked_after l) xs ++ marked l) ≡ true) (sym none) says.free;
+}
+  where
+    none : accessed l (Accessed s i m w) ≡ []
+    none = ap (λ o. access_by o i m w) nobody
