@@ -1,19 +1,18 @@
 -- Who holds a ticket after one more event, and that agents and receivers are among the ledger's.
-use Rattle.std.proofs.Common.{◌≡◌, ℕ, ◌+◌, ◌<◌, ◌==◌, ◌&&◌, Bool, true, false, cond, true≢false, sym, ◌∙◌, ap, refl, subst, arith, List, [], ◌∷◌, ◌++◌, drop, append-nil, Option, Some, None, is_some, eqb-true, eq-eqb}
+use Rattle.std.proofs.Common.{◌≡◌, ℕ, ◌<◌, ◌==◌, Bool, true, false, cond, true≢false, sym, ◌∙◌, ap, refl, subst, List, [], ◌∷◌, ◌++◌, drop, append-nil, Option, Some, None, is_some, eqb-true, eq-eqb}
 use Rattle.std.specs.Prelude.{slice_get}
-use Rattle.std.specs.Option.{IfSome, option_and_then, option_map, option_map_or, option_or}
+use Rattle.std.specs.Option.{IfSome, option_and_then, option_map, option_map_or}
 use Rattle.std.proofs.lemmas.Bool.{and_parts}
-use Rattle.std.proofs.lemmas.Bool.Decides.{nat_tests}
 use Rattle.es_event.specs.declared.ledger_event.Body.{Body}
 use Rattle.es_event.specs.declared.ledger_event.Body.TheVariants.{Plain, Block}
 use Rattle.es_event.specs.declared.ledger_event.LedgerEvent.{LedgerEvent}
-use Rattle.es_event.specs.declared.ledger_event.LedgerEvent.TheVariants.{Opened, Posted, Taken, Spent, Accessed, Waiting, Passed, Ended, Drained}
+use Rattle.es_event.specs.declared.ledger_event.LedgerEvent.TheVariants.{Opened, Posted, Taken, Spent, Drained}
 use Rattle.es_event.specs.declared.row.Row.{Row}
 use Rattle.es_event.specs.declared.row.Entry.{Entry}
 use Rattle.es_event.specs.declared.row.Holder.{Holder}
 use Rattle.es_event.specs.declared.row.Holder.TheVariants.{Agent, Port, Nobody}
 use Rattle.es_event.specs.Rows.{held_by, line_of, moved}
-use Rattle.es_event.specs.Ledger.{Ledger, by_agent, front, holder_of, is_at, moved_if, port_of, posted_line, serial_in, table}
+use Rattle.es_event.specs.Ledger.{Ledger, by_agent, front, holder_of, is_at, moved_if, port_of, serial_in, table}
 use Rattle.es_event.specs.LegalLedger.{ComesNext, LegalSoFar, has_message, owed}
 use Rattle.es_races.specs.declared.tickets.Ticket.{Ticket}
 use Rattle.es_races.specs.Pass.{add_posted, add_ticket, hand_some, hand_ticket, handed_to, held_with, ticket_of}
@@ -174,6 +173,7 @@ few_holders n l s a r legal is = case_of (line_of s (table l)) (few_tickets n l 
     by_holder (Agent b) x few is = subst (λ a. a < n) (ap (λ o. option_map_or (λ (p : ℕ × Row). p.0) o 0) is) few
     by_holder (Port s t) x few is = cc
     by_holder Nobody x few is = cc
+
     case_of : (o : Option Entry) → IsFew n (option_map ticket_of o) → option_and_then by_agent o ≡ Some (a, r) → a < n
     case_of None few is = cc
     case_of (Some e) few is = by_holder e.holder e.row few is

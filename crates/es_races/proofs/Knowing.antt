@@ -1,8 +1,8 @@
 -- What clocks say of what agents know, after one more event; and that nobody knows of an access before it.
-use Rattle.std.proofs.Common.{◌≡◌, ℕ, suc, ◌+◌, ◌<◌, ◌≤◌, ◌==◌, ◌&&◌, ◌||◌, not, max, Bool, true, false, cond, sym, ◌∙◌, ap, refl, subst, arith, List, [], ◌∷◌, ◌++◌, drop, length, map, Option, Some, None, is_some}
+use Rattle.std.proofs.Common.{◌≡◌, ℕ, ◌+◌, ◌<◌, ◌≤◌, ◌==◌, ◌&&◌, ◌||◌, max, Bool, true, false, cond, sym, ◌∙◌, ap, refl, arith, List, [], ◌∷◌, ◌++◌, drop, length, map, Option, Some, None, is_some}
 use Rattle.std.specs.Prelude.{nat_lt, slice_get}
 use Rattle.std.specs.Option.{option_and_then}
-use Rattle.std.specs.List.{list_all, list_any, sum_by}
+use Rattle.std.specs.List.{list_any}
 use Rattle.std.proofs.lemmas.Bool.{or_from, or_parts, and_left, and_right, eqb-true, ltb-false, ne_eqb}
 use Rattle.std.proofs.lemmas.Bool.Decides.{nat_tests}
 use Rattle.std.proofs.lemmas.List.Folds.{list_any-append}
@@ -13,7 +13,7 @@ use Rattle.es_event.specs.declared.ledger_event.LedgerEvent.TheVariants.{Posted,
 use Rattle.es_event.specs.declared.row.Row.{Row}
 use Rattle.es_event.specs.Ledger.{Ledger, holder_of, is_at, serial_in}
 use Rattle.es_laws.specs.Memory.{WordAccess, access_by, accessed, accesses}
-use Rattle.es_laws.specs.Races.{Known, Mark, MarkedAccess, first_of, is_mark, known, mark_of, marked, marked_after, marks_of}
+use Rattle.es_laws.specs.Races.{Known, Mark, first_of, is_mark, known, mark_of, marked, marked_after, marks_of}
 use Rattle.es_races.specs.declared.ports.Message.{Message}
 use Rattle.es_races.specs.Pass.{Carry, Has, count_in, made_by}
 

@@ -1,3 +1,4 @@
+mod ExampleVerdicts
 mod Holding
 mod Knowing
 mod Mail

@@ -1,23 +1,23 @@
 -- What is kept says what the history says, after each event; or two accesses race.
-use Rattle.std.proofs.Common.{◌≡◌, ◌≢◌, ℕ, ◌+◌, ◌<◌, ◌≤◌, ◌^◌, ◌==◌, ◌&&◌, ◌||◌, max, nat_eq, Bool, true, false, cond, sym, ◌∙◌, ap, refl, subst, arith, List, [], ◌∷◌, ◌++◌, drop, length, map, Option, Some, None, is_some, eq-eqb, eqb-true}
+use Rattle.std.proofs.Common.{◌≡◌, ◌≢◌, ℕ, ◌+◌, ◌<◌, ◌≤◌, ◌^◌, ◌==◌, ◌&&◌, ◌||◌, max, nat_eq, Bool, true, false, cond, sym, ◌∙◌, ap, refl, subst, arith, List, [], ◌∷◌, ◌++◌, drop, map, Option, Some, None, is_some, eq-eqb, eqb-true}
 use Rattle.std.specs.Prelude.{nat_lt, slice_get}
 use Rattle.std.specs.List.{list_any}
 use Rattle.std.specs.Option.{option_and_then, option_map_or}
 use Rattle.std.specs.HashMap.{get}
-use Rattle.std.proofs.lemmas.Bool.{and_parts, ltb-false}
+use Rattle.std.proofs.lemmas.Bool.{and_parts}
 use Rattle.std.proofs.lemmas.Bool.Decides.{nat_tests}
 use Rattle.std.specs.declared.alloc.Global.{Global}
 use Rattle.std.specs.declared.collections.VecDeque.{VecDeque}
 use Rattle.es_event.specs.declared.access.Change.{Change}
 use Rattle.es_event.specs.declared.ledger_event.Body.{Body}
 use Rattle.es_event.specs.declared.ledger_event.LedgerEvent.{LedgerEvent}
-use Rattle.es_event.specs.declared.ledger_event.LedgerEvent.TheVariants.{Opened, Posted, Taken, Spent, Accessed, Waiting, Passed, Ended, Drained}
+use Rattle.es_event.specs.declared.ledger_event.LedgerEvent.TheVariants.{Opened, Posted, Taken, Spent, Accessed, Drained}
 use Rattle.es_event.specs.declared.row.Row.{Row}
 use Rattle.es_event.specs.declared.row.Holder.TheVariants.{Nobody}
 use Rattle.es_event.specs.Access.{written}
 use Rattle.es_event.specs.Ledger.{Ledger, front, holder_of, is_at, port_of, serial_in, table}
 use Rattle.es_event.specs.LegalLedger.{LegalSoFar}
-use Rattle.es_laws.specs.Memory.{WordAccess, access_by, accessed, accesses, is_of, is_write}
+use Rattle.es_laws.specs.Memory.{WordAccess, access_by, accessed, accesses, is_write}
 use Rattle.es_laws.specs.Races.{Mark as Marked, MarkedAccess, first_of, is_mark, known, mark_of, marked, marked_after, marks_of, race}
 use Rattle.es_races.specs.declared.clock.Clock.{Clock}
 use Rattle.es_races.specs.declared.pass.Pass.{Pass}
@@ -27,7 +27,7 @@ use Rattle.es_races.specs.declared.tickets.Ticket.{Ticket}
 use Rattle.es_races.specs.declared.words.Word.{Word}
 use Rattle.es_races.specs.Pass.{Carry, Has, IsUnknown, Map, Says, Stands, add_posted, add_ticket, count_in, hand_some, hand_ticket, highest, known_in, made_by, meets, newest_at, newest_in, pair_eq, queue_in, ticket_in}
 use Rattle.es_races.specs.Verdict.{race_at, said}
-use Rattle.es_races.proofs.Holding.{ticket_at, added, few_holders, few_receivers, few_senders, handed, posted, taken}
+use Rattle.es_races.proofs.Holding.{ticket_at, added, few_holders, few_senders, handed, posted, taken}
 use Rattle.es_races.proofs.Knowing.{IsFirst, carry_first, carry_last, carry_rest, few_made, has_same, joined, made_one, none_knew, raised, told_less}
 use Rattle.es_races.proofs.Racing.{AllMarked, IsIn, IsMarked, free, free_more, races}
 
@@ -164,6 +164,7 @@ untaken_says l s r old p stands none ports = let says = stands.says in record {
   where
     first : IsFirst None ((known l).carried s r) (front l s r)
     first = subst (λ o. IsFirst o ((known l).carried s r) (front l s r)) none (carry_first (stands.says.ports s r))
+
     nothing : (b : Bool) (ms : List Marked) → cond b (first_of ((known l).carried s r) ++ ms) ms ≡ ms
     nothing true ms = ap (λ ks. ks ++ ms) first.0
     nothing false ms = refl
@@ -243,12 +244,14 @@ module _ (l : Ledger) (s i w : ℕ) (m : Change) (a b : ℕ) (r : Row) (old : Pa
       same_word v d k j at =
           let parts = and_parts (nat_eq b d) (nat_eq i k) at in
           ap (λ d. newest_at old.words v d i j) (eqb-true b d parts.0) ∙ ap (λ k. newest_at old.words v d k j) (eqb-true i k parts.1)
+
       word_next : (v : Bool) (d k j : ℕ) → j < 8 → newest_at ws v d k j ≡ cond (meets v d k this && (a == j)) (max (highest (meets v d k) j (marked l)) (made_by a (accesses l) + 1)) (highest (meets v d k) j (marked l))
       word_next v d k j few =
           let here = stands.says.words v d k j few in
           noted (pair_eq (b, i) (d, k)) (v || writes) (a == j) _ _ _ _ _ (λ at. same_word v d k j at ∙ here) here (words v d k j few)
           ∙ ap (λ x. cond (((v || x) && pair_eq (b, i) (d, k)) && (a == j)) (max (highest (meets v d k) j (marked l)) (known_in old.known a a + 1)) (highest (meets v d k) j (marked l))) is
           ∙ ap (λ x. cond (meets v d k this && (a == j)) (max (highest (meets v d k) j (marked l)) (x + 1)) (highest (meets v d k) j (marked l))) made
+
       knows_next : (c : ℕ) (t : Bool) → (a == c) ≡ t → c < 8 → Has (known_in ks c) (cond t (mark_of (accesses l) this ∷ []) [] ++ (known l).knows c)
       knows_next c true at few =
           subst (λ c. Has (known_in ks c) ((a, made_by a (accesses l)) ∷ (known l).knows c)) (eqb-true a c at)
@@ -257,6 +260,7 @@ module _ (l : Ledger) (s i w : ℕ) (m : Change) (a b : ℕ) (r : Row) (old : Pa
       knows_next c false at few = λ j n small.
           stands.says.agents c few j n small
           ∙ ap (nat_lt n) (sym (clocks c j few small ∙ ap (λ b. cond b (cond (a == j) (max (known_in old.known a j) (known_in old.known a a + 1)) (known_in old.known a j)) (known_in old.known c j)) at))
+
       own_next : (c : ℕ) (t : Bool) → (a == c) ≡ t → c < 8 → known_in ks c c ≡ cond (a == c) (cond (a == c) (max (known_in old.known a c) (known_in old.known a a + 1)) (known_in old.known a c)) (known_in old.known c c)
           → known_in ks c c ≡ made_by c (this ∷ accesses l)
       own_next c true at few is =
@@ -283,6 +287,7 @@ word_put old new b i word more a count writes updates before raised v d k j few 
   where
     here : count_in (newest_in more v) j ≡ cond ((v || writes) && (a == j)) (max (newest_at old v b i j) count) (newest_at old v b i j)
     here = raised v j few ∙ ap (λ n. cond ((v || writes) && (a == j)) (max n count) n) (before v j)
+
     by_test : (t : Bool) → option_map_or (λ w. count_in (newest_in w v) j) (cond t (Some more) (get pair_eq old (d, k))) 0
         ≡ cond t (cond ((v || writes) && (a == j)) (max (newest_at old v b i j) count) (newest_at old v b i j)) (newest_at old v d k j)
     by_test true = here

@@ -1,6 +1,5 @@
 -- Which two accesses race, by what the agent of the newer one knows.
-use Rattle.std.proofs.Common.{◌≡◌, ◌≢◌, ℕ, suc, ◌+◌, ◌<◌, ◌≤◌, ◌==◌, ◌&&◌, ◌||◌, not, max, Bool, true, false, cond, sym, ◌∙◌, ap, refl, subst, arith, List, [], ◌∷◌, ◌++◌, ◌⊎◌, inl, inr, eq-eqb}
-use Rattle.std.specs.Prelude.{nat_lt}
+use Rattle.std.proofs.Common.{◌≡◌, ◌≢◌, ℕ, ◌+◌, ◌<◌, ◌≤◌, ◌==◌, ◌&&◌, ◌||◌, not, max, Bool, true, false, cond, sym, ◌∙◌, ap, refl, arith, List, [], ◌∷◌, ◌++◌, inl, inr, eq-eqb}
 use Rattle.std.specs.List.{list_all, list_any}
 use Rattle.std.proofs.lemmas.Bool.{and_parts, and_from, and_left, and_right, or_left, or_right, or_cases, or_parts, eqb-true, lt-ltb, le-ltb, cases_Bool, ne_eqb, not_from_false, not_from_true, not-true}
 use Rattle.std.proofs.lemmas.Bool.Decides.{nat_tests}
@@ -54,14 +53,15 @@ highest_there p j n (z ∷ ys) is = case_of (highest_there p j n ys) (p z.access
   where
     further : HasHighest p j n ys → HasHighest p j n (z ∷ ys)
     further h = (h.0, (later h.1.0, h.1.1, h.1.2, h.1.3))
+
     case_of : (highest p j ys ≡ n + 1 → HasHighest p j n ys) → (b : Bool) → (p z.access && (z.access.agent == j)) ≡ b → cond b (max (highest p j ys) (z.mark.1 + 1)) (highest p j ys) ≡ n + 1 → HasHighest p j n (z ∷ ys)
     case_of rest false at is = further (rest is)
     case_of rest true at is = elim (cases_Bool (highest p j ys == n + 1)) [
       | inl e ↦ further (rest (eqb-true (highest p j ys) (n + 1) e))
       | inr e ↦
-        let both = and_parts (p z.access) (z.access.agent == j) at in
-        let this : z.mark.1 ≡ n = grind (arith, nat_tests) in
-        (z, (here, both.0, eqb-true z.access.agent j both.1, this))
+          let both = and_parts (p z.access) (z.access.agent == j) at in
+          let this : z.mark.1 ≡ n = grind (arith, nat_tests) in
+          (z, (here, both.0, eqb-true z.access.agent j both.1, this))
     ]
 
 -- Two accesses
@@ -107,6 +107,7 @@ apart x y known = case_of (conflict y.access x.access) refl (happens_before y x)
     neither : (a : Bool) → not (a && false) ≡ true
     neither true = refl
     neither false = refl
+
     case_of : (c : Bool) → conflict y.access x.access ≡ c → (h : Bool) → happens_before y x ≡ h → DoNotRace x y
     case_of false is h at =
         let is' = turned x.access y.access ∙ is in
@@ -160,17 +161,23 @@ races x ys c j n knows all few other newest unknown unheard =
   where
     found : HasHighest (meets (is_write x.access) x.access.block x.access.index) j n ys
     found = highest_there (meets (is_write x.access) x.access.block x.access.index) j n ys newest
+
     marked_itself : (m : Mark) → is_mark m m ≡ true
     marked_itself m = and_from _ _ (eq-eqb m.0 m.0 refl) (eq-eqb m.1 m.1 refl)
+
     agent : found.0.mark.0 ≡ j
     agent = (all found.0 found.1.0).own ∙ found.1.2
+
     named : is_mark (j, n) found.0.mark ≡ true
     named = and_from _ _ (eq-eqb j found.0.mark.0 (sym agent)) (eq-eqb n found.0.mark.1 (sym found.1.3))
+
     before : happens_before found.0 x ≡ false
     before =
         ap (λ a. list_any (is_mark (a, found.0.mark.1)) x.knew) agent ∙ ap (λ k. list_any (is_mark (j, k)) x.knew) found.1.3 ∙ knows j n few ∙ le-ltb n (c j) unknown
+
     conflicts : conflict found.0.access x.access ≡ true
     conflicts = conflict_from x.access found.0.access found.1.1 (λ e. other (e ∙ found.1.2))
+
     racing : race found.0 x ≡ true
     racing = and_from _ _ conflicts (not_from_false _ (neither _ _ before (none_in (λ y. list_any (is_mark x.mark) y.knew) found.1.0 unheard)))
       where

@@ -1,7 +1,7 @@
 -- A history that is gone through from its oldest event on: where it begins, what is legal of it, and that two that race still do at its end.
-use Rattle.std.proofs.Common.{◌≡◌, ℕ, zero, suc, ◌+◌, ◌<◌, ◌≤◌, ◌^◌, ◌&&◌, nat_eq, Bool, true, false, sym, ◌∙◌, ap, refl, subst, arith, List, [], ◌∷◌, ◌++◌, map, length, length-take, take, drop, replicate, get_or, reverse, Option, Some, None}
+use Rattle.std.proofs.Common.{◌≡◌, ℕ, zero, suc, ◌+◌, ◌<◌, ◌^◌, ◌&&◌, nat_eq, true, false, sym, ◌∙◌, ap, refl, subst, arith, [], ◌∷◌, ◌++◌, map, length, length-take, take, drop, replicate, get_or, reverse, Some, None}
 use Rattle.std.specs.Prelude.{nat_lt}
-use Rattle.std.specs.Option.{option_map, option_map_or}
+use Rattle.std.specs.Option.{option_map_or}
 use Rattle.std.specs.Map.{lookup}
 use Rattle.std.proofs.lemmas.List.{length-reverse, reverse-append, take-append-drop, take_more}
 use Rattle.std.proofs.lemmas.Bool.Decides.{nat_tests}
@@ -12,8 +12,9 @@ use Rattle.es_laws.specs.Memory.{accessed}
 use Rattle.es_laws.specs.Races.{Mark, is_mark, marked, marked_after, race}
 use Rattle.es_races.specs.declared.clock.Clock.{Clock}
 use Rattle.es_races.specs.declared.pass.Pass.{Pass}
-use Rattle.es_races.specs.Pass.{Carry, Says, Stands, count_in, known_in, newest_in, pair_eq, queue_in, newest_at}
-use Rattle.es_races.specs.Verdict.{race_at}
+use Rattle.es_races.specs.Pass.{Carry, Finds, Says, Stands, count_in, known_in, newest_in, pair_eq}
+use Rattle.es_races.specs.declared.race.Race.{Race}
+use Rattle.es_races.specs.Verdict.{race_at, said}
 use Rattle.es_races.proofs.Racing.{race_stays}
 
 -- The beginning
@@ -38,7 +39,7 @@ nothing_says p tickets ports words known = record {
 
 -- One event more
 
-pub reversed_more : (xs : Ledger) (i : ℕ) (x : LedgerEvent) → i < length xs → x ≡ get_or xs i x → reverse (take (i + 1) xs) ≡ x ∷ reverse (take i xs)
+reversed_more : (xs : Ledger) (i : ℕ) (x : LedgerEvent) → i < length xs → x ≡ get_or xs i x → reverse (take (i + 1) xs) ≡ x ∷ reverse (take i xs)
 reversed_more xs i x within is = ap reverse (take_more xs i x within) ∙ reverse-append (take i xs) (get_or xs i x ∷ []) ∙ ap (λ y. y ∷ reverse (take i xs)) (sym is)
 
 split : (xs : Ledger) (i : ℕ) → reverse xs ≡ reverse (drop i xs) ++ reverse (take i xs)
@@ -52,16 +53,6 @@ legal_at : (n : ℕ) (xs : Ledger) (i : ℕ) (x : LedgerEvent) → i < length xs
 legal_at n xs i x within is legal =
     subst (LegalSoFar n) (reversed_more xs i x within is) (legal_before n (reverse (drop (i + 1) xs)) (reverse (take (i + 1) xs)) (subst (LegalSoFar n) (split xs (i + 1)) legal))
 
--- what is known before the event at place i
-pub stands_at : (n : ℕ) (xs : Ledger) (i : ℕ) (x : LedgerEvent) (p : Pass) → n < 9 → LegalSoFar n (reverse xs) → i < length xs → length xs < 2 ^ 63 → x ≡ get_or xs i x → Says (reverse (take i xs)) p → Stands x (reverse (take i xs)) p
-stands_at n xs i x p few legal within short is says = record {
-  agents = n;
-  few = few;
-  legal = legal_at n xs i x within is legal;
-  short = omega (arith, length-reverse (take i xs), length-take i xs);
-  says = says;
-}
-
 -- The end
 
 race_later : (m n : Mark) (later l : Ledger) → race_at l m n ≡ true → race_at (later ++ l) m n ≡ true
@@ -69,7 +60,25 @@ race_later m n [] l is = is
 race_later m n (e ∷ later) l is =
     race_stays (λ x y. is_mark m x.mark && (is_mark n y.mark && race x y)) (map (marked_after (later ++ l)) (accessed (later ++ l) e)) (marked (later ++ l)) (race_later m n later l is)
 
-pub race_remains : (m n : Mark) (xs : Ledger) (i : ℕ) (x : LedgerEvent) → i < length xs → x ≡ get_or xs i x → race_at (x ∷ reverse (take i xs)) m n ≡ true → race_at (reverse xs) m n ≡ true
+race_remains : (m n : Mark) (xs : Ledger) (i : ℕ) (x : LedgerEvent) → i < length xs → x ≡ get_or xs i x → race_at (x ∷ reverse (take i xs)) m n ≡ true → race_at (reverse xs) m n ≡ true
 race_remains m n xs i x within is races =
     subst (λ l. race_at l m n ≡ true) (sym (split xs (i + 1)))
     (race_later m n (reverse (drop (i + 1) xs)) (reverse (take (i + 1) xs)) (subst (λ l. race_at l m n ≡ true) (sym (reversed_more xs i x within is)) races))
+
+-- The event at place i
+
+module _ (n : ℕ) (xs : Ledger) (i : ℕ) (x : LedgerEvent) (p q : Pass) (few : n < 9) (legal : LegalSoFar n (reverse xs)) (within : i < length xs) (short : length xs < 2 ^ 63) (is : x ≡ get_or xs i x) (says : Says (reverse (take i xs)) p) where
+  stands : Stands x (reverse (take i xs)) p
+  stands = record {
+    agents = n;
+    few = few;
+    legal = legal_at n xs i x within is legal;
+    short = omega (arith, length-reverse (take i xs), length-take i xs);
+    says = says;
+  }
+
+  pub goes_on : Finds x p q None → Says (reverse (take (i + 1) xs)) q
+  goes_on finds = subst (λ l. Says l q) (sym (reversed_more xs i x within is)) (finds (reverse (take i xs)) stands)
+
+  pub comes_to : (r : Race) → Finds x p q (Some r) → race_at (reverse xs) (said r.earlier) (said r.later) ≡ true
+  comes_to r finds = race_remains (said r.earlier) (said r.later) xs i x within is (finds (reverse (take i xs)) stands)

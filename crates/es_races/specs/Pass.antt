@@ -1,7 +1,7 @@
 -- Internal: what is kept of a history's events, and that it says what the history says.
 use Rattle.std.specs.Prelude.{ℕ, ◌≡◌, ◌≢◌, ◌+◌, ◌<◌, ◌≤◌, ◌^◌, ◌&&◌, ◌||◌, ◌==◌, max, nat_eq, nat_lt, Bool, true, List, [], ◌∷◌, length, Option, Some, None, is_some, slice_get, slice_index, if◌then◌else◌}
 use Rattle.std.specs.List.{list_any, sum_by}
-use Rattle.std.specs.Option.{option_and_then, option_map, option_map_or, option_or}
+use Rattle.std.specs.Option.{option_map, option_map_or, option_or}
 use Rattle.std.specs.HashMap.{get, HashMap}
 use Rattle.std.specs.declared.alloc.Global.{Global}
 use Rattle.std.specs.declared.collections.VecDeque.{VecDeque}

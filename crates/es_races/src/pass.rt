@@ -67,9 +67,8 @@ impl Pass {
                 change,
                 ..
             } => return self.note_accessed(*serial, *index, change),
-            LedgerEvent::Waiting { .. }
-            | LedgerEvent::Passed { .. }
-            | LedgerEvent::Ended { .. } => {}
+            LedgerEvent::Waiting { .. } | LedgerEvent::Passed { .. } | LedgerEvent::Ended { .. } =>
+                {}
         }
         Ok(None)
     }
