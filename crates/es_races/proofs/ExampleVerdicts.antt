@@ -1,5 +1,6 @@
 -- Two agents that share a block of two words: what is told of the races in their histories.
-use Rattle.std.proofs.Common.{◌≡◌, true, false, false≢true, refl, sym, [], ◌∷◌, Some, None, rules}
+use Rattle.std.proofs.Common.{◌≡◌, true, false, refl, [], ◌∷◌, Some, None, rules}
+use Rattle.std.proofs.lemmas.Bool.{false≢true}
 use Rattle.es_value.specs.declared.value.Value.TheVariants.{Undefined}
 use Rattle.es_event.specs.declared.access.Change.TheVariants.{Keep, Write}
 use Rattle.es_event.specs.declared.ledger_event.Body.TheVariants.{Block, Plain}
