@@ -15,7 +15,7 @@ use Rattle.es_event.specs.Ledger.{Ledger, holder_of, is_at, serial_in}
 use Rattle.es_laws.specs.Memory.{WordAccess, access_by, accessed, accesses}
 use Rattle.es_laws.specs.Races.{Known, Mark, first_of, is_mark, known, mark_of, marked, marked_after, marks_of}
 use Rattle.es_races.specs.declared.ports.Message.{Message}
-use Rattle.es_races.specs.Pass.{Carry, Has, count_in, made_by}
+use Rattle.es_races.specs.Pass.{Carry, Has, count_in, made_by, raise_if}
 
 -- Clocks
 
@@ -29,10 +29,10 @@ joined c d e ks ms has other most = λ j n few.
     any_of_both (is_mark (j, n)) ks ms (nat_lt n (d j)) (nat_lt n (c j)) (nat_lt n (e j)) (other j n few) (has j n few) (grind (arith, nat_tests))
 
 -- or one more access of its own
-pub raised : (c d : ℕ → ℕ) (a k : ℕ) (ms : List Mark) → Has c ms → c a ≡ k → ((j : ℕ) → j < 8 → d j ≡ cond (a == j) (max (c j) (c a + 1)) (c j)) → Has d ((a, k) ∷ ms)
+pub raised : (c d : ℕ → ℕ) (a k : ℕ) (ms : List Mark) → Has c ms → c a ≡ k → ((j : ℕ) → j < 8 → d j ≡ raise_if (a == j) (c a + 1) (c j)) → Has d ((a, k) ∷ ms)
 raised c d a k ms has own one = λ j n few. ap (λ t. ((j == a) && (n == k)) || t) (has j n few) ∙ case_of j n (a == j) refl (one j few)
   where
-    case_of : (j n : ℕ) (b : Bool) → (a == j) ≡ b → d j ≡ cond b (max (c j) (c a + 1)) (c j) → (((j == a) && (n == k)) || nat_lt n (c j)) ≡ nat_lt n (d j)
+    case_of : (j n : ℕ) (b : Bool) → (a == j) ≡ b → d j ≡ raise_if b (c a + 1) (c j) → (((j == a) && (n == k)) || nat_lt n (c j)) ≡ nat_lt n (d j)
     case_of j n true at is =
         let same : c j ≡ c a = ap c (sym (eqb-true a j at)) in
         grind (arith, nat_tests)

@@ -6,7 +6,7 @@ use Rattle.std.proofs.lemmas.Bool.Decides.{nat_tests}
 use Rattle.std.proofs.lemmas.List.Folds.{list_any-append}
 use Rattle.es_laws.specs.Memory.{WordAccess, is_of, is_write}
 use Rattle.es_laws.specs.Races.{Mark, MarkedAccess, conflict, happens_before, is_mark, race}
-use Rattle.es_races.specs.Pass.{Has, highest, meets}
+use Rattle.es_races.specs.Pass.{Has, free, highest, meets, raise_if}
 
 -- What is among them
 
@@ -35,11 +35,11 @@ each_in f (later {z = z} {ys = ys} at) all = each_in f at (and_parts (f z) (list
 pub highest_over : (p : WordAccess → Bool) (j : ℕ) {y : MarkedAccess} {ys : List MarkedAccess} → IsIn y ys → p y.access ≡ true → y.access.agent ≡ j → y.mark.1 < highest p j ys
 highest_over p j {y} (here {ys = ys}) passes by =
     let both = and_from (p y.access) (y.access.agent == j) passes (eq-eqb y.access.agent j by) in
-    let top : highest p j (y ∷ ys) ≡ max (highest p j ys) (y.mark.1 + 1) = ap (λ b. cond b (max (highest p j ys) (y.mark.1 + 1)) (highest p j ys)) both in
+    let top : highest p j (y ∷ ys) ≡ max (highest p j ys) (y.mark.1 + 1) = ap (λ b. raise_if b (y.mark.1 + 1) (highest p j ys)) both in
     omega (arith, top)
 highest_over p j {y} (later {z = z} {ys = ys} at) passes by = case_of (p z.access && (z.access.agent == j)) (highest_over p j at passes by)
   where
-    case_of : (b : Bool) → y.mark.1 < highest p j ys → y.mark.1 < cond b (max (highest p j ys) (z.mark.1 + 1)) (highest p j ys)
+    case_of : (b : Bool) → y.mark.1 < highest p j ys → y.mark.1 < raise_if b (z.mark.1 + 1) (highest p j ys)
     case_of true less = omega arith
     case_of false less = less
 
@@ -54,7 +54,7 @@ highest_there p j n (z ∷ ys) is = case_of (highest_there p j n ys) (p z.access
     further : HasHighest p j n ys → HasHighest p j n (z ∷ ys)
     further h = (h.0, (later h.1.0, h.1.1, h.1.2, h.1.3))
 
-    case_of : (highest p j ys ≡ n + 1 → HasHighest p j n ys) → (b : Bool) → (p z.access && (z.access.agent == j)) ≡ b → cond b (max (highest p j ys) (z.mark.1 + 1)) (highest p j ys) ≡ n + 1 → HasHighest p j n (z ∷ ys)
+    case_of : (highest p j ys ≡ n + 1 → HasHighest p j n ys) → (b : Bool) → (p z.access && (z.access.agent == j)) ≡ b → raise_if b (z.mark.1 + 1) (highest p j ys) ≡ n + 1 → HasHighest p j n (z ∷ ys)
     case_of rest false at is = further (rest is)
     case_of rest true at is = elim (cases_Bool (highest p j ys == n + 1)) [
       | inl e ↦ further (rest (eqb-true (highest p j ys) (n + 1) e))
@@ -130,9 +130,6 @@ pub record IsMarked (y : MarkedAccess) : Type 0 where
 
 abbrev pub AllMarked : List MarkedAccess → Type 0
 AllMarked ys = (y : MarkedAccess) → IsIn y ys → IsMarked y
-
-abbrev pub free : List MarkedAccess → Bool
-free ys = list_all (λ x. list_all (λ y. not (race x y)) ys) ys
 
 -- its agent knows of all others with which it conflicts
 pub free_more : (x : MarkedAccess) (ys : List MarkedAccess) (c : ℕ → ℕ) → Has c x.knew → AllMarked ys → ((j : ℕ) → j < 8 → x.access.agent ≢ j → highest (meets (is_write x.access) x.access.block x.access.index) j ys ≤ c j)

@@ -28,14 +28,16 @@ pub nothing_says : (p : Pass) → p.tickets.entries ≡ [] → p.ports.entries �
 nothing_says p tickets ports words known = record {
   tickets = λ s. ap (lookup (nat_eq s)) tickets;
   ports = λ s r. subst (λ ms. Carry ms [] []) (sym (ap (λ es. option_map_or (λ q. q.items) (lookup (pair_eq (s, r)) es) []) ports)) Carry.none;
-  words = λ v b i j few. ap (λ es. option_map_or (λ w. count_in (newest_in w v) j) (lookup (pair_eq (b, i)) es) 0) words;
-  agents = λ a few j n small. sym (none n (known_in p.known a j) (known a j));
-  own = λ a few. known a a;
-  free = refl;
+  sound = record {
+    newest = λ v b i j few. ap (λ es. option_map_or (λ w. count_in (newest_in w v) j) (lookup (pair_eq (b, i)) es) 0) words;
+    agents = λ a few j n small. sym (below n (known_in p.known a j) (known a j));
+    own = λ a few. known a a;
+    none = refl;
+  };
 }
   where
-    none : (n k : ℕ) → k ≡ 0 → nat_lt n k ≡ false
-    none n k is = grind (arith, nat_tests)
+    below : (n k : ℕ) → k ≡ 0 → nat_lt n k ≡ false
+    below n k is = grind (arith, nat_tests)
 
 -- One event more
 

@@ -1,6 +1,6 @@
 -- Internal: what is kept of a history's events, and that it says what the history says.
-use Rattle.std.specs.Prelude.{ℕ, ◌≡◌, ◌≢◌, ◌+◌, ◌<◌, ◌≤◌, ◌^◌, ◌&&◌, ◌||◌, ◌==◌, max, nat_eq, nat_lt, Bool, true, List, [], ◌∷◌, length, Option, Some, None, is_some, slice_get, slice_index, if◌then◌else◌}
-use Rattle.std.specs.List.{list_any, sum_by}
+use Rattle.std.specs.Prelude.{ℕ, ◌≡◌, ◌≢◌, ◌+◌, ◌<◌, ◌≤◌, ◌^◌, ◌&&◌, ◌||◌, ◌==◌, max, not, nat_eq, nat_lt, Bool, true, List, [], ◌∷◌, length, Option, Some, None, is_some, slice_get, slice_index, if◌then◌else◌}
+use Rattle.std.specs.List.{list_all, list_any, sum_by}
 use Rattle.std.specs.Option.{option_map, option_map_or, option_or}
 use Rattle.std.specs.HashMap.{get, HashMap}
 use Rattle.std.specs.declared.alloc.Global.{Global}
@@ -19,7 +19,7 @@ use Rattle.es_event.specs.Rows.{line_of}
 use Rattle.es_event.specs.Ledger.{Ledger, by_agent, holder_of, port_of, serial_in, table}
 use Rattle.es_event.specs.LegalLedger.{LegalSoFar}
 use Rattle.es_laws.specs.Memory.{WordAccess, accesses, is_of, is_write}
-use Rattle.es_laws.specs.Races.{Mark as Marked, MarkedAccess, has_no_race, is_mark, known, marked}
+use Rattle.es_laws.specs.Races.{Mark as Marked, MarkedAccess, is_mark, known, marked, race}
 use Rattle.es_races.specs.declared.clock.Clock.{Clock}
 use Rattle.es_races.specs.declared.pass.Pass.{Pass}
 use Rattle.es_races.specs.declared.ports.Message.{Message}
@@ -44,6 +44,10 @@ count_in c j = slice_index c.counts j
 -- and that of agent a
 abbrev pub known_in : List Clock → ℕ → ℕ → ℕ
 known_in cs a j = option_map_or (λ c. count_in c j) (slice_get cs a) 0
+
+-- a number that is raised to another one, if the test passes
+abbrev pub raise_if : Bool → ℕ → ℕ → ℕ
+raise_if test least n = if test then max n least else n
 
 -- a clock has just as many of each agent's accesses as these are
 abbrev pub Has : (ℕ → ℕ) → List Marked → Type 0
@@ -106,7 +110,7 @@ meets writes b i x = (writes || is_write x) && is_of b i x
 -- one more than the highest number of agent j's accesses that pass the test, 0 where there is none
 abbrev pub highest : (WordAccess → Bool) → ℕ → List MarkedAccess → ℕ
 highest p j [] = 0
-highest p j (y ∷ ys) = if p y.access && (y.access.agent == j) then max (highest p j ys) (y.mark.1 + 1) else highest p j ys
+highest p j (y ∷ ys) = raise_if (p y.access && (y.access.agent == j)) (y.mark.1 + 1) (highest p j ys)
 
 -- the newest that is not known is one of another agent
 pub record IsUnknown (newest known : Clock) (agent : ℕ) (m : Mark) : Type 0 where
@@ -121,14 +125,22 @@ pub record IsUnknown (newest known : Clock) (agent : ℕ) (m : Mark) : Type 0 wh
 abbrev pub made_by : ℕ → List WordAccess → ℕ
 made_by a xs = sum_by (λ y. if y.agent == a then 1 else 0) xs
 
+-- no two of them race
+abbrev pub free : List MarkedAccess → Bool
+free ys = list_all (λ x. list_all (λ y. not (race x y)) ys) ys
+
+-- words and clocks say what accesses were made, with these marks, and what agents know of them; and none race
+pub record Sound (knows : ℕ → List Marked) (made : List WordAccess) (marks : List MarkedAccess) (words : Map (ℕ × ℕ) Word) (clocks : List Clock) : Type 0 where
+  pub newest : (writes : Bool) (b i j : ℕ) → j < 8 → newest_at words writes b i j ≡ highest (meets writes b i) j marks
+  pub agents : (a : ℕ) → a < 8 → Has (known_in clocks a) (knows a)
+  pub own : (a : ℕ) → a < 8 → known_in clocks a a ≡ made_by a made
+  pub none : free marks ≡ true
+
 -- what is kept says what the ledger's history says
 pub record Says (l : Ledger) (p : Pass) : Type 0 where
   pub tickets : (s : ℕ) → ticket_in p.tickets s ≡ option_map ticket_of (line_of s (table l))
   pub ports : (s r : ℕ) → Carry (queue_in p.ports s r) ((known l).carried s r) (port_of l s r)
-  pub words : (writes : Bool) (b i j : ℕ) → j < 8 → newest_at p.words writes b i j ≡ highest (meets writes b i) j (marked l)
-  pub agents : (a : ℕ) → a < 8 → Has (known_in p.known a) ((known l).knows a)
-  pub own : (a : ℕ) → a < 8 → known_in p.known a a ≡ made_by a (accesses l)
-  pub free : has_no_race l ≡ true
+  pub sound : Sound (known l).knows (accesses l) (marked l) p.words p.known
 
 -- and the event may come next, in a ledger of few agents
 pub record Stands (e : LedgerEvent) (l : Ledger) (p : Pass) : Type 0 where

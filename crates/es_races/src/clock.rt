@@ -1,7 +1,7 @@
 //! How many of each agent's accesses are known.
 
 ghost use Rattle.std.specs.Prelude.{◌≡◌, ◌==◌, ◌<◌, ℕ, max, if◌then◌else◌};
-ghost use Rattle.es_races.specs.Pass.{count_in, known_in};
+ghost use Rattle.es_races.specs.Pass.{count_in, known_in, raise_if};
 
 /// As many agents as a cluster has at most.
 pub(crate) const AGENTS: usize = 8;
@@ -36,7 +36,7 @@ impl Clock {
 
     /// From now on at least so many of an agent's.
     pub fn raise(&mut self, agent: usize, count: usize)
-        ensures { (j : ℕ) → j < 8 → count_in self.new j ≡ (if agent == j then max (count_in self.old j) count else count_in self.old j) }
+        ensures { (j : ℕ) → j < 8 → count_in self.new j ≡ raise_if (agent == j) count (count_in self.old j) }
     {
         if agent < AGENTS && self.counts[agent] < count {
             self.counts[agent] = count;

@@ -2,6 +2,7 @@
 #![tactic(auto)]
 
 mod clock;
+mod maps;
 mod pass;
 mod ports;
 mod race;

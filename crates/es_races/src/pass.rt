@@ -6,9 +6,10 @@ ghost use Rattle.es_event.specs.declared.ledger_event.LedgerEvent.TheVariants.{A
 ghost use Rattle.es_races.specs.Pass.{Accesses, Finds, Leaves, Says, add_posted as posted_ticket, ticket_in};
 
 use crate::clock::{AGENTS, Clock, clock_of, set_clock};
+use crate::maps::put;
 use crate::ports::{self, Message, Ports};
 use crate::race::{Mark, Race};
-use crate::tickets::{self, Ticket, Tickets, put};
+use crate::tickets::{self, Ticket, Tickets};
 use crate::words::{self, Words};
 use es_event::{Body, Change, LedgerEvent};
 use es_value::NoMemory;

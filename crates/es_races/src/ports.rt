@@ -4,7 +4,7 @@ ghost use Rattle.std.specs.Prelude.{◌≡◌, ℕ, ◌&&◌, ◌++◌, ◌∷�
 ghost use Rattle.es_races.specs.Pass.{queue_in};
 
 use crate::clock::Clock;
-use crate::tickets::put;
+use crate::maps::put;
 use es_value::NoMemory;
 use std::alloc::Global;
 use std::collections::{HashMap, VecDeque};

@@ -1,13 +1,12 @@
 //! Which agent holds a ticket, and of which block it is.
 
-ghost use Rattle.std.specs.Prelude.{◌≡◌, ℕ, OnOk, Some};
-ghost use Rattle.std.specs.HashMap.{Updates};
+ghost use Rattle.std.specs.Prelude.{◌≡◌, ℕ, OnOk};
 ghost use Rattle.std.specs.Option.{option_and_then};
 ghost use Rattle.es_races.specs.Pass.{add_ticket, hand_some as handed_some, hand_ticket, held_with, ticket_in};
 
+use crate::maps::put;
 use es_value::NoMemory;
 use std::collections::HashMap;
-use std::hash::Hash;
 
 /// For each serial its ticket.
 pub(crate) type Tickets = HashMap<u64, Ticket>;
@@ -17,18 +16,6 @@ pub(crate) type Tickets = HashMap<u64, Ticket>;
 pub(crate) struct Ticket {
     pub block: u64,
     pub holder: Option<usize>,
-}
-
-/// Puts a value under a key.
-pub(crate) fn put<K: Eq + Hash + Drop, V: Drop>(
-    map: &mut HashMap<K, V>,
-    key: K,
-    value: V,
-) -> Result<(), NoMemory>
-    ensures { OnOk result (Updates K.eq map.old map.new key (Some value)) }
-{
-    map.insert(key, value)?;
-    Ok(())
 }
 
 /// Adds a ticket; where the serial has one, that one stays.

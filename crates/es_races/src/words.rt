@@ -1,12 +1,12 @@
 //! The newest accesses to each word.
 
-ghost use Rattle.std.specs.Prelude.{◌≡◌, ◌≢◌, ◌==◌, ◌&&◌, ◌||◌, ◌<◌, ◌≤◌, ℕ, Bool, max, is_some, IfSome, IfNone, if◌then◌else◌};
+ghost use Rattle.std.specs.Prelude.{◌≡◌, ◌≢◌, ◌==◌, ◌&&◌, ◌||◌, ◌<◌, ◌≤◌, ℕ, Bool, is_some, IfSome, IfNone};
 ghost use Rattle.es_event.specs.Access.{written};
-ghost use Rattle.es_races.specs.Pass.{IsUnknown, count_in, newest_at, newest_in};
+ghost use Rattle.es_races.specs.Pass.{IsUnknown, count_in, newest_at, newest_in, raise_if};
 
 use crate::clock::{AGENTS, Clock};
+use crate::maps::put;
 use crate::race::Mark;
-use crate::tickets::put;
 use es_event::Change;
 use es_value::NoMemory;
 use std::collections::HashMap;
@@ -32,7 +32,7 @@ impl Word {
 
     /// Notes an access of an agent, by one more than its number.
     pub fn note(&mut self, agent: usize, count: usize, writes: bool)
-        ensures { (w : Bool) (j : ℕ) → j < 8 → count_in (newest_in self.new w) j ≡ (if (w || writes) && (agent == j) then max (count_in (newest_in self.old w) j) count else count_in (newest_in self.old w) j) }
+        ensures { (w : Bool) (j : ℕ) → j < 8 → count_in (newest_in self.new w) j ≡ raise_if ((w || writes) && (agent == j)) count (count_in (newest_in self.old w) j) }
     {
         self.touched.raise(agent, count);
         if writes {

@@ -18,4 +18,4 @@ returns-in-Some c = record {
 }
 
 pub returns : goal.returns
-returns c = record { verdict = subst (λ l. has_no_race (reverse l) ≡ true) (take_all c.loop-event.event-index c.args.history.now c.loop-event-test.false) c.loop-event.invariant.free }
+returns c = record { verdict = subst (λ l. has_no_race (reverse l) ≡ true) (take_all c.loop-event.event-index c.args.history.now c.loop-event-test.false) c.loop-event.invariant.sound.none }

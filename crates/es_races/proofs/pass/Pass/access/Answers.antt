@@ -1,5 +1,5 @@
 use Rattle.std.proofs.Common.{◌≡◌, ◌==◌, ◌&&◌, ◌||◌, ◌+◌, max, cond, ◌∙◌, ap, arith}
-use Rattle.es_races.specs.Pass.{count_in, known_in, newest_in}
+use Rattle.es_races.specs.Pass.{count_in, known_in, newest_in, raise_if}
 use Rattle.es_races.proofs.Noting.{access_says, race_told, small_count, word_put}
 use Rattle.es_races.proofs.pass.Pass.access.Goals as goal
 
@@ -21,7 +21,7 @@ returns c = λ l s w m r stands holder block writes.
     let known = c.clock_of-clock.ensures j in
     omega (arith, least, newest, known))
     (word_put old.words c.put.new.map c.args.block c.args.index c.word_at-word.result c.note.new.self a (known_in old.known a a + 1) c.args.writes c.in_ok-put.ensures.0 c.word_at-word.ensures
-    (λ v j few. c.note.ensures v j few ∙ ap (λ n. cond ((v || c.args.writes) && (a == j)) (max (count_in (newest_in c.word_at-word.result v) j) n) (count_in (newest_in c.word_at-word.result v) j)) count))
+    (λ v j few. c.note.ensures v j few ∙ ap (λ n. raise_if ((v || c.args.writes) && (a == j)) n (count_in (newest_in c.word_at-word.result v) j)) count))
     (λ k j few small. c.set_clock.ensures k j few
     ∙ ap (λ n. cond (a == k) n (known_in old.known k j))
-    (c.raise.ensures j small ∙ ap (λ n. cond (a == j) (max n c.saturating_add-count.result) n) (c.clock_of-clock.ensures j) ∙ ap (λ n. cond (a == j) (max (known_in old.known a j) n) (known_in old.known a j)) count))
+    (c.raise.ensures j small ∙ ap (raise_if (a == j) c.saturating_add-count.result) (c.clock_of-clock.ensures j) ∙ ap (λ n. raise_if (a == j) n (known_in old.known a j)) count))
