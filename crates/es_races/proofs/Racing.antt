@@ -1,5 +1,5 @@
 -- Which two accesses race, by what the agent of the newer one knows.
-use Rattle.std.proofs.Common.{◌≡◌, ◌≢◌, ℕ, ◌+◌, ◌<◌, ◌≤◌, ◌==◌, ◌&&◌, ◌||◌, not, max, Bool, true, false, cond, sym, ◌∙◌, ap, refl, arith, List, [], ◌∷◌, ◌++◌, inl, inr, eq-eqb}
+use Rattle.std.proofs.Common.{◌≡◌, ◌≢◌, ℕ, ◌+◌, ◌<◌, ◌≤◌, ◌==◌, ◌&&◌, ◌||◌, not, max, Bool, true, false, sym, ◌∙◌, ap, refl, arith, List, [], ◌∷◌, ◌++◌, inl, inr, eq-eqb}
 use Rattle.std.specs.List.{list_all, list_any}
 use Rattle.std.proofs.lemmas.Bool.{and_parts, and_from, and_left, and_right, or_left, or_right, or_cases, or_parts, eqb-true, lt-ltb, le-ltb, cases_Bool, ne_eqb, not_from_false, not_from_true, not-true}
 use Rattle.std.proofs.lemmas.Bool.Decides.{nat_tests}

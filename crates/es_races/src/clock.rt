@@ -6,8 +6,7 @@ ghost use Rattle.es_races.specs.Pass.{count_in, known_in, raise_if};
 /// As many agents as a cluster has at most.
 pub(crate) const AGENTS: usize = 8;
 
-/// For each agent a number of its accesses, its first ones: what is known of it, or one more than the number of one
-/// of its accesses.
+/// For each agent a number of its first accesses: those that are known, or those up to one of them.
 #[derive(Clone, Copy)]
 pub(crate) struct Clock {
     counts: [usize; AGENTS],
@@ -34,7 +33,7 @@ impl Clock {
         }
     }
 
-    /// From now on at least so many of an agent's.
+    /// From now on it has at least so many of an agent's.
     pub fn raise(&mut self, agent: usize, count: usize)
         ensures { (j : ℕ) → j < 8 → count_in self.new j ≡ raise_if (agent == j) count (count_in self.old j) }
     {
@@ -43,7 +42,7 @@ impl Clock {
         }
     }
 
-    /// From now on all of another clock as well.
+    /// From now on it has all that another clock has as well.
     pub fn join(&mut self, other: &Clock)
         ensures { (j : ℕ) → j < 8 → count_in self.new j ≡ max (count_in self.old j) (count_in other.now j) }
     {

@@ -11,19 +11,19 @@ use es_event::Change;
 use es_value::NoMemory;
 use std::collections::HashMap;
 
-/// For each block and index the accesses to the word there.
+/// For each block and index the newest accesses to the word there.
 pub(crate) type Words = HashMap<(u64, usize), Word>;
 
 /// Of each agent, one more than the number of its newest write to a word, and of its newest access to it; 0 where it
 /// made none.
 #[derive(Clone, Copy)]
 pub(crate) struct Word {
-    pub wrote: Clock,
-    pub touched: Clock,
+    wrote: Clock,
+    touched: Clock,
 }
 
 impl Word {
-    /// The newest accesses with which one that writes conflicts, or one that does not.
+    /// Those with which an access that writes conflicts, or one that does not.
     pub fn newest(&self, writes: bool) -> &Clock
         ensures { result.now ≡ newest_in self.now writes }
     {
@@ -41,7 +41,7 @@ impl Word {
     }
 }
 
-/// What is kept of a word.
+/// The newest accesses to the word at an index of a block.
 pub(crate) fn word_at(words: &Words, block: u64, index: usize) -> Word
     ensures { (w : Bool) (j : ℕ) → count_in (newest_in result w) j ≡ newest_at words.now w block index j }
 {
@@ -64,7 +64,7 @@ pub(crate) fn is_write(change: &Change) -> bool
     }
 }
 
-/// The newest of these accesses by another agent that is not known.
+/// An access by another agent that is not known, among the newest of each.
 pub(crate) fn unknown(newest: &Clock, known: &Clock, agent: usize) -> Option<Mark>
     ensures some { IfSome result (λ m. IsUnknown newest.now known.now agent m) }
     ensures none { IfNone result ((j : ℕ) → j < 8 → agent ≢ j → count_in newest.now j ≤ count_in known.now j) }

@@ -1,4 +1,4 @@
-use Rattle.std.proofs.Common.{◌≡◌, ◌==◌, ◌&&◌, ◌||◌, ◌+◌, max, cond, ◌∙◌, ap, arith}
+use Rattle.std.proofs.Common.{◌≡◌, ◌==◌, ◌&&◌, ◌||◌, ◌+◌, cond, ◌∙◌, ap, arith}
 use Rattle.es_races.specs.Pass.{count_in, known_in, newest_in, raise_if}
 use Rattle.es_races.proofs.Noting.{access_says, race_told, small_count, word_put}
 use Rattle.es_races.proofs.pass.Pass.access.Goals as goal
