@@ -4,6 +4,7 @@ ghost use Rattle.std.specs.Prelude.{◌<◌, reverse, IfOk};
 ghost use Rattle.es_event.specs.LegalLedger.{LegalSoFar};
 ghost use Rattle.es_races.specs.Verdict.{IsVerdict};
 
+use crate::pass::Pass;
 use es_event::LedgerEvent;
 use es_value::NoMemory;
 use std::alloc::Global;
@@ -37,5 +38,11 @@ pub fn race_in(
     requires legal { LegalSoFar agents (reverse history.now) }
     ensures verdict { IfOk result (IsVerdict (reverse history.now)) }
 {
-    Err(NoMemory)
+    let mut pass = Pass::new(alloc);
+    for event in history {
+        if let Some(race) = pass.note(event)? {
+            return Ok(Some(race));
+        }
+    }
+    Ok(None)
 }

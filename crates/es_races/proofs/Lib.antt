@@ -1,0 +1,7 @@
+mod ExampleVerdicts
+mod Holding
+mod Knowing
+mod Mail
+mod Noting
+mod Racing
+mod Through
