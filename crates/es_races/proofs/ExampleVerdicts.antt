@@ -1,5 +1,5 @@
 -- Two agents that share a block of two words: what is told of the races in their histories.
-use Rattle.std.proofs.Common.{◌≡◌, true, false, refl, [], ◌∷◌, Some, None, rules}
+use Rattle.std.proofs.Common.{◌≡◌, false, refl, [], ◌∷◌, Some, None, rules}
 use Rattle.std.proofs.lemmas.Bool.{false≢true}
 use Rattle.es_value.specs.declared.value.Value.TheVariants.{Undefined}
 use Rattle.es_event.specs.declared.access.Change.TheVariants.{Keep, Write}
@@ -68,8 +68,8 @@ these_race = refl
 others_do_not : (race_at many (0, 0) (1, 2) ≡ false) × (race_at many (0, 1) (1, 1) ≡ false) × (race_at many (0, 1) (0, 1) ≡ false) × (race_at many (0, 2) (1, 2) ≡ false) × (race_at many (0, 1) (2, 2) ≡ false)
 others_do_not = (refl, refl, refl, refl, refl)
 
--- whichever is named first
-turned : race_at many (1, 2) (0, 1) ≡ true
+-- the one that came first is named first
+turned : race_at many (1, 2) (0, 1) ≡ false
 turned = refl
 
 -- where nothing happened nothing races

@@ -1,7 +1,6 @@
 -- What is kept says what the history says, after each event; or two accesses race.
 use Rattle.std.proofs.Common.{◌≡◌, ◌≢◌, ℕ, ◌+◌, ◌<◌, ◌≤◌, ◌^◌, ◌==◌, ◌&&◌, ◌||◌, max, nat_eq, Bool, true, false, cond, sym, ◌∙◌, ap, refl, subst, arith, List, [], ◌∷◌, ◌++◌, drop, map, Option, Some, None, is_some, eq-eqb, eqb-true}
 use Rattle.std.specs.Prelude.{nat_lt, slice_get}
-use Rattle.std.specs.List.{list_any}
 use Rattle.std.specs.Option.{option_and_then, option_map_or}
 use Rattle.std.specs.HashMap.{get}
 use Rattle.std.proofs.lemmas.Bool.{and_parts}
@@ -18,7 +17,7 @@ use Rattle.es_event.specs.Access.{written}
 use Rattle.es_event.specs.Ledger.{Ledger, front, holder_of, is_at, port_of, serial_in, table}
 use Rattle.es_event.specs.LegalLedger.{LegalSoFar}
 use Rattle.es_laws.specs.Memory.{WordAccess, access_by, accessed, accesses, is_write}
-use Rattle.es_laws.specs.Races.{Mark as Marked, MarkedAccess, first_of, is_mark, known, mark_of, marked, marked_after, marks_of, race}
+use Rattle.es_laws.specs.Races.{Mark as Marked, MarkedAccess, first_of, known, mark_of, marked, marked_after, marks_of}
 use Rattle.es_races.specs.declared.clock.Clock.{Clock}
 use Rattle.es_races.specs.declared.pass.Pass.{Pass}
 use Rattle.es_races.specs.declared.ports.Message.{Message}
@@ -26,7 +25,7 @@ use Rattle.es_races.specs.declared.race.Mark.{Mark}
 use Rattle.es_races.specs.declared.tickets.Ticket.{Ticket}
 use Rattle.es_races.specs.declared.words.Word.{Word}
 use Rattle.es_races.specs.Pass.{Carry, Has, IsUnknown, Map, Says, Sound, Stands, raise_if, add_posted, add_ticket, count_in, hand_some, hand_ticket, highest, known_in, made_by, meets, newest_at, newest_in, pair_eq, queue_in, ticket_in}
-use Rattle.es_races.specs.Verdict.{race_at, said}
+use Rattle.es_races.specs.Verdict.{race_among, race_at, said}
 use Rattle.es_races.proofs.Holding.{ticket_at, added, few_holders, few_senders, handed, posted, taken}
 use Rattle.es_races.proofs.Knowing.{IsFirst, carry_first, carry_last, carry_rest, few_made, has_same, joined, made_one, none_knew, raised, told_less}
 use Rattle.es_races.proofs.Racing.{AllMarked, IsIn, IsMarked, free_more, races}
@@ -217,7 +216,7 @@ module _ (l : Ledger) (s i w : ℕ) (m : Change) (a b : ℕ) (r : Row) (old : Pa
       = ap (λ t. highest (meets t b i) found.agent (marked l)) (sym is) ∙ sym (stands.says.sound.newest writes b i found.agent unknown.few) ∙ sym (newest_is found.agent) ∙ unknown.newest_one in
       let less : known_in old.known a found.agent ≤ found.number = omega (arith, known_is found.agent, unknown.unknown) in
       subst (λ k. race_at (Accessed s i m w ∷ l) (said found) (a, k) ≡ true) (sym count)
-      (subst (λ xs. list_any (λ x. list_any (λ y. is_mark (said found) x.mark && (is_mark (a, made_by a (accesses l)) y.mark && race x y)) (map (marked_after l) xs ++ marked l)) (map (marked_after l) xs ++ marked l) ≡ true) (sym one)
+      (subst (λ xs. race_among (map (marked_after l) xs ++ marked l) (said found) (a, made_by a (accesses l)) ≡ true) (sym one)
       (races (marked_after l this) (marked l) (known_in old.known a) found.agent found.number (stands.says.sound.agents a few_agent) (all_marked stands.agents l stands.few stands.legal.1) unknown.few unknown.other top less
       (none_knew l a (made_by a (accesses l)) (omega arith))))
 

@@ -1,12 +1,12 @@
 -- Which two accesses race, by what the agent of the newer one knows.
 use Rattle.std.proofs.Common.{◌≡◌, ◌≢◌, ℕ, ◌+◌, ◌<◌, ◌≤◌, ◌==◌, ◌&&◌, ◌||◌, not, max, Bool, true, false, sym, ◌∙◌, ap, refl, arith, List, [], ◌∷◌, ◌++◌, inl, inr, eq-eqb}
 use Rattle.std.specs.List.{list_all, list_any}
-use Rattle.std.proofs.lemmas.Bool.{and_parts, and_from, and_left, and_right, or_left, or_right, or_cases, or_parts, eqb-true, lt-ltb, le-ltb, cases_Bool, ne_eqb, not_from_false, not_from_true, not-true}
+use Rattle.std.proofs.lemmas.Bool.{and_parts, and_from, and_left, and_right, or_left, or_right, or_parts, eqb-true, lt-ltb, le-ltb, cases_Bool, ne_eqb, not_from_false, not_from_true, not-true}
 use Rattle.std.proofs.lemmas.Bool.Decides.{nat_tests}
-use Rattle.std.proofs.lemmas.List.Folds.{list_any-append}
 use Rattle.es_laws.specs.Memory.{WordAccess, is_of, is_write}
 use Rattle.es_laws.specs.Races.{Mark, MarkedAccess, conflict, happens_before, is_mark, race}
 use Rattle.es_races.specs.Pass.{Has, free, highest, meets, raise_if}
+use Rattle.es_races.specs.Verdict.{race_among}
 
 -- What is among them
 
@@ -150,11 +150,9 @@ free_more x ys c knows all known before =
 -- or it races with one of which its agent does not know
 pub races : (x : MarkedAccess) (ys : List MarkedAccess) (c : ℕ → ℕ) (j n : ℕ) → Has c x.knew → AllMarked ys → j < 8 → x.access.agent ≢ j
     → highest (meets (is_write x.access) x.access.block x.access.index) j ys ≡ n + 1 → c j ≤ n → list_any (λ y. list_any (is_mark x.mark) y.knew) ys ≡ false
-    → list_any (λ a. list_any (λ b. is_mark (j, n) a.mark && (is_mark x.mark b.mark && race a b)) (x ∷ ys)) (x ∷ ys) ≡ true
+    → race_among (x ∷ ys) (j, n) x.mark ≡ true
 races x ys c j n knows all few other newest unknown unheard =
-    let y = found.0 in
-    any_in (λ a. list_any (λ b. is_mark (j, n) a.mark && (is_mark x.mark b.mark && race a b)) (x ∷ ys)) (later {z = x} found.1.0)
-    (any_in (λ b. is_mark (j, n) y.mark && (is_mark x.mark b.mark && race y b)) (here {y = x} {ys = ys}) (and_from _ _ named (and_from _ _ (marked_itself x.mark) racing)))
+    or_left _ (race_among ys (j, n) x.mark) (and_from _ _ (marked_itself x.mark) (any_in (λ y. is_mark (j, n) y.mark && race y x) found.1.0 (and_from _ _ named racing)))
   where
     found : HasHighest (meets (is_write x.access) x.access.block x.access.index) j n ys
     found = highest_there (meets (is_write x.access) x.access.block x.access.index) j n ys newest
@@ -183,17 +181,7 @@ races x ys c j n knows all few other newest unknown unheard =
         neither true b p q = cc
         neither false true p q = cc
 
-any_more : (f g : MarkedAccess → Bool) (ys : List MarkedAccess) → ((y : MarkedAccess) → f y ≡ true → g y ≡ true) → list_any f ys ≡ true → list_any g ys ≡ true
-any_more f g [] each is = cc
-any_more f g (y ∷ ys) each is = elim (or_cases (f y) (list_any f ys) is) [
-  | inl e ↦ or_left (g y) (list_any g ys) (each y e)
-  | inr e ↦ or_right (g y) (list_any g ys) (any_more f g ys each e)
-]
-
-any_behind : (f : MarkedAccess → Bool) (xs ys : List MarkedAccess) → list_any f ys ≡ true → list_any f (xs ++ ys) ≡ true
-any_behind f xs ys is = list_any-append f xs ys ∙ or_right (list_any f xs) (list_any f ys) is
-
 -- two that race still do when more accesses came
-pub race_stays : (f : MarkedAccess → MarkedAccess → Bool) (xs ys : List MarkedAccess) → list_any (λ a. list_any (f a) ys) ys ≡ true → list_any (λ a. list_any (f a) (xs ++ ys)) (xs ++ ys) ≡ true
-race_stays f xs ys is =
-    any_behind (λ a. list_any (f a) (xs ++ ys)) xs ys (any_more (λ a. list_any (f a) ys) (λ a. list_any (f a) (xs ++ ys)) ys (λ a at. any_behind (f a) xs ys at) is)
+pub race_stays : (m n : Mark) (xs ys : List MarkedAccess) → race_among ys m n ≡ true → race_among (xs ++ ys) m n ≡ true
+race_stays m n [] ys is = is
+race_stays m n (x ∷ xs) ys is = or_right _ (race_among (xs ++ ys) m n) (race_stays m n xs ys is)

@@ -1,5 +1,5 @@
 -- A history that is gone through from its oldest event on: where it begins, what is legal of it, and that two that race still do at its end.
-use Rattle.std.proofs.Common.{◌≡◌, ℕ, zero, suc, ◌+◌, ◌<◌, ◌^◌, ◌&&◌, nat_eq, true, false, sym, ◌∙◌, ap, refl, subst, arith, [], ◌∷◌, ◌++◌, map, length, length-take, take, drop, replicate, get_or, reverse, Some, None}
+use Rattle.std.proofs.Common.{◌≡◌, ℕ, zero, suc, ◌+◌, ◌<◌, ◌^◌, nat_eq, true, false, sym, ◌∙◌, ap, refl, subst, arith, [], ◌∷◌, ◌++◌, map, length, length-take, take, drop, replicate, get_or, reverse, Some, None}
 use Rattle.std.specs.Prelude.{nat_lt}
 use Rattle.std.specs.Option.{option_map_or}
 use Rattle.std.specs.Map.{lookup}
@@ -9,7 +9,7 @@ use Rattle.es_event.specs.declared.ledger_event.LedgerEvent.{LedgerEvent}
 use Rattle.es_event.specs.Ledger.{Ledger}
 use Rattle.es_event.specs.LegalLedger.{LegalSoFar}
 use Rattle.es_laws.specs.Memory.{accessed}
-use Rattle.es_laws.specs.Races.{Mark, is_mark, marked, marked_after, race}
+use Rattle.es_laws.specs.Races.{Mark, marked, marked_after}
 use Rattle.es_races.specs.declared.clock.Clock.{Clock}
 use Rattle.es_races.specs.declared.pass.Pass.{Pass}
 use Rattle.es_races.specs.Pass.{Carry, Finds, Says, Stands, count_in, known_in, newest_in, pair_eq}
@@ -60,7 +60,7 @@ legal_at n xs i x within is legal =
 race_later : (m n : Mark) (later l : Ledger) → race_at l m n ≡ true → race_at (later ++ l) m n ≡ true
 race_later m n [] l is = is
 race_later m n (e ∷ later) l is =
-    race_stays (λ x y. is_mark m x.mark && (is_mark n y.mark && race x y)) (map (marked_after (later ++ l)) (accessed (later ++ l) e)) (marked (later ++ l)) (race_later m n later l is)
+    race_stays m n (map (marked_after (later ++ l)) (accessed (later ++ l) e)) (marked (later ++ l)) (race_later m n later l is)
 
 race_remains : (m n : Mark) (xs : Ledger) (i : ℕ) (x : LedgerEvent) → i < length xs → x ≡ get_or xs i x → race_at (x ∷ reverse (take i xs)) m n ≡ true → race_at (reverse xs) m n ≡ true
 race_remains m n xs i x within is races =
