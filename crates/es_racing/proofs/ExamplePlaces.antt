@@ -13,7 +13,6 @@ use Rattle.es_event.proofs.Examples.{load, store}
 use Rattle.es_command_text.specs.Commands.{plain_text}
 use Rattle.es_command_text.specs.declared.style.Style.TheVariants.{Words}
 use Rattle.es_racing.specs.declared.place.Place.{Place}
-use Rattle.es_racing.specs.declared.place.Section.{Section}
 use Rattle.es_racing.specs.declared.place.Section.TheVariants.{Job, Callback}
 use Rattle.es_racing.specs.declared.text.Spot.{Spot}
 use Rattle.es_racing.specs.Places.{IsPlace, accesses_in, commands, section}

@@ -1,5 +1,4 @@
-use Rattle.std.proofs.Common.{◌+◌, ap, drop, refl, reverse, rules, sym, take, ◌∙◌}
-use Rattle.std.specs.Option.{option_copied}
+use Rattle.std.proofs.Common.{◌+◌, ap, drop, reverse, rules, sym, take}
 use Rattle.es_racing.proofs.Splitting.{parted}
 use Rattle.es_racing.proofs.place.place_of.Goals as goal
 
