@@ -2,4 +2,3 @@ mod ExamplePlaces
 mod Found
 mod OnePlace
 mod Splitting
-mod Words
