@@ -50,6 +50,8 @@ expect "[run][missing.json] of first_run, " run missing.json
 expect "[check] of first_run, given" check
 expect "[check][plan.json] of first_run, " check plan.txt
 expect "[check][--turns][plan.json] of clusterrun, " check --turns plan.txt
+expect "[check][--races][plan.json] of clusterrun, " check --races plan.txt
+expect "[check][--races] of clusterrun, given" check --races
 expect "[check][plan.json][plan.txt] of clusterrun, " check plan.txt plan.txt
 expect "[run][plan.json][--turns][--turns] of clusterrun, " run plan.txt --turns --turns
 expect "[run][--turns][--turns] of clusterrun, given" run --turns --turns
