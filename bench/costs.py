@@ -3,11 +3,12 @@
 
 Usage: costs.py [--program FILE] [--no-bytes] [KIND ..]. Without KIND, all of KINDS below. A plan has one agent, a first job
 that makes what the commands need, and N commands of the kind in jobs behind it; one that is refused ends its job, so there
-each has a job of its own. Instructions are counted by valgrind's callgrind, of `run` less those of `check` on the same plan,
-by turns and in threads, for two numbers of commands: what one costs is the difference by the difference of the numbers. So
-the program's start, the first job and the reading are not in it; what a job costs is, a ten-thousandth for each command.
-Bytes are counted in the same way, of the highest resident memory of `run` alone: a command of the plan and its event, and
-what it makes. Prints a table. It takes some ten minutes, and wants valgrind and GNU time.
+each has a job of its own. Instructions are counted by valgrind's callgrind, of `run` less those of a `run` where each job
+ends by a refusal before these commands, so that they are read and not done, by turns and in threads, for two numbers of
+commands: what one costs is the difference by the difference of the numbers. So the program's start, the first job and the
+reading are not in it; of a refused command the reading of its job is. Bytes are counted in the same way, of the highest
+resident memory of `run` alone: a command of the plan and its event, and what it makes. Prints a table. It takes some ten
+minutes, and wants valgrind and GNU time.
 """
 
 import argparse
@@ -77,12 +78,14 @@ KINDS = {
 REFUSED = {"a refused command, with its job"}
 
 
-def plan(kind, count):
-    """A plan of this many commands of the kind, and a second agent that takes nothing."""
+def plan(kind, count, is_skipped):
+    """A plan of this many commands of the kind, in jobs that do them or end before, and a second agent that takes nothing."""
     needs, command, _ = KINDS[kind]
-    length = 1 if kind in REFUSED else LONGEST
+    # An event of a job keeps its commands, so that they are let go as those are that are done.
+    begins = [["let", "begun", 1], ["deref", "x", "nothing"]] if is_skipped else [] if kind in REFUSED else [["let", "begun", 1]]
+    length = 1 if kind in REFUSED and not is_skipped else LONGEST - len(begins)
     commands = [command(number) for number in range(count)]
-    jobs = [needs] + [commands[at : at + length] for at in range(0, count, length)]
+    jobs = [needs] + [begins + commands[at : at + length] for at in range(0, count, length)]
     first = {"name": "a", "callbacks": {"c": []}, "jobs": [{"run": job} for job in jobs]}
     return json.dumps({"version": 1, "agents": [first, {"name": "b", "callbacks": {}, "jobs": []}]})
 
@@ -109,17 +112,27 @@ def peak(words):
     return int(said.stderr.split()[-1]) * 1024
 
 
-def written(kind, count, room):
-    file = os.path.join(room, f"{count}.json")
+def written(kind, count, room, is_skipped=False):
+    file = os.path.join(room, f"{count}{'-skipped' if is_skipped else ''}.json")
     with open(file, "w", encoding="utf-8") as out:
-        out.write(plan(kind, count))
+        out.write(plan(kind, count, is_skipped))
     return file
 
 
-def slope(kind, counts, room, measure):
+def slope(kind, counts, measure):
     """What one command more adds to what is measured."""
     few, many = counts if counts[1] <= KINDS[kind][2] else (KINDS[kind][2] // 5, KINDS[kind][2])
-    return (measure(written(kind, many, room)) - measure(written(kind, few, room))) / (many - few)
+    return (measure(many) - measure(few)) / (many - few)
+
+
+def steps(program, kind, options, room):
+    """The instructions of the steps of so many commands, and not of their reading."""
+
+    def counted(count):
+        ran, skipped = (instructions([program, "run", written(kind, count, room, is_skipped), *options], room) for is_skipped in (False, True))
+        return ran - skipped
+
+    return counted
 
 
 def row(program, kind, weigh):
@@ -127,17 +140,9 @@ def row(program, kind, weigh):
     with tempfile.TemporaryDirectory() as room:
         cells = []
         for options in (["--turns"], []):
-            cells.append(
-                slope(
-                    kind,
-                    COUNTED,
-                    room,
-                    lambda file: instructions([program, "run", file, *options], room)
-                    - instructions([program, "check", file], room),
-                )
-            )
+            cells.append(slope(kind, COUNTED, steps(program, kind, options, room)))
         if weigh and KINDS[kind][2] == ANY:
-            cells.append(slope(kind, WEIGHED, room, lambda file: peak([program, "run", file, "--turns"])))
+            cells.append(slope(kind, WEIGHED, lambda count: peak([program, "run", written(kind, count, room), "--turns"])))
         return cells
 
 

@@ -105,7 +105,7 @@ def code_of(want):
 def by_turns(program, data):
     """Each thing that a plan is asked for: its name, what it is to be, and what it is."""
     want = checked(data)
-    yield "check", want, running.answer([program, "check"], data)
+    yield "check", want, running.unwarned(running.answer([program, "check"], data))
     yield "explain", code_of(want), explained(program, data)
     yield "run --turns", rules.answer(data), running.answer([program, "run", "--turns"], data)
 

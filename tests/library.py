@@ -34,10 +34,12 @@ OK = b"ok\n"
 
 
 def by_program(checks, plan):
-    """What the program answers: its status, its report and its complaint."""
+    """What the program answers: its status, its report and its complaint, without what a plan is warned of, which the
+    library does not tell."""
     words = ["check"] if checks else ["run", "--turns"]
     ran = subprocess.run([PROGRAM, *words], input=plan, capture_output=True, timeout=60, check=False)
-    return ran.returncode, ran.stdout, ran.stderr
+    lines = ran.stderr.splitlines(keepends=True)
+    return ran.returncode, ran.stdout, b"".join(line for line in lines if not line.startswith(b"warning "))
 
 
 def by_c(checks, plan):

@@ -6,6 +6,8 @@ Usage: node_command.py
 - Words, files and pipes: statuses, standard output and standard error. All that leads to a value, worked out by hand.
 - In one process, by node_command.mjs: words that are none; each example's stored report and stored trace; of some the forms of
   a trace, all values too, beside the model of trace_model.py; each row of mistakes.py and some more in words, with their places.
+- Warnings: each row of warnings.json, worked out by hand, by `explain`, by `check` and by the calls of the module; which operands are
+  variables, beside commands.json.
 - Scripts in JavaScript, with a stand-in for what makes plans of them: plans, faults with their marks.
 - Scripts beside node's own objects: what is the same, what may differ, and what differs.
 - The package: what `npm pack` would pack, its types beside docs/trace.schema.json, and what the module says in a node that is
@@ -17,6 +19,7 @@ What it left out, for want of node or npm, it says before its last line, `N pass
 import glob
 import json
 import os
+import re
 import shutil
 import sys
 import tempfile
@@ -307,6 +310,86 @@ def said_in(answer, wanted):
     return answer.get("status"), free
 
 
+# What the module answers of plans, each given as a text and, if it is JSON, as an object; and which operands are variables.
+WARN = """
+import { readFileSync } from "node:fs";
+const { explain, warnings } = await import(process.argv[1]);
+const { variablesOf } = await import(process.argv[2]);
+const { plans, forms } = JSON.parse(readFileSync(0, "utf8"));
+const asked = (plan) => [explain(plan).text, warnings(plan)];
+const found = plans.map((text) => [asked(text), asked(new TextEncoder().encode(text)), ...(text.endsWith("}") ? [asked(JSON.parse(text))] : [])]);
+console.log(JSON.stringify({ found, variables: forms.map(([word, count]) => variablesOf(word, count)) }));
+"""
+# By the words of a sentence, the cause of a warning.
+CAUSES = {"nothing assigns": "unassigned", "is read before": "assigned later", "nothing reads": "unread", "the held value is": "held target"}
+
+
+def warned_rows():
+    """The rows of warnings.json: the name, the plan as a text, the code of its fault or None, and the lines."""
+    for row in json.loads(read("tests", "warnings.json")):
+        plan = row["plan"] if isinstance(row["plan"], str) else json.dumps(row["plan"])
+        yield row["name"], plan, row.get("fault"), "".join(f"{line}\n" for line in row["lines"])
+
+
+def of_warnings(asked, count):
+    """Warnings by `explain` and by `check`; a plan with a fault has none. The other commands tell none."""
+    for number, (name, plan, fault, lines) in enumerate(warned_rows()):
+        path = os.path.join(asked.room, f"warned{number}.json")
+        with open(path, "w", encoding="utf-8") as file:
+            file.write(plan)
+        for word, wanted in (("explain", ("ok\n" + lines, "")), ("check", ("ok\n", lines))):
+            asked.add([word, path], lambda _, answer, what=f"{word}: {name}", wanted=wanted, fault=fault: warned(count, what, answer, wanted, fault))
+        for word in ("run", "trace"):
+            asked.add([word, path], lambda _, answer, what=f"{word}: {name}": count.expect(what, "warning" in json.dumps(answer), False))
+
+
+def warned(count, what, answer, wanted, fault):
+    text, error = answer.get("text", ""), answer.get("error", "")
+    if fault is None:
+        count.expect(what, (answer["status"], text, error), (0, *wanted))
+    else:
+        said = text + error
+        count.expect(what, (answer["status"], fault in said.split("\n")[0], "warning" in said), (1, True, False))
+
+
+def of_module(count):
+    """The same rows by the calls of the module, and what it knows of operands."""
+    rows, table = [*warned_rows()], json.loads(read("tests", "commands.json"))
+    forms = [(word, uses) for word, row in table.items() for uses in {row["operands"], row["operands"] + row.get("and", "")}]
+    flags = [] if node_package.is_wide() else [node_package.FLAG]
+    paths = [os.path.join(PLAY, *name) for name in (("explain.mjs",), ("page", "mistakes", "words.mjs"))]
+    asked = {"plans": [plan for _, plan, _, _ in rows], "forms": [(word, len(uses)) for word, uses in forms]}
+    _, said, err = running.answer(["node", *flags, "--input-type=module", "-e", WARN, *paths], json.dumps(asked).encode())
+    if not said:
+        count.add("warnings by the module", err or "nothing is said")
+        return
+    answers = json.loads(said)
+    for (name, plan, fault, lines), given in zip(rows, answers["found"], strict=True):
+        for explained, answer in given:
+            by_module(count, f"the module: {name}", plan, (fault, lines), explained, answer)
+    for (word, uses), found in zip(forms, answers["variables"], strict=True):
+        wanted = {"read": [at for at, use in enumerate(uses) if use in "vohwmsrb"], "assigned": uses.find("x")}
+        count.expect(f"the variables of {word} with {len(uses)} operands", found, wanted)
+
+
+def by_module(count, what, plan, wanted, explained, answer):
+    """One answer of the module: the lines, and the same part by part."""
+    fault, lines = wanted
+    if fault is not None:
+        count.expect(what, (explained.startswith(fault), answer["status"], answer["warnings"]), (True, 1, []))
+        return
+    count.expect(what, (explained, answer["status"], answer["text"]), ("ok\n" + lines, 0, lines))
+    parts = [f"warning {json.dumps(one['pointer'])} {one['sentence']}\n" for one in answer["warnings"]]
+    count.expect(f"{what}, part by part", "".join(parts), lines)
+    agents = json.loads(plan)["agents"]
+    for one in answer["warnings"]:
+        cause = next(cause for words, cause in CAUSES.items() if words in one["sentence"])
+        agent = agents[int(one["pointer"].split("/")[2])]["name"]
+        is_named = one["variable"] in re.findall(r"\w+", one["sentence"])
+        count.expect(f"{what}: {one}", (one["cause"], one["agent"], is_named, sorted(one)), (
+            cause, agent, True, ["agent", "cause", "pointer", "sentence", "variable"]))
+
+
 def of_mistakes(asked, count):
     """Words that are none, and words for help."""
     for kind, lines in (("mistake", MISTAKES), ("help", HELPED)):
@@ -408,8 +491,10 @@ def main():
         asked = Asked(room)
         of_examples(asked, count)
         of_faults(asked, count)
+        of_warnings(asked, count)
         of_mistakes(asked, count)
         asked.ask()
+        of_module(count)
         ends(command, count)
         much(command, count)
         pipes(command, count)

@@ -10,7 +10,7 @@ import running
 
 TOP = os.path.dirname(os.path.dirname(os.path.abspath(__file__)))
 EXAMPLES = os.path.join(TOP, "examples")
-PAGES = ["calls", "effects", "graph", "json", "judging", "kinds", "leading", "names", "replay", "scripting", "statements", "used", "words"]
+PAGES = ["calls", "effects", "graph", "json", "judging", "kinds", "leading", "names", "replay", "scripting", "statements", "used", "warnings", "words"]
 PACKED = [
     "LICENSE-APACHE", "LICENSE-MIT", "README.md", "bin.mjs", "clusterrun.d.ts", "clusterrun.mjs", "lessons/node.mjs", "package.json", "plan.schema.json",
     "explain.d.ts", "explain.mjs", "script.d.ts", "script.mjs", "trace.schema.json", *(f"page/{name}.mjs" for name in PAGES),
@@ -26,7 +26,7 @@ import { readFileSync } from "node:fs";
 import { createRequire } from "node:module";
 const require = createRequire(import.meta.url);
 const { run } = await import("clusterrun");
-const { explain } = await import("clusterrun/explain");
+const { explain, warnings } = await import("clusterrun/explain");
 const { ScriptFault, linesOf, planOf } = await import("clusterrun/script");
 const planned = planOf('console.log("a", 1);');
 const lines = linesOf(planned.trace, planned.places).map(({ text }) => text);
@@ -38,9 +38,10 @@ function faultOf(source) {
   }
 }
 const told = ["[]", new TextEncoder().encode("[").buffer, Uint8Array.of(255), planOf("1;").plan, {}].map((one) => explain(one).text);
+const warned = warnings(planOf("1;").plan).warnings.length + warnings('{"version":1,"agents":[{"name":"a","callbacks":{},"jobs":[{"run":[["say","x"]]}]}]}').warnings.length;
 const { version } = require("clusterrun/package.json");
 const [plan, trace] = ["plan", "trace"].map((name) => require(`clusterrun/${name}.schema.json`));
-console.log(JSON.stringify([run("[]").text, version, plan.title, trace.title, lines, faultOf("let a; let a;"), told]));
+console.log(JSON.stringify([run("[]").text, version, plan.title, trace.title, lines, faultOf("let a; let a;"), told, warned]));
 """
 
 # What `explain` says of a list, of a text that is cut off, of a byte that is none of a text, of a plan as an object, and of an empty object.
@@ -110,7 +111,7 @@ def installed(count, room, package):
     flags = [] if is_wide() else [FLAG]
     titles = [json.loads(read("docs", f"{name}.schema.json"))["title"] for name in ("plan", "trace")]
     version = json.loads(read("play", "package.json"))["version"]
-    wanted = (0, json.dumps(["refused S2", version, *titles, ["a 1"], [True, 11], EXPLAINED], separators=(",", ":")) + "\n", "")
+    wanted = (0, json.dumps(["refused S2", version, *titles, ["a 1"], [True, 11], EXPLAINED, 1], separators=(",", ":")) + "\n", "")
     status, out, err = running.answer(["node", *flags, script])
     count.expect("what may be imported", (status, out, re.sub(r".*Warning.*\n|\(Use .*\n", "", err)), wanted)
 

@@ -6,11 +6,12 @@ Usage: page.py PROGRAM [--long] [--pictures FOLDER]
 - The kept files are what play/build.py makes of the kept module, if their sources have not changed since, and the module
   is what it makes of es_library, if the crates below that are built. If they have changed it says so.
 - In node: reports and traces of the examples and of 300 random plans, and what tests/page_calls.mjs says of the calls. What
-  the scripts say of each fault is what `clusterrun explain` says, and the marked letters are those to which its pointer leads.
+  the scripts say of each fault is what `clusterrun explain` says, with the warnings of a plan that has none, and the marked letters
+  are those to which its pointer leads.
   What the page makes of traces, words and heaps, is what tests/trace_model.py gives.
 - In a browser without a window, from the disk: each example's report is the stored one; its trace, step by step, with the
-  picture after each collection and what keeps a value; the marks of faults, keys, links, the documents that the foot
-  names, the time of 60,000 commands, a run that is stopped, and a plan that takes more memory than there is.
+  picture after each collection and what keeps a value; the marks of faults and of warnings, keys, links, the documents that the
+  foot names, the time of 60,000 commands, a run that is stopped, and a plan that takes more memory than there is.
 
 With --long there are 5,000 plans. With --pictures the page is painted, wide and narrow, dark and light. What it left out, for
 want of a tool, it says before its last line, `N passed, M failed`.
@@ -132,10 +133,10 @@ def compare(count, program, asked, name, plan):
     wanted = {"ran": by_program(program, ["run", "--turns"], plan), "checked": by_program(program, ["check"], plan)}
     wanted["traced"] = [by_program(program, ["trace", "--json", *words], plan) for words in ([], ["--all"])]
     count.expect(f"{name}: {plan[:300]!r}", {key: got[key] for key in wanted}, wanted)
-    if got["ran"]["status"] == 1:
+    if "explained" in got:
         _, said, _ = running.answer([program, "explain"], plan)
         count.expect(f"explain of {name}: {plan[:300]!r}", got["explained"], said)
-        if (place := led_to(said, plan)) is not None:
+        if got["ran"]["status"] == 1 and (place := led_to(said, plan)) is not None:
             count.expect(f"the mark of {name}: {plan[:300]!r}", json.dumps(json.loads(got["marked"])), place)
 
 

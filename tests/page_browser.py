@@ -39,6 +39,12 @@ const traced = async (identity) => {
   at("forward").click();
   document.querySelector(`[data-identity="${identity}"]`).dispatchEvent(new MouseEvent("click", { bubbles: true }));
 };
+// What is said of a plan with warnings, and the letters that are marked for them.
+const warned = () => ({
+  told: at("fault").firstChild.textContent, list: [...at("fault").querySelectorAll("li")].map((it) => it.textContent),
+  marks: [...document.querySelectorAll("#marks .warned")].map((it) => it.textContent), canVisit: !at("visit").hidden,
+});
+const selected = () => at("plan").value.slice(at("plan").selectionStart, at("plan").selectionEnd);
 // Types a plan, and runs it if that is asked for.
 const typed = (text, runs) => {
   at("fault").textContent = "";
@@ -67,6 +73,27 @@ MARKED = [
 ]
 
 
+# The warnings of examples that have some, worked out by hand.
+WARNED_EXAMPLES = {"agents": 2, "registers": 4, "symbols": 1, "unregister": 1, "worker": 1}
+# A plan with warnings in four places, and what the page says of it, in the order of its lines.
+WARNED = """{"version": 1,
+ "agents": [{"name": "a", "callbacks": {"c": [["say", "hedl"]]},
+  "jobs": [{"run": [["new", "x"],
+   ["say", "y"], ["registry", "r", "c"], ["register", "r", "z", "z"],
+   ["let", "y", 1]]}]}]}"""
+WARNINGS = [
+    "Line 2: nothing assigns hedl, so it is undefined; let assigns a text", "Line 3: nothing reads x",
+    "Line 4: y is read before anything assigns it, so it is undefined", "Line 4: nothing assigns z, so it is undefined; let assigns a text",
+    "Line 4: the held value is the target z, so this is refused",
+]
+WARNED_PLACES = ['["say", "hedl"]', '["new", "x"]', '["say", "y"]', '["register", "r", "z", "z"]']
+# The rows of warnings.json that are tried in the page.
+WARNED_ROWS = [
+    "a text in the place of a variable", "held values that are the targets, in jobs and callbacks", "callbacks come by rising bytes of their names",
+    "two agents with a variable of one name", "the last of two members of one name counts, and escapes are letters", "let x null alone",
+]
+
+
 def whole(text):
     """The plan for which a text stands."""
     if not text.startswith("["):
@@ -91,7 +118,9 @@ def examples(count, browser):
             report = file.read()
         name = os.path.basename(path).removesuffix(".json")
         got = call(browser, "chosen", "examples", name)
-        count.expect(f"{name} in the page", (got["report"], got["fault"], got["old"]), (report, "No fault.", False))
+        told, warnings = browser.value("[at('fault').firstChild.textContent, at('fault').querySelectorAll('li').length]")
+        count.expect(f"{name} in the page", (got["report"], got["old"], warnings), (report, False, WARNED_EXAMPLES.get(name, 0)))
+        count.expect(f"what is said of {name}", (told.startswith("No fault."), told == "No fault."), (True, warnings == 0))
 
 
 def traces(count, browser):
@@ -105,6 +134,55 @@ def marks(count, browser):
         got = call(browser, "typed", before + marked + after, False)
         count.expect(f"the mark of {text}", got["marked"], marked)
         count.expect(f"an older report beside {text}", got["old"], True)
+
+
+def warnings(count, browser):
+    """What is said of a plan with warnings, its marks, and the way to them by keys and by a press; it runs all the same."""
+    got = call(browser, "typed", WARNED, True)
+    count.expect("a plan with warnings runs", (got["report"].split("\n")[1], got["old"]), ("say undefined", False))
+    wanted = {"told": "No fault. 5 warnings:", "list": WARNINGS, "marks": WARNED_PLACES, "canVisit": True}
+    count.expect("what is said of warnings", browser.value("warned()"), wanted)
+    count.expect("a plan with warnings is valid", browser.value("at('plan').getAttribute('aria-invalid')"), "false")
+    browser.value("at('plan').setSelectionRange(0, 0), at('run').focus()")
+    for place in [*WARNED_PLACES, WARNED_PLACES[0]]:
+        browser.press("F8", 119)
+        count.expect(f"F8 to {place}", browser.value("selected()"), place)
+    browser.value("at('fault').querySelectorAll('button')[2].click()")
+    count.expect("a press on a warning", browser.value("[selected(), document.activeElement.id]"), [WARNED_PLACES[2], "plan"])
+    browser.value("at('visit').click()")
+    count.expect("the button that goes to the next one", browser.value("selected()"), WARNED_PLACES[3])
+    # The trace is made once its tab is shown; the step is marked then.
+    browser.value("(async () => { at('trace-tab').click(); await settled(); at('to-first').click(); at('forward').click(); })()")
+    browser.value("(async () => { for (let tries = 0; tries < 100 && document.querySelector('#marks .step') === null; tries += 1) {"
+                  " await rest(50); at('to-first').click(); at('forward').click(); } })()")
+    count.expect("a step that is warned of", browser.value("[...document.querySelectorAll('#marks .step')].map((it) => [it.textContent, it.className])"), [
+        [WARNED_PLACES[1], "step warned"]])
+    count.expect("the marks beside a step", browser.value("warned().marks"), WARNED_PLACES)
+    browser.value("at('report-tab').click()")
+    call(browser, "typed", whole('[["say", "x"], ["nwe"]]'), False)
+    count.expect("a fault takes their place", browser.value("[warned().marks, at('fault').className]"), [[], "bad"])
+    call(browser, "typed", whole('[["let", "x", 1], ["say", "x"]]'), False)
+    wanted = {"told": "No fault.", "list": [], "marks": [], "canVisit": False}
+    count.expect("a plan without warnings", browser.value("warned()"), wanted)
+    got = call(browser, "typed", "let x = {};\n", True)
+    count.expect("the plan of a script has no warnings", browser.value("warned()"), wanted)
+    with open(os.path.join(TOP, "tests", "warnings.json"), encoding="utf-8") as file:
+        rows = {row["name"]: row for row in json.load(file)}
+    for name in WARNED_ROWS:
+        row = rows[name]
+        text = row["plan"] if isinstance(row["plan"], str) else json.dumps(row["plan"])
+        call(browser, "typed", text, False)
+        said = [line.split('" ', 1)[1] for line in row["lines"]]
+        count.expect(f"the page: {name}", sorted(browser.value("warned().list")), sorted(f"Line 1: {sentence}" for sentence in said))
+        places = {line.split('"')[1] for line in row["lines"]}
+        count.expect(f"the marks: {name}", sorted(json.loads(it) for it in browser.value("warned().marks")), sorted(at_pointer(text, it) for it in places))
+
+
+def at_pointer(text, pointer):
+    value = json.loads(text)
+    for part in pointer.split("/")[1:]:
+        value = value[int(part)] if isinstance(value, list) else value[part]
+    return value
 
 
 def links(count, browser):
@@ -182,7 +260,7 @@ def stopped(count, browser):
     agent = {"name": "a", "callbacks": {}, "jobs": [{"run": run} for run in commands]}
     long = json.dumps(json.dumps({"version": 1, "agents": [agent]}))
     got = browser.value(f"typed({long}, true), rest(400).then(() => {{ at('stop').click(); return settled(); }})")
-    count.expect("a run that is stopped", (got["report"], got["state"], got["fault"]), ("", "Stopped.", "No fault."))
+    count.expect("a run that is stopped", (got["report"], got["state"], got["fault"][:9]), ("", "Stopped.", "No fault."))
     browser.value(f"typed({long}, true), rest(400)")
     examples(count, browser)
 
@@ -212,7 +290,7 @@ def pictures(browser, folder):
     scenes = {
         "example": "chosen('examples', 'worker')", "callbacks": "chosen('examples', 'queue')",
         "fault": f"typed({json.dumps(open(os.path.join(TOP, 'examples', 'gone.json'), encoding='utf-8').read().replace('deref', 'derf'))}, false)",
-        "menu": "at('open').click()",
+        "warnings": f"typed({json.dumps(WARNED)}, true)", "menu": "at('open').click()",
         "trace": "chosen('examples', 'ephemerons').then(() => traced(2))", "trace-of-two": "chosen('examples', 'worker').then(() => traced(1))",
     }
     for scene, doing in scenes.items():
@@ -230,7 +308,7 @@ def pictures(browser, folder):
 def try_all(count, path, folder):
     with Browser(path) as browser:
         begin(browser, PAGE)
-        for part in (examples, traces, marks, keys, times, stopped, without_memory, network, links, documents):
+        for part in (examples, traces, marks, warnings, keys, times, stopped, without_memory, network, links, documents):
             part(count, browser)
         thrown = [event["params"]["exceptionDetails"] for event in browser.events if event["method"] == "Runtime.exceptionThrown"]
         count.expect("what the page threw", thrown, [])

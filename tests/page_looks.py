@@ -55,7 +55,7 @@ const thin = (least) => {
 // The ink of the editor on what marks a place in it.
 const marked = () => {
   const root = getComputedStyle(at("plan")), ink = numbersOf(root.color).slice(0, 3);
-  return ["fault", "step"].map((kind) => {
+  return ["fault", "step", "warned", "step warned"].map((kind) => {
     const mark = Object.assign(document.createElement("mark"), { className: kind });
     at("marks").append(mark);
     const value = contrast(ink, numbersOf(getComputedStyle(mark).backgroundColor).slice(0, 3));
@@ -84,7 +84,7 @@ const bursting = () => {
   return [...document.querySelectorAll("#heap .node:not(.point)")].filter(bursts).map((it) => it.textContent);
 };
 // What may be longer than its place: it scrolls, or is told in full elsewhere.
-const SCROLLS = "#rows, #heap, .editor, #offers, .said, .heard, #report, #printed, #planned, dialog";
+const SCROLLS = "#rows, #heap, .editor, #offers, .said, .warning ol, .heard, #report, #printed, #planned, dialog";
 // The texts that are cut, or that stand outside of the window; the page itself may scroll down where it is narrow.
 const cut = () => {
   const page = { left: 0, top: 0, right: innerWidth, bottom: Math.max(innerHeight, document.body.getBoundingClientRect().bottom + scrollY) };

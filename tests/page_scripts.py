@@ -538,6 +538,8 @@ def contrasts(count, tab):
     tab.value("at('trace-tab').click()")
     pasted(tab, "let a = ;")
     page_looks.contrasts(count, tab, "a fault")
+    pasted(tab, page_browser.WARNED)
+    page_looks.contrasts(count, tab, "warnings")
     tab.value("at('open').click()")
     page_looks.contrasts(count, tab, "the menu")
     tab.press("Escape", 27)

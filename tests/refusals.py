@@ -67,7 +67,8 @@ def many_callbacks():
 def answer_of(program, text):
     """What the program says to a text, or how it ended where it should not have."""
     run = subprocess.run([program, "check"], input=text, capture_output=True, check=False)
-    if run.returncode == 0 and not run.stderr:
+    # What a plan is warned of stands on standard error, and warnings.py looks at it.
+    if run.returncode == 0 and all(line.startswith(b"warning ") for line in run.stderr.splitlines()):
         return run.stdout.decode().removesuffix("\n")
     if run.returncode == 1 and not run.stdout:
         return run.stderr.decode().removesuffix("\n")

@@ -26,6 +26,12 @@ def answer(words, data=b"", limit=LIMIT, **how):
     return ran.returncode, ran.stdout.decode(errors="replace"), ran.stderr.decode(errors="replace")
 
 
+def unwarned(ended):
+    """The same end without what a plan is warned of on standard error: that is for warnings.py to look at."""
+    status, said, errors = ended
+    return status, said, "".join(line for line in errors.splitlines(keepends=True) if not line.startswith("warning "))
+
+
 def preloaded(library, **variables):
     """The environment of a run that this library stands before, with these variables."""
     return {**os.environ, "LD_PRELOAD": library, **{name: str(value) for name, value in variables.items()}}
@@ -58,10 +64,16 @@ class Count:
         self.add(what, None if got == want else f"wanted {str(want)[:300]}\n  got {str(got)[:300]}")
 
     def expect_all(self, cases, jobs):
-        """Counts a run for each case, so many of them at once: what it is, its words, its bytes, what it is to give, and
-        how it is made."""
+        """Counts a run for each case, so many of them at once: what it is, its words, its bytes, what it is to give (of a
+        check without warnings), and how it is made."""
+
+        def ended(case):
+            what, words, data, want, how = case
+            got = answer(words, data, **how)
+            return what, unwarned(got) if words[1:2] == ["check"] else got, want
+
         with ThreadPoolExecutor(jobs) as pool:
-            for what, got, want in pool.map(lambda case: (case[0], answer(case[1], case[2], **case[4]), case[3]), cases):
+            for what, got, want in pool.map(ended, cases):
                 self.expect(what, got, want)
 
     def join(self, other):

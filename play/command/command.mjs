@@ -7,6 +7,7 @@ import { leadingRows } from "./leading.mjs";
 import { picturesOf } from "./pictures.mjs";
 import { rowsOf } from "./rows.mjs";
 import { planned } from "./script.mjs";
+import { warningLines, warningsOf } from "../page/warnings.mjs";
 
 const STANDARD_INPUT = "standard input";
 const GOOD = 0, REFUSED = 1, MISTAKEN = 2, NO_MEMORY = 3, NOT_READ = 4;
@@ -32,7 +33,7 @@ export async function carriedOut({ command, file, options }, engine) {
 
 function ofPlan(command, bytes, options, engine) {
   const { status, text, error } = COMMANDS[command](bytes, options, engine);
-  if (status === GOOD) return { status, text };
+  if (status === GOOD) return { status, text, ...(options.isScript ? {} : TELLING[command]?.(text, bytes)) };
   if (status === MISTAKEN) return { status, error };
   if (status !== REFUSED) return { status, error: ERRORS[status] };
   return command === "explain" ? { status, text: explained(text, bytes) } : { status, error: `${text}\n` };
@@ -48,6 +49,13 @@ const COMMANDS = {
     if (why !== undefined) return whyOf(leadingRows(text, textOf(bytes), why, isScript));
     return { status, text: dot ? picturesOf(text, textOf(bytes)) : rowsOf(text) };
   },
+};
+
+/** The commands that tell the warnings of a plan without a fault. The plan of a script has none: its author did not write its
+    commands. */
+const TELLING = {
+  check: (text, bytes) => ({ error: warningLines(warningsOf(bytes)) }),
+  explain: (text, bytes) => ({ text: text + warningLines(warningsOf(bytes)) }),
 };
 
 const whyOf = ({ text, error }) => (error === undefined ? { status: GOOD, text } : { status: MISTAKEN, error });

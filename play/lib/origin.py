@@ -12,7 +12,7 @@ LIBRARY = "es_library"
 # What is made, and kept in the repository; clusterrun.d.ts is written by hand.
 MADE = ["clusterrun.mjs", "index.html", "package.json"]
 OTHERS = [
-    "play/build.py", "play/*.c", "play/lib/*.py", "play/module/*", "play/page/*", "play/script/*.mjs", "play/syntax/*.mjs",
+    "play/build.py", "play/*.c", "play/lib/*.py", "play/module/*", "play/page/*", "play/page/mistakes/*.mjs", "play/script/*.mjs", "play/syntax/*.mjs",
     "play/lessons/*.js", "examples/*.json", "examples/README.md", "engines/corpus/*/*.json", "docs/ERRORS.md", "docs/SCRIPTS.md",
     "docs/plan.schema.json", "crates/command_line/src/options.rt",
 ]

@@ -9,7 +9,7 @@ const MOST_TAKEN_BACK = 200_000;
 
 export class Editor {
   constructor(area, numbers, marks) {
-    Object.assign(this, { area, numbers, marks, starts: [0], place: null, kind: "" });
+    Object.assign(this, { area, numbers, marks, starts: [0], place: null, kind: "", warned: [] });
     area.addEventListener("scroll", () => this.draw());
     area.addEventListener("keydown", (event) => this.indent(event));
     new ResizeObserver(() => this.draw()).observe(area);
@@ -23,6 +23,7 @@ export class Editor {
     if (text !== this.text) this.write(text);
     this.area.setSelectionRange(0, 0);
     this.area.scrollTo(0, 0);
+    this.warned = [];
     this.mark(null);
   }
 
@@ -63,33 +64,43 @@ export class Editor {
     this.draw();
   }
 
+  /** Marks the places of warnings besides, which come in their order. Two may be about one command. */
+  warn(places) {
+    this.warned = places.filter(({ start }, at) => start !== places[at - 1]?.start);
+    this.draw();
+  }
+
   /** The line of a letter, from 1. */
   line(at) {
     const after = this.starts.findIndex((start) => start > at);
     return after < 0 ? this.starts.length : after;
   }
 
-  /** Selects the marked place and shows it. */
-  visit() {
-    if (this.place === null) return;
-    const { start, end } = this.place;
+  /** Selects a place and shows it: of warnings the next one behind the caret, or the first one; else the marked place. */
+  visit(place = this.next() ?? this.place) {
+    if (place === null) return;
+    const { start, end } = place;
     this.area.focus();
     this.area.setSelectionRange(start, end);
     this.area.scrollTop = Math.max(0, (this.line(start) - 1) * HEIGHT - this.area.clientHeight / 3);
-    this.revealAcross();
+    this.revealAcross(place);
+  }
+
+  next() {
+    return this.warned.find(({ start }) => start > this.area.selectionStart) ?? this.warned[0];
   }
 
   /** Scrolls so far that the marked place can be seen. */
   reveal() {
     const top = PADDING + (this.line(this.place.start) - 1) * HEIGHT, { scrollTop, clientHeight } = this.area;
     if (top < scrollTop || top > scrollTop + clientHeight - 2 * HEIGHT) this.area.scrollTop = top - clientHeight / 3;
-    this.revealAcross();
+    this.revealAcross(this.place);
   }
 
   /** The same to the left and to the right: a long line is shown from its beginning, if the place can be seen so. */
-  revealAcross() {
+  revealAcross(place) {
     this.draw();
-    const [first] = this.marks.querySelector("mark")?.getClientRects() ?? [];
+    const [first] = [...this.marks.children].find(({ start }) => start === place.start)?.getClientRects() ?? [];
     if (first === undefined) return;
     const { scrollLeft, clientWidth } = this.area, left = first.left - this.area.getBoundingClientRect().left + scrollLeft;
     // Of a place that has no room its beginning is to be seen.
@@ -114,13 +125,26 @@ export class Editor {
 
   /** The letters from `from` up to `to`, with what is marked among them; nothing where nothing is. */
   marked(from, to) {
-    if (this.place === null) return [];
-    const start = Math.max(this.place.start, from), end = Math.min(this.place.end, to);
-    if (start > end) return [];
-    const text = this.text, marked = document.createElement("mark");
-    // A place past the last letter still shows.
-    marked.textContent = text.slice(start, end) || " ";
-    marked.className = this.kind;
-    return [text.slice(from, start), marked, text.slice(end, to)];
+    const text = this.text, parts = [];
+    let passed = from;
+    for (const { place, kind } of this.places()) {
+      const start = Math.max(place.start, from), end = Math.min(place.end, to);
+      if (start > end) continue;
+      const mark = Object.assign(document.createElement("mark"), { className: kind, start: place.start });
+      // A place past the last letter still shows.
+      mark.textContent = text.slice(start, end) || " ";
+      parts.push(text.slice(passed, start), mark);
+      passed = end;
+    }
+    return parts.length === 0 ? [] : [...parts, text.slice(passed, to)];
+  }
+
+  /** All places that are marked, in their order, each with the classes of its mark. A warning may be about the current step. */
+  places() {
+    if (this.place === null) return this.warned.map((place) => ({ place, kind: "warned" }));
+    const others = this.warned.filter(({ start }) => start !== this.place.start);
+    const kind = others.length < this.warned.length ? `${this.kind} warned` : this.kind;
+    const all = [{ place: this.place, kind }, ...others.map((place) => ({ place, kind: "warned" }))];
+    return all.sort((one, other) => one.place.start - other.place.start);
   }
 }

@@ -12,6 +12,7 @@ import { mistakeOf } from "./mistakes/mistake.mjs";
 import { pointedLine } from "../syntax/fault.mjs";
 import { Results, WITHOUT_TEXT } from "./results.mjs";
 import { split } from "./split.mjs";
+import { showWarnings, warningsIn } from "./warned.mjs";
 
 const at = (id) => document.getElementById(id);
 const read = (id) => JSON.parse(at(id).textContent);
@@ -67,6 +68,7 @@ function changed() {
   tellKind();
   clearTimeout(resting);
   resting = setTimeout(() => look({ runs: editor.text.length <= MOST_AT_REST }), REST);
+  editor.warn([]);
   editor.mark(null);
   results.age();
 }
@@ -95,13 +97,16 @@ function withoutText({ status, failure }) {
   return WITHOUT_TEXT[status] ?? (failure.includes("64-bit") ? NO_ENGINE : failure);
 }
 
-/** Says what is wrong, where it stands, or that nothing is. */
+/** Says what is wrong, where it stands, or that nothing is; then of a plan its warnings. */
 function tellFault(place, wrong) {
+  const warnings = wrong === null && isPlan(editor.text) ? warningsIn(editor.text) : [];
   editor.mark(place);
+  editor.warn(warnings.map((warning) => warning.place));
   at("plan").setAttribute("aria-invalid", wrong !== null);
-  at("visit").hidden = place === null;
-  if (wrong === null) say(at("fault"), "good", "No fault.");
-  else say(at("fault"), "bad", wrong);
+  at("visit").hidden = place === null && warnings.length === 0;
+  if (wrong !== null) say(at("fault"), "bad", wrong);
+  else if (warnings.length === 0) say(at("fault"), "good", "No fault.");
+  else showWarnings(at("fault"), editor, warnings);
   if (wrong === null) results.markStep();
 }
 

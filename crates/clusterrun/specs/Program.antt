@@ -1,4 +1,4 @@
--- To believe: what the program knows of its reader and its writer once it has run or explained a plan, or told of its trace or its races.
+-- To believe: what the program knows of its reader and its writer once it has run, checked or explained a plan, or told of its trace or its races.
 use Rattle.std.specs.Prelude.{ℕ, ◌≡◌, ⊤, List, Option, Some, None, Result, Ok, Err}
 use Rattle.std.specs.Io.KnownBytes.{Appends}
 use Rattle.es_reading.specs.declared.fault.ScriptFault.{ScriptFault}
@@ -8,8 +8,10 @@ use Rattle.es_explain.specs.declared.explanation.Explanation.TheVariants.{Plan a
 use Rattle.es_explain.specs.Explaining.{Explains, explanation_text}
 use Rattle.es_engine.specs.declared.run_fault.RunFault.{RunFault}
 use Rattle.es_engine.specs.declared.run_fault.RunFault.TheVariants.{Script, NoMemory, Mismatch, Read, Write}
+use Rattle.es_warnings.specs.Warnings.{warnings}
 use Rattle.es_options.specs.declared.options.Options.{Options}
-use Rattle.es_engine.specs.Engine.{GaveAll, GaveSomePlan, audits_of}
+use Rattle.es_engine.specs.declared.checking.Checked.{Checked}
+use Rattle.es_engine.specs.Engine.{GaveAll, GavePlan, GaveSomePlan, audits_of}
 use Rattle.es_turns.specs.declared.fault.TurnsFault.{TurnsFault}
 use Rattle.es_turns.specs.declared.fault.TurnsFault.TheVariants.{Script as TurnsScript, NoMemory as TurnsNoMemory, TooLong}
 use Rattle.es_tracing.specs.Tracing.{IsTraceOf}
@@ -26,9 +28,18 @@ ReadsTo options old new (Err Mismatch) = GaveSomePlan old new
 ReadsTo options old new (Err Read) = ⊤
 ReadsTo options old new (Err Write) = ⊤
 
+-- it gave the plan, and these are all its warnings; or it gave what has the fault; else nothing is known
+abbrev pub ChecksRead : (old new : Option (List ℕ)) → Result Checked RunFault → Type 0
+ChecksRead old new (Ok c) = GavePlan old new c.plan × (c.warnings.items ≡ warnings c.plan)
+ChecksRead old new (Err (Script f)) = (bytes : List ℕ) × GaveAll old new bytes × (fault_of bytes ≡ Some f)
+ChecksRead old new (Err NoMemory) = ⊤
+ChecksRead old new (Err Mismatch) = ⊥
+ChecksRead old new (Err Read) = ⊤
+ChecksRead old new (Err Write) = GaveSomePlan old new
+
 -- the fault of an explanation
 abbrev pub fault_in : Explanation → Option ScriptFault
-fault_in IsPlan = None
+fault_in (IsPlan plan ws) = None
 fault_in (Fault fault place found) = Some fault
 
 -- the reader gave bytes that this explains, and this is the fault that it tells

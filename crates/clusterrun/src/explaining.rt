@@ -31,7 +31,7 @@ fn fault_in(explanation: Explanation) -> Option<ScriptFault>
     ensures { result ≡ fault_in explanation }
 {
     match explanation {
-        Explanation::Plan => None,
+        Explanation::Plan { .. } => None,
         Explanation::Fault { fault, .. } => Some(fault),
     }
 }

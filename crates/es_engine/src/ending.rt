@@ -11,6 +11,8 @@ pub enum Ending {
     /// What was asked for ended well, after so many audits beside it. Its caller says so once what was
     /// written has reached standard output.
     Done(u32),
+    /// The plan has no fault, and what it is warned of was told.
+    Warned,
     /// The words asked for help, and its caller has shown it.
     Helped,
     /// The words are none of the program's.
@@ -25,7 +27,7 @@ pub fn status_for(ending: Ending) -> u8
     ensures { result ≡ status_for ending }
 {
     match ending {
-        Ending::Done(_) | Ending::Helped => 0,
+        Ending::Done(_) | Ending::Warned | Ending::Helped => 0,
         Ending::Failed(RunFault::Script(_)) => 1,
         Ending::Mistaken => 2,
         Ending::Failed(RunFault::NoMemory) => 3,

@@ -59,7 +59,7 @@ pub fn run_last<H: AllocGlobal + Threads + Wait + Sync, R: Read, W: Write>(
 }
 
 /// The plan that the reader's bytes stand for.
-fn plan_from<R: Read>(alloc: Global, reader: &mut R) -> Result<Plan, RunFault>
+pub(crate) fn plan_from<R: Read>(alloc: Global, reader: &mut R) -> Result<Plan, RunFault>
     ensures reads { ReadsPlan (R.remaining reader.old) (R.remaining reader.new) result }
     ensures few { IfOk result (λ p. length p.agents < 9) }
     ensures others { IfOk result (λ p. all_name_others p ≡ true) }

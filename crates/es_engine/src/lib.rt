@@ -2,6 +2,7 @@
 //! program over it ends, and what it says of that.
 #![tactic(auto)]
 
+mod checking;
 mod cluster;
 mod complaint;
 mod ending;
@@ -11,6 +12,7 @@ mod laws;
 mod letting_go;
 mod run_fault;
 
+pub use checking::{Checked, check, check_plan, end_check};
 pub use complaint::{explain, note_audits};
 pub use ending::{Ending, status_for};
 pub use engine::{run, run_last};

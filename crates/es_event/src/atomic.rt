@@ -12,9 +12,15 @@ use std::marker::Model;
 /// A command on a word of a buffer's block (ECMA-262, The Atomics Object), which contracts see as its parts.
 ///
 /// It takes 8 bytes, and a block of memory for its parts, since no other command has as many.
-#[derive(Drop)]
 pub struct Atomic {
     parts: Box<AtomicParts>,
+}
+
+impl Drop for Atomic {
+    #[inline]
+    fn drop(self) {
+        let Atomic { parts: _ } = self;
+    }
 }
 
 /// The parts of a command on a word of shared memory.

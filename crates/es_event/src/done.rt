@@ -13,10 +13,19 @@ use std::marker::Model;
 /// and what it gave.
 ///
 /// It takes 64 bytes. Three values lie in place, be they read or given; of more there is a list.
-#[derive(Drop)]
 pub struct Done {
     commands: SharedList<Command>,
     kept: Kept,
+}
+
+impl Drop for Done {
+    #[inline]
+    fn drop(self) {
+        let Done {
+            commands: _,
+            kept: _,
+        } = self;
+    }
 }
 
 impl Model for Done {

@@ -4,7 +4,6 @@ use crate::Change;
 use es_value::Value;
 
 /// What a message carries.
-#[derive(Drop)]
 pub enum Body {
     /// A value without an identity: undefined, a boolean, a number, a text or a registered symbol.
     Plain(Value),
@@ -12,9 +11,21 @@ pub enum Body {
     Block { block: u64, serial: u64 },
 }
 
+impl Drop for Body {
+    #[inline]
+    fn drop(self) {
+        match self {
+            Body::Plain(_) => {}
+            Body::Block {
+                block: _,
+                serial: _,
+            } => {}
+        }
+    }
+}
+
 /// What happened in the ledger (ECMA-262, Agent Clusters, Data Blocks; that blocks are counted by
 /// tickets is this host's).
-#[derive(Drop)]
 pub enum LedgerEvent {
     /// An agent made a block of so many words, and its first ticket.
     Opened {
@@ -66,4 +77,47 @@ pub enum LedgerEvent {
         sender: usize,
         receiver: usize,
     },
+}
+
+impl Drop for LedgerEvent {
+    #[inline]
+    fn drop(self) {
+        match self {
+            LedgerEvent::Opened {
+                block: _,
+                words: _,
+                serial: _,
+                agent: _,
+            } => {}
+            LedgerEvent::Posted {
+                sender: _,
+                receiver: _,
+                body: _,
+            } => {}
+            LedgerEvent::Taken {
+                sender: _,
+                receiver: _,
+            } => {}
+            LedgerEvent::Spent { serial: _ } => {}
+            LedgerEvent::Accessed {
+                serial: _,
+                index: _,
+                change: _,
+                old: _,
+            } => {}
+            LedgerEvent::Waiting {
+                agent: _,
+                sender: _,
+            } => {}
+            LedgerEvent::Passed {
+                agent: _,
+                sender: _,
+            } => {}
+            LedgerEvent::Ended { agent: _ } => {}
+            LedgerEvent::Drained {
+                sender: _,
+                receiver: _,
+            } => {}
+        }
+    }
 }

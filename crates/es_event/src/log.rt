@@ -9,9 +9,15 @@ use std::marker::Model;
 
 /// Events in order of happening, with room for more. Contracts see the events, the newest first, and
 /// for how many more there is room.
-#[derive(Drop)]
 pub struct Log<E> {
     all: Vec<E>,
+}
+
+impl<E: Drop> Drop for Log<E> {
+    #[inline]
+    fn drop(self) {
+        let Log { all: _ } = self;
+    }
 }
 
 impl<E> Model for Log<E> {
@@ -54,7 +60,8 @@ impl<E> Log<E> {
     pub fn into_sequence(self) -> Sequence<E>
         ensures { reverse result ≡ self.events }
     {
-        Sequence::from_vec(self.all)
+        let Log { all } = self;
+        Sequence::from_vec(all)
     }
 }
 

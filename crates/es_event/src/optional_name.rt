@@ -10,9 +10,15 @@ use std::marker::Model;
 
 /// A name that may be left out, which contracts see as an option. It takes 8 bytes where it stands, so that
 /// a command takes 40.
-#[derive(Drop)]
 pub struct OptionalName {
     names: SharedList<Name>,
+}
+
+impl Drop for OptionalName {
+    #[inline]
+    fn drop(self) {
+        let OptionalName { names: _ } = self;
+    }
 }
 
 impl Model for OptionalName {

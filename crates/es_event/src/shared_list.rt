@@ -10,9 +10,15 @@ use std::sync::ArcSlice;
 /// A list that several places have, which contracts see as its items alone, in order.
 ///
 /// It takes 8 bytes in each place. Its owners are counted, by a count that threads may share.
-#[derive(Drop)]
 pub struct SharedList<T> {
     all: ArcSlice<T>,
+}
+
+impl<T: Drop> Drop for SharedList<T> {
+    #[inline]
+    fn drop(self) {
+        let SharedList { all: _ } = self;
+    }
 }
 
 impl<T> Model for SharedList<T> {

@@ -1,4 +1,4 @@
--- To believe: what is said of a plan's text for people: that it is a plan, or its first fault,
+-- To believe: what is said of a plan's text for people: that it is a plan, and what it is warned of (es_warnings); or its first fault,
 -- where that is, what it is (Causes), and what was found.
 use Rattle.std.specs.Prelude.{ℕ, zero, suc, ◌≡◌, ◌==◌, ◌-◌, ◌<◌, ◌≤◌, Bool, false, List, [], ◌∷◌, ◌++◌, length, take, Option, Some, None, option_and_then, codes, decimal, string_bytes, if◌then◌else◌}
 use Rattle.std.specs.Str.{IsCharBoundary}
@@ -14,6 +14,8 @@ use Rattle.es_reading.specs.declared.fault.ScriptFault.{ScriptFault}
 use Rattle.es_reading.specs.Numbers.{number_of}
 use Rattle.es_reading.specs.Parts.{members_in}
 use Rattle.es_script.specs.Fault.{IsPlanOf, fault_of, json_value}
+use Rattle.es_warnings.specs.Texts.{warnings_text}
+use Rattle.es_warnings.specs.Warnings.{warnings}
 use Rattle.es_explain.specs.Texts.{escaped}
 use Rattle.es_explain.specs.Misshapen.{place_of, plan_trouble}
 use Rattle.es_explain.specs.Causes.{cause}
@@ -115,9 +117,14 @@ abbrev pub Locates : List ℕ → Option Data → ScriptFault → List ℕ → S
 Locates bytes None f place said = IsUnread bytes place said
 Locates bytes (Some d) f place said = (place ≡ compact_text (string (pointer (Some d) f))) × IsSaid d (pointer (Some d) f) f said
 
--- that the bytes stand for a plan; or their first fault, its place, and what is said of it
+-- the plan, and all that it is warned of
+abbrev pub IsWarned : Plan → Explanation → Type 0
+IsWarned p (IsPlan plan ws) = (plan ≡ p) × (ws.items ≡ warnings p)
+IsWarned p (Fault fault place said) = ⊥
+
+-- the plan that the bytes stand for, with what it is warned of; or their first fault, its place, and what is said of it
 abbrev pub Explains : List ℕ → Explanation → Type 0
-Explains bytes IsPlan = (p : Plan) × IsPlanOf bytes p
+Explains bytes (IsPlan plan ws) = IsPlanOf bytes plan × (ws.items ≡ warnings plan)
 Explains bytes (Fault fault place said) = (fault_of bytes ≡ Some fault) × Locates bytes (json_value bytes) fault (string_bytes place) said
 
 abbrev pub fault_lines : FaultCode → List ℕ → List ℕ → List ℕ
@@ -129,5 +136,5 @@ found_line [] = []
 found_line (x ∷ xs) = codes "found " ++ (x ∷ xs) ++ codes "\n"
 
 abbrev pub explanation_text : Explanation → List ℕ
-explanation_text IsPlan = codes "ok\n"
+explanation_text (IsPlan plan ws) = codes "ok\n" ++ warnings_text plan ws.items
 explanation_text (Fault fault place said) = fault_lines fault.code (string_bytes place) (string_bytes said.sentence) ++ found_line (string_bytes said.found)

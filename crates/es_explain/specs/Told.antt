@@ -9,7 +9,7 @@ use Rattle.es_explain.specs.Explaining.{Locates, Shows, sentence}
 
 -- this fault, its place in the value of the text, and what is said of it
 abbrev pub Tells : List ℕ → Option Data → ScriptFault → Explanation → Type 0
-Tells bytes o f Plan = ⊥
+Tells bytes o f (Plan plan ws) = ⊥
 Tells bytes o f (Fault fault place said) = (fault ≡ f) × Locates bytes o f (string_bytes place) said
 
 -- what is wrong with this part, and how it is shown

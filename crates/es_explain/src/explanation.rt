@@ -4,26 +4,31 @@ ghost use Rattle.std.specs.Prelude.{◌≡◌, option_map, IfOk, OnOk};
 ghost use Rattle.std.specs.Io.KnownBytes.{Appends};
 ghost use Rattle.serde_json.specs.View.{view};
 ghost use Rattle.es_script.specs.Fault.{json_value};
-ghost use Rattle.es_explain.specs.Explaining.{Explains, explanation_text, fault_lines, found_line};
+ghost use Rattle.es_explain.specs.Explaining.{Explains, IsWarned, explanation_text, fault_lines, found_line};
 ghost use Rattle.es_explain.specs.Told.{Tells};
 
 use crate::found::{Said, said_of};
 use crate::pointer::pointer_of;
 use crate::text::as_json;
 use crate::unread::{Unread, said_of_unread};
+use es_event::Plan;
 use es_reading::{FaultCode, ReadFault, ScriptFault};
 use es_script::read_plan;
 use es_value::NoMemory;
+use es_warnings::{Warning, warnings_of, write_warnings};
 use serde_json::Value;
 use std::alloc::{AllocError, Global};
 use std::io;
 use std::io::Write;
 
 /// What a plan's text is, for people.
-#[derive(Debug, Drop)]
+#[derive(Drop)]
 pub enum Explanation {
-    /// A plan.
-    Plan,
+    /// A plan, and what it is warned of.
+    Plan {
+        plan: Plan,
+        warnings: Vec<Warning>,
+    },
     /// It has a fault.
     Fault {
         /// What is wrong.
@@ -36,16 +41,24 @@ pub enum Explanation {
     },
 }
 
-/// What there is to say of a text: that it is a plan, or its first fault (`docs/PLANS.md`, Faults of a
-/// plan), where that is, what it is, and what was found there. Fails for want of memory alone.
+/// What there is to say of a text: that it is a plan, with what it is warned of; or its first fault (`docs/PLANS.md`,
+/// Faults of a plan), where that is, what it is, and what was found there. Fails for want of memory alone.
 pub fn explained(alloc: Global, bytes: &[u8]) -> Result<Explanation, NoMemory>
     ensures { IfOk result (Explains bytes.now) }
 {
     match read_plan(alloc, bytes) {
-        Ok(_) => Ok(Explanation::Plan),
+        Ok(plan) => warned(alloc, plan),
         Err(ReadFault::Script(fault)) => told(alloc, bytes, fault),
         Err(ReadFault::NoMemory) => Err(NoMemory),
     }
+}
+
+/// A plan with what it is warned of.
+fn warned(alloc: Global, plan: Plan) -> Result<Explanation, NoMemory>
+    ensures { IfOk result (IsWarned plan) }
+{
+    let warnings = warnings_of(alloc, &plan)?;
+    Ok(Explanation::Plan { plan, warnings })
 }
 
 fn told(alloc: Global, bytes: &[u8], fault: ScriptFault) -> Result<Explanation, NoMemory>
@@ -89,8 +102,8 @@ fn value_of(alloc: Global, bytes: &[u8]) -> Result<Option<Value>, NoMemory>
     }
 }
 
-/// Writes an explanation, which takes no memory: `ok`; or a line with the fault's code and place, one with
-/// its sentence, and where something was found a third with that. Fails where the writer does, and part of
+/// Writes an explanation, which takes no memory: `ok` and a line for each warning; or a line with the fault's code
+/// and place, one with its sentence, and where something was found a third with that. Fails where the writer does, and part of
 /// it may be written then.
 pub fn write_explanation<W: Write>(
     explanation: &Explanation,
@@ -99,7 +112,10 @@ pub fn write_explanation<W: Write>(
     ensures { OnOk result (Appends (W.contents writer.old) (W.contents writer.new) (explanation_text explanation.now)) }
 {
     match explanation {
-        Explanation::Plan => writer.write_all(b"ok\n"),
+        Explanation::Plan { plan, warnings } => {
+            writer.write_all(b"ok\n")?;
+            write_warnings(plan, warnings.as_slice(), writer)
+        }
         Explanation::Fault { fault, place, said } => {
             write_fault(fault.code, place.as_str(), said.sentence.as_str(), writer)?;
             write_found(said.found.as_str(), writer)

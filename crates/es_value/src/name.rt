@@ -18,9 +18,16 @@ use std::sync::ArcStr;
 /// and `_`, 1 to 32 bytes.
 ///
 /// Copies share one text, so that each takes 8 bytes and no memory of its own.
-#[derive(Debug, Drop)]
+#[derive(Debug)]
 pub struct Name {
     chars: ArcStr,
+}
+
+impl Drop for Name {
+    #[inline(always)]
+    fn drop(self) {
+        let Name { chars: _ } = self;
+    }
 }
 
 impl Model for Name {

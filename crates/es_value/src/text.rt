@@ -13,9 +13,16 @@ use std::marker::Model;
 use std::sync::ArcStr;
 
 /// A text of a script: printable ASCII without `"` and `\`, 0 to 256 bytes.
-#[derive(Debug, Drop)]
+#[derive(Debug)]
 pub struct Text {
     chars: ArcStr,
+}
+
+impl Drop for Text {
+    #[inline(always)]
+    fn drop(self) {
+        let Text { chars: _ } = self;
+    }
 }
 
 impl Model for Text {

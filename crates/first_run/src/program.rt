@@ -3,8 +3,8 @@
 ghost use Rattle.std.specs.Prelude.{◌≡◌, true};
 ghost use Rattle.es_engine.specs.Statuses.{is_silent};
 
-use crate::answer::answer;
-use es_engine::{Ending, RunFault, explain};
+use crate::answer::{answer, check};
+use es_engine::{Checked, Ending, RunFault, end_check, explain};
 use std::alloc::{AllocError, Global};
 use std::io::{BufWriter, Read, Write};
 use std::rt::Runtime;
@@ -17,6 +17,15 @@ enum Stop {
     Fault(RunFault),
     /// The words are not those of this program.
     Words,
+}
+
+/// What was done, if all went well.
+#[derive(Drop)]
+enum Done {
+    /// A run, with its number of audits.
+    Ran(u32),
+    /// A check.
+    Checked(Checked),
 }
 
 impl From<RunFault> for Stop {
@@ -37,7 +46,8 @@ pub(crate) fn run_program<H: Runtime + AllocGlobal, E: Write>(rt: &H, errors: &m
     ensures quiet { is_silent result ≡ true → errors.new ≡ errors.old }
 {
     match run_words(rt) {
-        Ok(audits) => Ending::Done(audits),
+        Ok(Done::Ran(audits)) => Ending::Done(audits),
+        Ok(Done::Checked(checked)) => end_check(&checked, errors),
         Err(Stop::Fault(fault)) => {
             let _ = explain(fault, errors);
             Ending::Failed(fault)
@@ -49,8 +59,8 @@ pub(crate) fn run_program<H: Runtime + AllocGlobal, E: Write>(rt: &H, errors: &m
     }
 }
 
-/// Runs or checks what the words ask for, `run` where there are none, and gives the number of audits, which is 0.
-fn run_words<H: Runtime + AllocGlobal>(rt: &H) -> Result<u32, Stop> {
+/// Runs or checks what the words ask for, `run` where there are none.
+fn run_words<H: Runtime + AllocGlobal>(rt: &H) -> Result<Done, Stop> {
     let words: Vec<String> = words_of(rt)?;
     let check = match words.get(1) {
         None => false,
@@ -61,7 +71,13 @@ fn run_words<H: Runtime + AllocGlobal>(rt: &H) -> Result<u32, Stop> {
     if words.len() > 3 {
         return Err(Stop::Words);
     }
-    Ok(run_file(rt, words.get(2), check)?)
+    match words.get(2) {
+        Some(file) => match fs::open(rt, file.as_str()) {
+            Ok(mut file) => serve(rt, check, &mut file),
+            Err(_) => Err(Stop::Fault(RunFault::Read)),
+        },
+        None => serve(rt, check, &mut rt.reader()),
+    }
 }
 
 /// The words of the command line, the program's name first.
@@ -75,33 +91,41 @@ fn words_of<H: Runtime + AllocGlobal>(rt: &H) -> Result<Vec<String>, Stop> {
     }
 }
 
-/// Runs the file, or standard input where there is none.
-fn run_file<H: Runtime + AllocGlobal>(
+/// Runs what the reader gives, or checks it.
+fn serve<H: Runtime + AllocGlobal, R: Read>(
     rt: &H,
-    file: Option<&String>,
     check: bool,
-) -> Result<u32, RunFault> {
-    match file {
-        Some(file) => match fs::open(rt, file.as_str()) {
-            Ok(mut file) => run_reader(rt, &mut file, check),
-            Err(_) => Err(RunFault::Read),
-        },
-        None => run_reader(rt, &mut rt.reader(), check),
+    reader: &mut R,
+) -> Result<Done, Stop> {
+    if check {
+        return Ok(Done::Checked(check_reader(rt, reader)?));
     }
+    Ok(Done::Ran(run_reader(rt, reader)?))
 }
 
 /// Runs what the reader gives. What is written has reached standard output once this is `Ok`.
-fn run_reader<H: Runtime + AllocGlobal, R: Read>(
-    rt: &H,
-    reader: &mut R,
-    check: bool,
-) -> Result<u32, RunFault> {
+fn run_reader<H: Runtime + AllocGlobal, R: Read>(rt: &H, reader: &mut R) -> Result<u32, RunFault> {
     let Ok(mut output) = BufWriter::new(rt.alloc(), io::writer(rt)) else {
         return Err(RunFault::NoMemory);
     };
-    let audits = answer(rt.alloc(), reader, &mut output, check)?;
+    let audits = answer(rt.alloc(), reader, &mut output)?;
     match output.flush() {
         Ok(()) => Ok(audits),
+        Err(_) => Err(RunFault::Write),
+    }
+}
+
+/// Checks what the reader gives. What is written has reached standard output once this is `Ok`.
+fn check_reader<H: Runtime + AllocGlobal, R: Read>(
+    rt: &H,
+    reader: &mut R,
+) -> Result<Checked, RunFault> {
+    let Ok(mut output) = BufWriter::new(rt.alloc(), io::writer(rt)) else {
+        return Err(RunFault::NoMemory);
+    };
+    let checked = check(rt.alloc(), reader, &mut output)?;
+    match output.flush() {
+        Ok(()) => Ok(checked),
         Err(_) => Err(RunFault::Write),
     }
 }

@@ -1,5 +1,5 @@
-// The words of commands, what each takes, and the word that is nearest to one that is none: crates/es_explain/specs/Words.antt
-// in JavaScript.
+// The words of commands, what each takes, which of that are variables, and the word that is nearest to one that is none:
+// crates/es_explain/specs/Words.antt in JavaScript.
 
 /** The table of commands of docs/PLANS.md: each word with the letters of its operands. */
 const TABLE = Object.entries({
@@ -13,18 +13,33 @@ const TABLE = Object.entries({
 });
 /** What an operand with such a letter is; each other letter is a name. */
 const TYPES = { L: "literal", TEXT: "text", C: "callback", A: "agent", I: "whole", N: "whole" };
+/** The letters of names that are no variables which are read. */
+const ASSIGNED = "X", PROPERTY = "K";
 
 /** The letters of what a command takes; empty for a word that is none. */
 export const lettersOf = (word) => TABLE.find(([one]) => one === word)?.[1] ?? "";
 
-/** What each operand of a version's command with so many of them has to be; null for a word that is none. */
-export function typesOf(word, count, version) {
+/** The letter of each operand of a command with so many of them. */
+function formOf(word, count) {
   const letters = lettersOf(word);
-  if (letters === "" || (word === "collectlater" && version === 1)) return null;
   if (letters === "no operands") return [];
   // Only register has two forms.
-  const forms = letters.split(" or "), form = count === 4 ? forms.at(-1) : forms[0];
-  return form.split(" ").map((letter) => (word === "buffer" && letter === "N" ? "words" : (TYPES[letter] ?? "name")));
+  const forms = letters.split(" or ");
+  return (count === 4 ? forms.at(-1) : forms[0]).split(" ");
+}
+
+/** What each operand of a version's command with so many of them has to be; null for a word that is none. */
+export function typesOf(word, count, version) {
+  if (lettersOf(word) === "" || (word === "collectlater" && version === 1)) return null;
+  return formOf(word, count).map((letter) => (word === "buffer" && letter === "N" ? "words" : (TYPES[letter] ?? "name")));
+}
+
+/** Of a command with so many operands, the places of those that are variables, from 0: of each that is read, and of the one that is
+    assigned, below 0 where there is none. */
+export function variablesOf(word, count) {
+  const form = formOf(word, count);
+  const isRead = (letter) => letter !== ASSIGNED && letter !== PROPERTY && !Object.hasOwn(TYPES, letter);
+  return { read: [...form.keys()].filter((at) => isRead(form[at])), assigned: form.indexOf(ASSIGNED) };
 }
 
 /** The first word of those that are nearest, two changes away at most; null where there is none. Capital letters count as

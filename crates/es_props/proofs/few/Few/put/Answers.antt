@@ -5,7 +5,7 @@ use Rattle.es_props.specs.Heap.{keys_of, with_property}
 use Rattle.es_props.proofs.Sought.{with_here, with_absent, distinct_with}
 use Rattle.es_props.proofs.few.Few.put.Goals as goal
 
-replaced : (c : goal.After-drop-key-inside) → c.replace_at.new.entries.items ≡ with_property c.self.inside.entries.items c.args.key c.args.value
+replaced : (c : goal.After-drop-key) → c.replace_at.new.entries.items ≡ with_property c.self.inside.entries.items c.args.key c.args.value
 replaced c =
     let place = rw (← c.self.view_is) at c.in-Some.ensures.there in
     c.replace_at.ensures.items (c.args.key, c.args.value) ∙ sym (with_here c.self.inside.entries.items c.args.key c.args.value c.in-Some.at (c.args.key, c.args.value) place)

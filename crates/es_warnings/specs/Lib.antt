@@ -1,0 +1,4 @@
+pub mod Known
+pub mod Mentions
+pub mod Texts
+pub mod Warnings
