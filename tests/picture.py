@@ -3,10 +3,11 @@
 
 Usage: picture.py. The list has a heading for each box and below it a line for each crate, as `- **crate**: what it is`.
 A crate stands on crates below it in the list; on those of the last part, TESTS, none stands. The boxes of the picture
-are the other parts, in their order. What README.md trusts of the kit is what the crates stand on. Prints each difference,
-and `N passed, M failed` last.
+are the other parts, in their order. What README.md trusts of the kit is what the crates stand on. Each crate that a line of
+crates.txt has is named in some file of the line's crate. Prints each difference, and `N passed, M failed` last.
 """
 
+import glob
 import os
 import re
 import sys
@@ -55,6 +56,18 @@ def drawn():
     return [box[1] for box in map(BOX.fullmatch, lines_of("README.md")) if box]
 
 
+def unnamed(name, below):
+    """What is wrong with the crates that one stands on: those that none of its files names."""
+    folder = os.path.join(TOP, "crates", name)
+    paths = [path for kind in ("src", "specs", "proofs") for path in glob.glob(f"{folder}/{kind}/**/*.*t", recursive=True)]
+    words = set()
+    for path in paths:
+        with open(path, encoding="utf-8") as file:
+            words.update(re.findall(r"\w+", file.read()))
+    lost = sorted(below - words)
+    return f"none of its files names {', '.join(lost)}" if lost else None
+
+
 def difference(name, edges, order, tests):
     """What is wrong with the line of one crate; None where all is well."""
     if order.count(name) != 1:
@@ -84,6 +97,7 @@ def main():
     passed = 0
     faults = {name: difference(name, edges, order, tests) for name in [*edges, *sorted(set(order) - set(edges))]}
     boxes = [part for part in parts if part != TESTS]
+    faults |= {f"{name}, what it stands on": unnamed(name, below) for name, below in edges.items()}
     faults["the boxes"] = None if drawn() == boxes else f"README.md draws {drawn()}, and {LIST} has {boxes}"
     faults["what is trusted"] = trusted(edges)
     for name, why in faults.items():

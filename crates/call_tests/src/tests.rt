@@ -9,6 +9,7 @@ mod kept;
 mod ledger;
 mod marks;
 mod pictures;
+mod quick_plans;
 mod reasons;
 mod runs;
 mod threads;

@@ -8,8 +8,8 @@ use Rattle.es_ticket.specs.Stakes.{StakeView}
 use Rattle.es_ledger.specs.Letters.{Gained}
 use Rattle.es_record.specs.AgentView.{AgentView, Records}
 use Rattle.es_agent.specs.Tickets.{tickets}
-use Rattle.es_member.specs.Members.{rows_of, Holds, HoldsBeside}
-use Rattle.es_member.proofs.Counting.{counted_rows}
+use Rattle.es_cluster.specs.Members.{rows_of, Holds, HoldsBeside}
+use Rattle.es_cluster.proofs.CountingTickets.{counted_rows}
 
 -- a block was opened
 pub opened_beside : (b : AgentView) (s t : StakeView) (r : Row) → Holds b s → t.agent ≡ s.agent → t.rows ≡ s.rows ++ r ∷ [] → HoldsBeside r b t

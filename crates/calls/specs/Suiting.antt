@@ -5,7 +5,7 @@ use Rattle.es_value.specs.Values.{identity}
 use Rattle.es_ticket.specs.Stakes.{StakeView}
 use Rattle.es_record.specs.AgentView.{AgentView}
 use Rattle.es_rules.specs.Needs.{need, asks_message, TakesTicket, TakesWord, TakesDone}
-use Rattle.es_member.specs.Members.{Holds, HoldsBeside}
+use Rattle.es_cluster.specs.Members.{Holds, HoldsBeside}
 use Rattle.calls.specs.declared.given.Given.{Given}
 use Rattle.calls.specs.declared.given.Given.TheVariants.{Alone, Block, Plain, Word, Done, Skip, Wait, End}
 

@@ -4,7 +4,7 @@ ghost use Rattle.std.specs.Prelude.{◌≡◌, ◌+◌, Bool, count_by};
 ghost use Rattle.es_event.specs.declared.row.Row.{Row};
 ghost use Rattle.es_ticket.specs.Owned.{Owns};
 ghost use Rattle.es_rules.specs.Needs.{need, asks_nobody, asks_marks, asks_copy, asks_late_marks, asks_closing};
-ghost use Rattle.es_member.specs.Members.{Holds};
+ghost use Rattle.es_cluster.specs.Members.{Holds};
 
 use es_agent::{AgentCore, Need};
 use es_ledger::LedgerCore;

@@ -4,7 +4,7 @@
 ghost use Rattle.std.specs.Prelude.{◌≡◌, ◌<◌, false, IfOk, OnErr};
 ghost use Rattle.es_event.specs.Ledger.{ended};
 ghost use Rattle.es_rules.specs.Needs.{need, asks_ledger, asks_message, for_block, for_post, for_buffer_post, for_access};
-ghost use Rattle.es_member.specs.Members.{Holds};
+ghost use Rattle.es_cluster.specs.Members.{Holds};
 ghost use Rattle.calls.specs.Suiting.{Suits};
 
 use crate::given::Given;

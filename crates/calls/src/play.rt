@@ -2,6 +2,7 @@
 
 ghost use Rattle.std.specs.Prelude.{◌≡◌, ◌<◌, [], length};
 
+use crate::cluster::play_cluster;
 use crate::fault::Fault;
 use crate::player::Player;
 use crate::repeats::Calls;
@@ -16,22 +17,31 @@ use std::alloc::Global;
 use std::io::{BufWriter, Read, Write};
 use std::marker::Brand;
 use std::rt::Runtime;
+use std::thread::Threads;
 use std::{env, io};
 
 /// Plays the plan on standard input by the turns that the first word lists: the number of an agent, one
-/// digit, for each. With a second word all is given up where a call finds no memory.
-pub(crate) fn play_words<H: Runtime + AllocGlobal>(rt: &H) -> Result<(), Fault> {
+/// digit, for each. Where the second word is `cluster`, they are those of a cluster, with an audit after
+/// each; with another all is given up where a call finds no memory.
+pub(crate) fn play_words<H: Runtime + AllocGlobal + Threads + Sync>(rt: &H) -> Result<(), Fault> {
     let alloc = rt.alloc();
     let words: Vec<String> = env::args(rt)?.collect(alloc)?;
     let Some(turns) = words.get(1) else {
         return Err(Fault::Words);
     };
-    let calls = Calls::new(words.len() < 3);
     let text = io::read_to_string(alloc, rt.reader())?;
     let plan = read_plan(alloc, text.as_bytes())?;
     let opened = Opened::new(alloc)?;
     let mut output = BufWriter::new(alloc, io::writer(rt))?;
-    play_plan::<Brand, _>(alloc, opened, plan, turns.as_bytes(), calls, &mut output)?;
+    match words.get(2) {
+        Some(word) if word.as_str() == "cluster" => {
+            play_cluster::<Brand, _, _>(rt, opened, plan, turns.as_bytes(), &mut output)?;
+        }
+        second => {
+            let calls = Calls::new(second.is_none());
+            play_plan::<Brand, _>(alloc, opened, plan, turns.as_bytes(), calls, &mut output)?;
+        }
+    }
     Ok(output.flush()?)
 }
 

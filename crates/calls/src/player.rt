@@ -1,7 +1,7 @@
 //! An agent with its stake, and its turns.
 
 ghost use Rattle.std.specs.Prelude.{◌≡◌, [], IfOk, IfErr, OnOk, OnErr};
-ghost use Rattle.es_member.specs.Members.{Holds};
+ghost use Rattle.es_cluster.specs.Members.{Holds};
 ghost use Rattle.calls.specs.Suiting.{Suits};
 
 use crate::alone::spend_all;
@@ -10,8 +10,8 @@ use crate::given::Given;
 use crate::repeats::{Call, Calls};
 use crate::taking::take_in;
 use es_agent::{AgentCore, Need, Request};
+use es_cluster::Progress;
 use es_ledger::LedgerCore;
-use es_member::Progress;
 use es_ticket::{LedgerName, Stake};
 use es_value::NoMemory;
 use std::marker::Model;
@@ -23,7 +23,7 @@ pub(crate) struct Player<L: LedgerName> {
 }
 
 impl<L: LedgerName> Model for Player<L> {
-    ghost use Rattle.es_member.specs.Members.{MemberView, Holds};
+    ghost use Rattle.es_cluster.specs.Members.{MemberView, Holds};
 
     ghost Value = { MemberView };
 

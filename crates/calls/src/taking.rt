@@ -4,7 +4,7 @@
 ghost use Rattle.std.specs.Prelude.{◌≡◌, None, OnOk, IfErr};
 ghost use Rattle.es_value.specs.Values.{identity};
 ghost use Rattle.es_rules.specs.Needs.{need, TakesTicket, TakesWord, TakesDone};
-ghost use Rattle.es_member.specs.Members.{Holds, HoldsBeside};
+ghost use Rattle.es_cluster.specs.Members.{Holds, HoldsBeside};
 ghost use Rattle.calls.specs.Suiting.{AsksMessage, Comes, Suits};
 
 use crate::alone::go_on;

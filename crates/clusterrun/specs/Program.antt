@@ -14,8 +14,8 @@ use Rattle.es_engine.specs.declared.checking.Checked.{Checked}
 use Rattle.es_engine.specs.Engine.{GaveAll, GavePlan, GaveSomePlan, audits_of}
 use Rattle.es_turns.specs.declared.fault.TurnsFault.{TurnsFault}
 use Rattle.es_turns.specs.declared.fault.TurnsFault.TheVariants.{Script as TurnsScript, NoMemory as TurnsNoMemory, TooLong}
-use Rattle.es_tracing.specs.Tracing.{IsTraceOf}
-use Rattle.es_racing.specs.Races.{TellsRaces}
+use Rattle.es_turns.specs.Tracing.{IsTraceOf}
+use Rattle.es_races.specs.Races.{TellsRaces}
 use Rattle.clusterrun.specs.declared.telling.Telling.{Telling}
 use Rattle.clusterrun.specs.declared.telling.Telling.TheVariants.{Trace, Races}
 

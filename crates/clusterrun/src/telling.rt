@@ -6,9 +6,8 @@ ghost use Rattle.clusterrun.specs.Program.{IsTellingFault, TellsTo, telling_faul
 
 use es_engine::{RunFault, read_all};
 use es_options::View;
-use es_racing::races_of;
-use es_tracing::trace_of;
-use es_turns::TurnsFault;
+use es_races::races_of;
+use es_turns::{TurnsFault, trace_of};
 use std::alloc::Global;
 use std::io::{Read, Write};
 

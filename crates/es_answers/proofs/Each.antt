@@ -11,10 +11,10 @@ use Rattle.es_cluster.specs.Moves.{RunsToEnd}
 use Rattle.es_cluster.specs.State.{ClusterView, first_state, plans}
 use Rattle.es_cluster.specs.Turns.{AllTurned}
 use Rattle.es_cluster.proofs.Beginning.{first_plans}
-use Rattle.es_replay.proofs.Ends.{one_end, rest_has_one_end}
-use Rattle.es_replay.proofs.Telling.{same_report}
-use Rattle.es_replay.proofs.Plans.{SamePlans, plans_all, plans_length, plans_to_end}
-use Rattle.es_replay.proofs.Arriving.{plan_comes_to_an_end, rest_comes_to_an_end}
+use Rattle.es_theorems.proofs.Ends.{one_end, rest_has_one_end}
+use Rattle.es_theorems.proofs.Telling.{same_report}
+use Rattle.es_theorems.proofs.Plans.{SamePlans, plans_all, plans_length, plans_to_end}
+use Rattle.es_theorems.proofs.Arriving.{plan_comes_to_an_end, rest_comes_to_an_end}
 use Rattle.es_script.specs.Fault.{IsPlanOf}
 use Rattle.es_script.specs.Grammar.{StandsFor, no_callback_collects}
 use Rattle.es_script.proofs.Collecting.{agents_harmless_at}

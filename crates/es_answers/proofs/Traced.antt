@@ -11,8 +11,8 @@ use Rattle.es_event.specs.declared.plan.Plan.{Plan}
 use Rattle.es_event.specs.LegalLedger.{LegalLedger}
 use Rattle.es_event.specs.Others.{all_name_others}
 use Rattle.es_event.proofs.Entries.{inner}
-use Rattle.es_member.specs.declared.member.Progress.{Progress}
-use Rattle.es_member.specs.declared.member.Progress.TheVariants.{Moved, Waiting, Ended}
+use Rattle.es_cluster.specs.declared.member.Progress.{Progress}
+use Rattle.es_cluster.specs.declared.member.Progress.TheVariants.{Moved, Waiting, Ended}
 use Rattle.es_record.specs.AgentView.{AgentView}
 use Rattle.es_cluster.specs.Ends.{EndsIn}
 use Rattle.es_cluster.specs.Moves.{Rest, RunsOut, all_over, moves, over, rested, turned as rests_later, waits, with_drained}
@@ -22,19 +22,19 @@ use Rattle.es_cluster.specs.Watched.{AreTurns, TakenTurn}
 use Rattle.es_cluster.proofs.Beginning.{first_length, first_plans}
 use Rattle.es_cluster.proofs.Ended.{there}
 use Rattle.es_cluster.proofs.Standing.{set_here, set_there, within}
-use Rattle.es_replay.specs.Together.{Same}
-use Rattle.es_replay.specs.Moving.{moves_of}
-use Rattle.es_replay.proofs.OneRun.{one_run}
-use Rattle.es_replay.proofs.Running.{runs_same, stands_first}
-use Rattle.es_replay.proofs.Telling.{same}
-use Rattle.es_replay.proofs.Cluster.{well_first}
-use Rattle.es_replay.proofs.Plans.{plans_length, plans_to_end, run_has_an_outcome}
+use Rattle.es_theorems.specs.Together.{Same}
+use Rattle.es_theorems.specs.Moving.{moves_of}
+use Rattle.es_theorems.proofs.OneRun.{one_run}
+use Rattle.es_theorems.proofs.Running.{runs_same, stands_first}
+use Rattle.es_theorems.proofs.Telling.{same}
+use Rattle.es_theorems.proofs.Cluster.{well_first}
+use Rattle.es_theorems.proofs.Plans.{plans_length, plans_to_end, run_has_an_outcome}
 use Rattle.es_outcome.specs.Outcomes.{IsClusterOutcome}
 use Rattle.es_options.specs.declared.view.View.{View}
 use Rattle.es_turns.specs.Answer.{IsByTurns}
 use Rattle.es_turns.proofs.Whole.{outcome_of}
 use Rattle.es_answers.specs.Traces.{events_by, newest_event}
-use Rattle.es_tracing.specs.Tracing.{IsTraceByTurns}
+use Rattle.es_turns.specs.Tracing.{IsTraceByTurns}
 
 -- Legal runs
 

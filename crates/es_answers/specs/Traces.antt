@@ -7,18 +7,18 @@ use Rattle.es_event.specs.declared.plan.Plan.{Plan}
 use Rattle.es_event.specs.LegalLedger.{LegalLedger}
 use Rattle.es_event.specs.Others.{all_name_others}
 use Rattle.es_event.specs.Report.{line}
-use Rattle.es_member.specs.declared.member.Progress.{Progress}
-use Rattle.es_member.specs.declared.member.Progress.TheVariants.{Moved, Waiting, Ended}
+use Rattle.es_cluster.specs.declared.member.Progress.{Progress}
+use Rattle.es_cluster.specs.declared.member.Progress.TheVariants.{Moved, Waiting, Ended}
 use Rattle.es_record.specs.AgentView.{AgentView}
 use Rattle.es_cluster.specs.Ends.{EndsIn}
 use Rattle.es_cluster.specs.Moves.{with_drained}
 use Rattle.es_cluster.specs.Watched.{TakenTurn}
-use Rattle.es_replay.specs.Moving.{moves_of}
+use Rattle.es_theorems.specs.Moving.{moves_of}
 use Rattle.es_outcome.specs.Outcomes.{IsClusterOutcome}
 use Rattle.es_options.specs.declared.view.View.{View}
 use Rattle.es_turns.specs.Answer.{IsByTurns}
 use Rattle.es_trace.specs.Events.{answer_text}
-use Rattle.es_tracing.specs.Tracing.{IsTraceByTurns}
+use Rattle.es_turns.specs.Tracing.{IsTraceByTurns}
 
 -- A trace is of a run that the rules allow: after each of its turns the ledger's history is legal.
 abbrev pub ATraceIsOfALegalRun : Type 0

@@ -10,11 +10,11 @@ use Rattle.es_event.specs.Jobs.{callbacks_collect_nothing}
 use Rattle.es_event.specs.Others.{names_others, each_names_others}
 use Rattle.es_event.specs.Ledger.{ended}
 use Rattle.es_ledger.specs.LedgerView.{LedgerView}
-use Rattle.es_deeds.specs.Patience.{patient, drained_last}
-use Rattle.es_deeds.specs.Deeds.{part}
+use Rattle.es_match.specs.Patience.{patient, drained_last}
+use Rattle.es_match.specs.Deeds.{part}
 use Rattle.es_record.specs.AgentView.{AgentView}
-use Rattle.es_member.specs.Members.{MemberView}
-use Rattle.es_member.specs.Tied.{IsTied}
+use Rattle.es_cluster.specs.Members.{MemberView}
+use Rattle.es_cluster.specs.Tied.{IsTied}
 use Rattle.es_cluster.specs.Moves.{cleans_quietly}
 use Rattle.es_cluster.specs.State.{ClusterView, cores, names_of, plans, first_views, first_state, IsPlaced, ArePlaced, AreTied}
 

@@ -17,12 +17,12 @@ use Rattle.es_event.specs.LegalLedger.{ComesNext, LegalLedger, LegalSoFar, all_e
 use Rattle.es_ledger.specs.LedgerView.{LedgerView}
 use Rattle.es_ledger.specs.Draining.{drained_one, drained_each, drained_to, drained_below, after_drain}
 use Rattle.es_ledger.proofs.Lying.{lies_in_front, lying_all}
-use Rattle.es_deeds.specs.Patience.{is_patient, patient, is_nobodys, drained_last}
+use Rattle.es_match.specs.Patience.{is_patient, patient, is_nobodys, drained_last}
 use Rattle.es_match.specs.Cluster.{DeedsMeet, IsCluster, history_of}
-use Rattle.es_deeds.specs.Patience.{has_drained as was_drained}
-use Rattle.es_deeds.specs.Deeds.{Spends, deed, part, part_of}
-use Rattle.es_member.proofs.Midway.{still_over}
-use Rattle.es_member.specs.Tied.{came_to}
+use Rattle.es_match.specs.Patience.{has_drained as was_drained}
+use Rattle.es_match.specs.Deeds.{Spends, deed, part, part_of}
+use Rattle.es_cluster.proofs.Midway.{still_over}
+use Rattle.es_cluster.specs.Tied.{came_to}
 use Rattle.es_record.specs.AgentView.{AgentView}
 use Rattle.es_cluster.specs.Moves.{with_drained}
 use Rattle.es_cluster.specs.State.{ClusterView, ArePlaced, AreTied}

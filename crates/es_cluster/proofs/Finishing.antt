@@ -9,8 +9,8 @@ use Rattle.es_event.proofs.Work.{plan_work}
 use Rattle.es_event.specs.Ledger.{Ledger, ended}
 use Rattle.es_event.specs.LegalLedger.{all_ended, all_stuck}
 use Rattle.es_event.specs.Order.{is_cleaning_up}
-use Rattle.es_member.specs.declared.member.Progress.{Progress}
-use Rattle.es_member.specs.declared.member.Progress.TheVariants.{Moved, Waiting, Ended}
+use Rattle.es_cluster.specs.declared.member.Progress.{Progress}
+use Rattle.es_cluster.specs.declared.member.Progress.TheVariants.{Moved, Waiting, Ended}
 use Rattle.es_record.specs.AgentView.{AgentView}
 use Rattle.es_cluster.specs.Asked.{plan_left, cleans_at, IsLess, Works, Hears, Asked, AskedUpTo, AskedEach, BeginsMove, GoesOn}
 use Rattle.es_cluster.specs.Moves.{is_between, rests, rests_at, Rest, rested, turned, RunsOut, over, waits, moves}

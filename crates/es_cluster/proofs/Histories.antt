@@ -12,8 +12,8 @@ use Rattle.es_event.specs.Runs.{IsRunOver}
 use Rattle.es_match.specs.Cluster.{Account}
 use Rattle.es_agent.specs.Tickets.{is_ended}
 use Rattle.es_ledger.specs.LedgerView.{LedgerView}
-use Rattle.es_member.proofs.Midway.{ended_where_all}
-use Rattle.es_member.specs.Members.{MemberView}
+use Rattle.es_cluster.proofs.Midway.{ended_where_all}
+use Rattle.es_cluster.specs.Members.{MemberView}
 use Rattle.es_record.specs.AgentView.{AgentView}
 use Rattle.es_cluster.specs.Ends.{AreEnded, AreHistories, HaveNoTicket, IsWhole}
 use Rattle.es_cluster.specs.Moves.{is_over}

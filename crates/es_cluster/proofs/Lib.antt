@@ -12,3 +12,17 @@ pub mod Turning
 pub mod Watching
 pub mod Histories
 pub mod Ended
+pub mod CountingTickets
+pub mod Growing
+pub mod Midway
+pub mod Aims
+pub mod Asking
+pub mod Local
+pub mod SpentAll
+pub mod MovingMembers
+pub mod Opening
+pub mod Taking
+pub mod Tying
+pub mod Hearing
+pub mod Audited
+pub mod Needless

@@ -12,8 +12,8 @@ use Rattle.es_agent.specs.Tickets.{is_ended}
 use Rattle.es_ledger.specs.Turns.{asked, judged, told}
 use Rattle.es_ledger.specs.declared.turn.Turn.{Turn}
 use Rattle.es_ledger.specs.declared.turn.Turn.TheVariants.{Ready, Stay, Skip}
-use Rattle.es_member.proofs.Hearing.{where_stay}
-use Rattle.es_member.proofs.Midway.{still_over}
+use Rattle.es_cluster.proofs.Hearing.{where_stay}
+use Rattle.es_cluster.proofs.Midway.{still_over}
 use Rattle.es_record.specs.AgentView.{AgentView}
 use Rattle.es_rules.specs.Needs.{asks_message, asks_nothing, need_of, need}
 use Rattle.es_cluster.specs.Moves.{goes_on_by, goes_on, is_over}

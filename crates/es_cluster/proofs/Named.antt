@@ -25,7 +25,7 @@ use Rattle.es_event.specs.Legal.{values_of}
 use Rattle.es_event.specs.Order.{Phase, between, handed, inside, stopped, ended, phase, Due, begin, receive, run, clean, take_cell, finish, end_job, due_end, close, nothing, left, queue, job_commands, callback_commands, due_after, due_inside, due_job, due_between, due_at, due}
 use Rattle.es_record.specs.AgentView.{AgentView}
 use Rattle.es_rules.specs.Needs.{Request, posts_to, asked, unless_refused, request, Need, asks_marks, asks_copy, asks_ledger, ledger_or_nobody, opens_now, need_of, need}
-use Rattle.es_member.specs.Turned.{NamesOthers}
+use Rattle.es_cluster.specs.Turned.{NamesOthers}
 
 all_at : {X : Type 0} (test : X → Bool) (xs : List X) (i : ℕ) (x : X) → list_all test xs ≡ true → slice_get xs i ≡ Some x → test x ≡ true
 all_at test [] i x all is = cc

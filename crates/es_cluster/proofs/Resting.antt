@@ -14,9 +14,9 @@ use Rattle.es_event.proofs.Awaiting.{between_clean}
 use Rattle.es_event.proofs.Coming.{Comes, begins_job, begins_handed, receives, skips, refuses_message, begins_cleanup, does, refuses, empties_dead, takes, ends, stops, finishes, finishes_stopped, closes, comes, next_cell}
 use Rattle.es_event.proofs.Work.{plan_work, cleanup_work, cleanup_less, plan_less}
 use Rattle.es_agent.specs.Tickets.{is_ended}
-use Rattle.es_member.specs.Turned.{GrowsByOne}
-use Rattle.es_member.specs.declared.member.Progress.{Progress}
-use Rattle.es_member.specs.declared.member.Progress.TheVariants.{Moved, Waiting, Ended}
+use Rattle.es_cluster.specs.Turned.{GrowsByOne}
+use Rattle.es_cluster.specs.declared.member.Progress.{Progress}
+use Rattle.es_cluster.specs.declared.member.Progress.TheVariants.{Moved, Waiting, Ended}
 use Rattle.es_record.specs.AgentView.{AgentView, with_row}
 use Rattle.es_rules.specs.Needs.{Request, request, Need, asks_nobody, asks_marks, asks_copy, asks_late_marks, asks_ledger, asks_message, asks_closing, asks_nothing, ledger_or_nobody, opens_now, need_of, need}
 use Rattle.es_cluster.specs.Moves.{is_between, rests}

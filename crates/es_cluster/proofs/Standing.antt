@@ -6,16 +6,16 @@ use Rattle.es_event.specs.Others.{names_others}
 use Rattle.es_event.specs.Ledger.{Ledger}
 use Rattle.es_ledger.specs.LedgerView.{LedgerView}
 use Rattle.es_match.specs.Cluster.{Account, IsClusterOf, IsSaid, DeedsMeet, account_of, nobody}
-use Rattle.es_deeds.specs.Deeds.{part}
+use Rattle.es_match.specs.Deeds.{part}
 use Rattle.es_match.specs.Meets.{Came, nothing_came}
 use Rattle.es_record.specs.AgentView.{AgentView}
-use Rattle.es_member.specs.Members.{MemberView}
-use Rattle.es_member.specs.Tied.{GrowsBy, IsTied, came_to}
-use Rattle.es_member.specs.Turned.{IsSeated, IsTiedAfter, OthersStay, Proceeds}
-use Rattle.es_member.specs.declared.member.Progress.{Progress}
-use Rattle.es_member.specs.declared.member.Progress.TheVariants.{Moved, Waiting, Ended}
+use Rattle.es_cluster.specs.Members.{MemberView}
+use Rattle.es_cluster.specs.Tied.{GrowsBy, IsTied, came_to}
+use Rattle.es_cluster.specs.Turned.{IsSeated, IsTiedAfter, OthersStay, Proceeds}
+use Rattle.es_cluster.specs.declared.member.Progress.{Progress}
+use Rattle.es_cluster.specs.declared.member.Progress.TheVariants.{Moved, Waiting, Ended}
 use Rattle.es_cluster.specs.Turns.{Takes}
-use Rattle.es_member.proofs.Growing.{part_stays, waits_stay, ended_stays}
+use Rattle.es_cluster.proofs.Growing.{part_stays, waits_stay, ended_stays}
 use Rattle.es_cluster.specs.State.{account, accounts, cores, IsPlaced, ArePlaced, AreTied}
 
 -- Lists in which one is changed

@@ -2,7 +2,7 @@
 use Rattle.std.proofs.Common.{◌≡◌, ℕ, true, false, List, [], ◌∷◌, sym, ◌∙◌, ap, refl}
 use Rattle.es_cluster.specs.State.{ClusterView}
 use Rattle.es_cluster.specs.Turns.{Stopped, StoppedIn, before, within, Turned}
-use Rattle.es_member.specs.declared.member.Progress.{Progress}
+use Rattle.es_cluster.specs.declared.member.Progress.{Progress}
 
 -- after one more turn before them
 pub later : (p : Progress) (n : ℕ) (ns all : List ℕ) (old mid end : ClusterView) → all ≡ n ∷ ns → Turned p n old mid → StoppedIn ns mid end → StoppedIn all old end

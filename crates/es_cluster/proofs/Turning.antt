@@ -10,8 +10,8 @@ use Rattle.es_event.specs.declared.plan.AgentPlan.{AgentPlan}
 use Rattle.es_event.specs.Jobs.{callbacks_collect_nothing}
 use Rattle.es_event.specs.Order.{is_cleaning_up}
 use Rattle.es_event.specs.Runs.{IsRunOver}
-use Rattle.es_member.specs.declared.member.Progress.{Progress}
-use Rattle.es_member.specs.declared.member.Progress.TheVariants.{Moved, Waiting, Ended}
+use Rattle.es_cluster.specs.declared.member.Progress.{Progress}
+use Rattle.es_cluster.specs.declared.member.Progress.TheVariants.{Moved, Waiting, Ended}
 use Rattle.es_record.specs.AgentView.{AgentView}
 use Rattle.es_cluster.specs.Asked.{plan_left, cleans_at, IsLess, Works, Hears}
 use Rattle.es_cluster.specs.Moves.{cleans_quietly, rests}

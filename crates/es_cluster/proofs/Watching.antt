@@ -3,8 +3,8 @@ use Rattle.std.proofs.Common.{◌≡◌, ℕ, true, false, cond, refl, sym, ap, 
 use Rattle.std.specs.Prelude.{IfOk}
 use Rattle.es_value.specs.declared.error.NoMemory.{NoMemory}
 use Rattle.es_event.specs.LegalLedger.{all_stuck}
-use Rattle.es_member.specs.declared.member.Progress.{Progress}
-use Rattle.es_member.specs.declared.member.Progress.TheVariants.{Moved, Waiting, Ended}
+use Rattle.es_cluster.specs.declared.member.Progress.{Progress}
+use Rattle.es_cluster.specs.declared.member.Progress.TheVariants.{Moved, Waiting, Ended}
 use Rattle.es_cluster.specs.Asked.{Hears}
 use Rattle.es_cluster.specs.Moves.{rests_at}
 use Rattle.es_cluster.specs.State.{ClusterView}

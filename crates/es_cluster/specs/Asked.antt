@@ -5,8 +5,8 @@ use Rattle.es_event.proofs.Work.{plan_work, cleanup_work}
 use Rattle.es_event.specs.Ledger.{ended}
 use Rattle.es_event.specs.LegalLedger.{all_ended, all_stuck}
 use Rattle.es_event.specs.Order.{is_cleaning_up}
-use Rattle.es_member.specs.declared.member.Progress.{Progress}
-use Rattle.es_member.specs.declared.member.Progress.TheVariants.{Moved, Waiting, Ended}
+use Rattle.es_cluster.specs.declared.member.Progress.{Progress}
+use Rattle.es_cluster.specs.declared.member.Progress.TheVariants.{Moved, Waiting, Ended}
 use Rattle.es_cluster.specs.State.{ClusterView}
 use Rattle.es_cluster.specs.Turns.{Turned}
 use Rattle.es_cluster.specs.Moves.{Rest, RunsOut, all_over, mover, rests_at}

@@ -6,3 +6,9 @@ pub mod Watched
 pub mod Asked
 pub mod Watching
 pub mod Laws
+pub mod Members
+pub mod Tied
+pub mod Turned
+pub mod Midway
+pub mod Audits
+pub mod NoPlan

@@ -11,7 +11,7 @@ use Rattle.es_event.specs.LegalLedger.{all_ended, has_message}
 use Rattle.es_event.specs.Order.{phase, is_cleaning_up}
 use Rattle.es_agent.specs.Tickets.{is_ended}
 use Rattle.es_ledger.specs.Draining.{after_drain}
-use Rattle.es_member.specs.declared.member.Progress.TheVariants.{Moved, Waiting}
+use Rattle.es_cluster.specs.declared.member.Progress.TheVariants.{Moved, Waiting}
 use Rattle.es_record.specs.AgentView.{AgentView}
 use Rattle.es_rules.specs.Needs.{Need, asks_nobody, asks_marks, asks_copy, asks_late_marks, asks_ledger, asks_message, asks_closing, asks_nothing, need}
 use Rattle.es_cluster.specs.State.{ClusterView, plans}

@@ -3,14 +3,14 @@ use Rattle.std.specs.Prelude.{ℕ, ◌≡◌, ◌≤◌, ◌+◌, Bool, true, fa
 use Rattle.es_event.specs.declared.plan.AgentPlan.{AgentPlan}
 use Rattle.es_event.specs.declared.plan.Plan.{Plan}
 use Rattle.es_event.specs.Others.{names_others}
-use Rattle.es_deeds.specs.Patience.{patient, drained_last}
+use Rattle.es_match.specs.Patience.{patient, drained_last}
 use Rattle.es_match.specs.Cluster.{Account}
-use Rattle.es_deeds.specs.Deeds.{part}
+use Rattle.es_match.specs.Deeds.{part}
 use Rattle.es_ledger.specs.LedgerView.{LedgerView}
 use Rattle.es_record.specs.AgentView.{AgentView}
-use Rattle.es_member.specs.Members.{MemberView}
-use Rattle.es_member.specs.Tied.{IsTied}
-use Rattle.es_member.specs.Turned.{IsSeated}
+use Rattle.es_cluster.specs.Members.{MemberView}
+use Rattle.es_cluster.specs.Tied.{IsTied}
+use Rattle.es_cluster.specs.Turned.{IsSeated}
 
 -- the agents, by rising number, their ledger, and whether a step of one ended for want of memory
 pub record ClusterView : Type 0 where

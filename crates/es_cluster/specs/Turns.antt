@@ -1,10 +1,10 @@
 -- To believe: what a turn of an agent, and a list of turns, make of a cluster.
 use Rattle.std.specs.Prelude.{ℕ, ◌≡◌, true, false, List, [], ◌∷◌, ◌++◌, Some, slice_get, slice_set}
 use Rattle.es_event.specs.LegalLedger.{LegalLedger}
-use Rattle.es_member.specs.Tied.{GrowsBy}
-use Rattle.es_member.specs.Turned.{WaitsRightly, IsSeated, IsTiedAfter, GrowsByOne}
-use Rattle.es_member.specs.declared.member.Progress.{Progress}
-use Rattle.es_member.specs.declared.member.Progress.TheVariants.{Moved, Waiting, Ended}
+use Rattle.es_cluster.specs.Tied.{GrowsBy}
+use Rattle.es_cluster.specs.Turned.{WaitsRightly, IsSeated, IsTiedAfter, GrowsByOne}
+use Rattle.es_cluster.specs.declared.member.Progress.{Progress}
+use Rattle.es_cluster.specs.declared.member.Progress.TheVariants.{Moved, Waiting, Ended}
 use Rattle.es_record.specs.AgentView.{AgentView}
 use Rattle.es_rules.specs.Needs.{asks_message, asks_nothing, need}
 use Rattle.es_cluster.specs.State.{ClusterView}

@@ -7,8 +7,9 @@ ghost use Rattle.es_cluster.specs.State.{plans};
 ghost use Rattle.es_cluster.specs.Turns.{Turned};
 
 use crate::cluster::ClusterCore;
+use crate::member::Progress;
+use crate::planned::Planned;
 use crate::watcher::Watcher;
-use es_member::{Planned, Progress};
 use es_value::NoMemory;
 
 impl<L: Planned> ClusterCore<L> {

@@ -5,13 +5,14 @@ ghost use Rattle.es_event.specs.Ledger.{table};
 ghost use Rattle.es_event.specs.Rows.{held};
 ghost use Rattle.es_ledger.specs.Audits.{held_below};
 ghost use Rattle.es_record.specs.AgentView.{AgentView};
-ghost use Rattle.es_member.specs.Audits.{Audits};
-ghost use Rattle.es_member.specs.Members.{rows_of, SameRows};
+ghost use Rattle.es_cluster.specs.Audits.{Audits};
+ghost use Rattle.es_cluster.specs.Members.{rows_of, SameRows};
 ghost use Rattle.es_cluster.specs.State.{cores, ArePlaced};
 
 use crate::cluster::ClusterCore;
+use crate::member::Member;
+use crate::planned::Planned;
 use es_ledger::{Audit, LedgerCore};
-use es_member::{Member, Planned};
 use es_value::NoMemory;
 
 /// How many tickets all agents have. Those of each are the ones that the ledger has for it. Nothing

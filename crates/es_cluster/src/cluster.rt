@@ -11,11 +11,12 @@ ghost use Rattle.es_cluster.specs.State.{accounts, cores, first_state, names_of,
 ghost use Rattle.es_cluster.specs.Turns.{Turned, AllTurned, Stopped, StoppedIn};
 
 use crate::ending::{all_have_ended, give_up, into_histories};
+use crate::member::{Member, Progress};
+use crate::planned::Planned;
 use crate::seating::{copy_names, seat_all};
 use es_agent::AgentCore;
 use es_event::{Event, LedgerEvent, Outcome, Plan, Sequence};
 use es_ledger::LedgerCore;
-use es_member::{Member, Planned, Progress};
 use es_ticket::Opened;
 use es_value::{Name, NoMemory};
 use std::alloc::Global;

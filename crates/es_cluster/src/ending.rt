@@ -6,9 +6,10 @@ ghost use Rattle.es_event.specs.LegalLedger.{all_ended};
 ghost use Rattle.es_cluster.specs.Ends.{AreEnded, AreHistories, HaveNoTicket, with_end, with_ends};
 ghost use Rattle.es_cluster.specs.State.{cores};
 
+use crate::member::Member;
+use crate::planned::Planned;
 use es_event::{Event, Sequence};
 use es_ledger::LedgerCore;
-use es_member::{Member, Planned};
 
 /// Gives members and the ledger of so many agents up: every ticket is spent, each agent counts as
 /// ended, and the messages that are left are taken out. It takes no memory.

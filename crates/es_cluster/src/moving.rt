@@ -8,9 +8,10 @@ ghost use Rattle.es_cluster.specs.Watched.{IsWatched, busy};
 ghost use Rattle.es_cluster.specs.Watching.{IsKept, begun};
 
 use crate::cluster::ClusterCore;
+use crate::member::Progress;
+use crate::planned::Planned;
 use crate::watcher::{Nobody, Watcher};
 use es_event::Event;
-use es_member::{Planned, Progress};
 use es_value::NoMemory;
 
 impl<L: Planned> ClusterCore<L> {

@@ -4,9 +4,10 @@ ghost use Rattle.std.specs.Prelude.{◌≡◌, ℕ, [], Some, length, map, slice
 ghost use Rattle.es_ticket.specs.Stakes.{StakeView};
 ghost use Rattle.es_cluster.specs.State.{cores, first_views};
 
+use crate::member::Member;
+use crate::planned::Planned;
 use es_agent::AgentCore;
 use es_event::{AgentPlan, Sequence};
-use es_member::{Member, Planned};
 use es_ticket::Stake;
 use es_value::{Name, NoMemory};
 use std::alloc::Global;

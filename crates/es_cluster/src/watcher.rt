@@ -6,7 +6,8 @@ ghost use Rattle.es_cluster.specs.Turns.{Turned};
 ghost use Rattle.es_cluster.specs.Watched.{TakenTurn};
 
 use crate::cluster::ClusterCore;
-use es_member::{Planned, Progress};
+use crate::member::Progress;
+use crate::planned::Planned;
 use es_value::NoMemory;
 
 /// Who is told of each turn of a run, before and after it, in the order of the turns.

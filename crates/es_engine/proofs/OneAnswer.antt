@@ -4,11 +4,11 @@ use Rattle.std.specs.Prelude.{IfOk, OnOk}
 use Rattle.es_event.specs.declared.plan.Plan.{Plan}
 use Rattle.es_event.specs.Others.{all_name_others}
 use Rattle.es_options.specs.declared.options.Options.{Options}
-use Rattle.es_replay.proofs.Arriving.{plan_comes_to_an_end}
-use Rattle.es_refine.proofs.Converse.{outcome_of_run}
-use Rattle.es_messages.specs.Messages.{share_no_word}
-use Rattle.es_messages.specs.WithoutRaces.{HasNoRaceByTurns}
-use Rattle.es_messages.proofs.Reports.{reports_as_by_turns, reports_in_threads}
+use Rattle.es_theorems.proofs.Arriving.{plan_comes_to_an_end}
+use Rattle.es_theorems.proofs.Converse.{outcome_of_run}
+use Rattle.es_theorems.specs.Messages.{share_no_word}
+use Rattle.es_theorems.specs.WithoutRaces.{HasNoRaceByTurns}
+use Rattle.es_theorems.proofs.Reports.{reports_as_by_turns, reports_in_threads}
 use Rattle.es_script.specs.Grammar.{no_callback_collects}
 use Rattle.es_turns.specs.Answer.{IsAnswer}
 use Rattle.es_engine.specs.declared.run_fault.RunFault.{RunFault}

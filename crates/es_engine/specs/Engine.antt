@@ -6,7 +6,7 @@ use Rattle.es_event.specs.declared.plan.Plan.{Plan}
 use Rattle.es_options.specs.declared.options.Options.{Options}
 use Rattle.es_engine.specs.declared.run_fault.RunFault.{RunFault}
 use Rattle.es_engine.specs.declared.run_fault.RunFault.TheVariants.{Script, NoMemory, Mismatch, Read, Write}
-use Rattle.es_messages.specs.WithoutRaces.{HasNoRaceByTurns}
+use Rattle.es_theorems.specs.WithoutRaces.{HasNoRaceByTurns}
 use Rattle.es_script.specs.Fault.{IsPlanOf, fault_of}
 use Rattle.es_turns.specs.Answer.{IsAnswer}
 

@@ -2,8 +2,8 @@
 use Rattle.std.specs.Prelude.{ℕ, ◌≡◌, Bool, true, List}
 use Rattle.es_event.specs.declared.plan.Plan.{Plan}
 use Rattle.es_event.specs.Others.{all_name_others}
-use Rattle.es_messages.specs.Messages.{share_no_word}
-use Rattle.es_messages.specs.WithoutRaces.{HasNoRaceByTurns}
+use Rattle.es_theorems.specs.Messages.{share_no_word}
+use Rattle.es_theorems.specs.WithoutRaces.{HasNoRaceByTurns}
 use Rattle.es_script.specs.Grammar.{no_callback_collects}
 use Rattle.es_turns.specs.Answer.{IsAnswer}
 

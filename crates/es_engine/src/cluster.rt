@@ -3,7 +3,7 @@
 ghost use Rattle.std.specs.Prelude.{◌≡◌, ◌<◌, true, not, length, IfOk, IfErr, if◌then◌else◌};
 ghost use Rattle.es_engine.specs.Engine.{IsAnswerFault};
 ghost use Rattle.es_event.specs.Others.{all_name_others};
-ghost use Rattle.es_count.specs.Counts.{IsCountsOf};
+ghost use Rattle.es_report.specs.Counts.{IsCountsOf};
 ghost use Rattle.es_outcome.specs.Outcomes.{IsClusterOutcome};
 ghost use Rattle.es_script.specs.Grammar.{no_callback_collects};
 ghost use Rattle.es_turns.specs.Answer.{RanBy};

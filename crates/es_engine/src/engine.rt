@@ -4,7 +4,7 @@ ghost use Rattle.std.specs.Prelude.{◌≡◌, ◌≢◌, ◌<◌, length, IfOk,
 ghost use Rattle.std.specs.Io.KnownBytes.{Appends};
 ghost use Rattle.es_event.specs.Others.{all_name_others};
 ghost use Rattle.es_event.specs.Report.{report};
-ghost use Rattle.es_count.specs.Counts.{IsCountsOf};
+ghost use Rattle.es_report.specs.Counts.{IsCountsOf};
 ghost use Rattle.es_script.specs.Grammar.{no_callback_collects};
 ghost use Rattle.es_engine.specs.Engine.{Answers, IsAnswerFault, ReadsPlan, RunsAsByTurns, RunsTo, audits_of, runs_threads};
 

@@ -2,4 +2,3 @@ pub mod ExamplePlaces
 pub mod ExampleWords
 pub mod ExampleCauses
 pub mod Counts
-pub mod Pairs

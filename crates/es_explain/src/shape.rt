@@ -295,7 +295,7 @@ fn is_text_pair(value: &Value) -> bool
     }
 }
 
-#[tactic(auto, using(crate::proofs::Pairs::no_pair))]
+#[tactic(auto, using(es_script::proofs::Pairs::no_pair))]
 fn are_two_texts(list: &[Value]) -> bool
     ensures { result ≡ is_text_pair (Some (array (items_view list.now))) }
 {

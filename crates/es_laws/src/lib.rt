@@ -1,5 +1,6 @@
-//! The laws of the definitions: what holds of every history, plan and run that they allow. Each is the
-//! contract of a function that does nothing, and of other crates es_messages alone waits for them.
+//! The laws of the definitions: what holds of every history, plan and run that they allow, each the contract of
+//! a function that does nothing. And examples of what histories mean: small histories worked by hand that the
+//! definitions accept, and their neighbours, which they refuse. Nothing that runs stands on either.
 #![tactic(auto)]
 
 mod laws;

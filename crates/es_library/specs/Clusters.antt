@@ -3,8 +3,8 @@ use Rattle.std.specs.Prelude.{ℕ, ◌≡◌, ◌<◌, ◌≤◌, true, List, So
 use Rattle.es_value.specs.Limits.{longest_plan}
 use Rattle.es_ledger.specs.declared.audit.Audit.{Audit}
 use Rattle.es_record.specs.AgentView.{AgentView}
-use Rattle.es_member.specs.Audits.{Audits}
-use Rattle.es_member.specs.declared.member.Progress.TheVariants.{Moved, Waiting, Ended}
+use Rattle.es_cluster.specs.Audits.{Audits}
+use Rattle.es_cluster.specs.declared.member.Progress.TheVariants.{Moved, Waiting, Ended}
 use Rattle.es_cluster.specs.State.{ClusterView, first_state, plans}
 use Rattle.es_cluster.specs.Turns.{Stopped, Turned}
 use Rattle.es_reading.specs.declared.fault.ScriptFault.{ScriptFault}

@@ -6,7 +6,7 @@ use Rattle.es_script.specs.Fault.{fault_of}
 use Rattle.es_script.specs.FaultText.{fault_text}
 use Rattle.es_turns.specs.Answer.{IsAnswerTo}
 use Rattle.es_options.specs.declared.view.Form.TheVariants.{Lines}
-use Rattle.es_tracing.specs.Tracing.{IsTraceOf}
+use Rattle.es_turns.specs.Tracing.{IsTraceOf}
 use Rattle.es_library.specs.declared.asked.Asked.{Asked}
 use Rattle.es_library.specs.declared.asked.Asked.TheVariants.{Report, Check, Trace}
 

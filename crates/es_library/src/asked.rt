@@ -5,8 +5,7 @@ ghost use Rattle.es_library.specs.Replies.{IsTextFor};
 ghost use Rattle.es_turns.specs.Failing.{IsFaultOf};
 
 use es_options::{Form, View};
-use es_tracing::trace_of;
-use es_turns::{TurnsFault, answer_to};
+use es_turns::{TurnsFault, answer_to, trace_of};
 use std::alloc::Global;
 
 /// What a call asks of a plan.

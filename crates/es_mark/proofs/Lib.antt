@@ -8,3 +8,17 @@ pub mod Lists
 pub mod Queues
 pub mod Stepping
 pub mod Whole
+pub mod Adding
+pub mod Beginning
+pub mod Covering
+pub mod DrawingSteps
+pub mod Ending
+pub mod Entering
+pub mod ExampleWays
+pub mod Finding
+pub mod FollowingSteps
+pub mod StepLists
+pub mod Pairs
+pub mod Placing
+pub mod EntryQueues
+pub mod Sorted

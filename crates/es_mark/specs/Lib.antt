@@ -7,3 +7,10 @@ pub mod Made
 pub mod Marks
 pub mod Steps
 pub mod Waiting
+pub mod Ways
+pub mod Finds
+pub mod Added
+pub mod Placed
+pub mod WaitingEntries
+pub mod Search
+pub mod DrawnSteps

@@ -3,7 +3,7 @@ use Rattle.std.proofs.Common.{List, sym, subst, map}
 use Rattle.std.proofs.Math.ListN.{get_or-map}
 use Rattle.es_event.specs.Ledger.{Ledger}
 use Rattle.es_match.specs.Cluster.{Account, IsCluster, IsClusterOf, DeedsMeet, nobody}
-use Rattle.es_deeds.specs.Deeds.{part}
+use Rattle.es_match.specs.Deeds.{part}
 
 pub as_cluster : (all : List Account) (l : Ledger) → IsClusterOf all l → IsCluster (map (λ a. a.history) all) l
 as_cluster all l c = record {

@@ -3,10 +3,10 @@ use Rattle.std.proofs.Common.{◌≡◌, ℕ, ◌<◌, true, List, [], length, s
 use Rattle.std.specs.Prelude.{map}
 use Rattle.std.proofs.Math.ListN.{get_or-map}
 use Rattle.es_event.specs.declared.event.Event.{Event}
-use Rattle.es_deeds.specs.declared.stretch.Stretch.{Stretch}
+use Rattle.es_match.specs.declared.stretch.Stretch.{Stretch}
 use Rattle.es_match.specs.Goes.{goes}
 use Rattle.es_match.specs.Meets.{Came, nothing_came}
-use Rattle.es_deeds.specs.Split.{part_at}
+use Rattle.es_match.specs.Split.{part_at}
 use Rattle.es_match.specs.Going.{AllGo, SomeStops}
 
 -- each call, where it gave something, gave what comes of the history of its number

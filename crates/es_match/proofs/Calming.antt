@@ -5,7 +5,7 @@ use Rattle.std.specs.Option.{option_and_then}
 use Rattle.std.proofs.lemmas.List.{reverse-append}
 use Rattle.es_event.specs.declared.event.Event.{Event}
 use Rattle.es_event.specs.History.{History}
-use Rattle.es_deeds.specs.Deeds.{Deed}
+use Rattle.es_match.specs.Deeds.{Deed}
 use Rattle.es_match.specs.Asks.{Asking, nothing, to_empty, asks, between_jobs, ends_job}
 use Rattle.es_match.specs.Calm.{IsCalm, IsCalmBefore, is_calm}
 use Rattle.es_match.specs.Goes.{asked, goes}

@@ -4,12 +4,12 @@ use Rattle.std.specs.Option.{option_map}
 use Rattle.std.proofs.lemmas.List.{take_more}
 use Rattle.es_match.specs.Meets.{strike}
 use Rattle.std.specs.HashMap.{get}
-use Rattle.es_deeds.specs.Deeds.{Deed, Spends}
+use Rattle.es_match.specs.Deeds.{Deed, Spends}
 use Rattle.es_match.specs.Meets.{spends}
-use Rattle.es_deeds.specs.LedgerPass.{Map}
-use Rattle.es_deeds.specs.declared.deed.Deed.{Deed as DeedHeld}
-use Rattle.es_deeds.specs.declared.deed.Deed.TheVariants.{Spend}
-use Rattle.es_deeds.specs.Shown.{shown, all_shown}
+use Rattle.es_match.specs.LedgerPass.{Map}
+use Rattle.es_match.specs.declared.deed.Deed.{Deed as DeedHeld}
+use Rattle.es_match.specs.declared.deed.Deed.TheVariants.{Spend}
+use Rattle.es_match.specs.DeedsShown.{shown, all_shown}
 use Rattle.std.proofs.Math.Seq.{drop-cons}
 use Rattle.es_match.specs.Counts.{count, count_in, IsLeft, IsSpending, Struck}
 use Rattle.es_match.specs.declared.spending.Left.{Left}

@@ -8,17 +8,17 @@ use Rattle.std.proofs.lemmas.Bool.Decides.{nat_tests}
 use Rattle.es_event.specs.declared.event.Event.{Event}
 use Rattle.es_event.specs.History.{History}
 use Rattle.es_event.specs.Ledger.{Ledger}
-use Rattle.es_deeds.specs.declared.stretch.Stretch.{Stretch}
-use Rattle.es_deeds.specs.Deeds.{Deed as DeedSaid, Owned, deed, part, part_of, is_wait}
+use Rattle.es_match.specs.declared.stretch.Stretch.{Stretch}
+use Rattle.es_match.specs.Deeds.{Deed as DeedSaid, Owned, deed, part, part_of, is_wait}
 use Rattle.es_match.specs.Meets.{Came, nothing_came}
-use Rattle.es_deeds.specs.Patience.{patient, drained_last, has_drained, is_patient, is_nobodys}
+use Rattle.es_match.specs.Patience.{patient, drained_last, has_drained, is_patient, is_nobodys}
 use Rattle.es_match.specs.Cluster.{DeedsMeet, HaveCome, IsCluster, history_of}
 use Rattle.es_match.specs.Goes.{goes}
-use Rattle.es_deeds.specs.Orderly.{is_known, may_come, orderly}
-use Rattle.es_deeds.specs.Split.{IsSplit, part_at}
+use Rattle.es_match.specs.Orderly.{is_known, may_come, orderly}
+use Rattle.es_match.specs.Split.{IsSplit, part_at}
 use Rattle.es_match.specs.Going.{AllGo, SomeStops}
 use Rattle.es_match.proofs.Bridge.{goes_means_ties, ties_mean_goes}
-use Rattle.es_deeds.proofs.Splitting.{past}
+use Rattle.es_match.proofs.Splitting.{past}
 
 -- From the order
 

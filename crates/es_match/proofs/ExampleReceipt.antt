@@ -10,7 +10,7 @@ use Rattle.es_event.specs.Jobs.{job}
 use Rattle.es_event.specs.Sharing.{Buffers}
 use Rattle.es_match.specs.Asks.{to_refuse, asks, between_jobs}
 use Rattle.es_match.specs.Cluster.{IsSaid, DeedsMeet, awaited, is_refusal_asked, refused_senders}
-use Rattle.es_deeds.specs.Deeds.{Deed, Takes, Spends}
+use Rattle.es_match.specs.Deeds.{Deed, Takes, Spends}
 use Rattle.es_match.specs.Meets.{Came, Tickets, after, came_after, is_refusal, refused_in, some_if}
 use Rattle.es_match.proofs.Bridge.{mapped}
 

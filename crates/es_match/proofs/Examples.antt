@@ -3,12 +3,12 @@ use Rattle.std.proofs.Common.{◌≡◌, ℕ, zero, suc, Bool, true, false, true
 use Rattle.std.specs.Prelude.{reverse}
 use Rattle.es_event.specs.History.{History}
 use Rattle.es_event.specs.Ledger.{Ledger}
-use Rattle.es_deeds.specs.Deeds.{part}
+use Rattle.es_match.specs.Deeds.{part}
 use Rattle.es_match.specs.Meets.{Came, nothing_came}
-use Rattle.es_deeds.specs.Patience.{patient, drained_last}
+use Rattle.es_match.specs.Patience.{patient, drained_last}
 use Rattle.es_match.specs.Cluster.{DeedsMeet, IsCluster, history_of}
 use Rattle.es_match.specs.Goes.{goes}
-use Rattle.es_deeds.specs.Orderly.{orderly}
+use Rattle.es_match.specs.Orderly.{orderly}
 use Rattle.es_match.proofs.Bridge.{goes_means_ties, ties_mean_goes}
 use Rattle.es_match.proofs.Deciding.{order_patient, order_drains, strangers}
 

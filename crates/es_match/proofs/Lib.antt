@@ -11,3 +11,7 @@ pub mod Examples
 mod Lists
 pub mod Passing
 pub mod Ticketed
+mod Running
+mod Noted
+mod Posted
+pub mod Splitting

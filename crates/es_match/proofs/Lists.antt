@@ -2,9 +2,9 @@
 use Rattle.std.proofs.Common.{◌≡◌, ℕ, zero, suc, ◌≤◌, ◌+◌, List, [], ◌∷◌, ◌++◌, take, drop, refl, sym, ◌∙◌, ap, arith}
 use Rattle.std.proofs.lemmas.List.{map-append, drop-drop}
 use Rattle.std.proofs.Math.Seq.{take-add}
-use Rattle.es_deeds.specs.declared.deed.Deed.{Deed}
-use Rattle.es_deeds.specs.Deeds.{Deed as DeedSaid}
-use Rattle.es_deeds.specs.Shown.{shown, all_shown}
+use Rattle.es_match.specs.declared.deed.Deed.{Deed}
+use Rattle.es_match.specs.Deeds.{Deed as DeedSaid}
+use Rattle.es_match.specs.DeedsShown.{shown, all_shown}
 
 -- where nothing is left, more are as many
 pub none_left : (k n : ℕ) (ds : List DeedSaid) → drop k ds ≡ [] → k ≤ n → (take k ds ≡ take n ds) × (drop n ds ≡ [])

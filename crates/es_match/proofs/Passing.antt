@@ -4,7 +4,7 @@ use Rattle.std.specs.Option.{option_and_then}
 use Rattle.std.proofs.lemmas.List.{drop_more}
 use Rattle.es_event.specs.declared.event.Event.{Event}
 use Rattle.es_match.specs.Asks.{nothing, asks, ends_job}
-use Rattle.es_deeds.specs.Deeds.{Deed}
+use Rattle.es_match.specs.Deeds.{Deed}
 use Rattle.es_match.specs.Goes.{asked, goes}
 use Rattle.es_match.specs.Meets.{Came, came_after}
 

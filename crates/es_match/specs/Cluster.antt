@@ -6,8 +6,8 @@ use Rattle.es_event.specs.History.{History}
 use Rattle.es_event.specs.Jobs.{job, on_of}
 use Rattle.es_event.specs.Ledger.{Ledger, waits}
 use Rattle.es_event.specs.Sharing.{Buffers}
-use Rattle.es_deeds.specs.Deeds.{Deed, part}
-use Rattle.es_deeds.specs.Patience.{patient, drained_last}
+use Rattle.es_match.specs.Deeds.{Deed, part}
+use Rattle.es_match.specs.Patience.{patient, drained_last}
 use Rattle.es_match.specs.Asks.{Asking, to_refuse, between_jobs, asks}
 use Rattle.es_match.specs.Meets.{Came, came_after, nothing_came}
 

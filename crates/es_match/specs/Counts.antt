@@ -2,9 +2,9 @@
 use Rattle.std.specs.Prelude.{ℕ, ◌≡◌, ◌+◌, ◌==◌, Bool, true, false, nat_eq, List, [], ◌∷◌, length, Some, None, unwrap_or, if◌then◌else◌}
 use Rattle.std.specs.HashMap.{get}
 use Rattle.es_match.specs.declared.spending.Left.{Left}
-use Rattle.es_deeds.specs.Deeds.{Deed}
+use Rattle.es_match.specs.Deeds.{Deed}
 use Rattle.es_match.specs.Meets.{spends, strike}
-use Rattle.es_deeds.specs.LedgerPass.{Map}
+use Rattle.es_match.specs.LedgerPass.{Map}
 
 -- how often the serial is in the list
 abbrev pub count : ℕ → List ℕ → ℕ

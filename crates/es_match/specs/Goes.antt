@@ -2,7 +2,7 @@
 use Rattle.std.specs.Prelude.{ℕ, Bool, ◌+◌, List, [], ◌∷◌, take, drop, length, Option}
 use Rattle.std.specs.Option.{option_and_then}
 use Rattle.es_event.specs.declared.event.Event.{Event}
-use Rattle.es_deeds.specs.Deeds.{Deed}
+use Rattle.es_match.specs.Deeds.{Deed}
 use Rattle.es_match.specs.Asks.{Asking, nothing, to_open, to_measure, to_compare, to_access, to_post, to_receive, to_refuse, to_pass, to_empty, to_close, ends_job, asks}
 use Rattle.es_match.specs.Meets.{Tickets, Came, within, came_after, no_more, some_if}
 

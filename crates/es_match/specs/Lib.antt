@@ -6,3 +6,10 @@ pub mod Goes
 pub mod Going
 pub mod Meets
 pub mod Shown
+pub mod Deeds
+pub mod Orderly
+pub mod Patience
+pub mod DeedsShown
+pub mod Split
+pub mod LedgerPass
+pub mod Words

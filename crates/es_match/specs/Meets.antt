@@ -14,7 +14,7 @@ use Rattle.es_event.specs.Identities.{is_in, object_of}
 use Rattle.es_event.specs.Rows.{row}
 use Rattle.es_event.specs.Sharing.{row_of}
 use Rattle.es_match.specs.Asks.{Asking, nothing, to_open, to_measure, to_compare, to_access, to_post, to_receive, to_refuse, to_pass, to_empty, to_close}
-use Rattle.es_deeds.specs.Deeds.{Deed, Opens, Posts, Takes, Spends, Accesses, Passes, Ends}
+use Rattle.es_match.specs.Deeds.{Deed, Opens, Posts, Takes, Spends, Accesses, Passes, Ends}
 
 -- an agent's tickets by buffer object, the oldest first
 abbrev pub Tickets : Type 0

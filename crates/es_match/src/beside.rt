@@ -4,12 +4,12 @@ ghost use Rattle.std.specs.Prelude.{◌≡◌, ◌<◌, ℕ, [], true, Some, Non
 ghost use Rattle.es_match.specs.Calm.{AreCalm};
 ghost use Rattle.es_match.specs.Goes.{goes};
 ghost use Rattle.es_match.specs.Meets.{nothing_came};
-ghost use Rattle.es_deeds.specs.Split.{part_at};
+ghost use Rattle.es_match.specs.Split.{part_at};
 ghost use Rattle.es_match.specs.Going.{AllGo, SomeStops};
 
 use crate::calm::{goes_from, is_calm};
 use crate::came::Came;
-use es_deeds::Stretch;
+use crate::stretch::Stretch;
 use es_event::{Event, Sequence};
 use es_value::NoMemory;
 use std::alloc::Global;

@@ -1,14 +1,14 @@
 //! Agents that ask the ledger for nothing.
 
 ghost use Rattle.std.specs.Prelude.{◌≡◌, ◌-◌, true, false, drop, length, slice_index_or, IfOk};
-ghost use Rattle.es_deeds.specs.Split.{stretches_said};
+ghost use Rattle.es_match.specs.Split.{stretches_said};
 ghost use Rattle.es_match.specs.Calm.{IsCalmBefore};
 ghost use Rattle.es_match.specs.Goes.{goes};
 ghost use Rattle.es_match.specs.Meets.{nothing_came};
 
 use crate::came::Came;
 use crate::going::goes;
-use es_deeds::Stretch;
+use crate::stretch::Stretch;
 use es_event::Event;
 use es_value::NoMemory;
 use std::alloc::Global;

@@ -2,13 +2,13 @@
 
 ghost use Rattle.std.specs.Prelude.{◌≡◌, ◌++◌, IfOk, OnOk};
 ghost use Rattle.es_match.specs.Meets.{came_after, nothing_came, refused_in, some_if, ticket_in, ticket_under};
-ghost use Rattle.es_deeds.specs.Shown.{all_shown};
+ghost use Rattle.es_match.specs.DeedsShown.{all_shown};
 ghost use Rattle.es_match.specs.Shown.{asking, listed, said};
 
+use crate::deed::Deed;
 use crate::going::{after, one, two};
 use crate::tickets::{BufferTickets, object_in};
 use crate::want::Want;
-use es_deeds::Deed;
 use es_event::{Body, Row};
 use es_value::{Id, NoMemory, Value};
 use std::alloc::Global;

@@ -2,13 +2,13 @@
 
 ghost use Rattle.std.specs.Prelude.{◌≡◌, not, ◌&&◌};
 ghost use Rattle.es_match.specs.Meets.{answers, carries, compares, has_ticket, is_access, same_index, is_number, is_object, is_pass, is_post, is_refusal, is_ticket};
-ghost use Rattle.es_deeds.specs.Shown.{shown};
+ghost use Rattle.es_match.specs.DeedsShown.{shown};
 ghost use Rattle.es_match.specs.Shown.{said};
 ghost use Rattle.es_value.specs.Values.{is_same};
 ghost use Rattle.es_value.specs.declared.value.Value.TheVariants.{Boolean};
 
+use crate::deed::Deed;
 use crate::tickets::BufferTickets;
-use es_deeds::Deed;
 use es_event::{Access, Body};
 use es_value::{Value, same_value};
 

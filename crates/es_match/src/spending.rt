@@ -4,9 +4,9 @@ ghost use Rattle.std.specs.Prelude.{◌≡◌, ℕ, List, Some, IfOk, OnOk};
 ghost use Rattle.std.specs.HashMap.{Updates};
 ghost use Rattle.es_match.specs.Counts.{count_in, IsLeft, Struck};
 ghost use Rattle.es_match.specs.Meets.{ends, spends};
-ghost use Rattle.es_deeds.specs.Shown.{all_shown};
+ghost use Rattle.es_match.specs.DeedsShown.{all_shown};
 
-use es_deeds::Deed;
+use crate::deed::Deed;
 use es_value::NoMemory;
 use std::alloc::Global;
 use std::collections::HashMap;

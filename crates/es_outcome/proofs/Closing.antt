@@ -25,11 +25,11 @@ use Rattle.es_event.specs.Runs.{IsRunOver}
 use Rattle.es_ledger.specs.Draining.{drained_one, drained_each, drained_to, drained_below, after_drain}
 use Rattle.es_match.specs.Asks.{Asking, nothing, to_open, to_measure, to_compare, to_access, to_post, to_receive, to_refuse, to_pass, to_empty, to_close, asks, asks_did, between_jobs, wants_room}
 use Rattle.es_match.specs.Cluster.{IsCluster, DeedsMeet, history_of}
-use Rattle.es_deeds.specs.Deeds.{Deed, Takes, Spends, Ends, deed, part, part_of}
+use Rattle.es_match.specs.Deeds.{Deed, Takes, Spends, Ends, deed, part, part_of}
 use Rattle.es_match.proofs.Bridge.{mapped}
 use Rattle.es_match.specs.Meets.{Came, Tickets, after, is_access, is_one, is_pass, is_post, is_refusal, opening, pair, receiving, sole, some_if, spends, spends_ticket_in, strike}
 use Rattle.es_agent.specs.Tickets.{is_ended}
-use Rattle.es_member.proofs.Midway.{ended_where_all, still_over}
+use Rattle.es_cluster.proofs.Midway.{ended_where_all, still_over}
 use Rattle.es_record.specs.AgentView.{AgentView}
 use Rattle.es_cluster.proofs.Standing.{within}
 use Rattle.es_cluster.specs.Ends.{with_end, with_ends}

@@ -14,7 +14,7 @@ use Rattle.es_event.specs.Runs.{AreWholeRuns, IsOutcome, IsWholeRun}
 use Rattle.es_match.specs.Cluster.{Account, HaveCome, IsCluster, IsClusterOf}
 use Rattle.es_record.specs.AgentView.{AgentView}
 use Rattle.es_registry.specs.declared.slot.Tally.{Tally}
-use Rattle.es_count.specs.Tallies.{AreTallies, end_tally}
+use Rattle.es_report.specs.Tallies.{AreTallies, end_tally}
 use Rattle.es_cluster.proofs.Ended.{there}
 use Rattle.es_cluster.specs.Ends.{AreHistories, HaveNoTicket, IsWhole}
 use Rattle.es_cluster.specs.State.{accounts, plans}

@@ -23,7 +23,7 @@ use Rattle.es_event.specs.Sharing.{Buffers}
 use Rattle.es_event.proofs.Examples.{load}
 use Rattle.es_match.proofs.Bridge.{ties_mean_goes}
 use Rattle.es_match.specs.Cluster.{Account, account_of}
-use Rattle.es_deeds.specs.Deeds.{part}
+use Rattle.es_match.specs.Deeds.{part}
 use Rattle.es_match.specs.Goes.{goes}
 use Rattle.es_match.specs.Meets.{Came, nothing_came}
 use Rattle.es_cluster.specs.Ends.{IsWhole}

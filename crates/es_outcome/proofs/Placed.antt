@@ -9,7 +9,7 @@ use Rattle.es_record.specs.AgentView.{AgentView}
 use Rattle.es_cluster.proofs.Mover.{over_asks_nothing}
 use Rattle.es_cluster.specs.Moves.{is_over}
 use Rattle.es_cluster.specs.State.{cores, plans}
-use Rattle.es_member.specs.Members.{MemberView}
+use Rattle.es_cluster.specs.Members.{MemberView}
 use Rattle.es_rules.specs.Needs.{asks_nothing, need}
 use Rattle.es_outcome.specs.Places.{AreAtPlaces, ArePlanned}
 

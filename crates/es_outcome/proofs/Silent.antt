@@ -28,7 +28,7 @@ use Rattle.es_agent.specs.Tickets.{is_ended}
 use Rattle.es_match.specs.Asks.{asks, asks_did, between_jobs}
 use Rattle.es_match.specs.Calm.{AreCalm, IsCalm, IsCalmBefore, is_calm}
 use Rattle.es_match.proofs.Calming.{is_calm_before}
-use Rattle.es_member.proofs.Aims.{buffer_there}
+use Rattle.es_cluster.proofs.Aims.{buffer_there}
 use Rattle.es_record.specs.AgentView.{AgentView}
 use Rattle.es_cluster.specs.Ends.{IsWhole}
 use Rattle.es_cluster.specs.State.{accounts}

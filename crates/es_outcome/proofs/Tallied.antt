@@ -6,7 +6,7 @@ use Rattle.es_event.specs.History.{History}
 use Rattle.es_event.specs.Registrations.{live, awaiting, unregistered, taken, tally}
 use Rattle.es_record.specs.AgentView.{AgentView}
 use Rattle.es_registry.specs.declared.slot.Tally.{Tally}
-use Rattle.es_count.specs.Tallies.{end_tally}
+use Rattle.es_report.specs.Tallies.{end_tally}
 
 tally_is : (t : Tally) (h : History) → t.live ≡ tally h live → t.awaiting ≡ tally h awaiting → t.unregistered ≡ tally h unregistered → t.taken ≡ tally h taken → t ≡ end_tally h
 tally_is t h a b c d = λ i. record { live = a i; awaiting = b i; unregistered = c i; taken = d i }

@@ -7,7 +7,7 @@ use Rattle.es_event.specs.Ledger.{Ledger}
 use Rattle.es_match.proofs.Accounts.{as_cluster}
 use Rattle.es_match.proofs.Bridge.{ties_mean_goes}
 use Rattle.es_match.specs.Cluster.{Account, HaveCome, IsCluster, IsClusterOf, IsSaid, DeedsMeet, account_of, history_of}
-use Rattle.es_deeds.specs.Deeds.{Deed, part}
+use Rattle.es_match.specs.Deeds.{Deed, part}
 use Rattle.es_match.specs.Meets.{Came, nothing_came}
 use Rattle.es_record.specs.AgentView.{AgentView}
 use Rattle.es_cluster.proofs.Standing.{account_at, nobody_at, within}

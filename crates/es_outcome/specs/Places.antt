@@ -4,7 +4,7 @@ use Rattle.es_event.specs.declared.plan.Plan.{Plan}
 use Rattle.es_event.specs.Runs.{IsRunOver}
 use Rattle.es_record.specs.AgentView.{AgentView}
 use Rattle.es_cluster.specs.Moves.{is_over}
-use Rattle.es_member.specs.Members.{IsPlanned}
+use Rattle.es_cluster.specs.Members.{IsPlanned}
 
 -- each is at the place of its number, counted from 0
 abbrev pub AreAtPlaces : List AgentView → Type 0

@@ -6,8 +6,8 @@ ghost use Rattle.es_event.specs.Rows.{held};
 ghost use Rattle.es_ledger.specs.Audits.{held_below};
 ghost use Rattle.es_record.specs.AgentView.{AgentView};
 ghost use Rattle.es_cluster.specs.State.{cores};
-ghost use Rattle.es_member.specs.Audits.{Audits};
-ghost use Rattle.es_member.specs.Members.{rows_of, SameRows};
+ghost use Rattle.es_cluster.specs.Audits.{Audits};
+ghost use Rattle.es_cluster.specs.Members.{rows_of, SameRows};
 ghost use Rattle.es_outcome.specs.Places.{AreAtPlaces};
 
 use es_cluster::{Audit, Member, Planned};

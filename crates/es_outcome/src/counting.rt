@@ -2,7 +2,7 @@
 
 ghost use Rattle.std.specs.Prelude.{◌≡◌, map, IfOk};
 ghost use Rattle.es_cluster.specs.State.{cores};
-ghost use Rattle.es_count.specs.Tallies.{end_tally};
+ghost use Rattle.es_report.specs.Tallies.{end_tally};
 
 use es_cluster::{Member, Planned};
 use es_registry::Tally;

@@ -5,3 +5,7 @@ mod Mail
 mod Noting
 mod Racing
 mod Through
+mod ExamplePlaces
+mod Found
+mod OnePlace
+mod Splitting

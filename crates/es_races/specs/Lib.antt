@@ -1,2 +1,6 @@
 pub mod Pass
 pub mod Verdict
+pub mod Places
+pub mod Races
+pub mod Texts
+pub mod Walks

@@ -22,9 +22,9 @@ use Rattle.es_mark.specs.Graph.{IsNumbered, HasAll, Finds, FindsEntries}
 use Rattle.es_record.specs.AgentView.{AgentView}
 use Rattle.es_tables.specs.Found.{Adds, HasHeld, AddsEntries, HasEntered}
 use Rattle.es_record.specs.Graph.{HasRoots, HasEdges, HasEntries}
-use Rattle.es_tags.specs.Tags.{tag_at, tag_of, is_tag}
-use Rattle.es_tags.specs.declared.tags.Tag.{Tag}
-use Rattle.es_tags.specs.declared.tags.Tag.TheVariants.{WeakRef as WeakRefTag, WeakMap as WeakMapTag, WeakSet as WeakSetTag, FinalizationRegistry as RegistryTag, SharedArrayBuffer as BufferTag}
+use Rattle.es_tables.specs.Tags.{tag_at, tag_of, is_tag}
+use Rattle.es_tables.specs.declared.tags.Tag.{Tag}
+use Rattle.es_tables.specs.declared.tags.Tag.TheVariants.{WeakRef as WeakRefTag, WeakMap as WeakMapTag, WeakSet as WeakSetTag, FinalizationRegistry as RegistryTag, SharedArrayBuffer as BufferTag}
 use Rattle.es_record.specs.Tagged.{is_of}
 use Rattle.es_tables.specs.Tables.{TablesView, Says, slot_said}
 use Rattle.es_registry.specs.declared.slot.Slot.{Slot}

@@ -31,10 +31,10 @@ use Rattle.es_event.proofs.Staying.{made_more}
 use Rattle.es_event.proofs.Targets.{target_from}
 use Rattle.es_mark.specs.Marks.{is_marked, IsLeast}
 use Rattle.es_cursor.specs.declared.cursor.Cursor.{Cursor}
-use Rattle.es_tags.specs.declared.tags.Tag.{Tag}
+use Rattle.es_tables.specs.declared.tags.Tag.{Tag}
 use Rattle.es_tables.specs.Tables.{TablesView}
-use Rattle.es_tags.specs.Tags.{tag_at, tag_said}
-use Rattle.es_tags.proofs.Passing.{passing}
+use Rattle.es_tables.specs.Tags.{tag_at, tag_said}
+use Rattle.es_tables.proofs.Passing.{passing}
 use Rattle.es_record.specs.AgentView.{AgentView}
 use Rattle.es_record.specs.Graph.{HasRoots, HasEdges, HasEntries, as_at, HasDerefed, AreLateMarks}
 use Rattle.es_record.specs.Ties.{RecordTies}

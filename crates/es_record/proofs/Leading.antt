@@ -23,8 +23,8 @@ use Rattle.es_event.proofs.Cells.{cell_within}
 use Rattle.es_registry.specs.declared.slot.Slot.{Slot}
 use Rattle.es_registry.specs.Slots.{held_identity, registration_of}
 use Rattle.es_tables.specs.Tables.{TablesView, Says, slot_said}
-use Rattle.es_tags.specs.Tags.{tag_said, tag_of}
-use Rattle.es_tags.specs.declared.tags.Tag.{Tag}
+use Rattle.es_tables.specs.Tags.{tag_said, tag_of}
+use Rattle.es_tables.specs.declared.tags.Tag.{Tag}
 use Rattle.es_tables.proofs.Numbered.{get_numbered}
 use Rattle.es_tables.proofs.Slots.{slots, slot_at, count_slots}
 use Rattle.es_record.specs.Leading.{held_in, held_of, registration_in, registration_said, AddsUnder, AddsSets}

@@ -20,7 +20,7 @@ use Rattle.es_cursor.specs.Due.{due_of}
 use Rattle.es_event.specs.Later.{snapshot}
 use Rattle.es_cursor.specs.declared.cursor.Cursor.{Cursor}
 use Rattle.es_cursor.specs.declared.cursor.Position.TheVariants.{Ended as EndPosition}
-use Rattle.es_tags.specs.Tags.{tag_of, tag_said}
+use Rattle.es_tables.specs.Tags.{tag_of, tag_said}
 use Rattle.es_tables.specs.Tables.{TablesView, Says}
 use Rattle.es_record.specs.Ties.{RecordTies}
 

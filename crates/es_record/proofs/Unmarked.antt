@@ -12,14 +12,14 @@ use Rattle.es_event.specs.Legal.{LegalBy, is_rising}
 use Rattle.es_event.specs.Reach.{AreDead}
 use Rattle.es_event.proofs.Alive.{Stays, stays_along, is_not}
 use Rattle.es_mark.specs.Marks.{is_marked}
-use Rattle.es_tags.specs.declared.tags.Tag.{Tag}
+use Rattle.es_tables.specs.declared.tags.Tag.{Tag}
 use Rattle.es_record.specs.AgentView.{AgentView}
 use Rattle.es_record.specs.Graph.{AreMarksOf}
 use Rattle.es_cursor.specs.declared.cursor.Cursor.{Cursor}
 use Rattle.es_tables.specs.Tables.{TablesView}
 use Rattle.es_record.specs.Ties.{RecordTies}
-use Rattle.es_tags.specs.Tags.{tag_at, tag_of, tag_said}
-use Rattle.es_tags.proofs.Passing.{passing}
+use Rattle.es_tables.specs.Tags.{tag_at, tag_of, tag_said}
+use Rattle.es_tables.proofs.Passing.{passing}
 use Rattle.es_record.proofs.Reached.{marked_reached, reached_marked}
 
 -- Numbers that pass a test

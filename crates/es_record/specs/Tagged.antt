@@ -2,8 +2,8 @@
 use Rattle.std.specs.Prelude.{Bool, false, Option}
 use Rattle.es_event.specs.Commands.{Kind}
 use Rattle.es_event.specs.Rules.{is_weakref, is_weakmap, is_weakset, is_registry, is_buffer}
-use Rattle.es_tags.specs.declared.tags.Tag.{Tag}
-use Rattle.es_tags.specs.declared.tags.Tag.TheVariants.{WeakRef, WeakMap, WeakSet, FinalizationRegistry, SharedArrayBuffer}
+use Rattle.es_tables.specs.declared.tags.Tag.{Tag}
+use Rattle.es_tables.specs.declared.tags.Tag.TheVariants.{WeakRef, WeakMap, WeakSet, FinalizationRegistry, SharedArrayBuffer}
 
 -- the object is of the kind that has this tag; only these five have commands of their own
 abbrev pub is_of : Tag → Option Kind → Bool

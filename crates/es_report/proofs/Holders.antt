@@ -15,9 +15,9 @@ use Rattle.es_event.specs.declared.row.Holder.TheVariants.{Agent, Port, Nobody}
 use Rattle.es_event.specs.Rows.{row, held_by, is_somebody, moved}
 use Rattle.es_event.specs.Ledger.{Ledger, front, serial_in, table, opened, size, moved_if as moved_if_said, is_released}
 use Rattle.es_event.specs.Totals.{released}
-use Rattle.es_count.specs.Tickets.{is_left, line_of_entry}
-use Rattle.es_count.proofs.Lists.{count_alike}
-use Rattle.es_count.proofs.Lines.{released_at}
+use Rattle.es_report.specs.Tickets.{is_left, line_of_entry}
+use Rattle.es_report.proofs.Lists.{count_alike}
+use Rattle.es_report.proofs.Lines.{released_at}
 use Rattle.es_report.specs.declared.holding.Trace.{Trace}
 use Rattle.es_report.specs.Holding.{Traced, any_of, held_of, is_of, left, makes, makes_it, makes_left, moved_by, moved_if, moved_to, with_ticket}
 

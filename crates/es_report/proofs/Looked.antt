@@ -14,14 +14,14 @@ use Rattle.es_event.specs.Registrations.{Cell, registers, registers_by, register
 use Rattle.es_event.proofs.Cells.{registered_next, registered_same}
 use Rattle.es_event.proofs.Entries.{mapped}
 use Rattle.es_registry.specs.declared.slot.Tally.{Tally}
-use Rattle.es_count.specs.declared.fates.Fate.{Fate as Settled}
-use Rattle.es_count.specs.declared.fates.Fate.TheVariants.{Unregistered}
-use Rattle.es_count.specs.declared.registered.Made.{Made}
-use Rattle.es_count.specs.Fates.{made_of}
-use Rattle.es_count.specs.Registered.{fate_of, made_by, named_by, one_more, IsBelow}
-use Rattle.es_count.specs.Tallies.{end_tally}
-use Rattle.es_count.proofs.Lists.{count_few, count_last}
-use Rattle.es_count.proofs.Noted.{either_cell, makes_alone, made_is, named_is, none_made, or_none, under_is, unmoved_by}
+use Rattle.es_report.specs.declared.fates.Fate.{Fate as Settled}
+use Rattle.es_report.specs.declared.fates.Fate.TheVariants.{Unregistered}
+use Rattle.es_report.specs.declared.registered.Made.{Made}
+use Rattle.es_report.specs.Fates.{made_of}
+use Rattle.es_report.specs.Registered.{fate_of, made_by, named_by, one_more, IsBelow}
+use Rattle.es_report.specs.Tallies.{end_tally}
+use Rattle.es_report.proofs.Lists.{count_few, count_last}
+use Rattle.es_report.proofs.Noted.{either_cell, makes_alone, made_is, named_is, none_made, or_none, under_is, unmoved_by}
 use Rattle.es_report.specs.declared.looking.Look.{Look}
 use Rattle.es_report.specs.Looking.{Looks, first_of, is_under, present, removed_by, with_made}
 

@@ -10,8 +10,8 @@ use Rattle.es_event.specs.declared.event.Event.{Event}
 use Rattle.es_event.specs.declared.outcome.Outcome.{Outcome}
 use Rattle.es_event.specs.Report.{agent_text, agents_text, cluster_text, report}
 use Rattle.es_registry.specs.declared.slot.Tally.{Tally}
-use Rattle.es_count.specs.Counts.{IsCountsOf, CountsView}
-use Rattle.es_count.specs.Tallies.{AreTallies, end_tally}
+use Rattle.es_report.specs.Counts.{IsCountsOf, CountsView}
+use Rattle.es_report.specs.Tallies.{AreTallies, end_tally}
 use Rattle.es_report.specs.Totals.{totals_text}
 
 -- the tally at a place is that of the history there

@@ -2,3 +2,9 @@ pub mod Holding
 pub mod Looking
 pub mod Ports
 pub mod Totals
+pub mod Counts
+pub mod Fates
+pub mod Registered
+pub mod Tallies
+pub mod Tickets
+pub mod LedgerTotals

@@ -5,10 +5,10 @@ use Rattle.es_event.specs.declared.event.Event.{Event}
 use Rattle.es_event.specs.History.{History, earliest}
 use Rattle.es_event.specs.Identities.{is_gone}
 use Rattle.es_event.specs.Registrations.{cell, registered, removes, Fate, live, awaiting}
-use Rattle.es_count.specs.declared.fates.Fate.{Fate as Settled}
-use Rattle.es_count.specs.declared.registered.Made.{Made}
-use Rattle.es_count.specs.Fates.{made_of}
-use Rattle.es_count.specs.Registered.{fate_of}
+use Rattle.es_report.specs.declared.fates.Fate.{Fate as Settled}
+use Rattle.es_report.specs.declared.registered.Made.{Made}
+use Rattle.es_report.specs.Fates.{made_of}
+use Rattle.es_report.specs.Registered.{fate_of}
 use Rattle.es_report.specs.declared.looking.Look.{Look}
 
 -- what is kept says what the history says of registration n

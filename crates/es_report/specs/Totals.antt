@@ -1,6 +1,6 @@
 -- Internal: the lines of the cluster, from its totals.
 use Rattle.std.specs.Prelude.{ℕ, List, ◌++◌, codes, decimal}
-use Rattle.es_count.specs.Counts.{CountsView}
+use Rattle.es_report.specs.Counts.{CountsView}
 
 abbrev pub totals_text : CountsView → List ℕ
 totals_text c =

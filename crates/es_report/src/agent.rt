@@ -4,7 +4,7 @@ ghost use Rattle.std.specs.Prelude.{◌≡◌, ◌++◌, codes, decimal, reverse
 ghost use Rattle.std.specs.List.{flat_map};
 ghost use Rattle.std.specs.Io.KnownBytes.{Appends};
 ghost use Rattle.es_event.specs.Report.{agent_text, line};
-ghost use Rattle.es_count.specs.Tallies.{end_tally};
+ghost use Rattle.es_report.specs.Tallies.{end_tally};
 
 use crate::line::{has_line, write_line};
 use es_event::{Event, Sequence};

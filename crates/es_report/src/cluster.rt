@@ -8,8 +8,8 @@ ghost use Rattle.es_event.specs.Report.{cluster_text};
 ghost use Rattle.es_event.specs.Totals.{is_drained, is_posted, is_taken};
 ghost use Rattle.es_report.specs.Totals.{totals_text};
 
+use crate::counts::Counts;
 use crate::holding::released_back;
-use es_count::Counts;
 use es_event::{LedgerEvent, Sequence};
 use std::io;
 use std::io::Write;

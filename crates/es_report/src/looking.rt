@@ -5,11 +5,12 @@ ghost use Rattle.es_event.specs.Identities.{empties, is_gone, is_in};
 ghost use Rattle.es_event.specs.Registrations.{fate as fate_said};
 ghost use Rattle.es_event.specs.declared.event.Event.TheVariants.{Did};
 ghost use Rattle.es_event.specs.declared.event.Answer.{Answer as Given};
-ghost use Rattle.es_count.specs.Registered.{fate_of};
-ghost use Rattle.es_count.specs.Tallies.{end_tally};
+ghost use Rattle.es_report.specs.Registered.{fate_of};
+ghost use Rattle.es_report.specs.Tallies.{end_tally};
 ghost use Rattle.es_report.specs.Looking.{Looks, Tells, is_under as is_under_said, present as present_said, removed_by, with_made as with_made_said};
 
-use es_count::{Fate, Made, made_by, named_by, with_one};
+use crate::fates::{Fate, with_one};
+use crate::registered::{Made, made_by, named_by};
 use es_event::{Command, Event};
 use es_registry::Tally;
 use es_value::{Id, IdSet, Value};

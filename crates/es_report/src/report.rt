@@ -3,13 +3,13 @@
 ghost use Rattle.std.specs.Prelude.{OnOk};
 ghost use Rattle.std.specs.Io.KnownBytes.{Appends};
 ghost use Rattle.es_event.specs.Report.{agents_text, report};
-ghost use Rattle.es_count.specs.Counts.{IsCountsOf};
-ghost use Rattle.es_count.specs.Tallies.{AreTallies};
+ghost use Rattle.es_report.specs.Counts.{IsCountsOf};
+ghost use Rattle.es_report.specs.Tallies.{AreTallies};
 
 use crate::agent::write_agent;
 use crate::cluster::{write_cluster, write_totals};
+use crate::counts::Counts;
 use crate::looking::tally_back;
-use es_count::Counts;
 use es_event::{Event, Outcome, Sequence};
 use es_registry::Tally;
 use es_value::Name;

@@ -13,7 +13,7 @@ use crate::decide::fresh;
 use crate::stop::Stop;
 use es_event::{Answer, Atomic, Refusal};
 use es_record::AgentRecord;
-use es_tags::Tag;
+use es_tables::Tag;
 use es_value::{Id, MOST_BLOCKS, MOST_POSTS, Value};
 
 /// The buffer object that the value is (ValidateIntegerTypedArray).

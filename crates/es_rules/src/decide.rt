@@ -22,7 +22,7 @@ use crate::{buffers, ephemerons, registries};
 use es_cursor::Due;
 use es_event::{Answer, Command, Done, Event, Refusal, Sequence, SharedList};
 use es_record::AgentRecord;
-use es_tags::Tag;
+use es_tables::Tag;
 use es_value::{Id, MOST_IDENTITIES, Name, NoMemory, Value, same_value};
 
 /// Whether the agent asks nobody for the event that comes next.

@@ -9,7 +9,7 @@ use crate::operand::held_weakly;
 use crate::stop::Stop;
 use es_event::{Answer, Refusal};
 use es_record::AgentRecord;
-use es_tags::Tag;
+use es_tables::Tag;
 use es_value::Value;
 
 pub(crate) fn weakmap_set(agent: &AgentRecord, map: &Value, key: &Value) -> Result<Answer, Stop>

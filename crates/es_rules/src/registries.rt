@@ -12,7 +12,7 @@ use crate::stop::Stop;
 use es_event::{Answer, Event, Refusal};
 use es_record::AgentRecord;
 use es_registry::Cell;
-use es_tags::Tag;
+use es_tables::Tag;
 use es_value::{NoMemory, Value};
 
 pub(crate) fn register(

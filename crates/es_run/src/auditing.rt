@@ -2,7 +2,7 @@
 
 ghost use Rattle.std.specs.Prelude.{◌≡◌, map, length, true, IfOk, OnOk};
 ghost use Rattle.es_cluster.specs.State.{cores};
-ghost use Rattle.es_member.specs.Audits.{Audits};
+ghost use Rattle.es_cluster.specs.Audits.{Audits};
 ghost use Rattle.es_outcome.specs.Places.{AreAtPlaces};
 
 use crate::cluster::Cluster;

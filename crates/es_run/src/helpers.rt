@@ -3,7 +3,7 @@
 ghost use Rattle.std.specs.Prelude.{◌≡◌, ◌<◌, ◌≤◌, IfOk};
 ghost use Rattle.es_record.specs.Graph.{AreMarksOf, AreLateMarks};
 ghost use Rattle.es_rules.specs.Needs.{need, asks_late_marks};
-ghost use Rattle.es_member.specs.Turned.{AreAskedFor, AsksMarks};
+ghost use Rattle.es_cluster.specs.Turned.{AreAskedFor, AsksMarks};
 
 use crate::marked::{Marked, Pending};
 use es_agent::{AgentCore, Need};

@@ -2,7 +2,7 @@
 
 ghost use Rattle.std.specs.Prelude.{◌≡◌, ◌<◌, ◌≤◌, [], true, length, vec_len, vec_capacity, IfOk, OnErr};
 ghost use Rattle.es_event.specs.Others.{all_name_others};
-ghost use Rattle.es_count.specs.Counts.{IsCountsOf};
+ghost use Rattle.es_report.specs.Counts.{IsCountsOf};
 ghost use Rattle.es_outcome.specs.Outcomes.{IsClusterOutcome};
 
 use crate::cluster::Cluster;

@@ -14,8 +14,8 @@ use Rattle.es_reading.specs.Reading.{then_read, names_read, agent_read, agents_r
 use Rattle.es_reading.specs.declared.version.Version.{Version}
 use Rattle.es_reading.specs.declared.version.Version.TheVariants.{One, Two}
 use Rattle.es_reading.specs.Versions.{number_of_version, version_of}
-use Rattle.es_tokens.specs.Quick.{IsPlanValue}
-use Rattle.es_tokens.proofs.Counted.{items_count}
+use Rattle.es_script.specs.Quick.{IsPlanValue}
+use Rattle.es_script.proofs.Counted.{items_count}
 use Rattle.es_script.specs.Fault.{version_in}
 use Rattle.es_script.specs.PlanRead.{plan_read}
 

@@ -12,12 +12,13 @@ ghost use Rattle.es_reading.specs.Reading.{Gives};
 ghost use Rattle.es_reading.specs.Versions.{version_of};
 ghost use Rattle.es_script.specs.PlanRead.{plan_read, agents_checked};
 
+use crate::by_tokens::quick_agents;
+use crate::quit::Quit;
 use crate::shape::has_plan_shape;
 use es_event::{AgentPlan, Plan, Sequence};
 use es_reading::{
     FaultCode, Place, ReadFault, Version, agents_of, check_names, fault_in, taken_items,
 };
-use es_tokens::{Quit, quick_agents};
 use es_value::MOST_AGENTS;
 use serde_json::Value;
 use std::alloc::Global;
@@ -29,7 +30,7 @@ use std::alloc::Global;
 /// by rising names and the jobs in order, of each job first whose message it waits for, and then its
 /// commands. It answers `NoMemory` where memory ends before that fault is reached.
 ///
-/// A plan that is written as plans mostly are is read from the tokens of its text (es_tokens), every other
+/// A plan that is written as plans mostly are is read from the tokens of its text (es_script), every other
 /// text by way of its JSON value.
 pub fn read_plan(alloc: Global, bytes: &[u8]) -> Result<Plan, ReadFault>
     ensures reads { Reads bytes.now result }

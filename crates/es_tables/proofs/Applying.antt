@@ -40,7 +40,7 @@ use Rattle.es_tables.specs.Changes.{table_change, put_of, born_of, points_of}
 use Rattle.es_tables.proofs.Reading.{IsRead, is_read}
 use Rattle.es_tables.specs.Registries.{CanChange, change, change_by, made_by as registry_made_by, again_at}
 use Rattle.es_tables.proofs.Numbered.{get_numbered}
-use Rattle.es_variables.proofs.CallerLemmas.{unwrapped}
+use Rattle.es_props.proofs.Overwritten.{unwrapped}
 use Rattle.es_tables.proofs.Registering.{registers_change}
 use Rattle.es_tables.proofs.Slots.{slots, slot_at}
 use Rattle.es_event.proofs.Births.{next_kind, born_next}

@@ -16,8 +16,8 @@ use Rattle.es_event.proofs.Alive.{Stays}
 use Rattle.es_tables.specs.Effects.{Advances, AssignsTo}
 use Rattle.es_tables.specs.Registries.{again_at}
 use Rattle.es_tables.specs.Tables.{TablesView, IsNew, SameState, Says}
-use Rattle.es_tags.specs.Tags.{tag_at, tag_said}
-use Rattle.es_tags.specs.declared.tags.Tag.{Tag}
+use Rattle.es_tables.specs.Tags.{tag_at, tag_said}
+use Rattle.es_tables.specs.declared.tags.Tag.{Tag}
 pub use Rattle.es_tables.proofs.Applying.{can_apply}
 pub use Rattle.es_tables.proofs.Emptied.{says_emptied}
 pub use Rattle.es_tables.proofs.Recorded.{says_after}

@@ -16,7 +16,7 @@ use Rattle.es_event.specs.Jobs.{Receivers}
 use Rattle.es_event.specs.WeakRefs.{first_target, unless_gone}
 use Rattle.es_event.specs.Ephemerons.{first_entry, first_member}
 use Rattle.es_event.proofs.Lists.{in_both, out_of_both}
-use Rattle.es_tags.specs.Tags.{tag_of}
+use Rattle.es_tables.specs.Tags.{tag_of}
 use Rattle.es_event.specs.Order.{queue}
 use Rattle.es_event.specs.Legal.{LegalBy}
 use Rattle.es_registry.specs.Slots.{emptied}

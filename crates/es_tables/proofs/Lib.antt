@@ -12,3 +12,4 @@ pub mod Registering
 pub mod Slots
 pub mod Tagging
 pub mod Weak
+pub mod Passing

@@ -17,7 +17,7 @@ use Rattle.es_tables.specs.declared.table_change.TableChange.{TableChange}
 use Rattle.es_tables.specs.Changes.{table_change, table_change_by, identity_kept, put_of, born_of, pointing, with_option, points_of, entered_of, joined_of, registry_of, kept_of, clears, makes_of}
 use Rattle.es_tables.specs.Effects.{object_born, points, points_by}
 use Rattle.es_tables.specs.Registries.{change, change_by}
-use Rattle.es_tags.specs.Tags.{tag_made, tag_made_at}
+use Rattle.es_tables.specs.Tags.{tag_made, tag_made_at}
 
 put_did : (c : Command) (vs : List Value) (r : Answer) → put_of (table_change_by c vs r) ≡ put_by c vs
 put_did (Command.Set o k y) vs r = refl

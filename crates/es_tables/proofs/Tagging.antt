@@ -20,8 +20,8 @@ use Rattle.es_event.proofs.Accepted.{is_result}
 use Rattle.es_event.proofs.Alive.{next_alive}
 use Rattle.es_event.proofs.Births.{birth, received}
 use Rattle.es_event.proofs.Entries.{inner}
-use Rattle.es_tags.specs.declared.tags.Tag.{Tag}
-use Rattle.es_tags.specs.Tags.{tag_at, tag_of, tag_said, tag_made, tag_received, tag_made_at}
+use Rattle.es_tables.specs.declared.tags.Tag.{Tag}
+use Rattle.es_tables.specs.Tags.{tag_at, tag_of, tag_said, tag_made, tag_received, tag_made_at}
 use Rattle.es_event.proofs.Births.{next_kind, born_next}
 
 -- One place more

@@ -15,10 +15,10 @@ use Rattle.es_tables.specs.declared.table_change.TableChange.{TableChange}
 use Rattle.es_tables.specs.declared.table_change.TableChange.TheVariants.{NoChange, Property, Birth, WeakRefBirth, RegistryBirth, Keeping, Entry, Member, Registry, JobEnd}
 use Rattle.es_tables.specs.declared.registries.RegistryChange.{RegistryChange}
 use Rattle.es_tables.specs.declared.registries.RegistryChange.TheVariants.{Leaves, Takes, Dequeues, Queues}
-use Rattle.es_tags.specs.declared.tags.Tag.{Tag}
-use Rattle.es_tags.specs.declared.tags.Tag.TheVariants.{WeakRef as WeakRefTag, FinalizationRegistry as RegistryTag}
+use Rattle.es_tables.specs.declared.tags.Tag.{Tag}
+use Rattle.es_tables.specs.declared.tags.Tag.TheVariants.{WeakRef as WeakRefTag, FinalizationRegistry as RegistryTag}
 use Rattle.es_tables.specs.Registries.{change_by, made_by}
-use Rattle.es_tags.specs.Tags.{tag_made, tag_received}
+use Rattle.es_tables.specs.Tags.{tag_made, tag_received}
 
 -- the identity of the value that was given, if it has one
 abbrev pub identity_kept : Answer → Option ℕ

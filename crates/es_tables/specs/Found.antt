@@ -3,7 +3,7 @@ use Rattle.std.specs.Prelude.{ℕ, ◌≡◌, Bool, true, List, ◌++◌, Some}
 use Rattle.es_value.specs.declared.value.Value.{Value}
 use Rattle.es_ephemeron.specs.Ephemerons.{Records}
 pub use Rattle.es_ephemeron.specs.Ephemerons.{record_at}
-pub use Rattle.es_variables.specs.Variables.{Adds, HasBound}
+pub use Rattle.es_props.specs.Variables.{Adds, HasBound}
 use Rattle.std.specs.List.{AllByRecursion}
 use Rattle.es_mark.specs.Graph.{HasAll, HasValue, HasValues}
 use Rattle.es_registry.specs.Registries.{RegistriesView as RegistryContents, is_root}

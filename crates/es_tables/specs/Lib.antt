@@ -5,3 +5,4 @@ pub mod Effects
 pub mod Ready
 pub mod Found
 pub mod Plain
+pub mod Tags

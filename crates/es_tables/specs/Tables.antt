@@ -19,8 +19,8 @@ use Rattle.es_event.specs.WeakRefs.{target as target_said, kept}
 use Rattle.es_event.specs.Ephemerons.{entry, is_member}
 use Rattle.es_event.specs.Order.{queue}
 use Rattle.es_event.specs.Registrations.{Cell, Fate, live, awaiting, unregistered, taken, callback as callback_said, registrations, cell, fate}
-pub use Rattle.es_variables.specs.Variables.{VariablesView, bound}
-use Rattle.es_tags.specs.Tags.{TagsView, tag_at, tag_said}
+pub use Rattle.es_props.specs.Variables.{VariablesView, bound}
+use Rattle.es_tables.specs.Tags.{TagsView, tag_at, tag_said}
 
 -- all tables of an agent
 pub record TablesView : Type 0 where

@@ -6,7 +6,7 @@ ghost use Rattle.es_event.specs.Commands.{assigns};
 ghost use Rattle.es_event.specs.Variables.{gives_to};
 ghost use Rattle.es_event.specs.Answers.{answer_said};
 ghost use Rattle.es_tables.specs.Effects.{assigned_by};
-ghost use Rattle.es_variables.specs.Variables.{said};
+ghost use Rattle.es_props.specs.Variables.{said};
 
 use es_event::{AnswerRef, Command, Event};
 use es_value::{Name, Value};

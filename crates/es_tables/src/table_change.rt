@@ -9,13 +9,13 @@ ghost use Rattle.es_event.specs.Answers.{answer_said};
 ghost use Rattle.es_tables.specs.Plain.{IsAssignment, IsPlain};
 ghost use Rattle.es_tables.specs.Changes.{table_change, table_change_by, identity_kept, pointing};
 ghost use Rattle.es_tables.specs.Registries.{change_by};
-ghost use Rattle.es_tags.specs.Tags.{tag_made, tag_received};
+ghost use Rattle.es_tables.specs.Tags.{tag_made, tag_received};
 
 use crate::ephemerons::{entered_by, joined_by};
 use crate::properties::put_by;
 use crate::registries::{RegistryChange, change_by, made_by, queued};
+use crate::tags::Tag;
 use es_event::{AnswerRef, Command, Event};
-use es_tags::Tag;
 use es_value::{Id, Name, NoMemory, Value};
 
 /// What an event does to the tables beside an assignment. Most events touch one table or none.

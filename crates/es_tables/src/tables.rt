@@ -18,10 +18,10 @@ ghost use Rattle.es_ephemeron.specs.Ephemerons.{holders, record_at, records_at};
 ghost use Rattle.es_registry.specs.Slots.{has_token, held_identity, registration_of, tally_of};
 ghost use Rattle.es_registry.specs.Registries.{callback as callback_of, oldest};
 ghost use Rattle.es_tables.specs.Found.{Adds, HasHeld, AddsEntries};
-ghost use Rattle.es_variables.specs.Variables.{said};
+ghost use Rattle.es_props.specs.Variables.{said};
 ghost use Rattle.es_tables.specs.Ready.{CanApply, HasRoom};
 ghost use Rattle.es_tables.specs.Tables.{bound, IsNew, SameState, TablesView, Emptying};
-ghost use Rattle.es_tags.specs.Tags.{tag_at};
+ghost use Rattle.es_tables.specs.Tags.{tag_at};
 
 use crate::assigned::{assigned_by, given_by, given_to};
 use crate::changes::{aim, enter, join, keep, make, put, write};
@@ -30,14 +30,13 @@ use crate::registries::{make_change, reserve_change};
 use crate::table_change::{
     TableChange, is_assignment, object_given, table_change, table_change_by,
 };
+use crate::tags::{Tag, Tags};
 use es_ephemeron::WeakTables;
 use es_event::{AnswerRef, Command, Done, Event};
 use es_mark::Marks;
-use es_props::Heap;
+use es_props::{Heap, Variables};
 use es_registry::{Cell, Registration, Registries, Tally};
-use es_tags::{Tag, Tags};
 use es_value::{Id, Name, NoMemory, Value};
-use es_variables::Variables;
 use es_weakref::WeakRefs;
 use std::alloc::Global;
 use std::marker::Model;

@@ -10,7 +10,7 @@ use Rattle.es_event.specs.declared.ledger_event.LedgerEvent.{LedgerEvent}
 use Rattle.es_event.specs.declared.plan.AgentPlan.{AgentPlan}
 use Rattle.es_event.specs.History.{History}
 use Rattle.es_event.specs.Report.{line}
-use Rattle.es_path.specs.declared.kept.Kept.{Kept}
+use Rattle.es_mark.specs.declared.kept.Kept.{Kept}
 use Rattle.es_trace.specs.declared.scribe.Scribe.{Scribe}
 use Rattle.es_trace.specs.Columns.{label, widest}
 use Rattle.es_trace.specs.Events.{event_rows, rows_after}

@@ -14,7 +14,7 @@ use Rattle.es_event.specs.History.{History}
 use Rattle.es_event.specs.Order.{left}
 use Rattle.es_event.specs.Report.{line}
 use Rattle.es_trace.specs.Columns.{label, row, widest}
-use Rattle.es_command_text.specs.Commands.{command_text, name_at}
+use Rattle.es_trace.specs.Commands.{command_text, name_at}
 
 -- Events
 

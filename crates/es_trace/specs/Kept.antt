@@ -1,9 +1,9 @@
 -- To believe: the rows of what stays after a collection, each value with what keeps it.
 use Rattle.std.specs.Prelude.{ℕ, true, List, ◌++◌, codes, decimal}
 use Rattle.std.specs.List.{flat_map}
-use Rattle.es_path.specs.declared.kept.Kept.{Kept}
-use Rattle.es_path.specs.declared.kept.Reason.{Reason}
-use Rattle.es_path.specs.declared.kept.Reason.TheVariants.{Variable, KeptAlive, Registry, Registration, Property, Entry}
+use Rattle.es_mark.specs.declared.kept.Kept.{Kept}
+use Rattle.es_mark.specs.declared.kept.Reason.{Reason}
+use Rattle.es_mark.specs.declared.kept.Reason.TheVariants.{Variable, KeptAlive, Registry, Registration, Property, Entry}
 use Rattle.es_trace.specs.Columns.{row}
 
 abbrev pub reason_text : Reason → List ℕ

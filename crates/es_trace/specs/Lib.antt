@@ -6,3 +6,4 @@ pub mod Keeping
 pub mod Kept
 pub mod Ledger
 pub mod Released
+pub mod Commands

@@ -3,11 +3,13 @@
 ghost use Rattle.std.specs.Prelude.{◌≡◌, ◌++◌, codes, decimal, IfOk, OnOk};
 ghost use Rattle.std.specs.Option.{option_copied};
 ghost use Rattle.std.specs.Io.KnownBytes.{Appends};
-ghost use Rattle.es_command_text.specs.Commands.{name_at as name_said};
+ghost use Rattle.es_trace.specs.Commands.{name_at as name_said};
 ghost use Rattle.es_trace.specs.Events.{event_text, or_else};
 
+use crate::command::write_command;
+use crate::naming::name_at;
 use crate::row::empty_text;
-use es_command_text::{Style, name_at, write_command};
+use crate::style::Style;
 use es_event::{AgentPlan, Command, Event};
 use es_value::{Id, Name};
 use std::alloc::Global;

@@ -5,7 +5,7 @@ ghost use Rattle.std.specs.Io.KnownBytes.{Appends};
 ghost use Rattle.es_trace.specs.Kept.{kept_row, kept_rows, reason_text};
 
 use crate::row::{id_text, write_row};
-use es_path::{Kept, Reason};
+use es_mark::{Kept, Reason};
 use es_value::{Id, Name};
 use std::alloc::Global;
 use std::io;

@@ -3,13 +3,13 @@
 ghost use Rattle.std.specs.Prelude.{◌≡◌, ◌++◌, codes, decimal, IfOk, OnOk};
 ghost use Rattle.std.specs.List.{flat_map};
 ghost use Rattle.std.specs.Io.KnownBytes.{Appends};
-ghost use Rattle.es_command_text.specs.Commands.{name_at as name_said};
+ghost use Rattle.es_trace.specs.Commands.{name_at as name_said};
 ghost use Rattle.es_trace.specs.Ledger.{change_text, ledger_row, ledger_rows, ledger_text, message_text, released_row, word_text};
 
 use crate::names::width_of;
+use crate::naming::name_at;
 use crate::row::{empty_text, label_of, write_row};
 use crate::told::{tells, write_told};
-use es_command_text::name_at;
 use es_event::{Change, LedgerEvent};
 use es_value::Name;
 use std::alloc::Global;

@@ -19,7 +19,7 @@ use crate::names::width_of;
 use crate::place::Place;
 use crate::row::{id_text, label_of, write_row};
 use es_event::{AgentPlan, Command, Event};
-use es_path::Kept;
+use es_mark::Kept;
 use es_value::{Id, Name};
 use std::alloc::Global;
 use std::io;

@@ -3,10 +3,10 @@
 ghost use Rattle.std.specs.Prelude.{◌≡◌, ◌++◌, codes, decimal, OnOk};
 ghost use Rattle.std.specs.Io.KnownBytes.{Appends};
 ghost use Rattle.es_value.specs.Printed.{value_text};
-ghost use Rattle.es_command_text.specs.Commands.{name_at as name_said};
+ghost use Rattle.es_trace.specs.Commands.{name_at as name_said};
 ghost use Rattle.es_trace.specs.Ledger.{body_text, tells as tells_said, told_of, told_text};
 
-use es_command_text::name_at;
+use crate::naming::name_at;
 use es_event::{Body, Change, LedgerEvent};
 use es_value::{Name, Value, write_value};
 use std::io;

@@ -9,7 +9,7 @@ use Rattle.es_event.specs.declared.event.Event.TheVariants.{JobBegun, CleanupBeg
 use Rattle.es_event.specs.declared.plan.AgentPlan.{AgentPlan}
 use Rattle.es_event.specs.History.{History}
 use Rattle.es_event.specs.Report.{refusal_text}
-use Rattle.es_command_text.specs.Commands.{command_json, name_at}
+use Rattle.es_trace.specs.Commands.{command_json, name_at}
 use Rattle.es_trace.specs.Events.{at_hand}
 use Rattle.es_trace_json.specs.Values.{value_json, array_json}
 

@@ -2,9 +2,9 @@
 use Rattle.std.specs.Prelude.{ℕ, List, ◌++◌, codes, decimal}
 use Rattle.std.specs.List.{flat_map}
 use Rattle.es_value.specs.Printed.{quoted}
-use Rattle.es_path.specs.declared.kept.Kept.{Kept}
-use Rattle.es_path.specs.declared.kept.Reason.{Reason}
-use Rattle.es_path.specs.declared.kept.Reason.TheVariants.{Variable, KeptAlive, Registry, Registration, Property, Entry}
+use Rattle.es_mark.specs.declared.kept.Kept.{Kept}
+use Rattle.es_mark.specs.declared.kept.Reason.{Reason}
+use Rattle.es_mark.specs.declared.kept.Reason.TheVariants.{Variable, KeptAlive, Registry, Registration, Property, Entry}
 use Rattle.es_trace_json.specs.Events.{agent_line}
 
 abbrev pub reason_json : Reason → List ℕ

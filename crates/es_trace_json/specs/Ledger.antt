@@ -7,7 +7,7 @@ use Rattle.es_event.specs.declared.ledger_event.Body.{Body}
 use Rattle.es_event.specs.declared.ledger_event.Body.TheVariants.{Plain, Block}
 use Rattle.es_event.specs.declared.ledger_event.LedgerEvent.{LedgerEvent}
 use Rattle.es_event.specs.declared.ledger_event.LedgerEvent.TheVariants.{Opened, Posted, Taken, Spent, Accessed, Waiting, Passed, Ended, Drained}
-use Rattle.es_command_text.specs.Commands.{name_at}
+use Rattle.es_trace.specs.Commands.{name_at}
 use Rattle.es_trace_json.specs.Values.{value_json}
 
 -- what a message carries: a value, or a block with the message's own ticket of it

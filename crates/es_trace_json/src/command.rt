@@ -3,11 +3,11 @@
 ghost use Rattle.std.specs.Prelude.{◌≡◌, OnOk};
 ghost use Rattle.std.specs.Option.{option_copied};
 ghost use Rattle.std.specs.Io.KnownBytes.{Appends};
-ghost use Rattle.es_command_text.specs.Commands.{command_json};
+ghost use Rattle.es_trace.specs.Commands.{command_json};
 ghost use Rattle.es_trace_json.specs.Events.{command_if};
 
-use es_command_text::{Style, write_command};
 use es_event::{AgentPlan, Command};
+use es_trace::{Style, write_command};
 use es_value::Name;
 use std::io;
 use std::io::Write;

@@ -6,7 +6,7 @@ ghost use Rattle.std.specs.Io.KnownBytes.{Appends};
 ghost use Rattle.es_value.specs.Printed.{quoted};
 ghost use Rattle.es_event.specs.Report.{refusal_text as refusal_said};
 ghost use Rattle.es_event.specs.Answers.{answer_said};
-ghost use Rattle.es_command_text.specs.Commands.{command_json, name_at as name_said};
+ghost use Rattle.es_trace.specs.Commands.{command_json, name_at as name_said};
 ghost use Rattle.es_trace_json.specs.Events.{answer_json, command_if, event_line, members};
 ghost use Rattle.es_trace_json.specs.Values.{array_json, value_json};
 

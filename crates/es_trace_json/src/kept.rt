@@ -6,7 +6,7 @@ ghost use Rattle.es_value.specs.Printed.{quoted};
 ghost use Rattle.es_trace_json.specs.Kept.{kept_line, kept_lines, reason_json};
 
 use crate::member::begin_line;
-use es_path::{Kept, Reason};
+use es_mark::{Kept, Reason};
 use es_value::{Id, Name};
 use std::io;
 use std::io::Write;

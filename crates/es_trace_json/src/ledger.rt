@@ -8,8 +8,8 @@ ghost use Rattle.es_trace_json.specs.Ledger.{body_json, change_members, ends_jso
 
 use crate::member::write_agent;
 use crate::value::{write_quoted, write_value};
-use es_command_text::name_at;
 use es_event::{Body, Change, LedgerEvent};
+use es_trace::name_at;
 use es_value::Name;
 use std::io;
 use std::io::Write;

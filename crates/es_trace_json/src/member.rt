@@ -3,9 +3,9 @@
 ghost use Rattle.std.specs.Prelude.{◌≡◌, ◌++◌, codes, OnOk};
 ghost use Rattle.std.specs.Io.KnownBytes.{Appends};
 ghost use Rattle.es_value.specs.Printed.{quoted};
-ghost use Rattle.es_command_text.specs.Commands.{name_at as name_said};
+ghost use Rattle.es_trace.specs.Commands.{name_at as name_said};
 
-use es_command_text::name_at;
+use es_trace::name_at;
 use es_value::Name;
 use std::io;
 use std::io::Write;

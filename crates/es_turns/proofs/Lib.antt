@@ -1,1 +1,3 @@
 pub mod Whole
+mod Growing
+mod Scribing

@@ -8,7 +8,7 @@ use Rattle.es_cluster.specs.Ends.{EndsIn}
 use Rattle.es_cluster.specs.State.{ClusterView, accounts, first_state, names_of, plans}
 use Rattle.es_record.specs.AgentView.{AgentView}
 use Rattle.es_registry.specs.declared.slot.Tally.{Tally}
-use Rattle.es_count.specs.Tallies.{end_tally, AreTallies}
+use Rattle.es_report.specs.Tallies.{end_tally, AreTallies}
 use Rattle.es_outcome.proofs.Ended.{told_plans}
 use Rattle.es_outcome.proofs.Tallied.{of_cores, of_events}
 use Rattle.es_outcome.proofs.Telling.{told_histories}

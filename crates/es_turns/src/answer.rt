@@ -3,7 +3,7 @@
 ghost use Rattle.std.specs.Prelude.{◌≡◌, ◌<◌, true, length, IfOk, IfErr};
 ghost use Rattle.es_event.specs.Others.{all_name_others};
 ghost use Rattle.es_event.specs.Report.{report};
-ghost use Rattle.es_count.specs.Counts.{IsCountsOf};
+ghost use Rattle.es_report.specs.Counts.{IsCountsOf};
 ghost use Rattle.es_script.specs.Fault.{IsPlanOf};
 ghost use Rattle.es_script.specs.Grammar.{no_callback_collects};
 ghost use Rattle.es_turns.specs.Answer.{IsAnswerTo};

@@ -4,17 +4,17 @@ ghost use Rattle.std.specs.Prelude.{◌≡◌, ◌<◌, false, true, length, map
 ghost use Rattle.es_cluster.specs.Moves.{RunsToEnd, all_over, cleans_quietly};
 ghost use Rattle.es_cluster.specs.State.{plans};
 ghost use Rattle.es_event.specs.Others.{all_name_others};
-ghost use Rattle.es_count.specs.Counts.{IsCountsOf};
-ghost use Rattle.es_count.specs.Tallies.{end_tally};
+ghost use Rattle.es_report.specs.Counts.{IsCountsOf};
+ghost use Rattle.es_report.specs.Tallies.{end_tally};
 ghost use Rattle.es_outcome.specs.Outcomes.{IsClusterOutcome};
 ghost use Rattle.es_script.specs.Grammar.{no_callback_collects};
 ghost use Rattle.es_turns.specs.Answer.{EndsByTurns, IsByTurns};
 
 use es_cluster::{ClusterCore, Planned};
-use es_count::Counts;
 use es_event::Plan;
 use es_outcome::{Counted, tallies_of};
 use es_registry::Tally;
+use es_report::Counts;
 use es_ticket::Opened;
 use es_value::NoMemory;
 use std::alloc::Global;

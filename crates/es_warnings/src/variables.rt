@@ -1,6 +1,6 @@
 //! What is known of an agent's variables by its plan.
 
-ghost use Rattle.std.specs.Prelude.{◌≡◌, [], ◌∷◌, codes, length, ◌≤◌, IfOk, IfSome, IfNone, OnOk};
+ghost use Rattle.std.specs.Prelude.{◌≡◌, [], ◌∷◌, Some, codes, length, ◌≤◌, IfOk, IfSome, IfNone, OnOk};
 ghost use Rattle.std.specs.Option.{option_copied};
 ghost use Rattle.es_event.specs.Reading.{names_of};
 ghost use Rattle.es_warnings.specs.Known.{IsEntry, Knows, Notes, noted as noted_said};
@@ -134,10 +134,13 @@ impl Variables {
         }
     }
 
+    /// A variable that is mentioned as it was before is left as it is.
     fn note(&mut self, name: &Name, manner: Manner, place: Place) -> Result<(), NoMemory>
         ensures { OnOk result (Notes self.old self.new (mention place manner name.now ∷ [])) }
     {
-        let known = noted(self.known.get(name), name, manner, place);
+        let Some(known) = noted(self.known.get(name), name, manner, place) else {
+            return Ok(());
+        };
         let name = name.copy()?;
         self.known.insert(name, known)?;
         Ok(())
@@ -159,28 +162,40 @@ impl Variables {
     }
 }
 
-/// What is known of a variable, once it was mentioned so.
-fn noted(known: Option<&Known>, name: &Name, manner: Manner, place: Place) -> Known
-    ensures { result ≡ noted_said (option_copied known.entry) (mention place manner name.now) }
+/// What is known of a variable, once it was mentioned so; none where that is what was known.
+fn noted(known: Option<&Known>, name: &Name, manner: Manner, place: Place) -> Option<Known>
+    ensures more { IfSome result (λ k. k ≡ noted_said (option_copied known.entry) (mention place manner name.now)) }
+    ensures same { IfNone result (option_copied known.entry ≡ Some (noted_said (option_copied known.entry) (mention place manner name.now))) }
 {
     let is_used = !is_answer(manner);
     let is_assigned = !is_reading(manner);
     let is_given = is_assigned && is_in_callback(place.section);
     match known {
-        Some(known) => Known {
-            manner: known.manner,
-            place: known.place,
-            is_used: is_used || known.is_used,
-            is_assigned: is_assigned || known.is_assigned,
-            is_given: is_given || known.is_given,
-        },
-        None => Known {
+        Some(known) => {
+            let is_used = is_used || known.is_used;
+            let is_assigned = is_assigned || known.is_assigned;
+            let is_given = is_given || known.is_given;
+            if is_used == known.is_used
+                && is_assigned == known.is_assigned
+                && is_given == known.is_given
+            {
+                return None;
+            }
+            Some(Known {
+                manner: known.manner,
+                place: known.place,
+                is_used,
+                is_assigned,
+                is_given,
+            })
+        }
+        None => Some(Known {
             manner,
             place,
             is_used,
             is_assigned,
             is_given,
-        },
+        }),
     }
 }
 

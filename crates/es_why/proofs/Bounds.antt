@@ -13,9 +13,9 @@ use Rattle.std.specs.Option.{option_and_then}
 use Rattle.es_event.proofs.Keeping.{kept_within}
 use Rattle.es_event.proofs.Objects.{var_within, prop_within, value_within}
 use Rattle.es_event.proofs.Registries.{holding_within}
-use Rattle.es_path.specs.declared.step.Step.{Step}
-use Rattle.es_path.specs.declared.step.Step.TheVariants.{Variable, Kept, Registry, Held, Property, Entry}
-use Rattle.es_path.specs.Finds.{IsBound}
+use Rattle.es_mark.specs.declared.step.Step.{Step}
+use Rattle.es_mark.specs.declared.step.Step.TheVariants.{Variable, Kept, Registry, Held, Property, Entry}
+use Rattle.es_mark.specs.Finds.{IsBound}
 use Rattle.es_record.specs.AgentView.{AgentView}
 use Rattle.es_record.specs.Leading.{held_in}
 use Rattle.es_record.proofs.Reached.{called_within}

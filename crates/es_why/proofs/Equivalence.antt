@@ -16,10 +16,10 @@ use Rattle.es_event.specs.Runs.{IsRunOver}
 use Rattle.es_event.proofs.Alive.{stays_along}
 use Rattle.es_event.proofs.KeysOf.{keys_are}
 use Rattle.es_mark.specs.Graph.{IsClosed as IsClosedIn}
-use Rattle.es_path.specs.declared.step.Step.{Step}
-use Rattle.es_path.specs.declared.step.Step.TheVariants.{Variable, Kept, Registry, Held, Property, Entry}
-use Rattle.es_path.specs.declared.way.Way.{Way}
-use Rattle.es_path.specs.Ways.{sources, AreWays, AreShortest}
+use Rattle.es_mark.specs.declared.step.Step.{Step}
+use Rattle.es_mark.specs.declared.step.Step.TheVariants.{Variable, Kept, Registry, Held, Property, Entry}
+use Rattle.es_mark.specs.declared.way.Way.{Way}
+use Rattle.es_mark.specs.Ways.{sources, AreWays, AreShortest}
 use Rattle.es_record.specs.AgentView.{AgentView}
 use Rattle.es_record.specs.Graph.{HasRoots, HasEdges, HasEntries}
 use Rattle.es_record.specs.Leading.{held_in}

@@ -18,13 +18,13 @@ use Rattle.es_event.specs.Sharing.{Buffers}
 use Rattle.es_event.specs.Legal.{LegalBy}
 use Rattle.es_event.proofs.Cells.{cell_within}
 use Rattle.es_event.proofs.Objects.{map_within}
-use Rattle.es_path.specs.declared.step.Step.{Step}
-use Rattle.es_path.specs.declared.step.Step.TheVariants.{Variable, Kept, Registry, Held, Property, Entry}
-use Rattle.es_path.specs.declared.way.Way.{Way}
-use Rattle.es_path.specs.Ways.{sources, has_way}
-use Rattle.es_path.specs.Finds.{Finds, FindsEntries, has_pair}
-use Rattle.es_path.proofs.Adding.{has_front, has_back}
-use Rattle.es_path.proofs.Lists.{all_join}
+use Rattle.es_mark.specs.declared.step.Step.{Step}
+use Rattle.es_mark.specs.declared.step.Step.TheVariants.{Variable, Kept, Registry, Held, Property, Entry}
+use Rattle.es_mark.specs.declared.way.Way.{Way}
+use Rattle.es_mark.specs.Ways.{sources, has_way}
+use Rattle.es_mark.specs.Finds.{Finds, FindsEntries, has_pair}
+use Rattle.es_mark.proofs.Adding.{has_front, has_back}
+use Rattle.es_mark.proofs.StepLists.{all_join}
 use Rattle.es_record.specs.AgentView.{AgentView}
 use Rattle.es_record.specs.Leading.{held_in, held_of, property_at, AddsUnder}
 use Rattle.es_record.proofs.Reached.{here_of, is_within, called_within}

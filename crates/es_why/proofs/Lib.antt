@@ -8,3 +8,7 @@ pub mod Setting
 pub mod Sources
 pub mod Told
 pub mod Weakly
+mod Drawn
+mod Ranged
+mod Said
+pub mod ExampleLeads

@@ -4,12 +4,12 @@ use Rattle.std.specs.List.{AllByRecursion, range_with_len}
 use Rattle.std.proofs.lemmas.Bool.{cases_Bool, or_cases, or_left, or_right, eqb-true, eqb-false, eq-eqb, false≢true}
 use Rattle.std.proofs.lemmas.List.{append-nil, append_assoc}
 use Rattle.es_value.specs.Ids.{is_in}
-use Rattle.es_path.specs.declared.step.Step.{Step}
-use Rattle.es_path.specs.declared.way.Way.{Way}
-use Rattle.es_path.specs.Ways.{has_way}
-use Rattle.es_path.specs.Search.{way_to}
-use Rattle.es_path.proofs.Adding.{has_front, has_back}
-use Rattle.es_path.proofs.Lists.{all_join}
+use Rattle.es_mark.specs.declared.step.Step.{Step}
+use Rattle.es_mark.specs.declared.way.Way.{Way}
+use Rattle.es_mark.specs.Ways.{has_way}
+use Rattle.es_mark.specs.Search.{way_to}
+use Rattle.es_mark.proofs.Adding.{has_front, has_back}
+use Rattle.es_mark.proofs.StepLists.{all_join}
 use Rattle.es_why.specs.Numbered.{way_if, numbered}
 
 pub range_more : (a n : ℕ) → range_with_len a (suc n) ≡ range_with_len a n ++ (a + n) ∷ []

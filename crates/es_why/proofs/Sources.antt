@@ -4,9 +4,9 @@ use Rattle.std.specs.List.{AllByRecursion}
 use Rattle.std.proofs.Math.ListN.{get_or}
 use Rattle.std.proofs.lemmas.List.{append-nil, reverse-append, reverse-reverse, drop_more, drop_all}
 use Rattle.es_value.specs.Ids.{is_in}
-use Rattle.es_path.specs.declared.step.Step.{Step}
-use Rattle.es_path.specs.declared.way.Way.{Way}
-use Rattle.es_path.specs.Ways.{sources, AreOrdered}
+use Rattle.es_mark.specs.declared.step.Step.{Step}
+use Rattle.es_mark.specs.declared.way.Way.{Way}
+use Rattle.es_mark.specs.Ways.{sources, AreOrdered}
 use Rattle.es_why.specs.Chosen.{Chosen}
 use Rattle.es_why.specs.Flags.{is_set, Sets}
 use Rattle.es_why.specs.Kept.{is_source, ways_for}

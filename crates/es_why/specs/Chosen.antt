@@ -2,7 +2,7 @@
 use Rattle.std.specs.Prelude.{ℕ, ◌≡◌, ◌<◌, Bool, List, length, reverse, Option, Some, None, ⊤}
 use Rattle.es_event.specs.History.{History}
 use Rattle.es_event.specs.Properties.{keys}
-use Rattle.es_path.specs.declared.way.Way.{Way}
+use Rattle.es_mark.specs.declared.way.Way.{Way}
 use Rattle.es_why.specs.Flags.{is_set}
 use Rattle.es_why.specs.Kept.{is_source, ways_for}
 

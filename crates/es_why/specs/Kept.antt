@@ -8,13 +8,13 @@ use Rattle.es_event.specs.Properties.{keys}
 use Rattle.es_event.specs.WeakRefs.{target}
 use Rattle.es_event.specs.Ephemerons.{entry, is_member}
 use Rattle.es_event.specs.Registrations.{Cell, live, cell, fate, same_fate, is_present}
-use Rattle.es_path.specs.declared.step.Step.{Step}
-use Rattle.es_path.specs.declared.step.Step.TheVariants.{Variable, Kept as KeptAlive, Registry, Held, Property, Entry}
-use Rattle.es_path.specs.declared.way.Way.{Way}
-use Rattle.es_path.specs.declared.kept.Kept.{Kept}
-use Rattle.es_path.specs.declared.kept.Reason.{Reason}
-use Rattle.es_path.specs.declared.kept.Reason.TheVariants.{Variable as ByVariable, KeptAlive as ByKeptAlive, Registry as AsRegistry, Registration as ByRegistration, Property as ByProperty, Entry as ByEntry}
-use Rattle.es_path.specs.Ways.{sources}
+use Rattle.es_mark.specs.declared.step.Step.{Step}
+use Rattle.es_mark.specs.declared.step.Step.TheVariants.{Variable, Kept as KeptAlive, Registry, Held, Property, Entry}
+use Rattle.es_mark.specs.declared.way.Way.{Way}
+use Rattle.es_mark.specs.declared.kept.Kept.{Kept}
+use Rattle.es_mark.specs.declared.kept.Reason.{Reason}
+use Rattle.es_mark.specs.declared.kept.Reason.TheVariants.{Variable as ByVariable, KeptAlive as ByKeptAlive, Registry as AsRegistry, Registration as ByRegistration, Property as ByProperty, Entry as ByEntry}
+use Rattle.es_mark.specs.Ways.{sources}
 use Rattle.es_record.specs.AgentView.{AgentView}
 use Rattle.es_why.specs.Leads.{AreReasons}
 

@@ -8,10 +8,10 @@ use Rattle.es_event.specs.Properties.{has_key}
 use Rattle.es_event.specs.WeakRefs.{kept}
 use Rattle.es_event.specs.Registrations.{callback}
 use Rattle.es_event.specs.Reach.{IsReached}
-use Rattle.es_path.specs.declared.step.Step.{Step}
-use Rattle.es_path.specs.declared.step.Step.TheVariants.{Variable, Kept, Registry, Held, Property, Entry}
-use Rattle.es_path.specs.declared.way.Way.{Way}
-use Rattle.es_path.specs.Ways.{has_way, AreOrdered, AreShortest}
+use Rattle.es_mark.specs.declared.step.Step.{Step}
+use Rattle.es_mark.specs.declared.step.Step.TheVariants.{Variable, Kept, Registry, Held, Property, Entry}
+use Rattle.es_mark.specs.declared.way.Way.{Way}
+use Rattle.es_mark.specs.Ways.{has_way, AreOrdered, AreShortest}
 use Rattle.es_record.specs.AgentView.{AgentView}
 use Rattle.es_record.specs.Leading.{held_of, property_at, entry_at}
 

@@ -4,3 +4,6 @@ pub mod Numbered
 pub mod Flags
 pub mod Weakly
 pub mod Chosen
+pub mod Lines
+pub mod Picture
+pub mod Written

@@ -4,9 +4,9 @@ use Rattle.es_value.specs.declared.value.Value.{Value}
 use Rattle.es_value.specs.Values.{identity}
 use Rattle.es_event.specs.History.{History}
 use Rattle.es_event.specs.Registrations.{callback}
-use Rattle.es_path.specs.declared.step.Step.{Step}
-use Rattle.es_path.specs.declared.way.Way.{Way}
-use Rattle.es_path.specs.Search.{way_to}
+use Rattle.es_mark.specs.declared.step.Step.{Step}
+use Rattle.es_mark.specs.declared.way.Way.{Way}
+use Rattle.es_mark.specs.Search.{way_to}
 
 -- a way to the identity, if there is one
 abbrev pub way_if : Step → Option ℕ → List Way

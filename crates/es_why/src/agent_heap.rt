@@ -1,12 +1,12 @@
 //! An agent's record as a heap.
 
 ghost use Rattle.std.specs.Prelude.{◌≡◌, ◌++◌, ◌∷◌, ℕ, [], OnOk};
-ghost use Rattle.es_path.specs.Finds.{Finds, FindsEntries};
+ghost use Rattle.es_mark.specs.Finds.{Finds, FindsEntries};
 ghost use Rattle.es_why.specs.Leads.{LeadsTo};
 ghost use Rattle.es_why.specs.Numbered.{pair_if, pairs_of};
 
 use crate::roots::{add_held, add_kept, add_properties, add_registries, add_variables};
-use es_path::{Heap, Way};
+use es_mark::{Heap, Way};
 use es_record::AgentRecord;
 use es_value::{Id, Name, NoMemory, Value};
 use std::alloc::Global;

@@ -4,7 +4,7 @@ ghost use Rattle.std.specs.Prelude.{◌≡◌, ◌<◌, ◌++◌, ◌∷◌, [],
 ghost use Rattle.std.specs.List.{AllByRecursion};
 ghost use Rattle.es_event.specs.Identities.{is_gone};
 ghost use Rattle.es_event.specs.Properties.{keys as keys_said};
-ghost use Rattle.es_path.specs.declared.kept.Reason.TheVariants.{Variable as ByVariable, Property as ByProperty};
+ghost use Rattle.es_mark.specs.declared.kept.Reason.TheVariants.{Variable as ByVariable, Property as ByProperty};
 ghost use Rattle.es_why.specs.Chosen.{AreKeysOf};
 ghost use Rattle.es_why.specs.Kept.{at_place, reason_of, kept_by, AreKept};
 ghost use Rattle.es_why.specs.Leads.{LeadsTo, AreReasons};
@@ -13,7 +13,7 @@ use crate::held_weakly::held_weakly;
 use crate::keys_read::KeysRead;
 use crate::reasons::{Reasons, find_reasons};
 use crate::telling::ways_for;
-use es_path::{Kept, Reason, Step, Way};
+use es_mark::{Kept, Reason, Step, Way};
 use es_record::AgentRecord;
 use es_value::{Id, Name, NoMemory};
 use std::alloc::Global;

@@ -4,7 +4,7 @@ ghost use Rattle.std.specs.Prelude.{IfOk};
 ghost use Rattle.es_why.specs.Leads.{AreReasons, AreAllNames};
 
 use crate::agent_heap::AgentHeap;
-use es_path::{Ways, find_ways};
+use es_mark::{Ways, find_ways};
 use es_record::AgentRecord;
 use es_value::{Name, NoMemory};
 use std::alloc::Global;

@@ -7,12 +7,12 @@ ghost use Rattle.es_event.specs.Identities.{identity, made, is_gone};
 ghost use Rattle.es_event.specs.Properties.{keys as keys_said, prop};
 ghost use Rattle.es_event.specs.WeakRefs.{kept};
 ghost use Rattle.es_event.specs.Registrations.{registered};
-ghost use Rattle.es_path.specs.declared.step.Step.TheVariants.{Variable as VariableStep, Kept as KeptStep, Registry as RegistryStep, Held as HeldStep, Property as PropertyStep};
+ghost use Rattle.es_mark.specs.declared.step.Step.TheVariants.{Variable as VariableStep, Kept as KeptStep, Registry as RegistryStep, Held as HeldStep, Property as PropertyStep};
 ghost use Rattle.es_record.specs.Leading.{held_of, property_at};
 ghost use Rattle.es_why.specs.Leads.{variable_at};
 ghost use Rattle.es_why.specs.Numbered.{numbered, way_if, registry_if};
 
-use es_path::{Step, Way};
+use es_mark::{Step, Way};
 use es_record::AgentRecord;
 use es_value::{Id, Name, NoMemory};
 

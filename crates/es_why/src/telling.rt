@@ -3,12 +3,12 @@
 ghost use Rattle.std.specs.Prelude.{◌≡◌, ◌≤◌, ◌++◌, ◌∷◌, ◌||◌, ◌&&◌, [], IfOk, OnOk, if◌then◌else◌};
 ghost use Rattle.std.specs.List.{AllByRecursion};
 ghost use Rattle.es_value.specs.Ids.{is_in};
-ghost use Rattle.es_path.specs.Ways.{sources};
+ghost use Rattle.es_mark.specs.Ways.{sources};
 ghost use Rattle.es_why.specs.Flags.{is_set, Sets};
 ghost use Rattle.es_why.specs.Kept.{ways_for};
 
 use crate::flags::Flags;
-use es_path::{Step, Way};
+use es_mark::{Step, Way};
 use es_value::{Id, NoMemory};
 use std::alloc::Global;
 

@@ -6,7 +6,7 @@ use super::agents::{end, plan_of};
 use super::reasons::step_often;
 use es_agent::AgentCore;
 use es_event::AgentPlan;
-use es_path::{Kept, Reason};
+use es_mark::{Kept, Reason};
 use es_script::read_plan;
 use es_value::NoMemory;
 use es_why::kept_values;

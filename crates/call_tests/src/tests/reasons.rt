@@ -5,7 +5,7 @@ ghost use Rattle.std.specs.Prelude.{◌≡◌, []};
 use super::agents::{end, plan_of, step};
 use es_agent::AgentCore;
 use es_event::AgentPlan;
-use es_path::{Step, Way};
+use es_mark::{Step, Way};
 use es_ticket::LedgerName;
 use es_value::NoMemory;
 use es_why::{Reasons, find_reasons};

@@ -10,12 +10,12 @@ ghost use Rattle.es_event.specs.Jobs.{receivers};
 ghost use Rattle.es_event.specs.Variables.{var};
 ghost use Rattle.es_event.specs.Properties.{has_key};
 ghost use Rattle.es_event.specs.Registrations.{callback, registered};
-ghost use Rattle.es_tags.specs.Tags.{tag_said};
+ghost use Rattle.es_tables.specs.Tags.{tag_said};
 ghost use Rattle.es_record.specs.Leading.{held_of, registration_said, AddsUnder, AddsSets};
 
 use super::AgentRecord;
 use es_registry::Registration;
-use es_tags::Tag;
+use es_tables::Tag;
 use es_value::{Id, Name, NoMemory, Value};
 
 impl AgentRecord {

@@ -14,7 +14,7 @@ ghost use Rattle.es_event.specs.Ephemerons.{entry as entry_said, is_member};
 ghost use Rattle.es_event.specs.Rules.{kind_of};
 ghost use Rattle.es_event.specs.Legal.{values_of};
 ghost use Rattle.es_event.specs.Sharing.{row_at, blocks_opened, messages_posted};
-ghost use Rattle.es_tags.specs.Tags.{is_tag};
+ghost use Rattle.es_tables.specs.Tags.{is_tag};
 ghost use Rattle.es_record.specs.AgentView.{AreThere};
 ghost use Rattle.es_record.specs.Tagged.{is_of};
 
@@ -22,7 +22,7 @@ use super::AgentRecord;
 use es_event::{
     AgentPlan, Answer, Command, Done, OperandNames, PlanCommand, Refusal, Row, Sequence,
 };
-use es_tags::Tag;
+use es_tables::Tag;
 use es_value::{Id, Name, NoMemory, Value};
 use std::alloc::Global;
 

@@ -1,6 +1,6 @@
 use Rattle.std.proofs.Common.{sym, subst}
-use Rattle.es_member.specs.Members.{Holds}
-use Rattle.es_member.proofs.Moving.{holds_still, opened_leaves}
+use Rattle.es_cluster.specs.Members.{Holds}
+use Rattle.es_cluster.proofs.MovingMembers.{holds_still, opened_leaves}
 use Rattle.calls.proofs.alone.begin_later.Goals as goal
 
 pub returns-in_err-_copy : goal.returns-in_err-_copy

@@ -1,4 +1,4 @@
-use Rattle.es_member.proofs.Moving.{closing_owns}
+use Rattle.es_cluster.proofs.MovingMembers.{closing_owns}
 use Rattle.calls.proofs.Holding.{closed_holds}
 use Rattle.calls.proofs.alone.close.Goals as goal
 

@@ -1,6 +1,6 @@
 use Rattle.std.proofs.Common.{sym, subst}
-use Rattle.es_member.specs.Members.{Holds}
-use Rattle.es_member.proofs.Moving.{collected_owns, collected_holds}
+use Rattle.es_cluster.specs.Members.{Holds}
+use Rattle.es_cluster.proofs.MovingMembers.{collected_owns, collected_holds}
 use Rattle.calls.proofs.alone.collect.Goals as goal
 
 pub spend_all-requires : goal.spend_all-requires

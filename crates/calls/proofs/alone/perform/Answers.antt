@@ -1,6 +1,6 @@
 use Rattle.std.proofs.Common.{sym, subst}
-use Rattle.es_member.specs.Members.{Holds}
-use Rattle.es_member.proofs.Moving.{holds_still, local_leaves}
+use Rattle.es_cluster.specs.Members.{Holds}
+use Rattle.es_cluster.proofs.MovingMembers.{holds_still, local_leaves}
 use Rattle.calls.proofs.alone.perform.Goals as goal
 
 pub returns-in_err-perform : goal.returns-in_err-perform

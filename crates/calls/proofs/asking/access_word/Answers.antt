@@ -1,7 +1,7 @@
 use Rattle.std.proofs.Common.{refl}
 use Rattle.es_rules.specs.Needs.{for_access}
-use Rattle.es_member.proofs.Aims.{aims_at_ticket, aims_inside}
-use Rattle.es_member.proofs.Counting.{ticket_held}
+use Rattle.es_cluster.proofs.Aims.{aims_at_ticket, aims_inside}
+use Rattle.es_cluster.proofs.CountingTickets.{ticket_held}
 use Rattle.calls.proofs.asking.access_word.Goals as goal
 
 pub ticket-requires : goal.ticket-requires

@@ -1,6 +1,6 @@
 use Rattle.std.proofs.Common.{sym, subst}
 use Rattle.es_rules.specs.Needs.{TakesDone}
-use Rattle.es_member.proofs.Aims.{posts_plain}
+use Rattle.es_cluster.proofs.Aims.{posts_plain}
 use Rattle.calls.proofs.asking.post.Goals as goal
 
 pub post-requires-clause-plain : goal.post-requires-clause-plain

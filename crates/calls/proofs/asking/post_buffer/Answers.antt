@@ -1,8 +1,8 @@
 use Rattle.std.proofs.Common.{refl, sym, subst}
 use Rattle.es_rules.specs.Needs.{for_buffer_post, TakesDone}
-use Rattle.es_member.specs.Members.{Holds}
-use Rattle.es_member.proofs.Aims.{aims_at_ticket}
-use Rattle.es_member.proofs.Counting.{ticket_held}
+use Rattle.es_cluster.specs.Members.{Holds}
+use Rattle.es_cluster.proofs.Aims.{aims_at_ticket}
+use Rattle.es_cluster.proofs.CountingTickets.{ticket_held}
 use Rattle.calls.proofs.asking.post_buffer.Goals as goal
 
 pub ticket-requires : goal.ticket-requires

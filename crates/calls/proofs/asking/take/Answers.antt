@@ -1,7 +1,7 @@
 use Rattle.std.proofs.Common.{sym, subst}
 use Rattle.es_ledger.specs.Letters.{Received}
 use Rattle.es_rules.specs.Needs.{TakesTicket}
-use Rattle.es_member.specs.Members.{Holds}
+use Rattle.es_cluster.specs.Members.{Holds}
 use Rattle.calls.proofs.Holding.{came_beside}
 use Rattle.calls.proofs.asking.take.Goals as goal
 

@@ -1,5 +1,5 @@
 use Rattle.std.proofs.Common.{refl, subst}
-use Rattle.es_member.proofs.Counting.{beside_held}
+use Rattle.es_cluster.proofs.CountingTickets.{beside_held}
 use Rattle.calls.specs.Suiting.{Suits}
 use Rattle.calls.proofs.Holding.{spent_holds}
 use Rattle.calls.proofs.player.give_back.Goals as goal

@@ -1,9 +1,9 @@
 use Rattle.std.proofs.Common.{◌≡◌, sym, subst}
 use Rattle.es_agent.specs.Failing.{FailsToAdmit}
 use Rattle.es_rules.specs.Needs.{need, TakesTicket}
-use Rattle.es_member.specs.Members.{HoldsBeside}
-use Rattle.es_member.proofs.Counting.{beside_held}
-use Rattle.es_member.proofs.Moving.{admitted_holds, refused_stays}
+use Rattle.es_cluster.specs.Members.{HoldsBeside}
+use Rattle.es_cluster.proofs.CountingTickets.{beside_held}
+use Rattle.es_cluster.proofs.MovingMembers.{admitted_holds, refused_stays}
 use Rattle.calls.proofs.Holding.{spent_holds}
 use Rattle.calls.proofs.taking.admit.Goals as goal
 

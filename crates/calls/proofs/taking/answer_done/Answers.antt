@@ -1,7 +1,7 @@
 use Rattle.std.proofs.Common.{sym, subst}
 use Rattle.es_rules.specs.Needs.{need, TakesDone}
-use Rattle.es_member.specs.Members.{Holds}
-use Rattle.es_member.proofs.Moving.{holds_still, done_stays}
+use Rattle.es_cluster.specs.Members.{Holds}
+use Rattle.es_cluster.proofs.MovingMembers.{holds_still, done_stays}
 use Rattle.calls.proofs.taking.answer_done.Goals as goal
 
 pub returns-in-Ok-clause-ok : goal.returns-in-Ok-clause-ok

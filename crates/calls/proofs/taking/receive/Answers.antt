@@ -1,7 +1,7 @@
 use Rattle.std.proofs.Common.{sym, subst, ap, ◌∙◌}
 use Rattle.es_value.specs.Values.{identity}
-use Rattle.es_member.specs.Members.{Holds}
-use Rattle.es_member.proofs.Moving.{holds_still, received_stays}
+use Rattle.es_cluster.specs.Members.{Holds}
+use Rattle.es_cluster.proofs.MovingMembers.{holds_still, received_stays}
 use Rattle.calls.specs.Suiting.{Comes}
 use Rattle.calls.proofs.taking.receive.Goals as goal
 

@@ -1,6 +1,6 @@
 use Rattle.std.proofs.Common.{sym, subst}
-use Rattle.es_member.specs.Members.{Holds}
-use Rattle.es_member.proofs.Moving.{holds_still, skipped_stays}
+use Rattle.es_cluster.specs.Members.{Holds}
+use Rattle.es_cluster.proofs.MovingMembers.{holds_still, skipped_stays}
 use Rattle.calls.specs.Suiting.{AsksMessage}
 use Rattle.calls.proofs.taking.skip.Goals as goal
 

@@ -3,7 +3,7 @@ use Rattle.std.specs.Prelude.{slice_get}
 use Rattle.es_event.specs.Ledger.{table}
 use Rattle.es_event.specs.Rows.{held}
 use Rattle.es_ledger.specs.Audits.{held_below}
-use Rattle.es_member.specs.Members.{rows_of, SameRows}
+use Rattle.es_cluster.specs.Members.{rows_of, SameRows}
 use Rattle.es_record.specs.AgentView.{AgentView}
 use Rattle.es_cluster.specs.State.{cores}
 use Rattle.es_cluster.proofs.auditing.count_all.Given as goal

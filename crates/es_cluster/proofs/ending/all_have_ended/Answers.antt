@@ -1,6 +1,6 @@
 use Rattle.std.proofs.Common.{◌≡◌, Bool, true, false, sym, ◌∙◌, refl, subst, ◌<◌}
 use Rattle.es_event.specs.LegalLedger.{all_ended}
-use Rattle.es_member.proofs.Midway.{ended_where_all}
+use Rattle.es_cluster.proofs.Midway.{ended_where_all}
 use Rattle.es_cluster.proofs.ending.all_have_ended.Goals as goal
 
 pub returns-then-not-has_ended : goal.returns-then-not-has_ended

@@ -1,7 +1,7 @@
 use Rattle.std.proofs.Common.{◌≡◌, sym, subst, true}
 use Rattle.es_event.specs.declared.ledger_event.LedgerEvent.TheVariants.{Ended}
 use Rattle.es_event.specs.LegalLedger.{all_ended}
-use Rattle.es_member.proofs.Midway.{still_over}
+use Rattle.es_cluster.proofs.Midway.{still_over}
 use Rattle.es_cluster.proofs.ending.end_agent.Goals as goal
 
 pub returns-then-not-has_ended-clause-others : goal.returns-then-not-has_ended-clause-others

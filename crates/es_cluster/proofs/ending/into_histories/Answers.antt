@@ -3,7 +3,7 @@ use Rattle.std.specs.Prelude.{slice_get}
 use Rattle.std.proofs.lemmas.List.{length-reverse, reverse-reverse}
 use Rattle.es_cluster.specs.Ends.{AreHistories, HaveNoTicket}
 use Rattle.es_cluster.specs.State.{cores}
-use Rattle.es_member.specs.Members.{MemberView}
+use Rattle.es_cluster.specs.Members.{MemberView}
 use Rattle.es_cluster.proofs.Beginning.{next_last}
 use Rattle.es_cluster.proofs.Histories.{all_done, at_done, cores_more, histories_more, none_more}
 use Rattle.es_cluster.proofs.ending.into_histories.Goals as goal

@@ -2,7 +2,7 @@ use Rattle.std.proofs.Common.{◌≡◌, ◌≤◌, ◌+◌, List, ◌++◌, len
 use Rattle.std.specs.Prelude.{vec_capacity}
 use Rattle.es_cluster.specs.Ends.{AreHistories, HaveNoTicket}
 use Rattle.es_cluster.specs.State.{cores}
-use Rattle.es_member.specs.Members.{MemberView}
+use Rattle.es_cluster.specs.Members.{MemberView}
 use Rattle.es_cluster.proofs.ending.into_histories.Given as goal
 
 abbrev pub invariant-loop : goal.invariant-loop

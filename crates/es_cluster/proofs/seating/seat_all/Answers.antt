@@ -3,7 +3,7 @@ use Rattle.std.specs.Prelude.{slice_get}
 use Rattle.std.proofs.lemmas.Iterator.Adapters.{YieldsList-from_vec}
 use Rattle.std.proofs.lemmas.Iterator.Consumers.{YieldsList-turn}
 use Rattle.es_agent.specs.Tickets.{tickets}
-use Rattle.es_member.specs.Members.{MemberView}
+use Rattle.es_cluster.specs.Members.{MemberView}
 use Rattle.es_cluster.specs.State.{cores}
 use Rattle.es_cluster.proofs.Beginning.{got, one_seated, next_last}
 use Rattle.es_cluster.proofs.seating.seat_all.Goals as goal

@@ -1,5 +1,5 @@
 use Rattle.std.proofs.Common.{sym, ◌∙◌, ap, true}
-use Rattle.es_deeds.specs.Split.{stretches_said}
+use Rattle.es_match.specs.Split.{stretches_said}
 use Rattle.es_match.specs.Goes.{goes}
 use Rattle.es_match.specs.Meets.{nothing_came}
 use Rattle.es_match.proofs.Calming.{goes_by_the_last}

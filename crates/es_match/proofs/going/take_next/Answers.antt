@@ -1,5 +1,5 @@
 use Rattle.std.proofs.Common.{◌∙◌, ap, sym, arith}
-use Rattle.es_deeds.specs.Shown.{all_shown}
+use Rattle.es_match.specs.DeedsShown.{all_shown}
 use Rattle.es_match.proofs.Lists.{none_left, one_taken}
 use Rattle.es_match.proofs.going.take_next.Goals as goal
 

@@ -1,5 +1,5 @@
 use Rattle.std.proofs.Common.{◌≡◌, take, drop}
-use Rattle.es_deeds.specs.Shown.{all_shown}
+use Rattle.es_match.specs.DeedsShown.{all_shown}
 use Rattle.es_match.proofs.going.take_next.Given as goal
 
 abbrev pub invariant-loop : goal.invariant-loop

@@ -1,4 +1,4 @@
-use Rattle.es_deeds.specs.Shown.{all_shown}
+use Rattle.es_match.specs.DeedsShown.{all_shown}
 use Rattle.es_match.proofs.Counting.{go_on}
 use Rattle.es_match.proofs.spending.are_spent.Goals as goal
 

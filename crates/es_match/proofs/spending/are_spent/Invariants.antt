@@ -1,6 +1,6 @@
 use Rattle.std.proofs.Common.{drop}
 use Rattle.es_match.specs.Counts.{IsSpending}
-use Rattle.es_deeds.specs.Shown.{all_shown}
+use Rattle.es_match.specs.DeedsShown.{all_shown}
 use Rattle.es_match.proofs.spending.are_spent.Given as goal
 
 abbrev pub invariant-loop-i : goal.invariant-loop-i

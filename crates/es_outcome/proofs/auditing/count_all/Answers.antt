@@ -6,7 +6,7 @@ use Rattle.es_event.specs.Ledger.{table}
 use Rattle.es_event.specs.Rows.{held}
 use Rattle.es_ledger.specs.Audits.{held_below}
 use Rattle.es_ledger.specs.LedgerView.{LedgerView}
-use Rattle.es_member.specs.Members.{SameRows, rows_of}
+use Rattle.es_cluster.specs.Members.{SameRows, rows_of}
 use Rattle.es_cluster.proofs.Standing.{cores_length, within}
 use Rattle.es_cluster.specs.State.{cores}
 use Rattle.es_cluster.proofs.Counting.{one_more}

@@ -1,5 +1,5 @@
 use Rattle.std.proofs.Common.{◌≡◌, ◌<◌, Some, arith, ap, sym, ◌∙◌, length}
-use Rattle.es_member.specs.Members.{MemberView}
+use Rattle.es_cluster.specs.Members.{MemberView}
 use Rattle.es_cluster.proofs.Standing.{cores_length, found_at}
 use Rattle.es_cluster.specs.State.{cores}
 use Rattle.es_outcome.proofs.Tallied.{tallies_all, tallies_more}

@@ -1,5 +1,5 @@
 use Rattle.std.proofs.Common.{◌≡◌, ◌<◌, Some, arith, ap, sym, ◌∙◌, length, refl}
-use Rattle.es_member.specs.Members.{IsPlanned, MemberView}
+use Rattle.es_cluster.specs.Members.{IsPlanned, MemberView}
 use Rattle.es_cluster.proofs.Standing.{cores_length, found_at, within}
 use Rattle.es_cluster.specs.State.{cores}
 use Rattle.es_cluster.proofs.Counting.{one_more}

@@ -1,6 +1,6 @@
 use Rattle.std.proofs.Common.{◌≡◌, ◌<◌, ℕ, Some}
 use Rattle.std.specs.Prelude.{slice_get}
-use Rattle.es_member.specs.Members.{IsPlanned}
+use Rattle.es_cluster.specs.Members.{IsPlanned}
 use Rattle.es_record.specs.AgentView.{AgentView}
 use Rattle.es_cluster.specs.State.{cores}
 use Rattle.es_outcome.proofs.ending.are_at_places.Given as goal

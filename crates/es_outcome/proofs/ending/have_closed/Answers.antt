@@ -1,5 +1,5 @@
 use Rattle.std.proofs.Common.{◌≡◌, ◌<◌, Some, arith, ap, sym, ◌∙◌, length, true, subst, false}
-use Rattle.es_member.specs.Members.{MemberView}
+use Rattle.es_cluster.specs.Members.{MemberView}
 use Rattle.es_record.specs.AgentView.{AgentView}
 use Rattle.es_cluster.proofs.Resting.{nothing_over}
 use Rattle.es_cluster.proofs.Standing.{cores_length, found_at, within}

@@ -1,6 +1,6 @@
 use Rattle.std.proofs.Common.{◌≡◌, true, false, map, reverse, sym, ap, ◌∙◌, subst}
 use Rattle.es_outcome.specs.Said.{IsTold, is_calm, said_by}
-use Rattle.es_count.specs.Tallies.{end_tally}
+use Rattle.es_report.specs.Tallies.{end_tally}
 use Rattle.es_cluster.proofs.Standing.{cores_length}
 use Rattle.es_cluster.specs.State.{cores}
 use Rattle.es_outcome.specs.Places.{AreAtPlaces, ArePlanned, SomeGoesOn}

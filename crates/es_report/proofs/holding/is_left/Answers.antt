@@ -3,7 +3,7 @@ use Rattle.std.specs.List.{list_any}
 use Rattle.std.proofs.lemmas.List.{take_all}
 use Rattle.es_event.specs.Ledger.{table}
 use Rattle.es_report.specs.Holding.{makes_left}
-use Rattle.es_count.proofs.Lists.{reversed_more}
+use Rattle.es_report.proofs.Lists.{reversed_more}
 use Rattle.es_report.proofs.Holders.{left_is}
 use Rattle.es_report.proofs.holding.is_left.Goals as goal
 

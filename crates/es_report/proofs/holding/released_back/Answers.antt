@@ -1,7 +1,7 @@
 use Rattle.std.proofs.Common.{◌≡◌, ◌≤◌, ◌+◌, not, cond, reverse, ap, ◌∙◌, arith}
 use Rattle.es_event.specs.Ledger.{table}
 use Rattle.es_report.specs.Holding.{left}
-use Rattle.es_count.proofs.Lists.{count_few, count_next}
+use Rattle.es_report.proofs.Lists.{count_few, count_next}
 use Rattle.es_report.proofs.Holders.{all_released}
 use Rattle.es_report.proofs.holding.released_back.Goals as goal
 

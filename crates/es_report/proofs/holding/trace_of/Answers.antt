@@ -1,5 +1,5 @@
 use Rattle.std.proofs.Common.{take, reverse, subst, sym}
-use Rattle.es_count.proofs.Lists.{reversed_more}
+use Rattle.es_report.proofs.Lists.{reversed_more}
 use Rattle.es_report.specs.Holding.{Traced}
 use Rattle.es_report.proofs.Holders.{next_traced}
 use Rattle.es_report.proofs.holding.trace_of.Goals as goal

@@ -1,7 +1,7 @@
 use Rattle.std.proofs.Common.{◌||◌, ◌==◌, ap, sym, ◌∙◌, take, reverse}
 use Rattle.std.proofs.lemmas.List.Folds.{list_any-append}
 use Rattle.es_event.specs.Identities.{empties, gone, is_gone, is_in}
-use Rattle.es_count.proofs.Lists.{reversed_more}
+use Rattle.es_report.proofs.Lists.{reversed_more}
 use Rattle.es_report.proofs.looking.is_emptied.Goals as goal
 
 pub loop-event-preserved : goal.loop-event-preserved

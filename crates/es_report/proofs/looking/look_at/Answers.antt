@@ -1,5 +1,5 @@
 use Rattle.std.proofs.Common.{take, reverse, subst, sym, arith}
-use Rattle.es_count.proofs.Lists.{reversed_more}
+use Rattle.es_report.proofs.Lists.{reversed_more}
 use Rattle.es_report.specs.Looking.{Looks}
 use Rattle.es_report.proofs.looking.look_at.Goals as goal
 

@@ -1,6 +1,6 @@
 use Rattle.std.proofs.Common.{refl, ◌==◌}
 use Rattle.es_event.specs.declared.event.Event.TheVariants.{Taken}
-use Rattle.es_count.specs.declared.fates.Fate.TheVariants.{Taken as WasTaken}
+use Rattle.es_report.specs.declared.fates.Fate.TheVariants.{Taken as WasTaken}
 use Rattle.es_report.proofs.Looked.{removed}
 use Rattle.es_report.proofs.looking.next.Goals as goal
 

@@ -1,5 +1,5 @@
 use Rattle.std.proofs.Common.{◌≡◌, ◌∙◌, reverse, arith}
-use Rattle.es_count.specs.Registered.{fate_of}
+use Rattle.es_report.specs.Registered.{fate_of}
 use Rattle.es_report.proofs.Looked.{all_to, counted_more, few_to}
 use Rattle.es_report.proofs.looking.tally_back.Goals as goal
 

@@ -1,5 +1,5 @@
 use Rattle.std.proofs.Common.{take, reverse, subst, sym, arith}
-use Rattle.es_count.proofs.Lists.{reversed_more}
+use Rattle.es_report.proofs.Lists.{reversed_more}
 use Rattle.es_report.specs.Ports.{AreCounts}
 use Rattle.es_report.proofs.ports.counts_of.Goals as goal
 

@@ -1,5 +1,5 @@
 use Rattle.std.proofs.Common.{take, reverse, subst, sym, arith}
-use Rattle.es_count.proofs.Lists.{reversed_more}
+use Rattle.es_report.proofs.Lists.{reversed_more}
 use Rattle.es_report.specs.Ports.{Finds}
 use Rattle.es_report.proofs.ports.serial_after.Goals as goal
 

@@ -1,6 +1,6 @@
 use Rattle.std.proofs.Common.{ap, ◌∙◌, reverse}
 use Rattle.std.proofs.lemmas.Slice.Zip.{either_empty_from_Zip}
-use Rattle.es_count.specs.Tallies.{end_tally}
+use Rattle.es_report.specs.Tallies.{end_tally}
 use Rattle.es_report.proofs.Agents.{none_of, one_written}
 use Rattle.es_report.proofs.report.write_all_agents.Goals as goal
 

@@ -1,7 +1,7 @@
 use Rattle.std.proofs.Common.{ap, map, sym, ◌∙◌, reverse}
 use Rattle.std.specs.Io.KnownBytes.{Appends}
 use Rattle.es_event.specs.Report.{agents_text}
-use Rattle.es_count.specs.Tallies.{end_tally}
+use Rattle.es_report.specs.Tallies.{end_tally}
 use Rattle.es_report.proofs.Written.{whole_written}
 use Rattle.es_report.proofs.report.write_report_counted.Goals as goal
 

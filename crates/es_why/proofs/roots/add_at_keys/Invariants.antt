@@ -1,6 +1,6 @@
 use Rattle.std.proofs.Common.{◌≡◌, ◌++◌}
 use Rattle.std.specs.List.{range_with_len}
-use Rattle.es_path.specs.declared.step.Step.TheVariants.{Property}
+use Rattle.es_mark.specs.declared.step.Step.TheVariants.{Property}
 use Rattle.es_record.specs.Leading.{property_at}
 use Rattle.es_why.specs.Numbered.{numbered}
 use Rattle.es_why.proofs.roots.add_at_keys.Given as goal

@@ -1,6 +1,6 @@
 use Rattle.std.proofs.Common.{ℕ, Some, refl}
 use Rattle.std.proofs.lemmas.List.{take_more}
-use Rattle.es_path.specs.declared.step.Step.TheVariants.{Kept}
+use Rattle.es_mark.specs.declared.step.Step.TheVariants.{Kept}
 use Rattle.es_why.proofs.Numbered.{numbered_push}
 use Rattle.es_why.proofs.roots.add_kept.Goals as goal
 

@@ -1,5 +1,5 @@
 use Rattle.std.proofs.Common.{◌≡◌, ℕ, ◌++◌, Some, take}
-use Rattle.es_path.specs.declared.step.Step.TheVariants.{Kept}
+use Rattle.es_mark.specs.declared.step.Step.TheVariants.{Kept}
 use Rattle.es_why.specs.Numbered.{numbered}
 use Rattle.es_why.proofs.roots.add_kept.Given as goal
 

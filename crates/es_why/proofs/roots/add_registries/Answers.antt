@@ -1,5 +1,5 @@
 use Rattle.std.proofs.Common.{ℕ, arith}
-use Rattle.es_path.specs.declared.step.Step.TheVariants.{Registry}
+use Rattle.es_mark.specs.declared.step.Step.TheVariants.{Registry}
 use Rattle.es_why.specs.Numbered.{registry_if}
 use Rattle.es_why.proofs.Numbered.{numbered_more}
 use Rattle.es_why.proofs.roots.add_registries.Goals as goal

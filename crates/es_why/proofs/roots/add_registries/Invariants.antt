@@ -1,6 +1,6 @@
 use Rattle.std.proofs.Common.{◌≡◌, ℕ, ◌++◌}
 use Rattle.std.specs.List.{range_with_len}
-use Rattle.es_path.specs.declared.step.Step.TheVariants.{Registry}
+use Rattle.es_mark.specs.declared.step.Step.TheVariants.{Registry}
 use Rattle.es_why.specs.Numbered.{numbered, registry_if}
 use Rattle.es_why.proofs.roots.add_registries.Given as goal
 

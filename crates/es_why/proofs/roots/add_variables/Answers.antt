@@ -1,5 +1,5 @@
 use Rattle.std.proofs.Common.{arith}
-use Rattle.es_path.specs.declared.step.Step.TheVariants.{Variable}
+use Rattle.es_mark.specs.declared.step.Step.TheVariants.{Variable}
 use Rattle.es_why.specs.Leads.{variable_at}
 use Rattle.es_why.proofs.Numbered.{numbered_more}
 use Rattle.es_why.proofs.roots.add_variables.Goals as goal

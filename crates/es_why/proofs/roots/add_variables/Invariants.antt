@@ -1,6 +1,6 @@
 use Rattle.std.proofs.Common.{◌≡◌, ◌++◌}
 use Rattle.std.specs.List.{range_with_len}
-use Rattle.es_path.specs.declared.step.Step.TheVariants.{Variable}
+use Rattle.es_mark.specs.declared.step.Step.TheVariants.{Variable}
 use Rattle.es_why.specs.Leads.{variable_at}
 use Rattle.es_why.specs.Numbered.{numbered}
 use Rattle.es_why.proofs.roots.add_variables.Given as goal

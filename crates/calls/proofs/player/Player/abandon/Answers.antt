@@ -1,4 +1,4 @@
-use Rattle.es_member.proofs.Moving.{closing_owns}
+use Rattle.es_cluster.proofs.MovingMembers.{closing_owns}
 use Rattle.calls.proofs.player.Player.abandon.Goals as goal
 
 pub spend_all-requires : goal.spend_all-requires

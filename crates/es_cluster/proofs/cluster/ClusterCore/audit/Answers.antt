@@ -2,8 +2,8 @@ use Rattle.std.proofs.Common.{subst}
 use Rattle.std.proofs.lemmas.Result.{IfOk-weaker}
 use Rattle.es_ledger.specs.Audits.{IsAudit}
 use Rattle.es_ledger.specs.LedgerView.{LedgerView}
-use Rattle.es_member.proofs.Audited.{audits}
-use Rattle.es_member.specs.Audits.{Audits}
+use Rattle.es_cluster.proofs.Audited.{audits}
+use Rattle.es_cluster.specs.Audits.{Audits}
 use Rattle.es_cluster.specs.State.{cores}
 use Rattle.es_cluster.proofs.cluster.ClusterCore.audit.Goals as goal
 

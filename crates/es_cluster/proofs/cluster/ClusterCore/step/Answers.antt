@@ -1,9 +1,9 @@
 use Rattle.std.proofs.Common.{sym, ◌∙◌, ◌≤◌, ap, refl, subst, Some}
 use Rattle.std.specs.Prelude.{vec_capacity}
-use Rattle.es_member.specs.Members.{MemberView}
-use Rattle.es_member.specs.Turned.{OthersStay}
+use Rattle.es_cluster.specs.Members.{MemberView}
+use Rattle.es_cluster.specs.Turned.{OthersStay}
 use Rattle.es_cluster.specs.State.{cores, names_of, plans, ArePlaced, AreTied}
-use Rattle.es_member.proofs.Growing.{grows_none}
+use Rattle.es_cluster.proofs.Growing.{grows_none}
 use Rattle.es_cluster.proofs.Named.{names}
 use Rattle.es_cluster.proofs.Standing.{found_at, takes_of, placed_here, mapped_still, one_changed, placed_after, set_length, set_same, tied_after, tied_of}
 use Rattle.es_cluster.proofs.cluster.ClusterCore.step.Goals as goal

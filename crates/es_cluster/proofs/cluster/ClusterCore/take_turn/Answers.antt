@@ -1,5 +1,5 @@
 use Rattle.std.proofs.Common.{sym, ◌∙◌, ap, Some}
-use Rattle.es_member.specs.Members.{MemberView}
+use Rattle.es_cluster.specs.Members.{MemberView}
 use Rattle.es_cluster.proofs.Standing.{found_at}
 use Rattle.es_cluster.proofs.Turning.{stepped}
 use Rattle.es_cluster.proofs.cluster.ClusterCore.take_turn.Goals as goal

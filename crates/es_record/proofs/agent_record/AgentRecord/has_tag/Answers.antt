@@ -1,5 +1,5 @@
 use Rattle.std.proofs.Common.{◌∙◌, ap}
-use Rattle.es_tags.specs.Tags.{is_tag}
+use Rattle.es_tables.specs.Tags.{is_tag}
 use Rattle.es_record.proofs.Found.{tagged_as}
 use Rattle.es_record.proofs.agent_record.AgentRecord.has_tag.Goals as goal
 

@@ -3,7 +3,7 @@ use Rattle.std.proofs.lemmas.Result.{IfOk-weaker}
 use Rattle.es_record.specs.Graph.{AreLateMarks}
 use Rattle.es_rules.specs.Needs.{need}
 use Rattle.es_rules.specs.Shown.{shown}
-use Rattle.es_member.specs.Turned.{AreAskedFor}
+use Rattle.es_cluster.specs.Turned.{AreAskedFor}
 use Rattle.es_run.proofs.helpers.Helpers.marks.Goals as goal
 
 pub returns-in-Finish : goal.returns-in-Finish

@@ -1,0 +1,351 @@
+-- What an event asks of the ledger is what the agent asked for, and the deeds that were done meet it.
+use Rattle.std.proofs.Common.{◌≡◌, ℕ, ◌==◌, ◌&&◌, ◌||◌, Bool, true, false, cond, if◌then◌else◌, not, sym, ◌∙◌, ap, refl, subst, List, [], ◌∷◌, ◌++◌, Option, Some, None, eq-eqb}
+use Rattle.std.specs.Prelude.{ℤ, pos, negsuc, ◌-◌, unsigned_abs, is_some, unwrap_or, slice_get}
+use Rattle.std.specs.Option.{option_map, option_map_or, option_and_then}
+use Rattle.std.specs.Ordering.{int_eq}
+use Rattle.std.proofs.lemmas.Bool.Decides.{Decides-int_eq}
+use Rattle.std.proofs.lemmas.Slice.Eq.{bytes_eq-Decides}
+use Rattle.es_value.specs.Values.{identity, is_same}
+use Rattle.es_value.specs.declared.value.Value.{Value}
+use Rattle.es_value.specs.declared.value.Value.TheVariants.{Undefined, Boolean, Number, Text, Registered, Object, Symbol}
+use Rattle.es_event.specs.declared.access.Access.{Access}
+use Rattle.es_event.specs.declared.command.Command.{Command}
+use Rattle.es_event.specs.declared.command.Command.TheVariants.{SharedArrayBuffer, Atomic, Post}
+use Rattle.es_event.specs.declared.event.Answer.{Answer}
+use Rattle.es_event.specs.declared.event.Answer.TheVariants.{Nothing, Gives}
+use Rattle.es_event.specs.declared.event.Event.{Event}
+use Rattle.es_event.specs.declared.event.Event.TheVariants.{JobBegun, CleanupBegun, Received, Refused, JobEnded, Skipped, Closed}
+use Rattle.es_event.specs.declared.plan.AgentPlan.{AgentPlan}
+use Rattle.es_event.specs.declared.plan.Job.{Job}
+use Rattle.es_event.specs.declared.event.Refusal.TheVariants.{NotASharedArrayBuffer}
+use Rattle.es_event.specs.declared.ledger_event.Body.TheVariants.{Plain, Block}
+use Rattle.es_event.specs.declared.row.Row.{Row}
+use Rattle.es_event.specs.Access.{access_of, is_same_change}
+use Rattle.es_event.specs.Commands.{reads}
+use Rattle.es_event.specs.History.{History}
+use Rattle.es_event.specs.Identities.{object_of}
+use Rattle.es_event.specs.Variables.{var}
+use Rattle.es_event.specs.Jobs.{Receivers, receivers, job, cleaning}
+use Rattle.es_event.specs.Registrations.{first_awaiting}
+use Rattle.es_event.specs.Follows.{Permits, Follows}
+use Rattle.es_event.specs.Sharing.{Buffers, row_at, is_index, words_of}
+use Rattle.es_event.specs.Rules.{is_buffer, kind_of, of_index, refusal, first_refusal}
+use Rattle.es_event.specs.Legal.{values_of}
+use Rattle.es_event.specs.Later.{snapshot}
+use Rattle.es_event.specs.Order.{Phase, between, handed, inside, stopped, ended, phase, phase_after, receive, run, clean, left, queue, due_end, due_after, due_inside, due_job, due_between, due_at, due}
+use Rattle.es_event.proofs.Accepted.{first_holds}
+use Rattle.es_event.proofs.Accesses.{same_as_itself}
+use Rattle.es_match.specs.Asks.{to_open, to_access, to_post, to_receive, to_pass, given, asks_did, between_jobs}
+use Rattle.es_match.specs.Cluster.{awaited}
+use Rattle.es_match.specs.Deeds.{Opens, Posts, Takes, Accesses, Passes}
+use Rattle.es_match.specs.Meets.{Tickets, after, answers, has_ticket, is_number, is_ticket, some_if}
+use Rattle.es_ticket.specs.Stakes.{at}
+use Rattle.es_record.specs.AgentView.{AgentView}
+use Rattle.es_rules.specs.Needs.{Request, for_block, for_post, for_buffer_post, for_access, access_at, posts_to, asked, asks_ledger, need, need_of}
+use Rattle.es_cluster.specs.Midway.{answer_to}
+use Rattle.es_rules.proofs.Needs.{ledger_command, not_refused}
+
+-- Values are the same as themselves
+
+pub same_itself : (v : Value) → is_same v v ≡ true
+same_itself Undefined = refl
+same_itself (Boolean true) = refl
+same_itself (Boolean false) = refl
+same_itself (Number n) = (Decides-int_eq n n).1 refl
+same_itself (Text t) = (bytes_eq-Decides t t).1 refl
+same_itself (Registered t) = (bytes_eq-Decides t t).1 refl
+same_itself (Object i) = eq-eqb i i refl
+same_itself (Symbol i) = eq-eqb i i refl
+
+-- Tickets
+
+pub at_row : (ts : Tickets) (o : ℕ) → row_at ts o ≡ at o ts
+at_row [] o = refl
+at_row (t ∷ ts) o = ap (cond (t.0 == o) (Some t.1)) (at_row ts o)
+
+pub has_this : (ts : Tickets) (o : ℕ) (r : Row) (test : Row → Bool) → Some r ≡ at o ts → test r ≡ true → has_ticket ts (Object o) test ≡ true
+has_this ts o r test here is = ap (λ q. option_map_or test q false) (at_row ts o ∙ sym here) ∙ is
+
+pub this_ticket : (ts : Tickets) (o : ℕ) (r : Row) → Some r ≡ at o ts → is_ticket ts (Object o) r.serial ≡ true
+this_ticket ts o r here = has_this ts o r (λ q. q.serial == r.serial) here (eq-eqb r.serial r.serial refl)
+
+-- The due command
+
+pub record DueCommand (b : AgentView) (c : Command) (r : Request) : Type 0 where
+  pub accepted : refusal b.over b.history c (values_of (receivers b.plan.jobs) b.history (reads c)) ≡ None
+  pub asks : asked c (values_of (receivers b.plan.jobs) b.history (reads c)) ≡ Some r
+
+pub due_command : (b : AgentView) (c : Command) (r : Request) → due b.plan b.history ≡ run c → need b ≡ asks_ledger r → DueCommand b c r
+due_command b c r is asked' =
+    let command = ledger_command b c r (ap (need_of b) (sym is) ∙ asked') in
+    let parts = not_refused _ _ r command.1 in
+    record { accepted = parts.0; asks = parts.1 }
+
+pub object_at : (v : Value) (o : ℕ) → object_of v ≡ Some o → v ≡ Object o
+object_at (Object i) o e = let same : i ≡ o = cc in ap Object same
+object_at _ o e = cc
+
+mapped : (f : ℕ → Request) (q : Option ℕ) (r : Request) → option_map f q ≡ Some r → (o : ℕ) × (q ≡ Some o) × (f o ≡ r)
+mapped f None r e = cc
+mapped f (Some o) r e = (o, refl, cc)
+
+positive : (j : ℤ) (words : ℕ) → is_index j words ≡ true → j ≡ pos (unsigned_abs j)
+positive (pos i) words e = refl
+positive (negsuc i) words e = cc
+
+-- the index of a load, a store or an add is not negative
+index_of : (over : Buffers) (h : History) (v : Value) (j : ℤ) (i : ℕ) → first_refusal ((is_buffer (kind_of h v), NotASharedArrayBuffer) ∷ of_index over v j ∷ []) ≡ None → unsigned_abs j ≡ i → j ≡ pos i
+index_of over h v j i none is = positive j (words_of over v) (first_holds _ _ [] (first_holds _ NotASharedArrayBuffer (of_index over v j ∷ []) none).1).0 ∙ ap pos is
+
+-- An access
+
+access_asked : (v : Value) (j : ℤ) (c : Access) (o i : ℕ) (a : Access) → access_at v j c ≡ Some (for_access o i a) → (object_of v ≡ Some o) × (unsigned_abs j ≡ i) × (c ≡ a)
+access_asked (Object p) j c o i a e = (cc, cc, cc)
+access_asked _ j c o i a e = cc
+
+-- the access that a command asks for is the one that it makes, at a buffer object, and its index is not negative
+record Accessed (v : Value) (j : ℤ) (c : Access) (o i : ℕ) (a : Access) : Type 0 where
+  pub object : v ≡ Object o
+  pub index : j ≡ pos i
+  pub access : c ≡ a
+
+accessed : (over : Buffers) (h : History) (v : Value) (j : ℤ) (c : Access) (o i : ℕ) (a : Access) → first_refusal ((is_buffer (kind_of h v), NotASharedArrayBuffer) ∷ of_index over v j ∷ []) ≡ None → access_at v j c ≡ Some (for_access o i a) → Accessed v j c o i a
+accessed over h v j c o i a none asks =
+    let is = access_asked v j c o i a asks in
+    record { object = object_at v o is.0; index = index_of over h v j i none is.1; access = is.2 }
+
+post_no_access : (t : ℕ) (u : Value) (o i : ℕ) (a : Access) → Some (posts_to t u) ≡ Some (for_access o i a) → ⊥
+post_no_access t (Object p) o i a e = cc
+post_no_access t u o i a e = cc
+
+access_so : (v : Value) (j : ℤ) (c : Access) (o i : ℕ) (a : Access) (u : Value) → Accessed v j c o i a → to_access v j c u ≡ to_access (Object o) (pos i) a u
+access_so v j c o i a u is = ap (λ v. to_access v j c u) is.object ∙ ap (λ j. to_access (Object o) j c u) is.index ∙ ap (λ c. to_access (Object o) (pos i) c u) is.access
+
+pub access_asks : (b : AgentView) (c : Command) (o i : ℕ) (a : Access) (r : Answer) → DueCommand b c (for_access o i a)
+    → asks_did c (values_of (receivers b.plan.jobs) b.history (reads c)) r ≡ to_access (Object o) (pos i) a (given r)
+access_asks b (Atomic c) o i a r d = access_so _ c.index (access_of c.operation) o i a (given r) (accessed b.over b.history _ c.index (access_of c.operation) o i a d.accepted d.asks)
+access_asks b (Post t y) o i a r d = absurd (post_no_access t _ o i a d.asks)
+access_asks b c o i a r d = let e = d.asks in cc
+
+answered : (a : Access) (w : ℕ) → answers a (given (answer_to a w)) w ≡ true
+answered a w = by_gift a.gives_word
+  where
+    by_gift : (b : Bool) → (not b || is_number (given (if b then Gives (Number (pos w)) else Nothing)) w) ≡ true
+    by_gift true = (Decides-int_eq (pos w) (pos w)).1 refl
+    by_gift false = refl
+
+pub access_met : (ts : Tickets) (o i w : ℕ) (a : Access) (r : Row) → Some r ≡ at o ts → after ts (to_access (Object o) (pos i) a (given (answer_to a w))) (Accesses r.serial i a.change w ∷ []) ≡ Some ts
+access_met ts o i w a r here =
+    ap (λ b. some_if (b && (int_eq (pos i) (pos i) && (is_same_change a.change a.change && answers a (given (answer_to a w)) w))) ts) (this_ticket ts o r here)
+    ∙ ap (λ b. some_if (b && (is_same_change a.change a.change && answers a (given (answer_to a w)) w)) ts) ((Decides-int_eq (pos i) (pos i)).1 refl)
+    ∙ ap (λ b. some_if (b && answers a (given (answer_to a w)) w) ts) (same_as_itself a.change)
+    ∙ ap (λ b. some_if b ts) (answered a w)
+
+-- A new block
+
+pub open_asks : (b : AgentView) (c : Command) (n : ℕ) (v : Value) → DueCommand b c (for_block n) → (vs : List Value) → asks_did c vs (Gives v) ≡ to_open n v
+open_asks b (SharedArrayBuffer to m) n v d vs = let same : m ≡ n = (let e = d.asks in cc) in ap (λ m. to_open m v) same
+open_asks b (Atomic c) n v d vs = let m = mapped (λ o. for_access o (unsigned_abs c.index) (access_of c.operation)) _ _ d.asks in cc
+open_asks b (Post a y) n v d vs = absurd (no_post a _ d.asks)
+  where
+    no_post : (a : ℕ) (u : Value) → Some (posts_to a u) ≡ Some (for_block n) → ⊥
+    no_post a (Object p) e = cc
+    no_post a u e = cc
+open_asks b c n v d vs = let e = d.asks in cc
+
+pub open_met : (ts : Tickets) (n o b s : ℕ) → after ts (to_open n (Object o)) (Opens b n s ∷ []) ≡ Some (ts ++ (o, record { serial = s; block = b; words = n }) ∷ [])
+open_met ts n o b s = ap (λ t. cond t (Some (ts ++ (o, record { serial = s; block = b; words = n }) ∷ [])) None) (eq-eqb n n refl)
+
+-- What is posted
+
+posted : (a r : ℕ) (u v : Value) → Some (posts_to a u) ≡ Some (for_post r v) → (a ≡ r) × (u ≡ v)
+posted a r (Object o) v e = cc
+posted a r Undefined v e = (cc, cc)
+posted a r (Boolean b) v e = (cc, cc)
+posted a r (Number n) v e = (cc, cc)
+posted a r (Text t) v e = (cc, cc)
+posted a r (Registered t) v e = (cc, cc)
+posted a r (Symbol i) v e = (cc, cc)
+
+posted_buffer : (a r o : ℕ) (u : Value) → Some (posts_to a u) ≡ Some (for_buffer_post r o) → (a ≡ r) × (u ≡ Object o)
+posted_buffer a r o (Object p) e = (cc, let same : p ≡ o = cc in ap Object same)
+posted_buffer a r o Undefined e = cc
+posted_buffer a r o (Boolean b) e = cc
+posted_buffer a r o (Number n) e = cc
+posted_buffer a r o (Text t) e = cc
+posted_buffer a r o (Registered t) e = cc
+posted_buffer a r o (Symbol i) e = cc
+
+pub post_asks : (b : AgentView) (c : Command) (r : ℕ) (v : Value) (a : Answer) → DueCommand b c (for_post r v) → asks_did c (values_of (receivers b.plan.jobs) b.history (reads c)) a ≡ to_post r v
+post_asks b (Post t y) r v a d = let u = var (receivers b.plan.jobs) b.history y in let p = posted t r u v d.asks in ap (λ t. to_post t u) p.0 ∙ ap (to_post r) p.1
+post_asks b (Atomic c) r v a d = let m = mapped (λ o. for_access o (unsigned_abs c.index) (access_of c.operation)) _ _ d.asks in cc
+post_asks b c r v a d = let e = d.asks in cc
+
+pub buffer_asks : (b : AgentView) (c : Command) (r o : ℕ) (a : Answer) → DueCommand b c (for_buffer_post r o) → asks_did c (values_of (receivers b.plan.jobs) b.history (reads c)) a ≡ to_post r (Object o)
+buffer_asks b (Post t y) r o a d = let u = var (receivers b.plan.jobs) b.history y in let p = posted_buffer t r o u d.asks in ap (λ t. to_post t u) p.0 ∙ ap (to_post r) p.1
+buffer_asks b (Atomic c) r o a d = let m = mapped (λ o. for_access o (unsigned_abs c.index) (access_of c.operation)) _ _ d.asks in cc
+buffer_asks b c r o a d = let e = d.asks in cc
+
+no_object : (v : Value) → identity v ≡ None → is_some (object_of v) ≡ false
+no_object (Object i) e = cc
+no_object Undefined e = refl
+no_object (Boolean b) e = refl
+no_object (Number n) e = refl
+no_object (Text t) e = refl
+no_object (Registered t) e = refl
+no_object (Symbol i) e = refl
+
+pub post_met : (ts : Tickets) (r : ℕ) (v : Value) → identity v ≡ None → after ts (to_post r v) (Posts r (Plain v) ∷ []) ≡ Some ts
+post_met ts r v plain =
+    ap (λ b. some_if (b && (not (is_some (object_of v)) && is_same v v)) ts) (eq-eqb r r refl)
+    ∙ ap (λ b. some_if (not b && is_same v v) ts) (no_object v plain)
+    ∙ ap (λ b. some_if b ts) (same_itself v)
+
+pub buffer_met : (ts : Tickets) (a o s : ℕ) (r : Row) → Some r ≡ at o ts → after ts (to_post a (Object o)) (Posts a (Block r.block s) ∷ []) ≡ Some ts
+buffer_met ts a o s r here =
+    ap (λ b. some_if (b && has_ticket ts (Object o) (λ q. q.block == r.block)) ts) (eq-eqb a a refl)
+    ∙ ap (λ b. some_if b ts) (has_this ts o r (λ q. q.block == r.block) here (eq-eqb r.block r.block refl))
+
+-- Messages
+
+pub receive_met : (ts : Tickets) (s : ℕ) (v : Value) (w : ℕ) → identity v ≡ None → after ts (to_receive s v) (Takes s (Some (Plain v)) w ∷ []) ≡ Some ts
+receive_met ts s v w plain =
+    ap (λ b. cond b (some_if (not (is_some (object_of v)) && is_same v v) ts) None) (eq-eqb s s refl)
+    ∙ ap (λ b. some_if (not b && is_same v v) ts) (no_object v plain)
+    ∙ ap (λ b. some_if b ts) (same_itself v)
+
+pub admit_met : (ts : Tickets) (s o b k w : ℕ) → after ts (to_receive s (Object o)) (Takes s (Some (Block b k)) w ∷ []) ≡ Some (ts ++ (o, record { serial = k; block = b; words = w }) ∷ [])
+admit_met ts s o b k w = ap (λ t. cond t (Some (ts ++ (o, record { serial = k; block = b; words = w }) ∷ [])) None) (eq-eqb s s refl)
+
+pub skip_met : (ts : Tickets) (s : ℕ) → after ts (to_pass s) (Passes s ∷ []) ≡ Some ts
+skip_met ts s = ap (λ b. some_if b ts) (eq-eqb s s refl)
+
+-- Whether a job is under way
+
+nothing_left : (plan : AgentPlan) (h : History) → between_jobs h ≡ true → left plan h ≡ []
+nothing_left plan [] is = refl
+nothing_left plan (JobEnded ∷ h) is = refl
+nothing_left plan (Skipped j t ∷ h) is = refl
+nothing_left plan (e ∷ h) is = cc
+
+end_command : (o : Option History) (c : Command) → due_end o ≡ run c → ⊥
+end_command None c is = cc
+end_command (Some p) c is = cc
+
+end_message : (o : Option History) (n s : ℕ) → due_end o ≡ receive n s → ⊥
+end_message None n s is = cc
+end_message (Some p) n s is = cc
+
+no_command : (plan : AgentPlan) (h : History) (p : Phase) (c : Command) → left plan h ≡ [] → due_at plan h p ≡ run c → ⊥
+no_command plan h between c none is = at_queue (queue h) is
+  where
+    at_job : (n : ℕ) (j : Option (Option (ℕ × List ℕ))) → due_job n j ≡ run c → ⊥
+    at_job n None is = cc
+    at_job n (Some None) is = cc
+    at_job n (Some (Some on)) is = cc
+
+    at_queue : (rs : List ℕ) → due_between plan h rs ≡ run c → ⊥
+    at_queue [] is = at_job (job h) _ is
+    at_queue (r ∷ rs) is = cc
+no_command plan h handed c none is = cc
+no_command plan h inside c none is = at_cell (option_and_then (first_awaiting h) (cleaning h)) (ap (due_inside h) (sym none) ∙ is)
+  where
+    at_cell : (o : Option ℕ) → due_after h o ≡ run c → ⊥
+    at_cell None is = end_command (snapshot h) c is
+    at_cell (Some n) is = cc
+no_command plan h stopped c none is = end_command (snapshot h) c is
+no_command plan h ended c none is = cc
+
+-- where a command is due, a job is under way
+pub at_command : (plan : AgentPlan) (h : History) (c : Command) → due plan h ≡ run c → between_jobs h ≡ false
+at_command plan h c is = by_test (between_jobs h) refl
+  where
+    by_test : (b : Bool) → between_jobs h ≡ b → between_jobs h ≡ false
+    by_test false b = b
+    by_test true b = absurd (no_command plan h (phase h) c (nothing_left plan h b) is)
+
+-- what comes between two jobs is no event that leaves the phase as it is, but a skip
+no_event : (over : Buffers) (into : Receivers) (plan : AgentPlan) (h : History) (e : Event) (rs : List ℕ) → phase_after e ≡ None → between_jobs (e ∷ h) ≡ false → Permits over into h (due_between plan h rs) e → ⊥
+no_event over into plan h e (r ∷ rs) same other p = at_clean e same other p
+  where
+    at_clean : (e : Event) → phase_after e ≡ None → between_jobs (e ∷ h) ≡ false → Permits over into h (clean r) e → ⊥
+    at_clean (CleanupBegun q) same other p = cc
+    at_clean _ same other p = absurd p
+no_event over into plan h e [] same other p = at_job (job h) _ e same other p
+  where
+    at_job : (n : ℕ) (j : Option (Option (ℕ × List ℕ))) (e : Event) → phase_after e ≡ None → between_jobs (e ∷ h) ≡ false → Permits over into h (due_job n j) e → ⊥
+    at_job n None Closed same other p = cc
+    at_job n None _ same other p = absurd p
+    at_job n (Some None) (JobBegun j) same other p = cc
+    at_job n (Some None) _ same other p = absurd p
+    at_job n (Some (Some on)) (Received t v) same other p = cc
+    at_job n (Some (Some on)) (Refused code) same other p = cc
+    at_job n (Some (Some on)) (Skipped j t) same other p = cc
+    at_job n (Some (Some on)) _ same other p = absurd p
+
+pub between_where_phase : (over : Buffers) (plan : AgentPlan) (h : History) → Follows over plan h → phase h ≡ between → between_jobs h ≡ true
+between_where_phase over plan [] follows is = refl
+between_where_phase over plan (e ∷ h) follows is = by_phase (phase_after e) (between_jobs (e ∷ h)) refl refl is
+  where
+    by_phase : (p : Option Phase) (b : Bool) → phase_after e ≡ p → between_jobs (e ∷ h) ≡ b → unwrap_or p (phase h) ≡ between → between_jobs (e ∷ h) ≡ true
+    by_phase p true same b is = b
+    by_phase None false same b is = absurd (no_event over (receivers plan.jobs) plan h e (queue h) same b (subst (λ d. Permits over (receivers plan.jobs) h (due_at plan h d) e) is follows.0))
+    by_phase (Some between) false same b is = ends_at e same
+      where
+        ends_at : (e : Event) → phase_after e ≡ Some between → between_jobs (e ∷ h) ≡ true
+        ends_at JobEnded same = refl
+        ends_at _ same = cc
+    by_phase (Some handed) false same b is = cc
+    by_phase (Some inside) false same b is = cc
+    by_phase (Some stopped) false same b is = cc
+    by_phase (Some ended) false same b is = cc
+
+-- where a message is due, none is
+pub at_message : (over : Buffers) (plan : AgentPlan) (h : History) (n s : ℕ) → Follows over plan h → due plan h ≡ receive n s → between_jobs h ≡ true
+at_message over plan h n s follows is = by_phase (phase h) refl is
+  where
+    at_cell : (o : Option ℕ) → due_after h o ≡ receive n s → ⊥
+    at_cell None is = end_message (snapshot h) n s is
+    at_cell (Some n) is = cc
+
+    at_left : (cs : List Command) → due_inside h cs ≡ receive n s → ⊥
+    at_left [] is = at_cell (option_and_then (first_awaiting h) (cleaning h)) is
+    at_left (c ∷ cs) is = cc
+
+    by_phase : (p : Phase) → phase h ≡ p → due_at plan h p ≡ receive n s → between_jobs h ≡ true
+    by_phase between p is = between_where_phase over plan h follows p
+    by_phase handed p is = cc
+    by_phase inside p is = absurd (at_left (left plan h) is)
+    by_phase stopped p is = absurd (end_message (snapshot h) n s is)
+    by_phase ended p is = cc
+
+-- where a message is due, the plan's job waits for its sender
+pub awaited_at : (plan : AgentPlan) (h : History) (n s : ℕ) → due plan h ≡ receive n s → awaited plan (job h) ≡ s ∷ []
+awaited_at plan h n s is = by_phase (phase h) is
+  where
+    at_on : (k : ℕ) (on : Option (ℕ × List ℕ)) → due_job k (Some on) ≡ receive n s → option_map_or (λ on. on.0 ∷ []) on [] ≡ s ∷ []
+    at_on k None is = cc
+    at_on k (Some on) is = let same : on.0 ≡ s = cc in ap (λ s. s ∷ []) same
+
+    at_job : (k : ℕ) (o : Option Job) → due_job k (option_map (λ j. j.on) o) ≡ receive n s → option_map_or (λ on. on.0 ∷ []) (option_and_then (λ j. j.on) o) [] ≡ s ∷ []
+    at_job k None is = cc
+    at_job k (Some j) is = at_on k j.on is
+
+    at_cell : (o : Option ℕ) → due_after h o ≡ receive n s → ⊥
+    at_cell None is = end_message (snapshot h) n s is
+    at_cell (Some n) is = cc
+
+    at_left : (cs : List Command) → due_inside h cs ≡ receive n s → ⊥
+    at_left [] is = at_cell (option_and_then (first_awaiting h) (cleaning h)) is
+    at_left (c ∷ cs) is = cc
+
+    at_queue : (rs : List ℕ) → due_between plan h rs ≡ receive n s → awaited plan (job h) ≡ s ∷ []
+    at_queue [] is = at_job (job h) (slice_get plan.jobs (job h - 1)) is
+    at_queue (r ∷ rs) is = cc
+
+    by_phase : (p : Phase) → due_at plan h p ≡ receive n s → awaited plan (job h) ≡ s ∷ []
+    by_phase between is = at_queue (queue h) is
+    by_phase handed is = cc
+    by_phase inside is = absurd (at_left (left plan h) is)
+    by_phase stopped is = absurd (end_message (snapshot h) n s is)
+    by_phase ended is = cc

@@ -1,0 +1,210 @@
+//! An agent beside others, each of which has a thread: it has the ledger only where it asks the ledger,
+//! and does not know what the ledger says of it.
+
+ghost use Rattle.std.specs.Prelude.{◌≡◌, ◌↔◌, ◌||◌, ⊤, false, IsTrue, IfOk, IfSome, IfNone, OnOk, OnErr};
+ghost use Rattle.std.specs.Arc.{arc_value};
+ghost use Rattle.es_event.specs.Commands.{collects, posts};
+ghost use Rattle.es_event.specs.Later.{is_later};
+ghost use Rattle.es_agent.specs.Later.{IsLaterCopy};
+ghost use Rattle.es_agent.specs.Tickets.{Empties};
+ghost use Rattle.es_rules.specs.Needs.{need, asks_nobody, asks_copy, asks_nothing};
+ghost use Rattle.es_rules.specs.Shown.{shown};
+ghost use Rattle.es_cluster.specs.Turned.{AreAskedFor, AsksMarks, beforehand, WaitsRightly, IsSeated, GrowsByOne, Proceeds, NamesOthers, OthersStay, ProceedsBeside};
+
+use crate::member::{Member, Progress};
+use crate::planned::Planned;
+use crate::spending::spend_shared;
+use crate::turns::ask;
+use es_agent::{AgentCore, Need, Request};
+use es_cursor::Due;
+use es_event::Command;
+use es_ledger::LedgerCore;
+use es_mark::Marks;
+use es_parmark::Snapshot;
+use es_ticket::{LedgerName, Rack};
+use es_value::NoMemory;
+use std::sync::{Arc, Mutex, Wait};
+
+/// What an agent's next event needs before it has the ledger, so that no other agent waits for it.
+#[derive(Clone, Copy, Debug, PartialEq, Eq)]
+pub enum Beforehand {
+    /// A copy of what the agent reaches: it opens a later collection.
+    Copy,
+    /// Marks: it empties.
+    Marks,
+    /// Nothing.
+    Nothing,
+}
+
+impl<L: Planned> Member<L> {
+    /// Whether it has closed, and asks for nothing any more.
+    pub fn has_closed(&self) -> bool
+        ensures { IsTrue result ↔ (need self.now.core ≡ asks_nothing) }
+    {
+        matches!(self.core.next(), Need::Ended)
+    }
+
+    /// Its next event, where that asks nobody else: whether it happened. Where it asks somebody, or there is
+    /// no memory, nothing has changed.
+    pub fn perform(&mut self) -> Result<bool, NoMemory>
+        ensures asks { IfOk result (λ done. IsTrue done ↔ (need self.old.core ≡ asks_nobody)) }
+        ensures moves { IfOk result (λ done. IsTrue done → GrowsByOne self.old.core self.new.core) }
+        ensures left { IfOk result (λ done. done ≡ false → self.new ≡ self.old) }
+        ensures err { OnErr result (self.new ≡ self.old) }
+        ensures stake { self.new.stake ≡ self.old.stake }
+    {
+        self.core.perform_alone()
+    }
+
+    /// The marks for its next event, where that empties: those of what it reaches, or, to finish a later
+    /// collection, those of its copy and of what derefs gave since.
+    pub fn marks(&self) -> Result<Option<Marks>, NoMemory>
+        ensures own { IfOk result (λ o. IfSome o (AreAskedFor (need self.now.core) self.now.core)) }
+        ensures none { IfOk result (λ o. IfNone o (AsksMarks (need self.now.core) → ⊥)) }
+    {
+        match self.core.next() {
+            Need::Collect => Ok(Some(self.core.marks()?)),
+            Need::Finish => Ok(Some(self.core.late_marks()?)),
+            _ => Ok(None),
+        }
+    }
+
+    /// What its next event needs before it has the ledger.
+    pub fn beforehand(&self) -> Beforehand
+        ensures said { result ≡ beforehand (need self.now.core) }
+        ensures copy { result ≡ Beforehand.Copy → need self.now.core ≡ asks_copy }
+        ensures marks { result ≡ Beforehand.Marks → AsksMarks (need self.now.core) }
+    {
+        match self.core.record().due() {
+            Due::EndJob => asked_beforehand(&self.core.next()),
+            Due::Run(command) => {
+                if is_collection(command) {
+                    asked_beforehand(&self.core.next())
+                } else {
+                    Beforehand::Nothing
+                }
+            }
+            _ => Beforehand::Nothing,
+        }
+    }
+
+    /// Opens a later collection; the copy may be marked beside the agent. Where there is no memory nothing has
+    /// changed.
+    pub fn begin_later(&mut self) -> Result<Arc<Snapshot>, NoMemory>
+        requires { need self.old.core ≡ asks_copy }
+        ensures ok { OnOk result (GrowsByOne self.old.core self.new.core) }
+        ensures copy { IfOk result (λ copy. IsLaterCopy self.new.core (arc_value copy)) }
+        ensures err { OnErr result (self.new ≡ self.old) }
+        ensures stake { self.new.stake ≡ self.old.stake }
+    {
+        self.core.begin_later()
+    }
+
+    /// Its next event, which empties, by the marks that `marks` gave. Its tables are emptied while others may
+    /// have the ledger, whose lock is taken only to spend the tickets of buffer objects among what was emptied.
+    /// Where there is no memory nothing has changed.
+    pub fn empty<R: Wait>(
+        &mut self,
+        rt: &R,
+        marks: &Marks,
+        ledger: &Mutex<LedgerCore<L>>,
+    ) -> Result<(), NoMemory>
+        requires { AreAskedFor (need self.old.core) self.old.core marks.now }
+        ensures ok { OnOk result (GrowsByOne self.old.core self.new.core) }
+        ensures err { OnErr result (self.new ≡ self.old) }
+    {
+        let rack = take_out(&mut self.core, marks)?;
+        spend_shared(rt, ledger, &mut self.stake, rack);
+        Ok(())
+    }
+
+    /// One turn, beside other agents. Where the agent has its place and names other agents alone, it proceeds
+    /// as by `step`, and waits where the rule says so and nowhere else; else it may end, and then nothing has
+    /// changed.
+    pub fn turn_beside(&mut self, ledger: &mut LedgerCore<L>) -> Result<Progress, NoMemory>
+        ensures ok { IfOk result (λ p. ProceedsBeside p self.old self.new) }
+        ensures placed { IsSeated self.old.core ledger.old → NamesOthers (need self.old.core) self.old.core.number ledger.old.agents → IfOk result (λ p. Proceeds p self.old self.new) }
+        ensures heard { IsSeated self.old.core ledger.old → NamesOthers (need self.old.core) self.old.core.number ledger.old.agents → IfOk result (λ p. WaitsRightly p self.old.core ledger.old ledger.new) }
+        ensures err { OnErr result (self.new.core ≡ self.old.core) }
+        ensures others { OthersStay self.old.core.number ledger.old ledger.new }
+    {
+        let number = self.core.number();
+        let agents = ledger.agents();
+        if number >= agents || ledger.has_ended(number) {
+            return Ok(Progress::Ended);
+        }
+        if !names_others(&self.core, agents) {
+            return Ok(Progress::Ended);
+        }
+        ledger.look(&mut self.stake);
+        ask(&mut self.core, &mut self.stake, ledger)
+    }
+}
+
+// Empties what the marks that the agent asks for lack, and hands out the tickets of buffer objects among it.
+fn take_out<L: LedgerName>(core: &mut AgentCore<L>, marks: &Marks) -> Result<Rack<L>, NoMemory>
+    requires { AreAskedFor (need core.old) core.old marks.now }
+    ensures ok { IfOk result (λ r. Empties (λ _. ⊤) core.old r.tickets core.new) }
+    ensures err { OnErr result (core.new ≡ core.old) }
+{
+    match core.next() {
+        Need::Collect => core.collect(marks),
+        Need::Finish => core.finish_later(marks),
+        _ => unreachable!(),
+    }
+}
+
+// What an agent that asks this needs before it has the ledger.
+fn asked_beforehand(asked: &Need<'_>) -> Beforehand
+    ensures { result ≡ beforehand (shown asked.now) }
+{
+    match asked {
+        Need::Later => Beforehand::Copy,
+        Need::Collect | Need::Finish => Beforehand::Marks,
+        _ => Beforehand::Nothing,
+    }
+}
+
+// Whether the command collects, at once or later: no other one needs anything before the agent has the ledger.
+fn is_collection(command: &Command) -> bool
+    ensures { result ≡ (collects command.now || is_later command.now) }
+{
+    matches!(command, Command::Collect | Command::CollectLater)
+}
+
+// Whether whom an agent asks to post to, or waits for, is one of so many agents, and not itself. What it asks for is
+// found only where it may name another.
+fn names_others<L: LedgerName>(core: &AgentCore<L>, agents: usize) -> bool
+    ensures only { IsTrue result → NamesOthers (need core.now) core.now.number agents }
+    ensures all { NamesOthers (need core.now) core.now.number agents → IsTrue result }
+{
+    match core.record().due() {
+        Due::Receive { .. } => are_others(&core.next(), core.number(), agents),
+        Due::Run(command) if posts(command) => are_others(&core.next(), core.number(), agents),
+        _ => true,
+    }
+}
+
+// Whether the command posts a message: no other one names an agent.
+fn posts(command: &Command) -> bool
+    ensures { result ≡ posts command.now }
+{
+    matches!(command, Command::Post { .. })
+}
+
+// Whether whom an agent that asks this asks to post to, or waits for, is one of so many agents, and not itself.
+fn are_others(asked: &Need<'_>, number: usize, agents: usize) -> bool
+    ensures only { IsTrue result → NamesOthers (shown asked.now) number agents }
+    ensures all { NamesOthers (shown asked.now) number agents → IsTrue result }
+{
+    match asked {
+        Need::Message(sender) => *sender < agents && *sender != number,
+        Need::Ledger(request) => match request {
+            Request::Post { receiver, .. } | Request::PostBuffer { receiver, .. } => {
+                *receiver < agents && *receiver != number
+            }
+            _ => true,
+        },
+        _ => true,
+    }
+}

@@ -1,6 +1,0 @@
-pub mod Lists
-mod Ending
-pub mod Lines
-mod Mail
-pub mod Noted
-pub mod Saying

@@ -1,6 +1,0 @@
-use Rattle.std.proofs.Common.{◌≡◌, take, reverse}
-use Rattle.es_count.specs.Totals.{told}
-use Rattle.es_count.proofs.counts.totals_of.Given as goal
-
-abbrev pub invariant-loop-event : goal.invariant-loop-event
-invariant-loop-event l = l.totals ≡ told (reverse (take l.event-index l.events))

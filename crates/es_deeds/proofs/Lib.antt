@@ -1,4 +1,0 @@
-mod Running
-mod Noted
-mod Posted
-pub mod Splitting

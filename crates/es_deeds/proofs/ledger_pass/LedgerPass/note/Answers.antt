@@ -1,6 +1,0 @@
-use Rattle.es_deeds.proofs.Noted.{noted}
-use Rattle.es_deeds.proofs.ledger_pass.LedgerPass.note.Goals as goal
-
-pub returns : goal.returns
-returns c = λ l says. noted l _ _ _ _ _ says (c.taken-taken.ensures l says) (c.posted-posted.ensures l says)
-    c.in_ok-note.ensures c.in_ok-note_size.ensures c.in_ok-note-2.ensures c.in_ok-note_wait.ensures c.drained_after-self.ensures

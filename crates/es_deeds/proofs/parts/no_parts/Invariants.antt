@@ -1,6 +1,0 @@
-use Rattle.std.proofs.Common.{◌≡◌, ℕ, [], length}
-use Rattle.es_deeds.specs.Split.{part_at}
-use Rattle.es_deeds.proofs.parts.no_parts.Given as goal
-
-abbrev pub invariant-loop : goal.invariant-loop
-invariant-loop l = (length l.parts.items ≡ l.counter) × ((a : ℕ) → part_at l.parts.items a ≡ [])

@@ -1,7 +1,0 @@
-pub mod Deeds
-pub mod Orderly
-pub mod Patience
-pub mod Shown
-pub mod Split
-pub mod LedgerPass
-pub mod Words

@@ -1,0 +1,43 @@
+-- To believe: what an agent does after a wait ends the wait, and no agent does anything after a drain.
+use Rattle.std.specs.Prelude.{ℕ, Bool, true, false, not, ◌||◌, ◌&&◌, ◌==◌, [], ◌∷◌, Option, Some, None}
+use Rattle.es_event.specs.Ledger.{Ledger, waits}
+use Rattle.es_event.specs.Totals.{is_drained}
+use Rattle.es_match.specs.Deeds.{Deed, Opens, Posts, Takes, Spends, Accesses, Waits, Passes, Ends, Owned, deed}
+
+-- the deed ends a wait for this sender: the agent takes a message of it, or skips
+abbrev pub ends_wait : ℕ → Deed → Bool
+ends_wait t (Opens b w s) = false
+ends_wait t (Posts r m) = false
+ends_wait t (Takes s m w) = s == t
+ends_wait t (Spends s) = false
+ends_wait t (Accesses s i m old) = false
+ends_wait t (Waits s) = false
+ends_wait t (Passes s) = s == t
+ends_wait t Ends = false
+
+abbrev pub may_do : Option ℕ → Deed → Bool
+may_do None d = true
+may_do (Some s) d = ends_wait s d
+
+abbrev pub is_patient : Ledger → Owned → Bool
+is_patient l None = true
+is_patient l (Some p) = may_do (waits l p.0) p.1
+
+-- what an agent does after a wait ends the wait
+abbrev pub patient : Ledger → Bool
+patient [] = true
+patient (e ∷ earlier) = is_patient earlier (deed earlier e) && patient earlier
+
+-- a message was drained
+abbrev pub has_drained : Ledger → Bool
+has_drained [] = false
+has_drained (e ∷ earlier) = is_drained e || has_drained earlier
+
+abbrev pub is_nobodys : Owned → Bool
+is_nobodys None = true
+is_nobodys (Some p) = false
+
+-- no agent does anything after a drain
+abbrev pub drained_last : Ledger → Bool
+drained_last [] = true
+drained_last (e ∷ earlier) = (is_nobodys (deed earlier e) || not (has_drained earlier)) && drained_last earlier

@@ -1,0 +1,151 @@
+//! What an event of the ledger is to the agent that does it, and whether it may come.
+
+ghost use Rattle.std.specs.Prelude.{◌≡◌, true};
+ghost use Rattle.es_event.specs.Ledger.{Ledger, front, waits};
+ghost use Rattle.es_match.specs.Patience.{ends_wait, may_do};
+ghost use Rattle.es_match.specs.Deeds.{by_holder, deed, is_wait, taking};
+ghost use Rattle.es_match.specs.Orderly.{is_known, may_come};
+ghost use Rattle.es_match.specs.DeedsShown.{owned, shown};
+ghost use Rattle.es_match.specs.LedgerPass.{Says};
+
+use crate::deed::Deed;
+use crate::ledger_pass::LedgerPass;
+use crate::lines::holder;
+use crate::mail::front;
+use es_event::LedgerEvent;
+
+impl<'a> LedgerPass<'a> {
+    /// What the next event is to the agent that does it.
+    pub fn deed(&self, event: &'a LedgerEvent) -> Option<(usize, Deed<'a>)>
+        ensures { (l : Ledger) → Says l self.now → owned result ≡ deed l event.now }
+    {
+        match event {
+            LedgerEvent::Opened {
+                block,
+                words,
+                serial,
+                agent,
+            } => Some((
+                *agent,
+                Deed::Open {
+                    block: *block,
+                    words: *words,
+                    serial: *serial,
+                },
+            )),
+            LedgerEvent::Posted {
+                sender,
+                receiver,
+                body,
+            } => Some((
+                *sender,
+                Deed::Post {
+                    receiver: *receiver,
+                    body,
+                },
+            )),
+            LedgerEvent::Taken { sender, receiver } => {
+                Some((*receiver, self.taking(*sender, *receiver)))
+            }
+            LedgerEvent::Spent { serial } => self.by_holder(
+                *serial,
+                Deed::Spend { serial: *serial },
+            ),
+            LedgerEvent::Accessed {
+                serial,
+                index,
+                change,
+                old,
+            } => self.by_holder(
+                *serial,
+                Deed::Access {
+                    serial: *serial,
+                    index: *index,
+                    change: *change,
+                    old: *old,
+                },
+            ),
+            LedgerEvent::Waiting { agent, sender } => Some((
+                *agent,
+                Deed::Wait { sender: *sender },
+            )),
+            LedgerEvent::Passed { agent, sender } => Some((*agent, Deed::Pass { sender: *sender })),
+            LedgerEvent::Ended { agent } => Some((*agent, Deed::End)),
+            LedgerEvent::Drained { .. } => None,
+        }
+    }
+
+    fn by_holder(&self, serial: u64, deed: Deed<'a>) -> Option<(usize, Deed<'a>)>
+        ensures { (l : Ledger) → Says l self.now → owned result ≡ by_holder l serial (shown deed.entry) }
+    {
+        match holder(&self.lines, serial) {
+            Some(agent) => Some((agent, deed)),
+            None => None,
+        }
+    }
+
+    fn taking(&self, sender: usize, receiver: usize) -> Deed<'a>
+        ensures { (l : Ledger) → Says l self.now → shown result ≡ taking l sender (front l sender receiver) }
+    {
+        let message = front(&self.mail, sender, receiver);
+        let words = match message {
+            Some(body) => self.words(body),
+            None => 0,
+        };
+        Deed::Take {
+            sender,
+            message,
+            words,
+        }
+    }
+
+    /// The sender that an agent waits for.
+    fn waits(&self, agent: usize) -> Option<usize>
+        ensures { (l : Ledger) → Says l self.now → result ≡ waits l agent }
+    {
+        match self.waiting.get(&agent) {
+            Some(sender) => *sender,
+            None => None,
+        }
+    }
+
+    /// Whether what an agent does may come next in a cluster of so many agents.
+    pub fn may_come(&self, agents: usize, doing: &Option<(usize, Deed<'a>)>) -> bool
+        ensures test { (l : Ledger) → Says l self.now → result ≡ may_come agents l (owned doing.now) }
+        ensures known { result ≡ true → is_known agents (owned doing.now) ≡ true }
+    {
+        match doing {
+            None => true,
+            Some((agent, deed)) => {
+                may_do(self.waits(*agent), deed)
+                    && !self.drained
+                    && (is_wait(deed) || *agent < agents)
+            }
+        }
+    }
+}
+
+fn may_do(wait: Option<usize>, deed: &Deed<'_>) -> bool
+    ensures { result ≡ may_do wait (shown deed.now) }
+{
+    match wait {
+        None => true,
+        Some(sender) => ends_wait(sender, deed),
+    }
+}
+
+fn ends_wait(awaited: usize, deed: &Deed<'_>) -> bool
+    ensures { result ≡ ends_wait awaited (shown deed.now) }
+{
+    match deed {
+        Deed::Take { sender, .. } | Deed::Pass { sender } => *sender == awaited,
+        _ => false,
+    }
+}
+
+/// Whether the deed is that an agent begins to wait.
+pub(crate) fn is_wait(deed: &Deed<'_>) -> bool
+    ensures { result ≡ is_wait (shown deed.now) }
+{
+    matches!(deed, Deed::Wait { .. })
+}

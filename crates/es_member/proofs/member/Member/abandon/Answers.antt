@@ -1,5 +1,0 @@
-use Rattle.es_member.proofs.Moving.{closing_owns}
-use Rattle.es_member.proofs.member.Member.abandon.Goals as goal
-
-pub spend_all-requires : goal.spend_all-requires
-spend_all-requires g c = closing_owns c.self.inside.core c.self.inside.stake c.abandon-rack.result.tickets c.abandon-rack.ensures c.self.invariant.0

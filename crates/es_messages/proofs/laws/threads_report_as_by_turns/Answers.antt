@@ -1,6 +1,0 @@
-use Rattle.es_refine.proofs.Converse.{outcome_of_run}
-use Rattle.es_messages.proofs.Reports.{reports_in_threads}
-use Rattle.es_messages.proofs.laws.threads_report_as_by_turns.Goals as goal
-
-pub returns : goal.returns
-returns g plan c o q shares a runs end = reports_in_threads plan o q shares a (outcome_of_run plan c q runs end)

@@ -1,5 +1,0 @@
-use Rattle.es_messages.proofs.Composing.{says_alike}
-use Rattle.es_messages.proofs.races.without_races_turns_say_alike.Goals as goal
-
-pub returns : goal.returns
-returns g plan ns ms c d o q left a free right b = says_alike plan ns ms c d o q left a free right b

@@ -1,3 +1,0 @@
-mod Drawn
-mod Ranged
-mod Said

@@ -1,6 +1,0 @@
-use Rattle.es_picture.specs.Lines.{emptied_line}
-use Rattle.es_picture.proofs.Ranged.{written_push}
-use Rattle.es_picture.proofs.thing.write_emptied.Goals as goal
-
-pub loop-id-preserved : goal.loop-id-preserved
-loop-id-preserved g c = written_push emptied_line c.args.ids.now c.loop-id.id-index c.id-item.result _ _ _ c.loop-id-test.true c.id-item.is c.loop-id.invariant c.in_ok-write_one_emptied.ensures

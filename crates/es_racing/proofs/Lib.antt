@@ -1,4 +1,0 @@
-mod ExamplePlaces
-mod Found
-mod OnePlace
-mod Splitting

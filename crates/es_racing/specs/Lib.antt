@@ -1,4 +1,0 @@
-pub mod Places
-pub mod Races
-pub mod Texts
-pub mod Walks

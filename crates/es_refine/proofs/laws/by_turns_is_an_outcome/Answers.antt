@@ -1,5 +1,0 @@
-use Rattle.es_refine.proofs.Converse.{outcome_of_run}
-use Rattle.es_refine.proofs.laws.by_turns_is_an_outcome.Goals as goal
-
-pub returns : goal.returns
-returns g = outcome_of_run

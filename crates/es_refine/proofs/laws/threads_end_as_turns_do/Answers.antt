@@ -1,5 +1,0 @@
-use Rattle.es_refine.proofs.Ending.{ends_alike}
-use Rattle.es_refine.proofs.laws.threads_end_as_turns_do.Goals as goal
-
-pub returns : goal.returns
-returns g plan o q alike left right = ends_alike plan o q alike left right

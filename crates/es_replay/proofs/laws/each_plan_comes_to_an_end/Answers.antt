@@ -1,5 +1,0 @@
-use Rattle.es_replay.proofs.Arriving.{plan_comes_to_an_end}
-use Rattle.es_replay.proofs.laws.each_plan_comes_to_an_end.Goals as goal
-
-pub returns : goal.returns
-returns c = plan_comes_to_an_end

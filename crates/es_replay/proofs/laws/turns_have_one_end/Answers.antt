@@ -1,5 +1,0 @@
-use Rattle.es_replay.proofs.Ends.{one_end}
-use Rattle.es_replay.proofs.laws.turns_have_one_end.Goals as goal
-
-pub returns : goal.returns
-returns g plan c d o q left a right b = one_end plan c d o q left a right b

@@ -1,5 +1,0 @@
-use Rattle.es_replay.proofs.Ends.{rest_has_one_end}
-use Rattle.es_replay.proofs.laws.what_is_left_has_one_end.Goals as goal
-
-pub returns : goal.returns
-returns c = rest_has_one_end

@@ -1,6 +1,0 @@
-//! What each identity of an agent is, its tag.
-#![tactic(auto)]
-
-mod tags;
-
-pub use tags::{Tag, Tags};

@@ -1,0 +1,219 @@
+-- What an agent does that is ready leaves of the ledger for another agent.
+use Rattle.std.proofs.Common.{◌≡◌, ℕ, zero, suc, ◌+◌, ◌<◌, ◌==◌, ◌&&◌, ◌||◌, not, Bool, true, false, sym, ◌∙◌, ap, refl, subst, arith, ◌∷◌, Option, Some, None, ne_eqb, eq-eqb}
+use Rattle.std.specs.Prelude.{is_some, nat_lt, slice_get}
+use Rattle.std.specs.Option.{option_map, option_map_or}
+use Rattle.std.proofs.lemmas.Bool.{false≢true, or_right}
+use Rattle.es_event.specs.declared.ledger_event.Body.{Body}
+use Rattle.es_event.specs.declared.ledger_event.Body.TheVariants.{Plain, Block}
+use Rattle.es_event.specs.declared.ledger_event.LedgerEvent.{LedgerEvent}
+use Rattle.es_event.specs.declared.ledger_event.LedgerEvent.TheVariants.{Opened, Posted, Taken, Spent, Accessed, Waiting, Passed, Ended, Drained}
+use Rattle.es_event.specs.declared.row.Row.{Row}
+use Rattle.es_event.specs.declared.row.Holder.TheVariants.{Agent, Nobody}
+use Rattle.es_event.specs.Access.{IsStorable}
+use Rattle.es_event.specs.Rows.{count_of, held, is_agent}
+use Rattle.es_event.specs.Ledger.{Ledger, ended, front, holder_of, opened, port_of, serials, size, table, waits, word}
+use Rattle.es_event.specs.LegalLedger.{ComesNext, IsPostable, LegalSoFar, MayCome, Reaches, all_ended, all_stuck, has_message, is_stuck, owed, skips}
+use Rattle.es_ledger.proofs.Lines.{rows_moved}
+use Rattle.es_match.specs.Deeds.{Deed, Accesses, Ends, Passes, Spends, Takes, deed, taking, words_in}
+use Rattle.es_match.specs.Patience.{has_drained, may_do}
+use Rattle.es_theorems.specs.Ahead.{Acts, May}
+use Rattle.es_theorems.specs.Ready.{Goes, Ready}
+use Rattle.es_theorems.proofs.Choosing.{Skips, chosen_one, skips_is, stuck_here, stuck_is}
+use Rattle.es_cluster.proofs.Growing.{doer, ended_other, waits_other}
+use Rattle.es_theorems.proofs.Framing.{holder_agent, holder_other, spender}
+use Rattle.es_ledger.proofs.Numbered.{numbered, only_by}
+
+pub record Beside (k : ℕ) (l : Ledger) (f : LedgerEvent) (b : ℕ) : Type 0 where
+  pub opened : opened (f ∷ l) ≡ opened l
+  pub serials : serials (f ∷ l) ≡ serials l
+  pub sizes : (c : ℕ) → size (f ∷ l) c ≡ size l c
+  pub ports : (s r : ℕ) → port_of (f ∷ l) s r ≡ port_of l s r
+  pub words : (c i : ℕ) → word (f ∷ l) c i ≡ word l c i
+  pub ends : ended (f ∷ l) b ≡ ended l b
+  pub waits : waits (f ∷ l) b ≡ waits l b
+  pub holders : (q : ℕ) (r : Row) → holder_of l q ≡ Some (b, r) → holder_of (f ∷ l) q ≡ Some (b, r)
+  pub held : held b (table (f ∷ l)) ≡ held b (table l)
+  pub skips : (t : ℕ) → skips l k b t ≡ true → skips (f ∷ l) k b t ≡ true
+  pub owes : owed (f ∷ l) ≡ None
+
+none_more : (n : ℕ) → 0 + n ≡ n
+none_more n = omega arith
+
+-- A ticket that is spent
+
+spent_stuck : (l : Ledger) (s n : ℕ) → all_stuck (Spent s ∷ l) n ≡ all_stuck l n
+spent_stuck l s zero = refl
+spent_stuck l s (suc n) = ap (λ r. (ended l n || is_stuck l n) && r) (spent_stuck l s n)
+
+spent_ended : (l : Ledger) (s n : ℕ) → all_ended (Spent s ∷ l) n ≡ all_ended l n
+spent_ended l s zero = refl
+spent_ended l s (suc n) = ap (λ r. ended l n && r) (spent_ended l s n)
+
+spent_skips : (l : Ledger) (s n b t : ℕ) → skips (Spent s ∷ l) n b t ≡ skips l n b t
+spent_skips l s n b t =
+    ap (λ c. not (has_message l t b) && (ended l t || (c && (all_ended (Spent s ∷ l) b && not (ended l b))))) (spent_stuck l s n)
+    ∙ ap (λ c. not (has_message l t b) && (ended l t || (all_stuck l n && (c && not (ended l b))))) (spent_ended l s b)
+
+pub beside_spent : (k : ℕ) (l : Ledger) (s a b : ℕ) (r : Row) → LegalSoFar k l → holder_of l s ≡ Some (a, r) → (b ≡ a → ⊥) → Beside k l (Spent s) b
+beside_spent k l s a b r legal is other = record {
+  opened = none_more (opened l);
+  serials = none_more (serials l);
+  sizes = λ c. refl;
+  ports = λ t u. refl;
+  words = λ c i. refl;
+  ends = refl;
+  waits = refl;
+  holders = λ q p held. holder_other k l (Spent s) a b (Spends s) q p legal (ap (option_map (λ p. (p.0, Spends s))) is) other held;
+  held = rows_moved (is_agent b) s (Agent a) Nobody (table l) (ne_eqb b a other) refl (only_by l s (Agent a) (numbered k l legal) (holder_agent l s a r is));
+  skips = λ t skip. spent_skips l s k b t ∙ skip;
+  owes = refl;
+}
+
+-- An end
+
+still_skips : (m : Bool) (e : Bool) (c : Bool) → m ≡ false → e ≡ true → (not m && (e || c)) ≡ true
+still_skips m e c none is = rw (none, is) refl
+
+pub beside_ended : (k : ℕ) (l : Ledger) (a b : ℕ) → Goes k l a → waits l a ≡ None → (b ≡ a → ⊥) → Beside k l (Ended a) b
+beside_ended k l a b goes free other = record {
+  opened = none_more (opened l);
+  serials = none_more (serials l);
+  sizes = λ c. refl;
+  ports = λ t u. refl;
+  words = λ c i. refl;
+  ends = ended_other l (Ended a) a b Ends refl other;
+  waits = refl;
+  holders = λ q p held. held;
+  held = refl;
+  skips = λ t skip. (let is = skips_is l k b t skip in by_over t is.0 is.1);
+  owes = refl;
+}
+  where
+    by_over : (t : ℕ) (over : Bool) → Skips l k b t over → skips (Ended a ∷ l) k b t ≡ true
+    by_over t true is = still_skips (has_message l t b) ((a == t) || ended l t) _ is.none (ap (λ e. (a == t) || e) is.ends ∙ or_right (a == t) true refl)
+    by_over t false is =
+        let stuck = stuck_is l a (stuck_here l k a (is.chosen refl).stuck goes.known goes.going) in
+        let clash : Some stuck.sender ≡ None = sym stuck.waiting ∙ free in cc
+
+-- A skip
+
+pub beside_passed : (k : ℕ) (l : Ledger) (a b s : ℕ) → Goes k l a → waits l a ≡ Some s → skips l k a s ≡ true → (b ≡ a → ⊥) → Beside k l (Passed a s) b
+beside_passed k l a b s goes waiting skip other = record {
+  opened = none_more (opened l);
+  serials = none_more (serials l);
+  sizes = λ c. refl;
+  ports = λ t u. refl;
+  words = λ c i. refl;
+  ends = refl;
+  waits = waits_other l (Passed a s) a b (Passes s) refl other;
+  holders = λ q p held. held;
+  held = refl;
+  skips = λ t skip. (let is = skips_is l k b t skip in by_over t is.0 is.1);
+  owes = refl;
+}
+  where
+    by_mine : (over : Bool) → Skips l k a s over → (t : ℕ) → Skips l k b t false → skips (Passed a s ∷ l) k b t ≡ true
+    by_mine false mine t is = absurd (other (chosen_one l k b a (is.chosen refl) (mine.chosen refl)))
+    by_mine true mine t is =
+        let stuck = stuck_is l a (stuck_here l k a (is.chosen refl).stuck goes.known goes.going) in
+        let same : Some stuck.sender ≡ Some s = sym stuck.waiting ∙ waiting in
+        let it : stuck.sender ≡ s = ap (λ o. option_map_or (λ n. n) o s) same in
+        absurd (false≢true (sym stuck.going ∙ ap (ended l) it ∙ mine.ends))
+
+    by_over : (t : ℕ) (over : Bool) → Skips l k b t over → skips (Passed a s ∷ l) k b t ≡ true
+    by_over t true is = still_skips (has_message l t b) (ended l t) _ is.none is.ends
+    by_over t false is = let mine = skips_is l k a s skip in by_mine mine.0 mine.1 t is
+
+-- Each of them
+
+pub beside : (k : ℕ) (l : Ledger) (f : LedgerEvent) (a b : ℕ) → LegalSoFar k l → Goes k l a → Ready k l a f → (b ≡ a → ⊥) → Beside k l f b
+beside k l (Spent s) a b legal goes ready other = beside_spent k l s a b ready.0.0 legal ready.0.1 other
+beside k l (Passed c s) a b legal goes ready other = subst (λ c. Beside k l (Passed c s) b) (sym ready.0) (beside_passed k l a b s goes ready.1 ready.2 other)
+beside k l (Ended c) a b legal goes ready other = subst (λ c. Beside k l (Ended c) b) (sym ready.0) (beside_ended k l a b goes ready.1 other)
+beside k l _ a b legal goes ready other = absurd ready
+
+-- It may be done
+
+pub ready_deed : (k : ℕ) (l : Ledger) (a : ℕ) (f : LedgerEvent) → Ready k l a f → (d : Deed) × (deed l f ≡ Some (a, d)) × (may_do (waits l a) d ≡ true)
+ready_deed k l a (Spent s) ready = (Spends s, ap (option_map (λ p. (p.0, Spends s))) ready.0.1, ap (λ w. may_do w (Spends s)) ready.1)
+ready_deed k l a (Passed c s) ready = (Passes s, ap (λ c. Some (c, Passes s)) ready.0, ap (λ w. may_do w (Passes s)) ready.1 ∙ eq-eqb s s refl)
+ready_deed k l a (Ended c) ready = (Ends, ap (λ c. Some (c, Ends)) ready.0, ap (λ w. may_do w Ends) ready.1)
+ready_deed k l a _ ready = absurd ready
+
+ready_comes : (k : ℕ) (l : Ledger) (a : ℕ) (f : LedgerEvent) → Goes k l a → Ready k l a f → MayCome k l f
+ready_comes k l a (Spent s) goes ready = ap is_some ready.0.1
+ready_comes k l a (Passed c s) goes ready = (ap (waits l) ready.0 ∙ ready.1, ap (λ c. skips l k c s) ready.0 ∙ ready.2)
+ready_comes k l a (Ended c) goes ready = (subst (λ c. c < k) (sym ready.0) goes.known, ap (ended l) ready.0 ∙ goes.going)
+ready_comes k l a _ goes ready = absurd ready
+
+pub ready_may : (k : ℕ) (l : Ledger) (a : ℕ) (f : LedgerEvent) → Goes k l a → Ready k l a f → May k l f
+ready_may k l a f goes ready =
+    let does = ready_deed k l a f ready in
+    record {
+      legal = subst (ComesNext k l f) (sym goes.paid) (ready_comes k l a f goes ready);
+      acts = subst (Acts k l) (sym does.1) (goes.known, goes.going, goes.undrained, does.2);
+    }
+
+-- Another's event still may come
+
+same_words : (l m : Ledger) (b : Option Body) → ((c : ℕ) → size m c ≡ size l c) → option_map_or (words_in m) b 0 ≡ option_map_or (words_in l) b 0
+same_words l m None a = refl
+same_words l m (Some (Plain v)) a = refl
+same_words l m (Some (Block b s)) a = a b
+
+front_beside : (k : ℕ) (l : Ledger) (f : LedgerEvent) (b s r : ℕ) → Beside k l f b → front (f ∷ l) s r ≡ front l s r
+front_beside k l f b s r is = ap (λ q. slice_get q 0) (is.ports s r)
+
+message_beside : (k : ℕ) (l : Ledger) (f : LedgerEvent) (b s r : ℕ) → Beside k l f b → has_message (f ∷ l) s r ≡ has_message l s r
+message_beside k l f b s r is = ap is_some (front_beside k l f b s r is)
+
+pub deed_beside : (k : ℕ) (l : Ledger) (f x : LedgerEvent) (b : ℕ) (d : Deed) → Beside k l f b → deed l x ≡ Some (b, d) → deed (f ∷ l) x ≡ deed l x
+deed_beside k l f (Opened c w q u) b d is mine = refl
+deed_beside k l f (Posted u r m) b d is mine = refl
+deed_beside k l f (Taken t u) b d is mine =
+    ap (λ m. Some (u, taking (f ∷ l) t m)) (front_beside k l f b t u is)
+    ∙ ap (λ w. Some (u, Takes t (front l t u) w)) (same_words l (f ∷ l) (front l t u) is.sizes)
+deed_beside k l f (Spent q) b d is mine = let by = spender l q b d _ mine in ap (option_map (λ p. (p.0, Spends q))) (is.holders q by.0 by.1 ∙ sym by.1)
+deed_beside k l f (Accessed q i m old) b d is mine = let by = spender l q b d _ mine in ap (option_map (λ p. (p.0, Accesses q i m old))) (is.holders q by.0 by.1 ∙ sym by.1)
+deed_beside k l f (Waiting u t) b d is mine = refl
+deed_beside k l f (Passed u t) b d is mine = refl
+deed_beside k l f (Ended u) b d is mine = refl
+deed_beside k l f (Drained t u) b d is mine = refl
+
+postable_beside : (k : ℕ) (l : Ledger) (f : LedgerEvent) (b : ℕ) (m : Body) → Beside k l f b → IsPostable l b m → IsPostable (f ∷ l) b m
+postable_beside k l f b (Plain v) is may = may
+postable_beside k l f b (Block c q) is may = (may.0 ∙ ap (λ n. n + 1) (sym is.serials), ap (λ rs. nat_lt 0 (count_of rs c)) is.held ∙ may.1)
+
+reaches_so : (o : Option (ℕ × Row)) (i : ℕ) (f g : Row → Type 0) → ((r : Row) → f r → g r) → Reaches o i f → Reaches o i g
+reaches_so None i f g so is = is
+reaches_so (Some p) i f g so is = (is.0, so p.1 is.1)
+
+comes_beside : (k : ℕ) (l : Ledger) (f x : LedgerEvent) (b : ℕ) (d : Deed) → Beside k l f b → deed l x ≡ Some (b, d) → MayCome k l x → MayCome k (f ∷ l) x
+comes_beside k l f (Opened c w q u) b d is mine may = (may.0 ∙ ap (λ n. n + 1) (sym is.opened), may.1 ∙ ap (λ n. n + 1) (sym is.serials), may.2)
+comes_beside k l f (Posted u r m) b d is mine may =
+    let same : u ≡ b = doer (deed l (Posted u r m)) b u d mine in
+    (may.0, may.1, may.2, subst (λ u. IsPostable (f ∷ l) u m) (sym same) (postable_beside k l f b m is (subst (λ u. IsPostable l u m) same may.3)))
+comes_beside k l f (Taken t u) b d is mine may = message_beside k l f b t u is ∙ may
+comes_beside k l f (Spent q) b d is mine may = let by = spender l q b d _ mine in ap is_some (is.holders q by.0 by.1)
+comes_beside k l f (Accessed q i m old) b d is mine may =
+    let by = spender l q b d _ mine in
+    subst (λ o. Reaches o i (λ r. (old ≡ word (f ∷ l) r.block i) × IsStorable m)) (by.1 ∙ sym (is.holders q by.0 by.1))
+    (reaches_so (holder_of l q) i (λ r. (old ≡ word l r.block i) × IsStorable m) (λ r. (old ≡ word (f ∷ l) r.block i) × IsStorable m) (λ r e. (e.0 ∙ sym (is.words r.block i), e.1)) may)
+comes_beside k l f (Waiting u t) b d is mine may =
+    let same : u ≡ b = doer (deed l (Waiting u t)) b u d mine in
+    (may.0, may.1, may.2, message_beside k l f b t u is ∙ may.3, ap (waits (f ∷ l)) same ∙ is.waits ∙ ap (waits l) (sym same) ∙ may.4, ap (ended (f ∷ l)) same ∙ is.ends ∙ ap (ended l) (sym same) ∙ may.5)
+comes_beside k l f (Passed u t) b d is mine may =
+    let same : u ≡ b = doer (deed l (Passed u t)) b u d mine in
+    (ap (waits (f ∷ l)) same ∙ is.waits ∙ ap (waits l) (sym same) ∙ may.0, ap (λ u. skips (f ∷ l) k u t) same ∙ is.skips t (ap (λ u. skips l k u t) (sym same) ∙ may.1))
+comes_beside k l f (Ended u) b d is mine may =
+    let same : u ≡ b = doer (deed l (Ended u)) b u d mine in
+    (may.0, ap (ended (f ∷ l)) same ∙ is.ends ∙ ap (ended l) (sym same) ∙ may.1)
+comes_beside k l f (Drained t u) b d is mine may = cc
+
+pub may_beside : (k : ℕ) (l : Ledger) (f x : LedgerEvent) (b : ℕ) (d : Deed) → Beside k l f b → has_drained (f ∷ l) ≡ false → owed l ≡ None → deed l x ≡ Some (b, d) → May k l x → May k (f ∷ l) x
+may_beside k l f x b d is undrained paid mine may =
+    let acts : Acts k l (Some (b, d)) = subst (Acts k l) mine may.acts in
+    record {
+      legal = subst (ComesNext k (f ∷ l) x) (sym is.owes) (comes_beside k l f x b d is mine (subst (ComesNext k l x) paid may.legal));
+      acts = subst (Acts k (f ∷ l)) (sym (deed_beside k l f x b d is mine ∙ mine)) (acts.0, is.ends ∙ acts.1, undrained, ap (λ w. may_do w d) is.waits ∙ acts.3);
+    }

@@ -1,0 +1,124 @@
+-- Where all agents wait in vain, one alone may skip its job, and nobody else does anything before it.
+use Rattle.std.proofs.Common.{◌≡◌, ℕ, zero, suc, ◌<◌, ◌==◌, ◌&&◌, ◌||◌, not, Bool, true, false, sym, ◌∙◌, ap, refl, subst, arith, Option, Some, None, inl, inr, eqb-true}
+use Rattle.std.specs.Option.{option_map, option_map_or}
+use Rattle.std.proofs.lemmas.Bool.{and_parts, cases_Bool, false≢true, eqb-false}
+use Rattle.es_event.specs.declared.ledger_event.LedgerEvent.{LedgerEvent}
+use Rattle.es_event.specs.declared.ledger_event.LedgerEvent.TheVariants.{Opened, Posted, Taken, Spent, Accessed, Waiting, Passed, Ended, Drained}
+use Rattle.es_event.specs.declared.row.Row.{Row}
+use Rattle.es_event.specs.Ledger.{Ledger, ended, holder_of, waits}
+use Rattle.es_event.specs.LegalLedger.{MayCome, all_ended, all_stuck, has_message, is_chosen, is_stuck, skips}
+use Rattle.es_match.specs.Deeds.{Deed, Opens, Posts, Spends, Accesses, Waits, Ends, deed}
+use Rattle.es_match.specs.Patience.{ends_wait, may_do}
+use Rattle.es_cluster.proofs.Growing.{doer}
+use Rattle.es_cluster.proofs.Mover.{settled_at}
+
+pub ended_below : (l : Ledger) (n i : ℕ) → all_ended l n ≡ true → i < n → ended l i ≡ true
+ended_below l zero i all less = absurd (omega (arith, less))
+ended_below l (suc n) i all less = elim (cases_Bool (i == n)) [
+  | inl e ↦ ap (ended l) (eqb-true i n e) ∙ (and_parts (ended l n) (all_ended l n) all).0
+  | inr e ↦ let other = eqb-false i n e in ended_below l n i (and_parts (ended l n) (all_ended l n) all).1 (below i n less other)
+]
+  where
+    below : (i n : ℕ) → i < suc n → (i ≡ n → ⊥) → i < n
+    below i n less other = omega (arith, less, other)
+
+-- an agent that has not ended, where all that have not wait in vain
+pub stuck_here : (l : Ledger) (n i : ℕ) → all_stuck l n ≡ true → i < n → ended l i ≡ false → is_stuck l i ≡ true
+stuck_here l n i all less going = ap (λ e. e || is_stuck l i) (sym going) ∙ settled_at l n i all less
+
+pub record Stuck (l : Ledger) (i : ℕ) : Type 0 where
+  pub sender : ℕ
+  pub waiting : waits l i ≡ Some sender
+  pub none : has_message l sender i ≡ false
+  pub going : ended l sender ≡ false
+
+pub not_true : (b : Bool) → not b ≡ true → b ≡ false
+not_true true e = cc
+not_true false e = refl
+
+pub stuck_is : (l : Ledger) (i : ℕ) → is_stuck l i ≡ true → Stuck l i
+stuck_is l i is = at (waits l i) refl is
+  where
+    at : (w : Option ℕ) → waits l i ≡ w → option_map_or (λ s. not (has_message l s i) && not (ended l s)) w false ≡ true → Stuck l i
+    at None w is = cc
+    at (Some s) w is = let parts = and_parts (not (has_message l s i)) (not (ended l s)) is in record { sender = s; waiting = w; none = not_true _ parts.0; going = not_true _ parts.1 }
+
+pub record Chosen (l : Ledger) (n i : ℕ) : Type 0 where
+  pub stuck : all_stuck l n ≡ true
+  pub lower : all_ended l i ≡ true
+  pub going : ended l i ≡ false
+
+pub chosen_is : (l : Ledger) (n i : ℕ) → is_chosen l n i ≡ true → Chosen l n i
+chosen_is l n i is =
+    let parts = and_parts (all_stuck l n) (all_ended l i && not (ended l i)) is in
+    let rest = and_parts (all_ended l i) (not (ended l i)) parts.1 in
+    record { stuck = parts.0; lower = rest.0; going = not_true _ rest.1 }
+
+not_less : (l : Ledger) (n i j : ℕ) → Chosen l n i → Chosen l n j → i < j → ⊥
+not_less l n i j a b less = false≢true (sym a.going ∙ ended_below l j i b.lower less)
+
+pub chosen_one : (l : Ledger) (n i j : ℕ) → Chosen l n i → Chosen l n j → i ≡ j
+chosen_one l n i j a b =
+    let one = not_less l n i j a b in
+    let two = not_less l n j i b a in
+    omega (arith, one, two)
+
+-- A skip
+
+pub record Skips (l : Ledger) (n a s : ℕ) (over : Bool) : Type 0 where
+  pub none : has_message l s a ≡ false
+  pub ends : ended l s ≡ over
+  pub chosen : over ≡ false → Chosen l n a
+
+pub skips_is : (l : Ledger) (n a s : ℕ) → skips l n a s ≡ true → (over : Bool) × Skips l n a s over
+skips_is l n a s is =
+    let parts = and_parts (not (has_message l s a)) (ended l s || is_chosen l n a) is in
+    at (ended l s) refl (not_true _ parts.0) parts.1
+  where
+    at : (b : Bool) → ended l s ≡ b → has_message l s a ≡ false → (b || is_chosen l n a) ≡ true → (over : Bool) × Skips l n a s over
+    at true e none is = (true, record { none = none; ends = e; chosen = λ f. cc })
+    at false e none is = (false, record { none = none; ends = e; chosen = λ f. chosen_is l n a is })
+
+-- Where all wait in vain, the agent that does anything is the one that skips
+
+none_taken : (l : Ledger) (b t s : ℕ) → has_message l s b ≡ false → (t == s) ≡ true → has_message l t b ≡ true → ⊥
+none_taken l b t s none same may = false≢true (sym none ∙ ap (λ t. has_message l t b) (sym (eqb-true t s same)) ∙ may)
+
+same_number : (o p : Option (ℕ × Deed)) (a n : ℕ) (d : Deed) → o ≡ p → a ≡ n → a ≡ n
+same_number o p a n d is e = e
+
+pub alone_goes : (n : ℕ) (l : Ledger) (a b : ℕ) (x : LedgerEvent) (d : Deed) → Chosen l n a → MayCome n l x → deed l x ≡ Some (b, d) → b < n → ended l b ≡ false → may_do (waits l b) d ≡ true → b ≡ a
+alone_goes n l a b x d chosen may is known going patient = at x is may (ap (λ w. may_do w d) (sym stuck.waiting) ∙ patient)
+  where
+    stuck : Stuck l b
+    stuck = stuck_is l b (stuck_here l n b chosen.stuck known going)
+
+    the_deed : (o : Option (ℕ × Deed)) (e : Deed) (c : ℕ) → ◌≡◌ {A = Option (ℕ × Deed)} (Some (c, e)) (Some (b, d)) → e ≡ d
+    the_deed o e c same = ap (λ o. option_map_or (λ p. p.1) o e) same
+
+    no_end : (e : Deed) → e ≡ d → ends_wait stuck.sender e ≡ false → ends_wait stuck.sender d ≡ true → b ≡ a
+    no_end e same none ends = absurd (false≢true (sym none ∙ ap (ends_wait stuck.sender) same ∙ ends))
+
+    by_held : (e : Deed) (o : Option (ℕ × Row)) → option_map {U = ℕ × Deed} (λ p. (p.0, e)) o ≡ Some (b, d) → ends_wait stuck.sender e ≡ false → ends_wait stuck.sender d ≡ true → b ≡ a
+    by_held e None same none ends = cc
+    by_held e (Some p) same none ends = no_end e (the_deed None e p.0 same) none ends
+
+    at : (x : LedgerEvent) → deed l x ≡ Some (b, d) → MayCome n l x → ends_wait stuck.sender d ≡ true → b ≡ a
+    at (Opened c w q u) is may ends = no_end (Opens c w q) (the_deed None _ u is) refl ends
+    at (Posted u r m) is may ends = no_end (Posts r m) (the_deed None _ u is) refl ends
+    at (Taken t u) is may ends =
+        let same : u ≡ b = doer (deed l (Taken t u)) b u d is in
+        let it = the_deed None _ u is in
+        absurd (none_taken l b t stuck.sender stuck.none (ap (ends_wait stuck.sender) it ∙ ends) (ap (λ u. has_message l t u) (sym same) ∙ may))
+    at (Spent q) is may ends = by_held (Spends q) (holder_of l q) is refl ends
+    at (Accessed q i m old) is may ends = by_held (Accesses q i m old) (holder_of l q) is refl ends
+    at (Waiting u t) is may ends = no_end (Waits t) (the_deed None _ u is) refl ends
+    at (Passed u t) is may ends =
+        let same : u ≡ b = doer (deed l (Passed u t)) b u d is in
+        let it = the_deed None _ u is in
+        let target : t ≡ stuck.sender = eqb-true t stuck.sender (ap (ends_wait stuck.sender) it ∙ ends) in
+        let skip = skips_is l n u t may.1 in
+        let over = sym skip.1.ends ∙ ap (ended l) target ∙ stuck.going in
+        chosen_one l n b a (subst (Chosen l n) same (skip.1.chosen over)) chosen
+    at (Ended u) is may ends = no_end Ends (the_deed None _ u is) refl ends
+    at (Drained t u) is may ends = cc

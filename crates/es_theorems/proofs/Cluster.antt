@@ -1,0 +1,249 @@
+-- A cluster whose agents go on: each that is asked takes a turn, after which they go on still; so do they after any turn.
+use Rattle.std.proofs.Common.{◌≡◌, ℕ, zero, suc, ◌+◌, ◌<◌, true, false, sym, ◌∙◌, ap, refl, subst, arith, List, [], ◌∷◌, length, reverse, Some, Ok}
+use Rattle.std.specs.Prelude.{slice_get, slice_set}
+use Rattle.std.specs.List.{list_all}
+use Rattle.std.specs.Option.{option_and_then}
+use Rattle.es_event.specs.declared.plan.AgentPlan.{AgentPlan}
+use Rattle.es_event.specs.declared.plan.Plan.{Plan}
+use Rattle.es_event.specs.Jobs.{callbacks_collect_nothing}
+use Rattle.es_event.specs.Ledger.{Ledger, by_agent, holder_of}
+use Rattle.es_event.specs.LegalLedger.{LegalLedger, LegalSoFar}
+use Rattle.es_event.specs.Order.{phase}
+use Rattle.es_event.specs.Others.{all_name_others}
+use Rattle.es_event.specs.Rows.{line_of}
+use Rattle.es_event.proofs.Entries.{inner}
+use Rattle.es_match.specs.Meets.{Tickets}
+use Rattle.es_ticket.specs.Stakes.{is_rising_from}
+use Rattle.es_ledger.specs.LedgerView.{LedgerView}
+use Rattle.es_ledger.specs.Turns.{asked, told}
+use Rattle.es_ledger.specs.declared.turn.Turn.TheVariants.{Stay}
+use Rattle.es_record.specs.AgentView.{AgentView, with_row}
+use Rattle.es_rules.specs.Needs.{asks_message, need}
+use Rattle.es_agent.specs.Tickets.{is_ended, tickets}
+use Rattle.es_agent.proofs.Racks.{no_tickets, open_before}
+use Rattle.es_cluster.specs.Tied.{GrowsBy}
+use Rattle.es_cluster.specs.Turned.{OthersStay}
+use Rattle.es_cluster.specs.declared.member.Progress.{Progress}
+use Rattle.es_cluster.specs.declared.member.Progress.TheVariants.{Moved, Waiting, Ended}
+use Rattle.es_cluster.proofs.Hearing.{where_stay}
+use Rattle.es_cluster.specs.Asked.{Hears, Works}
+use Rattle.es_cluster.specs.Moves.{cleans_quietly}
+use Rattle.es_cluster.specs.State.{ArePlaced, AreTied, ClusterView, IsPlaced, first_state, first_views, plans}
+use Rattle.es_cluster.specs.Turns.{AllTurned, Takes, Turned}
+use Rattle.es_cluster.proofs.Beginning.{first_holds}
+use Rattle.es_cluster.proofs.Ended.{there}
+use Rattle.es_cluster.proofs.Named.{names}
+use Rattle.es_cluster.proofs.Resting.{nothing_over}
+use Rattle.es_cluster.proofs.Standing.{by_place, mapped_still, placed_after, placed_here, set_here, set_length, tied_after, tied_of, within}
+use Rattle.es_cluster.proofs.Turning.{stepped}
+use Rattle.es_theorems.specs.Alike.{Alike}
+use Rattle.es_theorems.specs.Together.{Stands}
+use Rattle.es_theorems.proofs.Running.{turn_together}
+use Rattle.es_theorems.proofs.Telling.{same, turned}
+use Rattle.es_theorems.proofs.Going.{AllHeld, Going, Standing, Turn}
+use Rattle.es_theorems.proofs.Only.{only_beside}
+use Rattle.es_theorems.proofs.Rack.{held_beside}
+use Rattle.es_theorems.proofs.Turn.{asked_going, takes_turn}
+
+-- each agent has its place and its part in the ledger, which is legal, and goes on
+pub record Well (c : ClusterView) : Type 0 where
+  pub placed : ArePlaced c.agents c.ledger
+  pub tied : AreTied c.agents c.ledger
+  pub legal : LegalLedger c.ledger.agents c.ledger.history
+  pub whole : c.failed ≡ false
+  pub going : (n : ℕ) (b : AgentView) → slice_get c.agents n ≡ Some b → Going b c.ledger.history
+
+-- After a turn
+
+takes_same : (p : Progress) (b new : AgentView) → Takes p b new → (new.number ≡ b.number) × (new.plan ≡ b.plan)
+takes_same Moved b new t = (ap (λ b. b.number) t.3, ap (λ b. b.plan) t.3)
+takes_same Waiting b new t = (ap (λ b. b.number) t.2, ap (λ b. b.plan) t.2)
+takes_same Ended b new t = (ap (λ b. b.number) t.1, ap (λ b. b.plan) t.1)
+
+going_beside : (n m : ℕ) (b : AgentView) (l k : Ledger) → GrowsBy n l k → LegalSoFar m k → (b.number ≡ n → ⊥) → Going b l → Going b k
+going_beside n m b l k grows legal other g = record {
+  run = g.run;
+  rising = g.rising;
+  newest_is = g.newest_is;
+  held = held_beside m n l k b.number (tickets b) grows legal other g.held;
+  apart = g.apart;
+  only = only_beside n l k b.number (tickets b) grows other g.only;
+}
+
+well_after : (p : Progress) (n : ℕ) (c d : ClusterView) → Well c → (t : Turned p n c d) → Going t.after d.ledger.history → Well d
+well_after p n c d w t g = record {
+  placed = subst (λ bs. ArePlaced bs d.ledger) (sym t.agents) (placed_after c.agents c.ledger d.ledger n t.after here w.placed still stay);
+  tied = subst (λ bs. AreTied bs d.ledger) (sym t.agents) (tied_after c.agents c.ledger d.ledger n t.after here w.placed w.tied (tied_of p t.after d.ledger.history t.tied) stay);
+  legal = t.legal;
+  whole = t.whole.1;
+  going = λ i b is.
+      by_place (λ i b. Going b d.ledger.history) c.agents n t.after here g
+      (λ j y other at. going_beside n d.ledger.agents y c.ledger.history d.ledger.history t.ledger t.legal.0 (λ same. other (sym (w.placed.each j y at).number ∙ same)) (w.going j y at))
+      i b (ap (λ bs. slice_get bs i) (sym t.agents) ∙ is);
+}
+  where
+    here : n < length c.agents
+    here = within c.agents n t.before t.agent
+
+    stay : OthersStay n c.ledger d.ledger
+    stay = (t.number, t.ledger)
+
+    still : IsPlaced d.ledger n t.after
+    still =
+        let same = takes_same p t.before t.after t.turn in
+        placed_here t.before t.after c.ledger d.ledger n (w.placed.each n t.before t.agent) same.0 same.1 t.seated t.number
+
+-- A turn that is asked for
+
+standing : (n : ℕ) (c : ClusterView) (b : AgentView) → Well c → slice_get c.agents n ≡ Some b → Standing b c.ledger
+standing n c b w is =
+    let placed = w.placed.each n b is in
+    record { seated = placed.seated; tied = w.tied.each n b is; legal = w.legal; others = names b c.ledger.agents n placed.number placed.others; going = w.going n b is }
+
+-- agent n took a turn, and the agents go on
+pub record TakesTurn (n : ℕ) (c : ClusterView) : Type 0 where
+  pub progress : Progress
+  pub after : ClusterView
+  pub turned : Turned progress n c after
+  pub well : Well after
+
+turn_at : (p : Progress) (n : ℕ) (c : ClusterView) (b : AgentView) → Well c → slice_get c.agents n ≡ Some b → Turn p b c.ledger → TakesTurn n c
+turn_at p n c b w is t = record { progress = p; after = new; turned = taken; well = well_after p n c new w taken t.going }
+  where
+    new : ClusterView
+    new = record { agents = slice_set c.agents n t.after; ledger = t.ledger; failed = false }
+
+    taken : Turned p n c new
+    taken = record {
+      before = b;
+      after = t.after;
+      agent = is;
+      agents = refl;
+      turn = t.takes;
+      told = t.told;
+      ledger = subst (λ k. GrowsBy k c.ledger.history t.ledger.history) (w.placed.each n b is).number t.grows;
+      number = t.number;
+      legal = t.legal;
+      tied = t.tied;
+      seated = t.seated;
+      whole = (w.whole, refl);
+    }
+
+pub ask : (n : ℕ) (c : ClusterView) → Well c → n < length c.agents → TakesTurn n c
+ask n c w inside =
+    let found = there c.agents n inside in
+    let t = takes_turn found.0 c.ledger (standing n c found.0 w found.1) in
+    turn_at t.0 n c found.0 w found.1 t.1
+
+-- The first state
+
+first_bare : (agents n : ℕ) (ps : List AgentPlan) (i : ℕ) (b : AgentView) → slice_get (first_views agents n ps) i ≡ Some b → (b.over ≡ []) × (b.history ≡ [])
+first_bare agents n [] i b is = cc
+first_bare agents n (p ∷ ps) zero b is = (ap (λ b. b.over) (sym (inner is)), ap (λ b. b.history) (sym (inner is)))
+first_bare agents n (p ∷ ps) (suc i) b is = first_bare agents (n + 1) ps i b is
+
+going_bare : (b : AgentView) → b.over ≡ [] → b.history ≡ [] → Going b []
+going_bare b bare new = record {
+  run = rw (bare, new) (tt, tt);
+  rising = ap (λ over. is_rising_from 0 (reverse over)) bare;
+  newest_is = rw bare (omega arith);
+  held = subst (AllHeld b.number []) (sym (no_tickets b bare)) tt;
+  apart = rw (no_tickets b bare) tt;
+  only = λ k r is other. cc;
+}
+
+pub well_first : (p : Plan) → all_name_others p ≡ true → Well (first_state p)
+well_first p others =
+    let holds = first_holds p.agents (first_state p).agents (first_state p).ledger refl refl refl others in
+    record {
+      placed = holds.0;
+      tied = holds.1;
+      legal = (tt, refl);
+      whole = refl;
+      going = λ n b is. (let bare = first_bare (length p.agents) 0 p.agents n b is in going_bare b bare.0 bare.1);
+    }
+
+-- After any turn
+
+same_holder : (l m : Ledger) (k : ℕ) → Alike l m → holder_of l k ≡ holder_of m k
+same_holder l m k alike = ap (λ t. option_and_then by_agent (line_of k t)) alike.tables
+
+held_alike : (l m : Ledger) (n : ℕ) (ts : Tickets) → Alike l m → AllHeld n l ts → AllHeld n m ts
+held_alike l m n [] alike held = tt
+held_alike l m n (t ∷ ts) alike held = (sym (same_holder l m t.1.serial alike) ∙ held.0, held_alike l m n ts alike held.1)
+
+going_alike : (b : AgentView) (l m : Ledger) → Alike l m → Going b l → Going b m
+going_alike b l m alike g = record {
+  run = g.run;
+  rising = g.rising;
+  newest_is = g.newest_is;
+  held = held_alike l m b.number (tickets b) alike g.held;
+  apart = g.apart;
+  only = λ k r is other. g.only k r (same_holder l m k alike ∙ is) other;
+}
+
+stands : (c : ClusterView) → Well c → Stands c
+stands c w = record {
+  size = w.placed.size;
+  each = λ n b is. record { number = (w.placed.each n b is).number; tied = w.tied.each n b is; seated = (w.placed.each n b is).seated; run = (w.going n b is).run };
+  undrained = w.legal.1;
+}
+
+found_same : (c : ClusterView) (n : ℕ) (x y : AgentView) → slice_get c.agents n ≡ Some x → slice_get c.agents n ≡ Some y → x ≡ y
+found_same c n x y a b = inner (sym a ∙ b)
+
+-- an agent that has one event more goes on as the one that was asked
+moved_well : (n : ℕ) (c d e : ClusterView) (q : Progress) → Well c → Turned Moved n c d → (x : Turned q n c e) → Well e → Well d
+moved_well n c d e Moved w t x v =
+    let both = turn_together d.ledger.agents e.ledger.agents n c c d e
+    (record { left = stands c w; right = stands c w; same = record { agents = refl; number = refl; ledgers = same c.ledger.history } }) t x t.legal.0 x.legal.0 in
+    let here = within c.agents n t.before t.agent in
+    let mine : slice_get d.agents n ≡ Some t.after = ap (λ bs. slice_get bs n) t.agents ∙ set_here c.agents n t.after here in
+    let other : slice_get e.agents n ≡ Some t.after = ap (λ bs. slice_get bs n) (sym both.same.agents) ∙ mine in
+    well_after Moved n c d w t (going_alike t.after e.ledger.history d.ledger.history (turned d.ledger.history e.ledger.history both.same.ledgers) (v.going n t.after other))
+moved_well n c d e Waiting w t x v =
+    let same : x.before ≡ t.before = found_same c n x.before t.before x.agent t.agent in
+    let asks : need t.before ≡ asks_message x.told.0 = ap need (sym same) ∙ x.told.1 in
+    let stays : (told c.ledger.history c.ledger.agents t.before.number x.told.0).0 ≡ Stay =
+    ap (λ (b : AgentView). (told c.ledger.history c.ledger.agents b.number x.told.0).0) (sym same) ∙ sym (ap (λ p. p.0) x.told.2) in
+    absurd (t.told x.told.0 asks stays)
+moved_well n c d e Ended w t x v =
+    let same : x.before ≡ t.before = found_same c n x.before t.before x.agent t.agent in
+    let over : is_ended (phase t.before.history) ≡ true = nothing_over t.before (ap need (sym same) ∙ x.turn.0) in
+    let open' : is_ended (phase t.before.history) ≡ false = open_before (with_row t.turn.1 t.before) t.turn.0 t.turn.2 in
+    let clash : true ≡ false = sym over ∙ open' in
+    cc
+
+pub well_turned : (p : Progress) (n : ℕ) (c d : ClusterView) → Well c → Turned p n c d → Well d
+well_turned Moved n c d w t =
+    let x = ask n c w (within c.agents n t.before t.agent) in
+    moved_well n c d x.after x.progress w t x.turned x.well
+well_turned Waiting n c d w t =
+    let history : d.ledger.history ≡ asked c.ledger.history t.before.number t.told.0 = where_stay c.ledger.history d.ledger.history c.ledger.agents t.before.number t.told.0 t.told.2 in
+    let going = asked_going t.before c.ledger t.told.0 (standing n c t.before w t.agent) in
+    well_after Waiting n c d w t (subst (λ b. Going b d.ledger.history) (sym t.turn.2) (subst (Going t.before) (sym history) going))
+well_turned Ended n c d w t =
+    well_after Ended n c d w t (subst (λ b. Going b d.ledger.history) (sym t.turn.1) (subst (λ (l : LedgerView). Going t.before l.history) (sym t.told) (w.going n t.before t.agent)))
+
+pub well_all : (ns : List ℕ) (c d : ClusterView) → Well c → AllTurned ns c d → Well d
+well_all [] c d w turned = subst Well (sym turned) w
+well_all (n ∷ ns) c d w turned = well_all ns turned.1 d (well_turned turned.0 n c turned.1 w turned.2) turned.3
+
+-- What a turn leaves of the plans
+
+pub plans_turned : (p : Progress) (n : ℕ) (c d : ClusterView) → Turned p n c d → plans d.agents ≡ plans c.agents
+plans_turned p n c d t = ap plans t.agents ∙ mapped_still (λ b. b.plan) c.agents n t.before t.after t.agent (takes_same p t.before t.after t.turn).1
+
+pub quiet_turned : (p : Progress) (n : ℕ) (c d : ClusterView) → Turned p n c d → cleans_quietly c ≡ true → cleans_quietly d ≡ true
+quiet_turned p n c d t quiet = ap (list_all callbacks_collect_nothing) (plans_turned p n c d t) ∙ quiet
+
+pub quiet_all : (ns : List ℕ) (c d : ClusterView) → AllTurned ns c d → cleans_quietly c ≡ true → cleans_quietly d ≡ true
+quiet_all [] c d turned quiet = subst (λ c. cleans_quietly c ≡ true) (sym turned) quiet
+quiet_all (n ∷ ns) c d turned quiet = quiet_all ns turned.1 d turned.3 (quiet_turned turned.0 n c turned.1 turned.2 quiet)
+
+pub inside_turned : (p : Progress) (n i : ℕ) (c d : ClusterView) → Turned p n c d → i < length c.agents → i < length d.agents
+inside_turned p n i c d t inside = let same = ap length t.agents ∙ set_length c.agents n t.after in omega (arith, inside, same)
+
+-- and of its agent's work
+pub works_of : (p : Progress) (n : ℕ) (c d : ClusterView) → Well c → cleans_quietly c ≡ true → Turned p n c d → Works p n c d × Hears p n c d
+works_of p n c d w quiet t = stepped (Ok p) n c d t.before w.placed w.tied t.agent (w.going n t.before t.agent).run quiet t

@@ -1,0 +1,102 @@
+-- What an agent's deeds find in a ledger they find in each that tells the same, and they leave the same of it.
+use Rattle.std.proofs.Common.{◌≡◌, ℕ, ◌+◌, ◌∙◌, not, true, sym, ap, refl, subst, List, [], ◌∷◌, ◌++◌, Option, Some, None}
+use Rattle.std.specs.Option.{option_map, option_map_or}
+use Rattle.std.proofs.lemmas.Bool.{and_parts, not-true}
+use Rattle.es_event.specs.declared.ledger_event.Body.{Body}
+use Rattle.es_event.specs.declared.ledger_event.Body.TheVariants.{Plain, Block}
+use Rattle.es_event.specs.declared.ledger_event.LedgerEvent.{LedgerEvent}
+use Rattle.es_event.specs.declared.ledger_event.LedgerEvent.TheVariants.{Opened, Posted, Taken, Spent, Accessed, Waiting, Passed, Ended, Drained}
+use Rattle.es_event.specs.declared.row.Row.{Row}
+use Rattle.es_event.specs.Access.{IsStorable}
+use Rattle.es_event.specs.Ledger.{Ledger, front, holder_of, word}
+use Rattle.es_event.specs.LegalLedger.{Reaches, has_message, IsPostable, MayCome}
+use Rattle.es_match.specs.Deeds.{Deed, Opens, Posts, Takes, Spends, Accesses, Waits, Passes, Ends, Owned, deed, is_wait, taking, words_in}
+use Rattle.es_theorems.specs.Alike.{Alike}
+use Rattle.es_theorems.specs.Doing.{event_of, did, IsNew, Fits, AllFit}
+use Rattle.es_theorems.proofs.Telling.{same_front, same_message, same_holder, after_one, after_wait}
+
+-- In a ledger that tells the same
+
+reaches_so : (o : Option (ℕ × Row)) (i : ℕ) (f g : Row → Type 0) → ((r : Row) → f r → g r) → Reaches o i f → Reaches o i g
+reaches_so None i f g so is = is
+reaches_so (Some p) i f g so is = (is.0, so p.1 is.1)
+
+reaches_same : (l m : Ledger) (s i w : ℕ) → Alike l m → Reaches (holder_of l s) i (λ r. w ≡ word l r.block i) → Reaches (holder_of m s) i (λ r. w ≡ word m r.block i)
+reaches_same l m s i w a is =
+    subst (λ o. Reaches o i (λ r. w ≡ word m r.block i)) (same_holder l m s a)
+    (reaches_so (holder_of l s) i (λ r. w ≡ word l r.block i) (λ r. w ≡ word m r.block i) (λ r e. e ∙ a.words r.block i) is)
+
+new_same : (l m : Ledger) (b : Body) → Alike l m → IsNew l b → IsNew m b
+new_same l m (Plain v) a is = is
+new_same l m (Block b s) a is = is ∙ ap (λ n. n + 1) a.serials
+
+same_words_in : (l m : Ledger) (b : Option Body) → Alike l m → option_map_or (words_in l) b 0 ≡ option_map_or (words_in m) b 0
+same_words_in l m None a = refl
+same_words_in l m (Some (Plain v)) a = refl
+same_words_in l m (Some (Block b s)) a = a.sizes b
+
+pub fits_same : (l m : Ledger) (n : ℕ) (d : Deed) → Alike l m → Fits l n d → Fits m n d
+fits_same l m n (Opens b w s) a is = (is.0 ∙ ap (λ n. n + 1) a.opened, is.1 ∙ ap (λ n. n + 1) a.serials)
+fits_same l m n (Posts r b) a is = new_same l m b a is
+fits_same l m n (Takes s b w) a is = (is.0 ∙ same_front l m s n a, is.1 ∙ same_words_in l m b a, sym (same_message l m s n a) ∙ is.2)
+fits_same l m n (Spends s) a is = is
+fits_same l m n (Accesses s i done old) a is = reaches_same l m s i old a is
+fits_same l m n (Waits s) a is = is
+fits_same l m n (Passes s) a is = sym (same_message l m s n a) ∙ is
+fits_same l m n Ends a is = is
+
+pub all_fit_same : (l m : Ledger) (n : ℕ) (ds : List Deed) → Alike l m → AllFit n ds l → AllFit n ds m
+all_fit_same l m n [] a fit = fit
+all_fit_same l m n (d ∷ ds) a fit = (fits_same l m n d a fit.0, all_fit_same (event_of n d ∷ l) (event_of n d ∷ m) n ds (after_one l m (event_of n d) a) fit.1)
+
+pub did_same : (l m : Ledger) (n : ℕ) (ds : List Deed) → Alike l m → Alike (did n ds l) (did n ds m)
+did_same l m n [] a = a
+did_same l m n (d ∷ ds) a = did_same (event_of n d ∷ l) (event_of n d ∷ m) n ds (after_one l m (event_of n d) a)
+
+-- One deed more
+
+pub did_more : (l : Ledger) (n : ℕ) (ds : List Deed) (d : Deed) → did n (ds ++ d ∷ []) l ≡ event_of n d ∷ did n ds l
+did_more l n [] d = refl
+did_more l n (c ∷ ds) d = did_more (event_of n c ∷ l) n ds d
+
+pub all_fit_more : (l : Ledger) (n : ℕ) (ds : List Deed) (d : Deed) → AllFit n ds l → Fits (did n ds l) n d → AllFit n (ds ++ d ∷ []) l
+all_fit_more l n [] d fit is = (is, tt)
+all_fit_more l n (c ∷ ds) d fit is = (fit.0, all_fit_more (event_of n c ∷ l) n ds d fit.1 is)
+
+pub wait_alone : (l : Ledger) (n : ℕ) (d : Deed) → is_wait d ≡ true → Alike (event_of n d ∷ l) l
+wait_alone l n (Waits s) is = after_wait l n s
+wait_alone l n _ is = cc
+
+-- What an event that may come means as a deed
+
+pub record Meant (l : Ledger) (e : LedgerEvent) (n : ℕ) (d : Deed) : Type 0 where
+  pub event : e ≡ event_of n d
+  pub fits : Fits l n d
+
+of_pair : (a n : ℕ) (x d : Deed) → ◌≡◌ {A = Owned} (Some (a, x)) (Some (n, d)) → (a ≡ n) × (x ≡ d)
+of_pair a n x d is = (ap (λ o. option_map_or (λ p. p.0) o n) is, ap (λ o. option_map_or (λ p. p.1) o d) is)
+
+meant_here : (l : Ledger) (e : LedgerEvent) (a n : ℕ) (x d : Deed) → ◌≡◌ {A = Owned} (Some (a, x)) (Some (n, d)) → e ≡ event_of a x → Fits l a x → Meant l e n d
+meant_here l e a n x d is event fits =
+    let parts = of_pair a n x d is in
+    subst (λ d. Meant l e n d) parts.1 (subst (λ n. Meant l e n x) parts.0 (record { event = event; fits = fits }))
+
+meant_by : (l : Ledger) (e : LedgerEvent) (n : ℕ) (x d : Deed) (o : Option (ℕ × Row)) → option_map {U = ℕ × Deed} (λ p. (p.0, x)) o ≡ Some (n, d) → ((a : ℕ) → e ≡ event_of a x) → ((a : ℕ) → Fits l a x) → Meant l e n d
+meant_by l e n x d None is event fits = cc
+meant_by l e n x d (Some p) is event fits = meant_here l e p.0 n x d is (event p.0) (fits p.0)
+
+postable_new : (l : Ledger) (a : ℕ) (m : Body) → IsPostable l a m → IsNew l m
+postable_new l a (Plain v) is = tt
+postable_new l a (Block b s) is = is.0
+
+pub meant : (k : ℕ) (l : Ledger) (e : LedgerEvent) (n : ℕ) (d : Deed) → MayCome k l e → deed l e ≡ Some (n, d) → Meant l e n d
+meant k l (Opened b w s a) n d may is = meant_here l (Opened b w s a) a n (Opens b w s) d is refl (may.0, may.1)
+meant k l (Posted a r m) n d may is = meant_here l (Posted a r m) a n (Posts r m) d is refl (postable_new l a m may.3)
+meant k l (Taken s r) n d may is = meant_here l (Taken s r) r n (taking l s (front l s r)) d is refl (refl, refl, may)
+meant k l (Spent s) n d may is = meant_by l (Spent s) n (Spends s) d (holder_of l s) is (λ a. refl) (λ a. tt)
+meant k l (Accessed s i m old) n d may is =
+    meant_by l (Accessed s i m old) n (Accesses s i m old) d (holder_of l s) is (λ a. refl) (λ a. reaches_so (holder_of l s) i (λ r. (old ≡ word l r.block i) × IsStorable m) (λ r. old ≡ word l r.block i) (λ r e. e.0) may)
+meant k l (Waiting a s) n d may is = meant_here l (Waiting a s) a n (Waits s) d is refl tt
+meant k l (Passed a s) n d may is = meant_here l (Passed a s) a n (Passes s) d is refl (not-true (has_message l s a) (and_parts (not (has_message l s a)) _ may.1).0)
+meant k l (Ended a) n d may is = meant_here l (Ended a) a n Ends d is refl tt
+meant k l (Drained s r) n d may is = cc

@@ -1,0 +1,113 @@
+-- What two runs by turns of one plan end in is the same, but for who waited in between.
+use Rattle.std.proofs.Common.{◌≡◌, ℕ, zero, suc, sym, ◌∙◌, ap, refl, subst, List, [], ◌∷◌, map, reverse}
+use Rattle.std.proofs.lemmas.List.{reverse-reverse}
+use Rattle.es_event.specs.declared.event.Event.{Event}
+use Rattle.es_event.specs.declared.ledger_event.Body.{Body}
+use Rattle.es_event.specs.declared.ledger_event.Body.TheVariants.{Plain, Block}
+use Rattle.es_event.specs.declared.ledger_event.LedgerEvent.TheVariants.{Spent, Drained}
+use Rattle.es_event.specs.declared.outcome.Outcome.{Outcome}
+use Rattle.es_event.specs.declared.plan.Plan.{Plan}
+use Rattle.es_event.specs.Ledger.{Ledger, port_of}
+use Rattle.es_event.specs.LegalLedger.{LegalSoFar}
+use Rattle.es_ledger.specs.Draining.{after_drain, drained_below, drained_each, drained_one, drained_to}
+use Rattle.es_cluster.specs.Ends.{EndsIn}
+use Rattle.es_cluster.specs.Moves.{RunsToEnd}
+use Rattle.es_cluster.specs.State.{ClusterView, first_state, names_of}
+use Rattle.es_cluster.specs.Turns.{AllTurned}
+use Rattle.es_theorems.specs.Alike.{Alike, SameEnd}
+use Rattle.es_theorems.specs.Together.{Same, Stands}
+use Rattle.es_theorems.proofs.Running.{runs_same, stands_after, stands_first}
+use Rattle.es_theorems.proofs.Telling.{after_one, same}
+
+-- What nobody took is taken out of both alike
+
+one_drained : (l m : Ledger) (s r : ℕ) (b : Body) → Alike l m → Alike (drained_one l s r b) (drained_one m s r b)
+one_drained l m s r (Plain v) alike = after_one l m (Drained s r) alike
+one_drained l m s r (Block b k) alike = after_one (Drained s r ∷ l) (Drained s r ∷ m) (Spent k) (after_one l m (Drained s r) alike)
+
+each_drained : (l m : Ledger) (s r : ℕ) (bs : List Body) → Alike l m → Alike (drained_each l s r bs) (drained_each m s r bs)
+each_drained l m s r [] alike = alike
+each_drained l m s r (b ∷ bs) alike = each_drained (drained_one l s r b) (drained_one m s r b) s r bs (one_drained l m s r b alike)
+
+drained_for : (l m : Ledger) (r n : ℕ) → Alike l m → Alike (drained_to l r n) (drained_to m r n)
+drained_for l m r zero alike = alike
+drained_for l m r (suc n) alike =
+    let before = drained_for l m r n alike in
+    subst (λ bs. Alike (drained_each (drained_to l r n) n r (port_of (drained_to l r n) n r)) (drained_each (drained_to m r n) n r bs)) (before.ports n r)
+    (each_drained (drained_to l r n) (drained_to m r n) n r (port_of (drained_to l r n) n r) before)
+
+drained_under : (l m : Ledger) (n k : ℕ) → Alike l m → Alike (drained_below l n k) (drained_below m n k)
+drained_under l m n zero alike = alike
+drained_under l m n (suc k) alike = drained_for (drained_below l n k) (drained_below m n k) k n (drained_under l m n k alike)
+
+-- What is legal after that was legal before
+
+legal_one : (k : ℕ) (l : Ledger) (s r : ℕ) (b : Body) → LegalSoFar k (drained_one l s r b) → LegalSoFar k l
+legal_one k l s r (Plain v) legal = legal.1
+legal_one k l s r (Block b q) legal = legal.1.1
+
+legal_each : (k : ℕ) (l : Ledger) (s r : ℕ) (bs : List Body) → LegalSoFar k (drained_each l s r bs) → LegalSoFar k l
+legal_each k l s r [] legal = legal
+legal_each k l s r (b ∷ bs) legal = legal_one k l s r b (legal_each k (drained_one l s r b) s r bs legal)
+
+legal_for : (k : ℕ) (l : Ledger) (r n : ℕ) → LegalSoFar k (drained_to l r n) → LegalSoFar k l
+legal_for k l r zero legal = legal
+legal_for k l r (suc n) legal = legal_for k l r n (legal_each k (drained_to l r n) n r (port_of (drained_to l r n) n r) legal)
+
+legal_under : (k : ℕ) (l : Ledger) (n m : ℕ) → LegalSoFar k (drained_below l n m) → LegalSoFar k l
+legal_under k l n zero legal = legal
+legal_under k l n (suc m) legal = legal_under k l n m (legal_for k (drained_below l n m) m n legal)
+
+legal_before : (from c : ClusterView) (o : Outcome) (run : RunsToEnd from c) → EndsIn c o → LegalSoFar c.ledger.agents run.0.ledger.history
+legal_before from c o run end =
+    let k = c.ledger.agents in
+    let all : LegalSoFar k (after_drain c.ledger.history c.ledger.agents) = subst (LegalSoFar k) end.ledger end.legal.0 in
+    let once : LegalSoFar k (after_drain run.0.ledger.history run.0.ledger.agents) = subst (LegalSoFar k) (ap (λ c. c.ledger.history) run.2) (legal_under k c.ledger.history c.ledger.agents c.ledger.agents all) in
+    legal_under k run.0.ledger.history run.0.ledger.agents run.0.ledger.agents once
+
+-- The outcomes
+
+reversed_twice : (hs : List (List Event)) → map reverse (map reverse hs) ≡ hs
+reversed_twice [] = refl
+reversed_twice (h ∷ hs) = ap (λ k. k ∷ map reverse (map reverse hs)) (reverse-reverse h) ∙ ap (λ ks. h ∷ ks) (reversed_twice hs)
+
+ledger_is : (from c : ClusterView) (o : Outcome) (run : RunsToEnd from c) → EndsIn c o
+    → reverse o.ledger ≡ after_drain (after_drain run.0.ledger.history run.0.ledger.agents) run.0.ledger.agents
+ledger_is from c o run end = end.ledger ∙ ap (λ c. after_drain c.ledger.history c.ledger.agents) run.2
+
+-- from any state in which the agents have their places and their parts in the ledger
+pub one_end_from : (from c d : ClusterView) (o q : Outcome) → Stands from → RunsToEnd from c → EndsIn c o → RunsToEnd from d → EndsIn d q → SameEnd o q
+one_end_from from c d o q stands left a right b = record {
+  names = a.names ∙ ap names_of agents ∙ sym b.names;
+  histories = sym (reversed_twice o.histories) ∙ ap (map reverse) (a.agents.are ∙ ap (map (λ b. b.history)) agents ∙ sym b.agents.are) ∙ reversed_twice q.histories;
+  ledgers = subst (Alike (reverse o.ledger)) (sym (ledger_is from d q right b)) (subst (λ l. Alike l (after_drain (after_drain f.ledger.history f.ledger.agents) f.ledger.agents)) (sym (ledger_is from c o left a)) alike);
+}
+  where
+    e : ClusterView
+    e = left.0
+
+    f : ClusterView
+    f = right.0
+
+    both : Same e f
+    both = runs_same c.ledger.agents d.ledger.agents from from e f (record { left = stands; right = stands; same = record { agents = refl; number = refl; ledgers = same from.ledger.history } })
+        left.1 right.1 (legal_before from c o left a) (legal_before from d q right b)
+
+    agents : c.agents ≡ d.agents
+    agents = ap (λ c. c.agents) left.2 ∙ both.agents ∙ sym (ap (λ c. c.agents) right.2)
+
+    alike : Alike (after_drain (after_drain e.ledger.history e.ledger.agents) e.ledger.agents) (after_drain (after_drain f.ledger.history f.ledger.agents) f.ledger.agents)
+    alike = subst (λ n. Alike (after_drain (after_drain e.ledger.history e.ledger.agents) e.ledger.agents) (after_drain (after_drain f.ledger.history n) n)) both.number
+        (drained_under (after_drain e.ledger.history e.ledger.agents) (after_drain f.ledger.history e.ledger.agents) e.ledger.agents e.ledger.agents (drained_under e.ledger.history f.ledger.history e.ledger.agents e.ledger.agents both.ledgers))
+
+pub one_end : (p : Plan) (c d : ClusterView) (o q : Outcome) → RunsToEnd (first_state p) c → EndsIn c o → RunsToEnd (first_state p) d → EndsIn d q → SameEnd o q
+one_end p c d o q left a right b = one_end_from (first_state p) c d o q (stands_first p) left a right b
+
+-- from a state that turns led to
+
+pub stands_later : (ns : List ℕ) (c d : ClusterView) → Stands c → AllTurned ns c d → Stands d
+stands_later [] c d stands turned = subst Stands (sym turned) stands
+stands_later (n ∷ ns) c d stands turned = stands_later ns turned.1 d (stands_after turned.0 n c turned.1 stands turned.2) turned.3
+
+pub rest_has_one_end : (p : Plan) (ns : List ℕ) (from c d : ClusterView) (o q : Outcome) → AllTurned ns (first_state p) from → RunsToEnd from c → EndsIn c o → RunsToEnd from d → EndsIn d q → SameEnd o q
+rest_has_one_end p ns from c d o q turned left a right b = one_end_from from c d o q (stands_later ns (first_state p) from (stands_first p) turned) left a right b

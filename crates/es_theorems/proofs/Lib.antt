@@ -1,0 +1,78 @@
+pub mod Telling
+pub mod Doing
+pub mod Spending
+pub mod Commands
+pub mod Messages
+pub mod Newest
+pub mod Deciding
+pub mod Turning
+pub mod Running
+pub mod Ends
+pub mod OneRun
+pub mod Going
+pub mod Holding
+pub mod Only
+pub mod Rack
+pub mod Turn
+pub mod Cluster
+pub mod Arriving
+pub mod Plans
+mod ExampleTurn
+mod ExampleIllegal
+mod ExampleEnds
+mod ExampleStuck
+mod ExampleMoves
+mod Liking
+mod Framing
+pub mod Choosing
+mod Beside
+mod Swapping
+mod Bringing
+mod Coming
+mod Unfolding
+mod Gathering
+pub mod Playing
+mod TurningThreads
+mod Needing
+mod Settling
+mod Stepping
+mod Hearing
+mod Through
+mod Starting
+pub mod Draining
+pub mod Ending
+pub mod Converse
+mod ExampleRace
+mod Touching
+mod Beyond
+mod Sane
+mod Pending
+mod Certain
+mod Renaming
+mod Weighing
+mod Names
+mod Ports
+mod Others
+mod Opened
+mod Opening
+mod PlayingAlike
+mod Learning
+mod Wording
+mod Racing
+mod Still
+mod Skipping
+mod Asking
+mod Known
+mod Passing
+mod Letters
+mod Silence
+mod DoingAlike
+mod Receiving
+mod TurningAlike
+mod Along
+mod Composing
+mod Wordless
+mod Reporting
+pub mod Reports
+mod ExampleWords
+mod ExampleOrdered

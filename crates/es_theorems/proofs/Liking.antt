@@ -1,0 +1,150 @@
+-- After two histories that tell the same, of waits too, the same may come, and means the same.
+use Rattle.std.proofs.Common.{◌≡◌, ℕ, zero, suc, ◌+◌, ◌&&◌, ◌||◌, not, false, sym, ◌∙◌, ap, refl, subst, List, [], ◌∷◌, ◌++◌, Option, Some, None}
+use Rattle.std.specs.Prelude.{nat_lt, is_some}
+use Rattle.std.specs.Option.{option_and_then, option_map, option_map_or}
+use Rattle.es_event.specs.declared.ledger_event.Body.{Body}
+use Rattle.es_event.specs.declared.ledger_event.Body.TheVariants.{Plain, Block}
+use Rattle.es_event.specs.declared.ledger_event.LedgerEvent.{LedgerEvent}
+use Rattle.es_event.specs.declared.ledger_event.LedgerEvent.TheVariants.{Opened, Posted, Taken, Spent, Accessed, Waiting, Passed, Ended, Drained}
+use Rattle.es_event.specs.declared.row.Row.{Row}
+use Rattle.es_event.specs.Access.{IsStorable}
+use Rattle.es_event.specs.Rows.{count_of, held}
+use Rattle.es_event.specs.Ledger.{Ledger, awaited, ended, front, holder_of, serial_in, waits, word}
+use Rattle.es_event.specs.LegalLedger.{ComesNext, IsPostable, MayCome, Reaches, all_ended, all_stuck, has_message, is_chosen, is_stuck, owed, skips}
+use Rattle.es_event.specs.Totals.{is_drained}
+use Rattle.es_match.specs.Deeds.{Owned, Accesses, Spends, Takes, deed, part_of, taking, words_in}
+use Rattle.es_match.specs.Patience.{may_do}
+use Rattle.es_theorems.specs.Alike.{Alike}
+use Rattle.es_theorems.specs.Ahead.{Acts, Like, May, Steps, ahead, played}
+use Rattle.es_theorems.proofs.Telling.{after_one, same, same_front, same_holder, same_message, through, turned}
+
+pub like : (l : Ledger) → Like l l
+like l = record { alike = same l; waits = λ a. refl; owes = refl; drained = refl }
+
+pub like_back : (l m : Ledger) → Like l m → Like m l
+like_back l m k = record { alike = turned l m k.alike; waits = λ a. sym (k.waits a); owes = sym k.owes; drained = sym k.drained }
+
+pub like_through : (l m k : Ledger) → Like l m → Like m k → Like l k
+like_through l m k a b = record { alike = through l m k a.alike b.alike; waits = λ n. a.waits n ∙ b.waits n; owes = a.owes ∙ b.owes; drained = a.drained ∙ b.drained }
+
+-- One event more
+
+owed_after : (l m : Ledger) (e : LedgerEvent) → Alike l m → owed (e ∷ l) ≡ owed (e ∷ m)
+owed_after l m (Drained s r) a = ap (option_and_then serial_in) (same_front l m s r a)
+owed_after l m (Opened b w s r) a = refl
+owed_after l m (Posted t r b) a = refl
+owed_after l m (Taken s r) a = refl
+owed_after l m (Spent s) a = refl
+owed_after l m (Accessed s i d old) a = refl
+owed_after l m (Waiting r s) a = refl
+owed_after l m (Passed r s) a = refl
+owed_after l m (Ended r) a = refl
+
+pub like_after : (l m : Ledger) (e : LedgerEvent) → Like l m → Like (e ∷ l) (e ∷ m)
+like_after l m e k = record {
+  alike = after_one l m e k.alike;
+  waits = λ a. ap (awaited e a) (k.waits a);
+  owes = owed_after l m e k.alike;
+  drained = ap (λ b. is_drained e || b) k.drained;
+}
+
+pub like_played : (es : List LedgerEvent) (l m : Ledger) → Like l m → Like (played es l) (played es m)
+like_played [] l m k = k
+like_played (e ∷ es) l m k = like_played es (e ∷ l) (e ∷ m) (like_after l m e k)
+
+-- What it means
+
+same_words : (l m : Ledger) (b : Option Body) → Alike l m → option_map_or (words_in l) b 0 ≡ option_map_or (words_in m) b 0
+same_words l m None a = refl
+same_words l m (Some (Plain v)) a = refl
+same_words l m (Some (Block b s)) a = a.sizes b
+
+same_taking : (l m : Ledger) (s r : ℕ) → Alike l m → taking l s (front l s r) ≡ taking m s (front m s r)
+same_taking l m s r a = ap (λ b. taking l s b) (same_front l m s r a) ∙ ap (λ w. Takes s (front m s r) w) (same_words l m (front m s r) a)
+
+pub same_deed : (l m : Ledger) (e : LedgerEvent) → Alike l m → deed l e ≡ deed m e
+same_deed l m (Opened b w s r) a = refl
+same_deed l m (Posted t r b) a = refl
+same_deed l m (Taken s r) a = ap (λ d. Some (r, d)) (same_taking l m s r a)
+same_deed l m (Spent s) a = ap (λ o. option_map (λ p. (p.0, Spends s)) o) (same_holder l m s a)
+same_deed l m (Accessed s i d old) a = ap (λ o. option_map (λ p. (p.0, Accesses s i d old)) o) (same_holder l m s a)
+same_deed l m (Waiting r s) a = refl
+same_deed l m (Passed r s) a = refl
+same_deed l m (Ended r) a = refl
+same_deed l m (Drained s r) a = refl
+
+pub same_ahead : (es : List LedgerEvent) (l m : Ledger) (a : ℕ) → Alike l m → ahead es l a ≡ ahead es m a
+same_ahead [] l m a k = refl
+same_ahead (e ∷ es) l m a k = ap (λ o. part_of a o ++ ahead es (e ∷ l) a) (same_deed l m e k) ∙ ap (λ ds. part_of a (deed m e) ++ ds) (same_ahead es (e ∷ l) (e ∷ m) a (after_one l m e k))
+
+-- What may come
+
+same_stuck : (l m : Ledger) (a : ℕ) → Like l m → is_stuck l a ≡ is_stuck m a
+same_stuck l m a k = at (waits l a) (waits m a) (k.waits a)
+  where
+    at : (v w : Option ℕ) → v ≡ w → option_map_or (λ s. not (has_message l s a) && not (ended l s)) v false ≡ option_map_or (λ s. not (has_message m s a) && not (ended m s)) w false
+    at None None is = refl
+    at (Some s) None is = cc
+    at None (Some s) is = cc
+    at (Some s) (Some t) is =
+        let same : s ≡ t = cc in
+        ap (λ b. not b && not (ended l s)) (same_message l m s a k.alike) ∙ ap (λ e. not (has_message m s a) && not e) (k.alike.ends s) ∙ ap (λ s. not (has_message m s a) && not (ended m s)) same
+
+pub same_all_stuck : (l m : Ledger) (n : ℕ) → Like l m → all_stuck l n ≡ all_stuck m n
+same_all_stuck l m zero k = refl
+same_all_stuck l m (suc n) k =
+    ap (λ e. (e || is_stuck l n) && all_stuck l n) (k.alike.ends n) ∙ ap (λ s. (ended m n || s) && all_stuck l n) (same_stuck l m n k)
+    ∙ ap (λ r. (ended m n || is_stuck m n) && r) (same_all_stuck l m n k)
+
+pub same_all_ended : (l m : Ledger) (n : ℕ) → Alike l m → all_ended l n ≡ all_ended m n
+same_all_ended l m zero a = refl
+same_all_ended l m (suc n) a = ap (λ e. e && all_ended l n) (a.ends n) ∙ ap (λ r. ended m n && r) (same_all_ended l m n a)
+
+same_chosen : (l m : Ledger) (n a : ℕ) → Like l m → is_chosen l n a ≡ is_chosen m n a
+same_chosen l m n a k =
+    ap (λ s. s && (all_ended l a && not (ended l a))) (same_all_stuck l m n k) ∙ ap (λ s. all_stuck m n && (s && not (ended l a))) (same_all_ended l m a k.alike)
+    ∙ ap (λ e. all_stuck m n && (all_ended m a && not e)) (k.alike.ends a)
+
+pub same_skips : (l m : Ledger) (n a s : ℕ) → Like l m → skips l n a s ≡ skips m n a s
+same_skips l m n a s k =
+    ap (λ b. not b && (ended l s || is_chosen l n a)) (same_message l m s a k.alike) ∙ ap (λ e. not (has_message m s a) && (e || is_chosen l n a)) (k.alike.ends s)
+    ∙ ap (λ c. not (has_message m s a) && (ended m s || c)) (same_chosen l m n a k)
+
+same_postable : (l m : Ledger) (a : ℕ) (b : Body) → Alike l m → IsPostable l a b → IsPostable m a b
+same_postable l m a (Plain v) k is = is
+same_postable l m a (Block b s) k is = (is.0 ∙ ap (λ n. n + 1) k.serials, ap (λ t. nat_lt 0 (count_of (held a t) b)) (sym k.tables) ∙ is.1)
+
+reaches_so : (o : Option (ℕ × Row)) (i : ℕ) (f g : Row → Type 0) → ((r : Row) → f r → g r) → Reaches o i f → Reaches o i g
+reaches_so None i f g so is = is
+reaches_so (Some p) i f g so is = (is.0, so p.1 is.1)
+
+may_come : (n : ℕ) (l m : Ledger) (e : LedgerEvent) → Like l m → MayCome n l e → MayCome n m e
+may_come n l m (Opened b w s a) k is = (is.0 ∙ ap (λ n. n + 1) k.alike.opened, is.1 ∙ ap (λ n. n + 1) k.alike.serials, is.2)
+may_come n l m (Posted a r b) k is = (is.0, is.1, is.2, same_postable l m a b k.alike is.3)
+may_come n l m (Taken s r) k is = sym (same_message l m s r k.alike) ∙ is
+may_come n l m (Spent s) k is = ap is_some (sym (same_holder l m s k.alike)) ∙ is
+may_come n l m (Accessed s i d old) k is =
+    subst (λ o. Reaches o i (λ r. (old ≡ word m r.block i) × IsStorable d)) (same_holder l m s k.alike)
+    (reaches_so (holder_of l s) i (λ r. (old ≡ word l r.block i) × IsStorable d) (λ r. (old ≡ word m r.block i) × IsStorable d) (λ r e. (e.0 ∙ k.alike.words r.block i, e.1)) is)
+may_come n l m (Waiting a s) k is = (is.0, is.1, is.2, sym (same_message l m s a k.alike) ∙ is.3, sym (k.waits a) ∙ is.4, sym (k.alike.ends a) ∙ is.5)
+may_come n l m (Passed a s) k is = (sym (k.waits a) ∙ is.0, sym (same_skips l m n a s k) ∙ is.1)
+may_come n l m (Ended a) k is = (is.0, sym (k.alike.ends a) ∙ is.1)
+may_come n l m (Drained s r) k is = (sym (same_all_ended l m n k.alike) ∙ is.0, sym (same_message l m s r k.alike) ∙ is.1)
+
+comes_next : (n : ℕ) (l m : Ledger) (e : LedgerEvent) (o : Option ℕ) → Like l m → ComesNext n l e o → ComesNext n m e o
+comes_next n l m e None k is = may_come n l m e k is
+comes_next n l m e (Some s) k is = is
+
+same_acts : (n : ℕ) (l m : Ledger) (o : Owned) → Like l m → Acts n l o → Acts n m o
+same_acts n l m None k is = is
+same_acts n l m (Some p) k is = (is.0, sym (k.alike.ends p.0) ∙ is.1, sym k.drained ∙ is.2, ap (λ w. may_do w p.1) (sym (k.waits p.0)) ∙ is.3)
+
+pub same_may : (n : ℕ) (l m : Ledger) (e : LedgerEvent) → Like l m → May n l e → May n m e
+same_may n l m e k is = record {
+  legal = subst (ComesNext n m e) k.owes (comes_next n l m e (owed l) k is.legal);
+  acts = subst (Acts n m) (same_deed l m e k.alike) (same_acts n l m (deed l e) k is.acts);
+}
+
+pub same_steps : (n : ℕ) (es : List LedgerEvent) (l m : Ledger) → Like l m → Steps n es l → Steps n es m
+same_steps n [] l m k is = is
+same_steps n (e ∷ es) l m k is = (same_may n l m e k is.0, same_steps n es (e ∷ l) (e ∷ m) (like_after l m e k) is.1)

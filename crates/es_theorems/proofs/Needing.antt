@@ -1,0 +1,254 @@
+-- An agent asks for a message exactly where the first deed of its next event ends a wait for it.
+use Rattle.std.proofs.Common.{◌≡◌, ℕ, ◌==◌, ◌&&◌, not, Bool, true, false, cond, sym, ◌∙◌, ap, refl, subst, List, [], ◌∷◌, Option, Some, None, eq-eqb, eqb-true}
+use Rattle.std.specs.Prelude.{ℤ, is_some, slice_get}
+use Rattle.std.specs.Option.{option_and_then, option_map, option_map_or}
+use Rattle.std.proofs.lemmas.Bool.{and_parts, false≢true, not-true}
+use Rattle.es_value.specs.declared.value.Value.{Value}
+use Rattle.es_event.specs.declared.access.Access.{Access}
+use Rattle.es_event.specs.declared.command.Command.{Command}
+use Rattle.es_event.specs.declared.command.Command.TheVariants.{SharedArrayBuffer}
+use Rattle.es_event.specs.declared.event.Answer.{Answer}
+use Rattle.es_event.specs.declared.event.Event.{Event}
+use Rattle.es_event.specs.declared.event.Event.TheVariants.{Received, Did, Refused, Emptied, Skipped, Closed}
+use Rattle.es_event.specs.declared.event.Refusal.{Refusal}
+use Rattle.es_event.specs.declared.ledger_event.LedgerEvent.{LedgerEvent}
+use Rattle.es_event.specs.declared.ledger_event.LedgerEvent.TheVariants.{Opened, Posted, Taken, Spent, Accessed, Waiting, Passed, Ended, Drained}
+use Rattle.es_event.specs.declared.plan.AgentPlan.{AgentPlan}
+use Rattle.es_event.specs.declared.row.Row.{Row}
+use Rattle.es_event.specs.Access.{access_of}
+use Rattle.es_event.specs.Commands.{first}
+use Rattle.es_event.specs.Follows.{Permits}
+use Rattle.es_event.specs.History.{History}
+use Rattle.es_event.specs.Jobs.{Receivers, job, receivers}
+use Rattle.es_event.specs.Ledger.{Ledger, front, holder_of, waits}
+use Rattle.es_event.specs.LegalLedger.{MayCome, has_message, skips}
+use Rattle.es_event.specs.Order.{Due, receive, run as run_due, due, phase}
+use Rattle.es_event.specs.Runs.{IsRunOver}
+use Rattle.es_event.specs.Sharing.{Buffers}
+use Rattle.es_match.specs.Deeds.{Deed, Owned, Opens, Posts, Takes, Spends, Accesses, Waits, Passes, Ends, deed, taking}
+use Rattle.es_match.specs.Patience.{ends_wait}
+use Rattle.es_match.specs.Asks.{nothing, to_receive, to_refuse, to_pass, asks_did, between_jobs, given, wants_room}
+use Rattle.es_match.specs.Cluster.{awaited, is_refusal_asked}
+use Rattle.es_match.specs.Meets.{Tickets, after, gives, is_access, is_one, is_post, opening, refused_in, serials_of, sole, some_if, spends, within}
+use Rattle.es_ledger.specs.Turns.{asked, judged, told}
+use Rattle.es_ledger.specs.declared.turn.Turn.{Turn}
+use Rattle.es_ledger.specs.declared.turn.Turn.TheVariants.{Ready, Stay, Skip}
+use Rattle.es_record.specs.AgentView.{AgentView, IsNext, with_row}
+use Rattle.es_rules.specs.Needs.{asks_message, need, need_of}
+use Rattle.es_rules.proofs.Needs.{message_due}
+use Rattle.es_agent.specs.Tickets.{is_ended, tickets}
+use Rattle.es_agent.proofs.Racks.{open_after, open_before}
+use Rattle.es_cluster.proofs.Asking.{at_command, at_message, awaited_at}
+use Rattle.es_theorems.specs.Grown.{asked_by}
+use Rattle.es_theorems.specs.Underway.{closes}
+use Rattle.es_cluster.proofs.Growing.{doer}
+
+some_if_true : {A : Type 0} (b : Bool) (x y : A) → some_if b x ≡ Some y → b ≡ true
+some_if_true true x y e = refl
+some_if_true false x y e = cc
+
+-- The first deed of a message
+
+-- there is a first deed, and it ends a wait for this sender
+pub record EndsFirst (s : ℕ) (now : List Deed) : Type 0 where
+  pub first : Deed
+  pub others : List Deed
+  pub is : now ≡ first ∷ others
+  pub ends : ends_wait s first ≡ true
+
+received_first : (t left : Tickets) (s : ℕ) (v : Value) (now : List Deed) → after t (to_receive s v) now ≡ Some left → EndsFirst s now
+received_first t left s v (Takes u m w ∷ []) e = record { first = Takes u m w; others = []; is = refl; ends = at (u == s) refl e }
+  where
+    at : (b : Bool) → (u == s) ≡ b → cond b (option_and_then (λ b. gives t v b w) m) None ≡ Some left → (u == s) ≡ true
+    at true is got = is
+    at false is got = cc
+received_first t left s v [] e = cc
+received_first t left s v (d ∷ []) e = cc
+received_first t left s v (c ∷ d ∷ ds) e = cc
+
+refused_first : (t left : Tickets) (s : ℕ) (now : List Deed) → after t to_refuse now ≡ Some left → refused_in to_refuse now ≡ s ∷ [] → EndsFirst s now
+refused_first t left s (Takes u m w ∷ d ∷ []) e sender =
+    let same : u ≡ s = ap (λ ns. option_map_or (λ n. n) (slice_get ns 0) u) sender in
+    record { first = Takes u m w; others = d ∷ []; is = refl; ends = eq-eqb u s same }
+refused_first t left s [] e sender = cc
+refused_first t left s (d ∷ []) e sender = cc
+refused_first t left s (b ∷ c ∷ d ∷ ds) e sender = cc
+refused_first t left s (c ∷ d ∷ []) e sender = cc
+
+passed_first : (t left : Tickets) (s : ℕ) (now : List Deed) → after t (to_pass s) now ≡ Some left → EndsFirst s now
+passed_first t left s (Passes u ∷ []) e = record { first = Passes u; others = []; is = refl; ends = some_if_true (u == s) t left e }
+passed_first t left s [] e = cc
+passed_first t left s (d ∷ []) e = cc
+passed_first t left s (c ∷ d ∷ ds) e = cc
+
+pub message_first : (b : AgentView) (r : Option Row) (e : Event) (s : ℕ) (now : List Deed) (left : Tickets) → IsRunOver b.over b.plan b.history → IsNext (with_row r b) e → need b ≡ asks_message s → after (tickets b) (asked_by b e) now ≡ Some left
+    → refused_in (asked_by b e) now ≡ cond (is_refusal_asked (asked_by b e)) (awaited b.plan (job b.history)) [] → EndsFirst s now
+message_first b r e s now left history next asks_it met named =
+    let it = message_due b (due b.plan b.history) s asks_it in
+    at e it.0 it.1 (subst (λ d. Permits (with_row r b).over (receivers b.plan.jobs) b.history d e) it.1 next.permitted) met named
+  where
+    at : (e : Event) (n : ℕ) → due b.plan b.history ≡ receive n s → Permits (with_row r b).over (receivers b.plan.jobs) b.history (receive n s) e → after (tickets b) (asked_by b e) now ≡ Some left
+        → refused_in (asked_by b e) now ≡ cond (is_refusal_asked (asked_by b e)) (awaited b.plan (job b.history)) [] → EndsFirst s now
+    at (Received t v) n is may met named = subst (λ s. EndsFirst s now) may.0 (received_first (tickets b) left t v now met)
+    at (Refused code) n is may met named =
+        let between = at_message b.over b.plan b.history n s history.1 is in
+        let asked' : asked_by b (Refused code) ≡ to_refuse = ap (λ t. cond (t && wants_room code) to_refuse nothing) between ∙ ap (λ code. cond (wants_room code) to_refuse nothing) may.0 in
+        refused_first (tickets b) left s now (ap (λ w. after (tickets b) w now) (sym asked') ∙ met)
+        (ap (λ w. refused_in w now) (sym asked') ∙ named ∙ ap (λ w. cond (is_refusal_asked w) (awaited b.plan (job b.history)) []) asked' ∙ awaited_at b.plan b.history n s is)
+    at (Skipped j t) n is may met named = subst (λ s. EndsFirst s now) may.1 (passed_first (tickets b) left t now met)
+    at _ n is may met named = absurd may
+
+-- The other way
+
+spends_none : (closing : Bool) (ns : List ℕ) (d : Deed) (ds : List Deed) (s : ℕ) → spends closing ns (d ∷ ds) ≡ true → ends_wait s d ≡ false
+spends_none false [] d ds s is = cc
+spends_none true [] Ends ds s is = refl
+spends_none true [] d ds s is = cc
+spends_none closing (n ∷ ns) (Spends q) ds s is = refl
+spends_none closing (n ∷ ns) d ds s is = cc
+
+sole_none : (f : Deed → Option Tickets) (d : Deed) (ds : List Deed) (x : Tickets) (s : ℕ) → ((d : Deed) → ends_wait s d ≡ true → f d ≡ None) → option_and_then f (sole (d ∷ ds)) ≡ Some x → ends_wait s d ≡ false
+sole_none f d [] x s none e = at (ends_wait s d) refl
+  where
+    at : (b : Bool) → ends_wait s d ≡ b → ends_wait s d ≡ false
+    at false is = is
+    at true is = let clash : ◌≡◌ {A = Option Tickets} None (Some x) = sym (none d is) ∙ e in cc
+sole_none f d (c ∷ ds) x s none e = cc
+
+is_one_none : (test : Deed → Bool) (d : Deed) (ds : List Deed) (s : ℕ) → ((d : Deed) → ends_wait s d ≡ true → test d ≡ false) → is_one test (d ∷ ds) ≡ true → ends_wait s d ≡ false
+is_one_none test d [] s none e = at (ends_wait s d) refl
+  where
+    at : (b : Bool) → ends_wait s d ≡ b → ends_wait s d ≡ false
+    at false is = is
+    at true is = absurd (false≢true (sym (none d is) ∙ e))
+is_one_none test d (c ∷ ds) s none e = cc
+
+opening_none : (t : Tickets) (n : ℕ) (v : Value) (s : ℕ) (d : Deed) → ends_wait s d ≡ true → opening t n v d ≡ None
+opening_none t n v s (Opens b w q) is = cc
+opening_none t n v s _ is = refl
+
+access_none : (t : Tickets) (b : Value) (i : ℤ) (m : Access) (v : Value) (s : ℕ) (d : Deed) → ends_wait s d ≡ true → is_access t b i m v d ≡ false
+access_none t b i m v s (Accesses q j c old) is = cc
+access_none t b i m v s _ is = refl
+
+post_none : (t : Tickets) (q : ℕ) (v : Value) (s : ℕ) (d : Deed) → ends_wait s d ≡ true → is_post t q v d ≡ false
+post_none t q v s (Posts r m) is = cc
+post_none t q v s _ is = refl
+
+did_none : (c : Command) (vs : List Value) (a : Answer) (t left : Tickets) (d : Deed) (ds : List Deed) (s : ℕ) → after t (asks_did c vs a) (d ∷ ds) ≡ Some left → ends_wait s d ≡ false
+did_none (SharedArrayBuffer to n) vs a t left d ds s e = sole_none (opening t n (given a)) d ds left s (opening_none t n (given a) s) e
+did_none (Command.Length to b) vs a t left d ds s e = cc
+did_none (Command.SameBlock to b c) vs a t left d ds s e = cc
+did_none (Command.Atomic c) vs a t left d ds s e =
+    is_one_none (is_access t (first vs) c.index (access_of c.operation) (given a)) d ds s (access_none t (first vs) c.index (access_of c.operation) (given a) s) (some_if_true _ t left e)
+did_none (Command.Post q y) vs a t left d ds s e = is_one_none (is_post t q (first vs)) d ds s (post_none t q (first vs) s) (some_if_true _ t left e)
+did_none _ vs a t left d ds s e = cc
+
+-- where an event may come that takes a message or skips one
+received_due : (over : Buffers) (into : Receivers) (h : History) (d : Due) (t : ℕ) (v : Value) → Permits over into h d (Received t v) → (n : ℕ) × (d ≡ receive n t)
+received_due over into h (receive n s) t v may = (n, ap (receive n) (sym may.0))
+received_due over into h (run_due c) t v may = absurd may
+received_due over into h _ t v may = absurd may
+
+skipped_due : (over : Buffers) (into : Receivers) (h : History) (d : Due) (j t : ℕ) → Permits over into h d (Skipped j t) → (n : ℕ) × (d ≡ receive n t)
+skipped_due over into h (receive n s) j t may = (n, ap (receive n) (sym may.1))
+skipped_due over into h (run_due c) j t may = absurd may
+skipped_due over into h _ j t may = absurd may
+
+refused_due : (over : Buffers) (into : Receivers) (plan : AgentPlan) (h : History) (code : Refusal) (d : Due) → due plan h ≡ d → Permits over into h d (Refused code) → between_jobs h ≡ true → (n s : ℕ) × (due plan h ≡ receive n s)
+refused_due over into plan h code (run_due c) is may between = absurd (false≢true (sym (at_command plan h c is) ∙ between))
+refused_due over into plan h code (receive n s) is may between = (n, s, is)
+refused_due over into plan h code _ is may between = absurd may
+
+two_same : (s t : ℕ) (d : Deed) → ends_wait s d ≡ true → ends_wait t d ≡ true → s ≡ t
+two_same s t (Takes u m w) a b = sym (eqb-true u s a) ∙ eqb-true u t b
+two_same s t (Passes u) a b = sym (eqb-true u s a) ∙ eqb-true u t b
+two_same s t _ a b = cc
+
+the_first : (s t : ℕ) (d : Deed) (ds : List Deed) → ends_wait s d ≡ true → EndsFirst t (d ∷ ds) → t ≡ s
+the_first s t d ds ends f = let same : d ≡ f.first = (let i = f.is in cc) in two_same t s d (ap (ends_wait t) same ∙ f.ends) ends
+
+pub first_message : (b : AgentView) (r : Option Row) (e : Event) (s : ℕ) (d : Deed) (ds : List Deed) (left : Tickets) → IsNext (with_row r b) e → after (tickets b) (asked_by b e) (d ∷ ds) ≡ Some left
+    → refused_in (asked_by b e) (d ∷ ds) ≡ cond (is_refusal_asked (asked_by b e)) (awaited b.plan (job b.history)) [] → ends_wait s d ≡ true → need b ≡ asks_message s
+first_message b r (Received t v) s d ds left next met named ends =
+    let at = received_due (with_row r b).over (receivers b.plan.jobs) b.history (due b.plan b.history) t v next.permitted in
+    let same = the_first s t d ds ends (received_first (tickets b) left t v (d ∷ ds) met) in
+    ap (need_of b) at.1 ∙ ap asks_message same
+first_message b r (Skipped j t) s d ds left next met named ends =
+    let at = skipped_due (with_row r b).over (receivers b.plan.jobs) b.history (due b.plan b.history) j t next.permitted in
+    let same = the_first s t d ds ends (passed_first (tickets b) left t (d ∷ ds) met) in
+    ap (need_of b) at.1 ∙ ap asks_message same
+first_message b r (Refused code) s d ds left next met named ends = at (between_jobs b.history && wants_room code) refl met named
+  where
+    at : (t : Bool) → (between_jobs b.history && wants_room code) ≡ t → after (tickets b) (cond t to_refuse nothing) (d ∷ ds) ≡ Some left
+        → refused_in (cond t to_refuse nothing) (d ∷ ds) ≡ cond (is_refusal_asked (cond t to_refuse nothing)) (awaited b.plan (job b.history)) [] → need b ≡ asks_message s
+    at false is met named = cc
+    at true is met named =
+        let it = refused_due (with_row r b).over (receivers b.plan.jobs) b.plan b.history code (due b.plan b.history) refl next.permitted (and_parts (between_jobs b.history) (wants_room code) is).0 in
+        let same = the_first s it.1 d ds ends (refused_first (tickets b) left it.1 (d ∷ ds) met (named ∙ awaited_at b.plan b.history it.0 it.1 it.2)) in
+        ap (need_of b) it.2 ∙ ap asks_message same
+first_message b r (Did (c, vs, a)) s d ds left next met named ends = absurd (false≢true (sym (did_none c vs a (tickets b) left d ds s met) ∙ ends))
+first_message b r (Emptied ids) s d ds left next met named ends = absurd (false≢true (sym (spends_none false (serials_of (within ids (tickets b))) d ds s (some_if_true _ _ left met)) ∙ ends))
+first_message b r Closed s d ds left next met named ends = absurd (false≢true (sym (spends_none true (serials_of (tickets b)) d ds s (some_if_true _ _ left met)) ∙ ends))
+first_message b r _ s d ds left next met named ends = cc
+
+-- Whether the agent closes
+
+pub did_not_close : (c : Command) (vs : List Value) (a : Answer) → closes (asks_did c vs a) ≡ false
+did_not_close (SharedArrayBuffer to n) vs a = refl
+did_not_close (Command.Length to b) vs a = refl
+did_not_close (Command.SameBlock to b c) vs a = refl
+did_not_close (Command.Atomic c) vs a = refl
+did_not_close (Command.Post q y) vs a = refl
+did_not_close _ vs a = refl
+
+pub refused_not : (t : Bool) → closes (cond t to_refuse nothing) ≡ false
+refused_not true = refl
+refused_not false = refl
+
+pub closes_is : (b : AgentView) (r : Option Row) (e : Event) → IsNext (with_row r b) e → closes (asked_by b e) ≡ is_ended (phase (e ∷ b.history))
+closes_is b r Closed next = refl
+closes_is b r (Did (c, vs, a)) next = did_not_close c vs a ∙ sym (open_after b.history (Did (c, vs, a)) (λ f. cc) (open_before (with_row r b) (Did (c, vs, a)) next))
+closes_is b r (Refused code) next = refused_not (between_jobs b.history && wants_room code)
+closes_is b r e next = sym (open_after b.history e (λ f. cc) (open_before (with_row r b) e next))
+
+-- What it is told
+
+held_none : (o : Option (ℕ × Row)) (a : ℕ) (e d : Deed) (s : ℕ) → ends_wait s e ≡ false → option_map {U = ℕ × Deed} (λ p. (p.0, e)) o ≡ Some (a, d) → ends_wait s d ≡ true → ⊥
+held_none None a e d s none is ends = cc
+held_none (Some p) a e d s none is ends = false≢true (sym none ∙ ap (λ o. option_map_or (λ p. ends_wait s p.1) o false) is ∙ ends)
+
+its : (a b : ℕ) (e d : Deed) (s : ℕ) → ◌≡◌ {A = Owned} (Some (a, e)) (Some (b, d)) → ends_wait s d ≡ true → ends_wait s e ≡ true
+its a b e d s is ends = ap (λ o. option_map_or (λ p. ends_wait s p.1) o false) is ∙ ends
+
+abbrev pub turn_of : Turn × Ledger → Turn
+turn_of p = p.0
+
+pub told_right : (n : ℕ) (m : Ledger) (x : LedgerEvent) (i s : ℕ) (d : Deed) → MayCome n m x → deed m x ≡ Some (i, d) → ends_wait s d ≡ true → (told m n i s).0 ≡ Stay → ⊥
+told_right n m (Taken t u) i s d may is ends stay =
+    let user : u ≡ i = doer (deed m (Taken t u)) i u d is in
+    let sender : t ≡ s = eqb-true t s (its u i (taking m t (front m t u)) d s is ends) in
+    let there : has_message m s i ≡ true = ap (λ t. has_message m t i) (sym sender) ∙ ap (has_message m t) (sym user) ∙ may in
+    let ready : (told m n i s).0 ≡ Ready = ap (λ b. turn_of (cond b (Ready, m) (judged (asked m i s) n i s))) there in
+    let clash : ◌≡◌ {A = Turn} Ready Stay = sym ready ∙ stay in cc
+told_right n m (Passed u t) i s d may is ends stay =
+    let user : u ≡ i = doer (deed m (Passed u t)) i u d is in
+    let sender : t ≡ s = eqb-true t s (its u i (Passes t) d s is ends) in
+    let waiting : waits m i ≡ Some s = ap (waits m) (sym user) ∙ may.0 ∙ ap Some sender in
+    let skip : skips m n i s ≡ true = ap (λ t. skips m n i t) (sym sender) ∙ ap (λ u. skips m n u t) (sym user) ∙ may.1 in
+    let none : has_message m s i ≡ false = not-true (has_message m s i) (and_parts (not (has_message m s i)) _ skip).0 in
+    let same : asked m i s ≡ m = ap (λ w. cond (is_some w) m (Waiting i s ∷ m)) waiting in
+    let skipping : (told m n i s).0 ≡ Skip =
+    ap (λ b. turn_of (cond b (Ready, m) (judged (asked m i s) n i s))) none ∙ ap (λ l. turn_of (judged l n i s)) same
+    ∙ ap (λ w. turn_of (cond (option_map_or (λ t. t == s) w false && skips m n i s) (Skip, Passed i s ∷ m) (Stay, m))) waiting
+    ∙ ap (λ b. turn_of (cond (b && skips m n i s) (Skip, Passed i s ∷ m) (Stay, m))) (eq-eqb s s refl)
+    ∙ ap (λ b. turn_of (cond b (Skip, Passed i s ∷ m) (Stay, m))) skip
+    in
+    let clash : ◌≡◌ {A = Turn} Skip Stay = sym skipping ∙ stay in cc
+told_right n m (Opened b w q u) i s d may is ends stay = let clash = its u i (Opens b w q) d s is ends in cc
+told_right n m (Posted u r b) i s d may is ends stay = let clash = its u i (Posts r b) d s is ends in cc
+told_right n m (Spent q) i s d may is ends stay = held_none (holder_of m q) i (Spends q) d s refl is ends
+told_right n m (Accessed q j c old) i s d may is ends stay = held_none (holder_of m q) i (Accesses q j c old) d s refl is ends
+told_right n m (Waiting u t) i s d may is ends stay = let clash = its u i (Waits t) d s is ends in cc
+told_right n m (Ended u) i s d may is ends stay = let clash = its u i Ends d s is ends in cc
+told_right n m (Drained t u) i s d may is ends stay = cc

@@ -1,0 +1,318 @@
+-- What events leave that follow one after the other.
+use Rattle.std.proofs.Common.{◌≡◌, ℕ, ◌&&◌, ◌||◌, not, Bool, true, false, cond, sym, ◌∙◌, ap, refl, subst, List, [], ◌∷◌, ◌++◌, append-nil, append_assoc, Option, Some, None, ne_eqb, eq-eqb}
+use Rattle.std.specs.Option.{option_and_then, option_map, option_map_or}
+use Rattle.std.proofs.lemmas.Bool.{and_parts, false≢true}
+use Rattle.es_event.specs.declared.ledger_event.Body.{Body}
+use Rattle.es_event.specs.declared.ledger_event.Body.TheVariants.{Plain, Block}
+use Rattle.es_event.specs.declared.ledger_event.LedgerEvent.{LedgerEvent}
+use Rattle.es_event.specs.declared.ledger_event.LedgerEvent.TheVariants.{Opened, Posted, Taken, Spent, Accessed, Waiting, Passed, Ended, Drained}
+use Rattle.es_event.specs.declared.row.Row.{Row}
+use Rattle.es_event.specs.Ledger.{Ledger, ended, front, holder_of, is_end_of, waits}
+use Rattle.es_match.specs.Deeds.{Deed, Owned, Opens, Posts, Takes, Spends, Accesses, Waits, Passes, Ends, deed, is_wait, part, part_of, taking}
+use Rattle.es_match.specs.Patience.{drained_last, ends_wait, has_drained, is_nobodys, is_patient, may_do, patient}
+use Rattle.es_match.specs.Asks.{Asking, nothing, to_open, to_measure, to_compare, to_access, to_post, to_receive, to_refuse, to_pass, to_empty, to_close}
+use Rattle.es_match.specs.Meets.{Tickets, after, is_access, is_one, is_pass, is_post, is_refusal, no_more, opening, pair, receiving, serials_of, sole, some_if, spends, strike, within}
+use Rattle.es_cluster.specs.Tied.{GrowsBy}
+use Rattle.es_cluster.proofs.Growing.{grows_none, grows_on, grows_one}
+use Rattle.es_theorems.specs.Ahead.{Acts, Steps, ahead, played}
+use Rattle.es_theorems.specs.Found.{AllMine, AreSpends}
+use Rattle.es_theorems.specs.Underway.{closes, has_end, is_end}
+use Rattle.es_cluster.proofs.Growing.{doer}
+use Rattle.es_theorems.proofs.Gathering.{part_mine}
+
+-- Parts
+
+pub part_played : (es : List LedgerEvent) (l : Ledger) (a : ℕ) → part (played es l) a ≡ part l a ++ ahead es l a
+part_played [] l a = sym (append-nil (part l a))
+part_played (e ∷ es) l a = part_played es (e ∷ l) a ∙ append_assoc (part l a) (part_of a (deed l e)) (ahead es (e ∷ l) a)
+
+pub ahead_append : (xs ys : List LedgerEvent) (l : Ledger) (a : ℕ) → ahead (xs ++ ys) l a ≡ ahead xs l a ++ ahead ys (played xs l) a
+ahead_append [] ys l a = refl
+ahead_append (x ∷ xs) ys l a = ap (λ ds. part_of a (deed l x) ++ ds) (ahead_append xs ys (x ∷ l) a) ∙ sym (append_assoc (part_of a (deed l x)) (ahead xs (x ∷ l) a) (ahead ys (played xs (x ∷ l)) a))
+
+pub played_append : (xs ys : List LedgerEvent) (l : Ledger) → played (xs ++ ys) l ≡ played ys (played xs l)
+played_append [] ys l = refl
+played_append (x ∷ xs) ys l = played_append xs ys (x ∷ l)
+
+pub mine_none : (a b : ℕ) (es : List LedgerEvent) (l : Ledger) → AllMine a es l → (b ≡ a → ⊥) → ahead es l b ≡ []
+mine_none a b [] l mine other = refl
+mine_none a b (e ∷ es) l mine other =
+    ap (λ o. part_of b o ++ ahead es (e ∷ l) b) mine.0.1
+    ∙ ap (λ t. cond (t && not (is_wait mine.0.0)) (mine.0.0 ∷ []) [] ++ ahead es (e ∷ l) b) (ne_eqb a b (λ same. other (sym same)))
+    ∙ mine_none a b es (e ∷ l) mine.1 other
+
+pub mine_grows : (a : ℕ) (es : List LedgerEvent) (l : Ledger) → AllMine a es l → GrowsBy a l (played es l)
+mine_grows a [] l mine = grows_none a l
+mine_grows a (e ∷ es) l mine = grows_on a l (e ∷ l) (played es (e ∷ l)) (grows_one a l (e ∷ l) e mine.0.0 refl mine.0.1) (mine_grows a es (e ∷ l) mine.1)
+
+-- Patience
+
+patient_one : (k : ℕ) (l : Ledger) (o : Owned) → Acts k l o → is_patient l o ≡ true
+patient_one k l None acts = refl
+patient_one k l (Some p) acts = acts.3
+
+last_one : (k : ℕ) (l : Ledger) (o : Owned) → Acts k l o → (is_nobodys o || not (has_drained l)) ≡ true
+last_one k l None acts = refl
+last_one k l (Some p) acts = ap not acts.2
+
+pub patient_played : (k : ℕ) (es : List LedgerEvent) (l : Ledger) → Steps k es l → patient l ≡ true → patient (played es l) ≡ true
+patient_played k [] l steps is = is
+patient_played k (e ∷ es) l steps is = patient_played k es (e ∷ l) steps.1 (ap (λ b. b && patient l) (patient_one k l (deed l e) steps.0.acts) ∙ is)
+
+pub last_played : (k : ℕ) (es : List LedgerEvent) (l : Ledger) → Steps k es l → drained_last l ≡ true → drained_last (played es l) ≡ true
+last_played k [] l steps is = is
+last_played k (e ∷ es) l steps is = last_played k es (e ∷ l) steps.1 (ap (λ b. b && drained_last l) (last_one k l (deed l e) steps.0.acts) ∙ is)
+
+-- Waits
+
+free_unless : (w : Option ℕ) (d : Deed) → may_do w d ≡ true → ((s : ℕ) → ends_wait s d ≡ false) → w ≡ None
+free_unless None d may none = refl
+free_unless (Some s) d may none = absurd (false≢true (sym (none s) ∙ may))
+
+its_deed : (a b : ℕ) (d e : Deed) → ◌≡◌ {A = Owned} (Some (a, d)) (Some (b, e)) → d ≡ e
+its_deed a b d e is = ap (λ o. option_map_or (λ p. p.1) o e) is
+
+held_deed : (o : Option (ℕ × Row)) (a : ℕ) (e d : Deed) → option_map {U = ℕ × Deed} (λ p. (p.0, e)) o ≡ Some (a, d) → e ≡ d
+held_deed None a e d is = cc
+held_deed (Some p) a e d is = its_deed p.0 a e d is
+
+pub free_after : (l : Ledger) (x : LedgerEvent) (a : ℕ) (d : Deed) → deed l x ≡ Some (a, d) → is_wait d ≡ false → may_do (waits l a) d ≡ true → waits (x ∷ l) a ≡ None
+free_after l (Opened b w s c) a d is quick may = free_unless (waits l a) d may (λ s'. ap (ends_wait s') (sym (its_deed c a _ d is)))
+free_after l (Posted c r m) a d is quick may = free_unless (waits l a) d may (λ s'. ap (ends_wait s') (sym (its_deed c a _ d is)))
+free_after l (Taken s r) a d is quick may = ap (λ t. cond t None (waits l a)) (eq-eqb r a (doer (deed l (Taken s r)) a r d is))
+free_after l (Spent s) a d is quick may = free_unless (waits l a) d may (λ s'. ap (ends_wait s') (sym (held_deed (holder_of l s) a (Spends s) d is)))
+free_after l (Accessed s i m old) a d is quick may = free_unless (waits l a) d may (λ s'. ap (ends_wait s') (sym (held_deed (holder_of l s) a (Accesses s i m old) d is)))
+free_after l (Waiting c s) a d is quick may = let same = its_deed c a (Waits s) d is in let clash = ap is_wait same ∙ quick in cc
+free_after l (Passed c s) a d is quick may = ap (λ t. cond t None (waits l a)) (eq-eqb c a (doer (deed l (Passed c s)) a c d is))
+free_after l (Ended c) a d is quick may = free_unless (waits l a) d may (λ s'. ap (ends_wait s') (sym (its_deed c a _ d is)))
+free_after l (Drained s r) a d is quick may = cc
+
+pub free_played : (k : ℕ) (es : List LedgerEvent) (l : Ledger) (a : ℕ) → Steps k es l → AllMine a es l → waits l a ≡ None → waits (played es l) a ≡ None
+free_played k [] l a steps mine free = free
+free_played k (e ∷ es) l a steps mine free =
+    free_played k es (e ∷ l) a steps.1 mine.1 (free_after l e a mine.0.0 mine.0.1 mine.0.2 (ap (λ w. may_do w mine.0.0) free))
+
+-- Ends
+
+pub end_is : (l : Ledger) (x : LedgerEvent) (a : ℕ) (d : Deed) → deed l x ≡ Some (a, d) → is_end_of x a ≡ is_end d
+end_is l (Opened b w s c) a d is = ap is_end (its_deed c a (Opens b w s) d is)
+end_is l (Posted c r m) a d is = ap is_end (its_deed c a (Posts r m) d is)
+end_is l (Taken s r) a d is = ap is_end (its_deed r a (taking l s (front l s r)) d is)
+end_is l (Spent s) a d is = ap is_end (held_deed (holder_of l s) a (Spends s) d is)
+end_is l (Accessed s i m old) a d is = ap is_end (held_deed (holder_of l s) a (Accesses s i m old) d is)
+end_is l (Waiting c s) a d is = ap is_end (its_deed c a (Waits s) d is)
+end_is l (Passed c s) a d is = ap is_end (its_deed c a (Passes s) d is)
+end_is l (Ended c) a d is = eq-eqb c a (doer (deed l (Ended c)) a c d is) ∙ ap is_end (its_deed c a Ends d is)
+end_is l (Drained s r) a d is = cc
+
+or_swapped : (a b c : Bool) → (a || (b || c)) ≡ ((b || a) || c)
+or_swapped true true c = refl
+or_swapped true false c = refl
+or_swapped false true c = refl
+or_swapped false false c = refl
+
+pub ended_played : (es : List LedgerEvent) (l : Ledger) (a : ℕ) → AllMine a es l → ended (played es l) a ≡ (has_end (ahead es l a) || ended l a)
+ended_played [] l a mine = refl
+ended_played (e ∷ es) l a mine =
+    ended_played es (e ∷ l) a mine.1
+    ∙ ap (λ b. has_end (ahead es (e ∷ l) a) || (b || ended l a)) (end_is l e a mine.0.0 mine.0.1)
+    ∙ or_swapped (has_end (ahead es (e ∷ l) a)) (is_end mine.0.0) (ended l a)
+    ∙ ap (λ ds. has_end (ds ++ ahead es (e ∷ l) a) || ended l a) (sym (part_mine a mine.0.0 (deed l e) mine.0.1 mine.0.2))
+
+-- Deeds that meet what is asked
+
+some_if_true : {A : Type 0} (b : Bool) (x y : A) → some_if b x ≡ Some y → b ≡ true
+some_if_true true x y e = refl
+some_if_true false x y e = cc
+
+spends_end : (closing : Bool) (ns : List ℕ) (ds : List Deed) → spends closing ns ds ≡ true → has_end ds ≡ closing
+spends_end false [] [] is = refl
+spends_end true [] (Ends ∷ []) is = refl
+spends_end closing [] ds is = cc
+spends_end closing (n ∷ ns) (Spends s ∷ ds) is = at (strike s (n ∷ ns)) (λ ms got. spends_end closing ms ds got) is
+  where
+    at : (o : Option (List ℕ)) → ((ms : List ℕ) → spends closing ms ds ≡ true → has_end ds ≡ closing) → option_map_or (λ ms. spends closing ms ds) o false ≡ true → has_end ds ≡ closing
+    at None more got = cc
+    at (Some ms) more got = more ms got
+spends_end closing (n ∷ ns) _ is = cc
+
+pub spends_are : (closing : Bool) (ns : List ℕ) (ds : List Deed) → spends closing ns ds ≡ true → AreSpends ds
+spends_are false [] [] is = tt
+spends_are true [] (Ends ∷ []) is = refl
+spends_are closing [] ds is = cc
+spends_are closing (n ∷ ns) (Spends s ∷ ds) is = at (strike s (n ∷ ns)) (λ ms got. spends_are closing ms ds got) is
+  where
+    at : (o : Option (List ℕ)) → ((ms : List ℕ) → spends closing ms ds ≡ true → AreSpends ds) → option_map_or (λ ms. spends closing ms ds) o false ≡ true → AreSpends ds
+    at None more got = cc
+    at (Some ms) more got = more ms got
+spends_are closing (n ∷ ns) _ is = cc
+
+abbrev tail_of : List Deed → List Deed
+tail_of [] = []
+tail_of (d ∷ ds) = ds
+
+tail_spends : (ds : List Deed) → AreSpends ds → AreSpends (tail_of ds)
+tail_spends [] is = tt
+tail_spends (Spends s ∷ ds) is = is
+tail_spends (Ends ∷ ds) is = subst AreSpends (sym is) tt
+tail_spends (d ∷ ds) is = absurd is
+
+-- what one deed meets
+sole_one : {A : Type 0} (f : Deed → Option A) (ds : List Deed) (x : A) → option_and_then f (sole ds) ≡ Some x → (d : Deed) × (ds ≡ d ∷ []) × (f d ≡ Some x)
+sole_one f (d ∷ []) x e = (d, refl, e)
+sole_one f [] x e = cc
+sole_one f (c ∷ d ∷ ds) x e = cc
+
+is_one_one : (test : Deed → Bool) (ds : List Deed) → is_one test ds ≡ true → (d : Deed) × (ds ≡ d ∷ []) × (test d ≡ true)
+is_one_one test (d ∷ []) e = (d, refl, e)
+is_one_one test [] e = cc
+is_one_one test (c ∷ d ∷ ds) e = cc
+
+none_end : (ds : List Deed) → no_more ds ≡ true → has_end ds ≡ false
+none_end [] e = refl
+none_end (d ∷ ds) e = cc
+
+sole_end : (f : Deed → Option Tickets) (ds : List Deed) (x : Tickets) → ((d : Deed) → is_end d ≡ true → f d ≡ None) → option_and_then f (sole ds) ≡ Some x → has_end ds ≡ false
+sole_end f ds x none e =
+    let one = sole_one f ds x e in
+    ap has_end one.1 ∙ at (is_end one.0) refl one.2
+  where
+    at : {d : Deed} (b : Bool) → is_end d ≡ b → f d ≡ Some x → (is_end d || false) ≡ false
+    at false is got = ap (λ b. b || false) is
+    at {d = d} true is got = let clash : ◌≡◌ {A = Option Tickets} None (Some x) = sym (none d is) ∙ got in cc
+
+is_one_end : (test : Deed → Bool) (ds : List Deed) → ((d : Deed) → is_end d ≡ true → test d ≡ false) → is_one test ds ≡ true → has_end ds ≡ false
+is_one_end test ds none e =
+    let one = is_one_one test ds e in
+    ap has_end one.1 ∙ at (is_end one.0) refl one.2
+  where
+    at : {d : Deed} (b : Bool) → is_end d ≡ b → test d ≡ true → (is_end d || false) ≡ false
+    at false is got = ap (λ b. b || false) is
+    at {d = d} true is got = absurd (false≢true (sym (none d is) ∙ got))
+
+refusal_end : (ds : List Deed) → option_map_or (λ p. is_refusal p.0 p.1) (pair ds) false ≡ true → has_end ds ≡ false
+refusal_end (Takes u m w ∷ d ∷ []) e = at m d e
+  where
+    at : (m : Option Body) (d : Deed) → Rattle.es_match.specs.Meets.spends_ticket_in m d ≡ true → (false || (is_end d || false)) ≡ false
+    at m (Spends q) e = refl
+    at None d e = cc
+    at (Some (Plain v)) d e = cc
+    at (Some (Block b k)) d e = absurd (false≢true e)
+refusal_end [] e = cc
+refusal_end (d ∷ []) e = cc
+refusal_end (b ∷ c ∷ d ∷ ds) e = cc
+refusal_end (c ∷ d ∷ []) e = cc
+
+pub end_asked : (t left : Tickets) (w : Asking) (ds : List Deed) → after t w ds ≡ Some left → has_end ds ≡ closes w
+end_asked t left nothing ds e = none_end ds (some_if_true _ t left e)
+end_asked t left (to_open n v) ds e = sole_end (opening t n v) ds left no_end e
+  where
+    no_end : (d : Deed) → is_end d ≡ true → opening t n v d ≡ None
+    no_end Ends is = refl
+    no_end _ is = cc
+end_asked t left (to_measure b v) ds e = none_end ds (and_parts (no_more ds) _ (some_if_true _ t left e)).0
+end_asked t left (to_compare b c v) ds e = none_end ds (and_parts (no_more ds) _ (some_if_true _ t left e)).0
+end_asked t left (to_access b i m v) ds e = is_one_end (is_access t b i m v) ds no_end (some_if_true _ t left e)
+  where
+    no_end : (d : Deed) → is_end d ≡ true → is_access t b i m v d ≡ false
+    no_end Ends is = refl
+    no_end _ is = cc
+end_asked t left (to_post a v) ds e = is_one_end (is_post t a v) ds no_end (some_if_true _ t left e)
+  where
+    no_end : (d : Deed) → is_end d ≡ true → is_post t a v d ≡ false
+    no_end Ends is = refl
+    no_end _ is = cc
+end_asked t left (to_receive s v) ds e = sole_end (receiving t s v) ds left no_end e
+  where
+    no_end : (d : Deed) → is_end d ≡ true → receiving t s v d ≡ None
+    no_end Ends is = refl
+    no_end _ is = cc
+end_asked t left to_refuse ds e = refusal_end ds (some_if_true _ t left e)
+end_asked t left (to_pass s) ds e = is_one_end (is_pass s) ds no_end (some_if_true _ t left e)
+  where
+    no_end : (d : Deed) → is_end d ≡ true → is_pass s d ≡ false
+    no_end Ends is = refl
+    no_end _ is = cc
+end_asked t left (to_empty ids) ds e = spends_end false (serials_of (within ids t)) ds (some_if_true _ _ left e)
+end_asked t left to_close ds e = spends_end true (serials_of t) ds (some_if_true _ _ left e)
+
+-- all deeds of an event but the first are spendings, and the end
+sole_tail : {A : Type 0} (f : Deed → Option A) (d : Deed) (ds : List Deed) (x : A) → option_and_then f (sole (d ∷ ds)) ≡ Some x → AreSpends ds
+sole_tail f d [] x e = tt
+sole_tail f d (c ∷ ds) x e = cc
+
+is_one_tail : (test : Deed → Bool) (d : Deed) (ds : List Deed) → is_one test (d ∷ ds) ≡ true → AreSpends ds
+is_one_tail test d [] e = tt
+is_one_tail test d (c ∷ ds) e = cc
+
+refusal_tail : (d : Deed) (ds : List Deed) → option_map_or (λ p. is_refusal p.0 p.1) (pair (d ∷ ds)) false ≡ true → AreSpends ds
+refusal_tail (Takes u m w) (c ∷ []) e = at m c e
+  where
+    at : (m : Option Body) (d : Deed) → Rattle.es_match.specs.Meets.spends_ticket_in m d ≡ true → AreSpends (d ∷ [])
+    at m (Spends q) e = tt
+    at None d e = cc
+    at (Some (Plain v)) d e = cc
+    at (Some (Block b k)) d e = absurd (false≢true e)
+refusal_tail d [] e = cc
+refusal_tail d (b ∷ c ∷ ds) e = cc
+refusal_tail d (c ∷ []) e = cc
+
+pub tail_asked : (t left : Tickets) (w : Asking) (d : Deed) (ds : List Deed) → after t w (d ∷ ds) ≡ Some left → AreSpends ds
+tail_asked t left nothing d ds e = cc
+tail_asked t left (to_open n v) d ds e = sole_tail (opening t n v) d ds left e
+tail_asked t left (to_measure b v) d ds e = cc
+tail_asked t left (to_compare b c v) d ds e = cc
+tail_asked t left (to_access b i m v) d ds e = is_one_tail (is_access t b i m v) d ds (some_if_true _ t left e)
+tail_asked t left (to_post a v) d ds e = is_one_tail (is_post t a v) d ds (some_if_true _ t left e)
+tail_asked t left (to_receive s v) d ds e = sole_tail (receiving t s v) d ds left e
+tail_asked t left to_refuse d ds e = refusal_tail d ds (some_if_true _ t left e)
+tail_asked t left (to_pass s) d ds e = is_one_tail (is_pass s) d ds (some_if_true _ t left e)
+tail_asked t left (to_empty ids) d ds e = tail_spends (d ∷ ds) (spends_are false (serials_of (within ids t)) (d ∷ ds) (some_if_true _ _ left e))
+tail_asked t left to_close d ds e = tail_spends (d ∷ ds) (spends_are true (serials_of t) (d ∷ ds) (some_if_true _ _ left e))
+
+-- the deed is the only one of its event
+abbrev pub is_alone : Deed → Bool
+is_alone (Opens b w s) = true
+is_alone (Posts r m) = true
+is_alone (Takes s m w) = false
+is_alone (Spends s) = false
+is_alone (Accesses s i m old) = true
+is_alone (Waits s) = true
+is_alone (Passes s) = true
+is_alone Ends = true
+
+sole_alone : {A : Type 0} (f : Deed → Option A) (d : Deed) (ds : List Deed) (x : A) → option_and_then f (sole (d ∷ ds)) ≡ Some x → ds ≡ []
+sole_alone f d [] x e = refl
+sole_alone f d (c ∷ ds) x e = cc
+
+is_one_alone : (test : Deed → Bool) (d : Deed) (ds : List Deed) → is_one test (d ∷ ds) ≡ true → ds ≡ []
+is_one_alone test d [] e = refl
+is_one_alone test d (c ∷ ds) e = cc
+
+refusal_alone : (d : Deed) (ds : List Deed) → option_map_or (λ p. is_refusal p.0 p.1) (pair (d ∷ ds)) false ≡ true → is_alone d ≡ true → ds ≡ []
+refusal_alone (Takes u m w) ds e alone = cc
+refusal_alone d [] e alone = cc
+refusal_alone d (b ∷ c ∷ ds) e alone = cc
+refusal_alone d (c ∷ []) e alone = cc
+
+spends_alone : (d : Deed) (ds : List Deed) → AreSpends (d ∷ ds) → is_alone d ≡ true → ds ≡ []
+spends_alone (Spends s) ds is alone = cc
+spends_alone Ends ds is alone = is
+spends_alone d ds is alone = absurd is
+
+pub alone_asked : (t left : Tickets) (w : Asking) (d : Deed) (ds : List Deed) → after t w (d ∷ ds) ≡ Some left → is_alone d ≡ true → ds ≡ []
+alone_asked t left nothing d ds e alone = cc
+alone_asked t left (to_open n v) d ds e alone = sole_alone (opening t n v) d ds left e
+alone_asked t left (to_measure b v) d ds e alone = cc
+alone_asked t left (to_compare b c v) d ds e alone = cc
+alone_asked t left (to_access b i m v) d ds e alone = is_one_alone (is_access t b i m v) d ds (some_if_true _ t left e)
+alone_asked t left (to_post a v) d ds e alone = is_one_alone (is_post t a v) d ds (some_if_true _ t left e)
+alone_asked t left (to_receive s v) d ds e alone = sole_alone (receiving t s v) d ds left e
+alone_asked t left to_refuse d ds e alone = refusal_alone d ds (some_if_true _ t left e) alone
+alone_asked t left (to_pass s) d ds e alone = is_one_alone (is_pass s) d ds (some_if_true _ t left e)
+alone_asked t left (to_empty ids) d ds e alone = spends_alone d ds (spends_are false (serials_of (within ids t)) (d ∷ ds) (some_if_true _ _ left e)) alone
+alone_asked t left to_close d ds e alone = spends_alone d ds (spends_are true (serials_of t) (d ∷ ds) (some_if_true _ _ left e)) alone
+
+pub end_alone : (d : Deed) → is_end d ≡ true → is_alone d ≡ true
+end_alone Ends is = refl
+end_alone _ is = cc

@@ -1,0 +1,33 @@
+-- Internal: a cluster in the middle of a run by turns, and two that tell the same.
+use Rattle.std.specs.Prelude.{ℕ, ◌≡◌, length, None, Some, slice_get}
+use Rattle.es_event.specs.LegalLedger.{owed}
+use Rattle.es_event.specs.Runs.{IsRunOver}
+use Rattle.es_cluster.specs.Tied.{IsTied}
+use Rattle.es_cluster.specs.Turned.{IsSeated}
+use Rattle.es_record.specs.AgentView.{AgentView}
+use Rattle.es_cluster.specs.State.{ClusterView}
+use Rattle.es_theorems.specs.Alike.{Alike}
+
+-- it is agent n, with its place and its part in the ledger, and its history is a run of its plan so far
+pub record StandsAt (c : ClusterView) (n : ℕ) (b : AgentView) : Type 0 where
+  pub number : b.number ≡ n
+  pub tied : IsTied b c.ledger.history
+  pub seated : IsSeated b c.ledger
+  pub run : IsRunOver b.over b.plan b.history
+
+-- so is each agent, and nothing was drained yet
+pub record Stands (c : ClusterView) : Type 0 where
+  pub size : length c.agents ≡ c.ledger.agents
+  pub each : (n : ℕ) (b : AgentView) → slice_get c.agents n ≡ Some b → StandsAt c n b
+  pub undrained : owed c.ledger.history ≡ None
+
+-- the same agents, and ledgers that tell the same
+pub record Same (c d : ClusterView) : Type 0 where
+  pub agents : c.agents ≡ d.agents
+  pub number : c.ledger.agents ≡ d.ledger.agents
+  pub ledgers : Alike c.ledger.history d.ledger.history
+
+pub record Together (c d : ClusterView) : Type 0 where
+  pub left : Stands c
+  pub right : Stands d
+  pub same : Same c d

@@ -1,6 +1,0 @@
-use Rattle.std.proofs.Common.{◌≡◌, map, drop}
-use Rattle.es_tokens.proofs.callback.are_named.Given as goal
-
--- where the names that are left are the same, all are
-abbrev pub invariant-loop-index : goal.invariant-loop-index
-invariant-loop-index l = map (λ x. x.name) (drop l.index l.callbacks) ≡ drop l.index l.names → map (λ x. x.name) l.callbacks ≡ l.names

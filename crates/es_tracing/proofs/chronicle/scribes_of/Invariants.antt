@@ -1,7 +1,0 @@
-use Rattle.std.proofs.Common.{take}
-use Rattle.es_cluster.specs.State.{cores}
-use Rattle.es_tracing.specs.Known.{HaveScribes}
-use Rattle.es_tracing.proofs.chronicle.scribes_of.Given as goal
-
-abbrev pub invariant-loop-member : goal.invariant-loop-member
-invariant-loop-member g l = HaveScribes l.names (cores (take l.member-index l.members)) l.scribes.items

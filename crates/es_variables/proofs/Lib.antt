@@ -1,3 +1,0 @@
-mod Found
-mod Written
-pub mod CallerLemmas

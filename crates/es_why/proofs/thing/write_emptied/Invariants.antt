@@ -1,0 +1,8 @@
+use Rattle.std.proofs.Common.{take}
+use Rattle.std.specs.List.{flat_map}
+use Rattle.std.specs.Io.KnownBytes.{Appends}
+use Rattle.es_why.specs.Lines.{emptied_line}
+use Rattle.es_why.proofs.thing.write_emptied.Given as goal
+
+abbrev pub invariant-loop-id : goal.invariant-loop-id
+invariant-loop-id g l = Appends (g.W.Write.contents l.initial.writer) (g.W.Write.contents l.writer) (flat_map emptied_line (take l.id-index l.ids))
