@@ -21,7 +21,7 @@ const { Agent, Refused, hasMessages, runsOf } = Plans;
 process.on("uncaughtException", (e) => { if (!(e instanceof Refused)) throw e; });
 
 // How many operands each command has; a later collection is no engine's.
-const commands = JSON.parse(readFileSync(new URL("../tests/commands.json", import.meta.url), "utf8"));
+const commands = JSON.parse(readFileSync(new URL("../tests/rows/commands.json", import.meta.url), "utf8"));
 const operands = Object.fromEntries(
   Object.entries(commands).filter(([, row]) => !row.since).map(([word, row]) => [word, row.operands.length]));
 const task = () => new Promise((go) => setImmediate(go));

@@ -20,11 +20,11 @@ import tempfile
 
 HERE = os.path.dirname(os.path.abspath(__file__))
 TOP = os.path.dirname(HERE)
-sys.path.insert(0, os.path.join(TOP, "tests"))
+sys.path[:0] = [os.path.join(TOP, "tests", "page"), os.path.join(TOP, "tests", "lib")]
 
 import browser  # noqa: E402
 import firefox  # noqa: E402
-import page  # noqa: E402
+import kept_page  # noqa: E402
 import page_browser  # noqa: E402
 
 OBJECTS = 100_000
@@ -46,7 +46,7 @@ def read(path):
 
 def in_node(words, room):
     """The numbers of one process of node."""
-    said = subprocess.run([*words, SCRIPT, page.SCRIPT, SMALL, room.large], stdout=subprocess.PIPE, stderr=subprocess.DEVNULL, check=True).stdout
+    said = subprocess.run([*words, SCRIPT, kept_page.SCRIPT, SMALL, room.large], stdout=subprocess.PIPE, stderr=subprocess.DEVNULL, check=True).stdout
     return json.loads(said)
 
 
@@ -56,7 +56,7 @@ def in_page(tab, room):
     tab.value(page_browser.TOOLS)
     opened = tab.value(OPENED)
     tab.open(f"file://{room.empty}")
-    texts = [json.dumps(read(path)) for path in (page.SCRIPT, SMALL, room.large)]
+    texts = [json.dumps(read(path)) for path in (kept_page.SCRIPT, SMALL, room.large)]
     load = f"() => import(URL.createObjectURL(new Blob([{texts[0]}], {{ type: 'text/javascript' }})))"
     measured = read(SCRIPT).split("if (globalThis")[0]
     return {"page": opened, **tab.value(f"(() => {{ {measured} return measured({load}, {texts[1]}, {texts[2]}); }})()")}
@@ -105,7 +105,7 @@ def main():
     parser.add_argument("--times", type=int, default=7)
     times = parser.parse_args().times
     before, tools = load(), []
-    for name, found, measure in (("node", page.node(), in_node), ("Chromium", browser.found(), in_chromium), ("Firefox", firefox.found(), in_firefox)):
+    for name, found, measure in (("node", kept_page.node(), in_node), ("Chromium", browser.found(), in_chromium), ("Firefox", firefox.found(), in_firefox)):
         if found is None:
             print(f"Left out: {name}, which is not here.", file=sys.stderr)
         else:

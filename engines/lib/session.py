@@ -6,11 +6,11 @@ import os
 import subprocess
 import time
 
+import answering
 import comparing
 import hosts
 import rules
-import running
-import shrinking
+import shortening
 from verdicts import NEVER_CALLED, NEVER_EMPTIED
 
 TOP = os.path.dirname(hosts.HERE)
@@ -30,7 +30,7 @@ class Silent(Exception):
 
 def holds_symbols(engine):
     """Whether the engine can hold symbols weakly, as the 14th edition asks. It is the first plan that a host is given."""
-    answer = running.answers(engine, [running.PROBE])[0]
+    answer = answering.answers(engine, [answering.PROBE])[0]
     if "agents" not in answer:
         raise Silent(f"{engine.name} gave no answer to its first plan: {answer.get('none') or 'nothing on standard error'}")
     return not any(line.startswith("error ") for line in answer["agents"][0])
@@ -82,7 +82,7 @@ class Session:
             self.run_some(next(self.next_engine), plans[start : start + count])
 
     def run_some(self, engine, plans):
-        answers = running.answers(engine, [text for _, text in plans], self.scripts)
+        answers = answering.answers(engine, [text for _, text in plans], self.scripts)
         for (name, text), answer in zip(plans, answers, strict=True):
             self.found.append(self.look(Found(name, text, engine), answer, self.report))
 
@@ -122,13 +122,13 @@ class Session:
         tries = 1 if wanted == NO_ANSWER else TRIES
         found.showed_again = any(self.show(found.engine, [plan], wanted)[0] for _ in range(tries))
         if found.showed_again and (wanted != NO_ANSWER or time.monotonic() - began < QUICK):
-            shortest = shrinking.shrink(plan, lambda plans: self.show(found.engine, plans, wanted))
+            shortest = shortening.shrink(plan, lambda plans: self.show(found.engine, plans, wanted))
             found.shortest = json.dumps(shortest)
 
     def show(self, engine, plans, wanted):
         """Which of these plans show this, a rule and its section."""
         texts = [json.dumps(plan) for plan in plans]
-        answers = running.answers(engine, texts, self.scripts)
+        answers = answering.answers(engine, texts, self.scripts)
         looked = [self.look(Found("", text, engine), answer, None) for text, answer in zip(texts, answers)]
         return [found.trouble() == wanted for found in looked]
 

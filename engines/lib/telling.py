@@ -45,7 +45,7 @@ def notes(session):
     if not session.symbols:
         yield "the engine can't hold symbols weakly, as editions before the 14th have it"
     if not session.report:
-        yield "the program is not built: the reports are those of tests/rules.py"
+        yield "the program is not built: the reports are those of tests/lib/rules.py"
     for found in session.found:
         if found.misreported:
             yield f"{found.name}: the program's report is not that of the rules"
