@@ -1,4 +1,4 @@
-//! An agent through its calls, one by one. What its scripts say, the program is asked for (tests/scripts.py).
+//! An agent through its calls, one by one. What its scripts say, the program is asked for (tests/program/scripts.py).
 
 ghost use Rattle.std.specs.Prelude.{◌≡◌, []};
 

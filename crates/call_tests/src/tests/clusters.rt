@@ -1,5 +1,5 @@
 //! The calls of a cluster, with audits that were worked out by hand. What clusters report, the programs are asked for
-//! (tests/scripts.py, tests/turns.py).
+//! (tests/program/scripts.py, tests/program/turns.py).
 
 ghost use Rattle.std.specs.Prelude.{◌≡◌, ◌<◌, length, true};
 ghost use Rattle.es_event.specs.Others.{all_name_others};

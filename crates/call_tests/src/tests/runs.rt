@@ -1,5 +1,5 @@
-//! What a run makes of its reader and its writer. What plans report, the program is asked for (tests/scripts.py), and
-//! which texts are none (tests/refusals.py).
+//! What a run makes of its reader and its writer. What plans report, the program is asked for (tests/program/scripts.py), and
+//! which texts are none (tests/program/refusals.py).
 
 use crate::tests::fakes::{Faltering, Trickle};
 use es_engine::{RunFault, run};

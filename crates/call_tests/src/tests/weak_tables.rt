@@ -1,5 +1,5 @@
 //! What an emptying leaves of the entries of WeakMaps and the members of WeakSets, and the entries of a key. What
-//! commands report of them, the program is asked for (tests/scripts.py).
+//! commands report of them, the program is asked for (tests/program/scripts.py).
 
 use es_ephemeron::WeakTables;
 use es_value::{Id, Value};
