@@ -1,7 +1,8 @@
 #!/usr/bin/env python3
 """Wrong bodies that the gate does not try: the edits in tests/wrong_bodies/CRATE.
 
-Usage: wrong_bodies.py           each edit can still be applied to the crate as it stands
+Usage: wrong_bodies.py           each edit, and each that the gate tries, can still be applied to the crate as it stands: the
+                                 gate only notes one that can't
        wrong_bodies.py CRATE ..  the prover refuses each edit of these crates (run it when you change one of them)
 
 An edit has a line `file: ` and then pairs of lines `old: ` and `new: `, as those in crates/CRATE/must-fail. Prints each
@@ -48,15 +49,22 @@ def cannot_apply(edit, crate):
     return None if pairs else "no pair of lines"
 
 
+def all_edits():
+    """Each crate with an edit of it, of those that are tried by hand and then of those that the gate tries."""
+    for crate in sorted(os.listdir(HERE)):
+        yield from ((crate, edit) for edit in edits_of(crate))
+    for edit in sorted(glob.glob(os.path.join(TOP, "crates", "*", "must-fail", "*.edit"))):
+        yield edit.split(os.sep)[-3], edit
+
+
 def applied():
     """Tries that each edit can be applied."""
     passed = failed = 0
-    for crate in sorted(os.listdir(HERE)):
-        for edit in edits_of(crate):
-            why = cannot_apply(edit, crate)
-            if why:
-                print(f"{crate}/{os.path.basename(edit)}: {why}")
-            passed, failed = passed + (not why), failed + bool(why)
+    for crate, edit in all_edits():
+        why = cannot_apply(edit, crate)
+        if why:
+            print(f"{crate}/{os.path.basename(edit)}: {why}")
+        passed, failed = passed + (not why), failed + bool(why)
     return passed, failed
 
 
