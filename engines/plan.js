@@ -80,12 +80,24 @@ globalThis.Plans = (function () {
   const aWeakSet = { text: "TypeError: not a WeakSet", test: (value) => setHas.call(value, value) };
   const aRegistry = { text: "TypeError: not a FinalizationRegistry", test: (value) => unregister.call(value, {}) };
   const aBuffer = { text: "TypeError: not a SharedArrayBuffer", test: (value) => Shared.wordsOf(value) };
+  const aNumber = { text: "TypeError: cannot be converted to a number", test: (value) => Number(operandOf(value)) };
+  // What stands for a value where the engine asks for a number, which it converts itself, in its own order. A plan's objects
+  // have no methods, those of the engine have; and a plan's texts that are no whole numbers are refused.
+  const bare = Object.create(null), numeral = /^ *(?:[+-]?[0-9]{1,15})? *$/;
+  const odd = { valueOf() { throw new Refused("limit: texts"); } };
+  function operandOf(value) {
+    if (typeof value === "string") return numeral.test(value) ? value : odd;
+    return typeof value === "object" ? bare : value;
+  }
   // What a command is tested for, in order: the test, and the place of the operand. Of one that `gives`, the answer is told
   // at once, so that a wrong one is seen where it was given.
   const asks = (...tests) => ({ tests, gives: false });
   const gives = (...tests) => ({ tests, gives: true });
-  // One on a word of a block, with the place of the buffer: where that is the second, the word is given.
-  const onWord = (at) => ({ tests: [[aBuffer, at]], gives: at === 2, onWord: true });
+  // One on a word of a block, with the place of the buffer: where that is the second, something is given. Behind the buffer
+  // stand so many numbers.
+  const onWord = (at, count) => ({
+    tests: [[aBuffer, at], ...Array.from({ length: count }, (_, after) => [aNumber, at + 1 + after])], gives: at === 2, onWord: true,
+  });
   const rules = {
     same: gives(), get: gives(), delete: gives(), weakref: asks([heldWeakly, 2]), deref: asks([aWeakRef, 2]),
     wmset: asks([aWeakMap, 1], [heldWeakly, 2]),
@@ -93,8 +105,16 @@ globalThis.Plans = (function () {
     wsadd: asks([aWeakSet, 1], [heldWeakly, 2]), wshas: gives([aWeakSet, 2]), wsdelete: gives([aWeakSet, 2]),
     unregister: gives([aRegistry, 2], [heldWeakly, 3]),
     length: gives([aBuffer, 2]), sameblock: gives([aBuffer, 2], [aBuffer, 3]),
-    load: onWord(2), store: onWord(1), add: onWord(2),
+    load: onWord(2, 1), store: onWord(1, 2), add: onWord(2, 2), sub: onWord(2, 2), and: onWord(2, 2), or: onWord(2, 2),
+    xor: onWord(2, 2), exchange: onWord(2, 2), compareexchange: onWord(2, 3), wait: onWord(2, 2), notify: onWord(2, 2),
   };
+  // The commands that read a word, write one for it, and give the one that was there.
+  const exchanging = {
+    add: "add", sub: "sub", and: "and", or: "or", xor: "xor", exchange: "exchange", compareexchange: "compareExchange",
+  };
+  // A command, without the `try` and the variable that it may stand behind.
+  const bared = (c) => (c[0] === "try" ? c.slice(2) : c);
+  const briefly = 1; // the milliseconds of a wait of an agent that nobody can wake
 
   // What nothing holds shows that the engine collects. A canary that is made in a job KeptAlive has to its end, so those
   // that are to show collections in it are made in a job before, and held until the collection that was asked for has
@@ -322,9 +342,30 @@ globalThis.Plans = (function () {
         }
         case "length": vars.set(c[1], Shared.wordsOf(vars.get(c[2])).length); break;
         case "sameblock": vars.set(c[1], Shared.blockOf(vars.get(c[2])) === Shared.blockOf(vars.get(c[3]))); break;
-        case "load": vars.set(c[1], Atomics.load(Shared.wordsOf(vars.get(c[2])), c[3])); break;
-        case "store": Atomics.store(Shared.wordsOf(vars.get(c[1])), c[2], c[3]); break;
-        case "add": vars.set(c[1], Atomics.add(Shared.wordsOf(vars.get(c[2])), c[3], c[4])); break;
+        case "load": vars.set(c[1], Atomics.load(Shared.wordsOf(vars.get(c[2])), this.operand(c[3]))); break;
+        case "store": Atomics.store(Shared.wordsOf(vars.get(c[1])), this.operand(c[2]), this.operand(c[3])); break;
+        case "add": case "sub": case "and": case "or": case "xor": case "exchange": case "compareexchange": {
+          const operands = c.slice(3).map((operand) => this.operand(operand));
+          vars.set(c[1], Atomics[exchanging[c[0]]](Shared.wordsOf(vars.get(c[2])), ...operands));
+          break;
+        }
+        case "wait": {
+          const signed = new Int32Array(Shared.wordsOf(vars.get(c[2])).buffer);
+          vars.set(c[1], Atomics.wait(signed, this.operand(c[3]), this.operand(c[4]), briefly));
+          break;
+        }
+        case "notify": {
+          const signed = new Int32Array(Shared.wordsOf(vars.get(c[2])).buffer);
+          vars.set(c[1], Atomics.notify(signed, ...c.slice(3).map((operand) => this.operand(operand))));
+          break;
+        }
+        case "try":
+          try {
+            this.do(c.slice(2));
+          } catch (e) {
+            vars.set(c[1], this.named(e, c.slice(2)));
+          }
+          break;
         case "post": {
           const message = this.message(vars.get(c[2]));
           if (this.posted === mostPosts) throw new Refused("limit: posts");
@@ -333,6 +374,13 @@ globalThis.Plans = (function () {
           break;
         }
       }
+    }
+    // A number, or what stands for the value of a variable.
+    operand(operand) { return typeof operand === "number" ? operand : operandOf(this.vars.get(operand)); }
+    // Performs a command, and tells what it gave.
+    do(command) {
+      this.perform(command);
+      if (this.tells && rules[command[0]]?.gives) this.note(`gave ${this.show(this.vars.get(command[1]))}`);
     }
     // The report's words for the engine's error.
     named(e, c) {
@@ -362,10 +410,7 @@ globalThis.Plans = (function () {
       let command;
       try {
         if (x !== undefined) this.vars.set(x, this.value(message));
-        for (command of commands) {
-          this.perform(command);
-          if (this.tells && rules[command[0]]?.gives) this.note(`gave ${this.show(this.vars.get(command[1]))}`);
-        }
+        for (command of commands) this.do(command);
       } catch (e) {
         const text = this.named(e, command);
         this.out.push(`error ${text}`);
@@ -389,7 +434,7 @@ globalThis.Plans = (function () {
     // Runs a job in one of the engine's own, and tells whether the engine collected without being asked.
     async run(job, message) {
       await this.host.task();
-      canaries.prepare(job.run.filter(([word]) => word === "collect").length + 1);
+      canaries.prepare(job.run.filter((command) => bared(command)[0] === "collect").length + 1);
       await this.host.task();
       await this.runNow(job, message);
       await this.host.task();
@@ -458,20 +503,23 @@ globalThis.Plans = (function () {
     }
   }
   const runsOf = (agent) => [...agent.jobs.map((job) => job.run), ...Object.values(agent.callbacks)];
-  const posts = (run) => run.some(([word]) => word === "post");
+  const posts = (run) => run.some((command) => bared(command)[0] === "post");
+  const sleeps = (run) => run.some((command) => bared(command)[0] === "wait");
   // Whether agents post or wait. One agent has nobody to post to, so that its plan need not be looked through.
   function hasMessages(agents) {
     return agents.length > 1 && agents.some((agent) => agent.jobs.some((job) => job.on) || runsOf(agent).some(posts));
   }
   // What commands need that an engine may lack.
   const needed = {
-    buffer: "SharedArrayBuffer", load: "Atomics", store: "Atomics", add: "Atomics",
+    buffer: "SharedArrayBuffer", load: "Atomics", store: "Atomics", wait: "Atomics", notify: "Atomics",
+    ...Object.fromEntries(Object.keys(exchanging).map((word) => [word, "Atomics"])),
     registry: "FinalizationRegistry", register: "FinalizationRegistry", unregister: "FinalizationRegistry",
   };
   // Why a plan can't be run here, if it can't.
   function lacking(agents, host) {
     if (hasMessages(agents) && !host.clone) return "this host has no messages";
-    const names = agents.flatMap(runsOf).flat().map(([word]) => needed[word]);
+    if (agents.length > 1 && agents.flatMap(runsOf).some(sleeps)) return "agents of one thread can't sleep";
+    const names = agents.flatMap(runsOf).flat().map((command) => needed[bared(command)[0]]);
     const absent = names.find((name) => name !== undefined && globalThis[name] === undefined);
     return absent && `no ${absent}`;
   }

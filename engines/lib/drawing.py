@@ -5,10 +5,12 @@ import json
 import random_plans
 import rules
 import steering
+import third_plans
 
 # what plans can be about, and where plans of anything are drawn from, with how often each comes
 ABOUT = {
     "kept": [steering.kept], "ephemerons": [steering.ephemerons, steering.tables], "registries": [steering.registries],
+    "atomics": [third_plans.alone],
 }
 STEERED = [steering.kept, steering.ephemerons, steering.tables, steering.registries]
 KINDS = {
@@ -18,6 +20,8 @@ KINDS = {
 
 
 def alone(rng, about):
+    if about == "atomics":
+        return third_plans.alone(rng)
     kind = rng.choice(ABOUT[about]) if about else rng.choices([*KINDS], [*KINDS.values()])[0]
     if kind not in STEERED:
         return random_plans.plan_of(rng, kind)
@@ -59,5 +63,6 @@ def has_messages(plan):
 
 def without_symbols(value):
     if isinstance(value, list):
-        return [("new" if value[0] == "symbol" and at == 0 else without_symbols(part)) for at, part in enumerate(value)]
+        at_word = 2 if value[:1] == ["try"] else 0
+        return [("new" if part == "symbol" and at == at_word else without_symbols(part)) for at, part in enumerate(value)]
     return {key: without_symbols(part) for key, part in value.items()} if isinstance(value, dict) else value

@@ -72,8 +72,9 @@ class Tagged(rules.Agent):
 
     def tagged(self, lines):
         for line in lines:
-            self.check(line)
-            self.tag(line)
+            if line != rules.ASLEEP:
+                self.check(line)
+                self.tag(line)
             yield line
 
     def check(self, line):
@@ -85,7 +86,7 @@ class Tagged(rules.Agent):
 
     def move(self):
         job = self.next_job()
-        if job is not None and "on" in job and not self.has_message(job):
+        if not self.sleep and job is not None and "on" in job and not self.has_message(job):
             self.done, self.inside, self.count = self.done + 1, 0, 0
             self.lines += self.tagged([f"skipped {self.done}"])
             self.ends[self.done] = self.clock.now
@@ -154,7 +155,7 @@ class Following(Tagged):
     def do(self, word, args):
         self.word = word
         line = super().do(word, args)
-        if word in GIVING:
+        if word in GIVING and not self.sleep:
             self.note(f"gave {rules.printed(self.value(args[0]))}")
         if word in rules.ASSIGNING:
             self.answered_by[args[0]] = word
@@ -164,14 +165,24 @@ class Following(Tagged):
             self.word = self.answered_by.get(args[0], word)
         return line
 
+    def wake(self):
+        variable = self.sleep.variable
+        super().wake()
+        self.note(f"gave {rules.printed(self.value(variable))}")
+
     def move(self):
-        self.late()
+        if not self.sleep:
+            self.late()
         super().move()
 
     def late(self):
-        """Callbacks that came after all waiting, before the next job began."""
+        """Callbacks that came after all waiting, before the next job began. Who sleeps in one is alone on its engine."""
         while self.next().startswith("cleanup "):
-            self.lines += self.called()
+            for line in self.called():
+                if line == rules.ASLEEP:
+                    self.ledger.time_out(self.sleep)
+                else:
+                    self.lines.append(line)
 
     def job(self, job):
         self.word = "on"

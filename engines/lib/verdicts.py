@@ -27,7 +27,10 @@ KEYS = "OrdinaryOwnPropertyKeys"
 BLOCKS = "Data Blocks, CreateSharedByteDataBlock"
 BUFFER = "SharedArrayBuffer ( length )"
 ATOMICS = "Atomics.load, store and add, on a Uint32Array over a shared block"
+EXCHANGING = "Atomics.sub, and, or, xor, exchange and compareExchange, on a Uint32Array over a shared block"
 VALIDATE = "Atomics.load, store and add: ValidateIntegerTypedArray, ValidateAtomicAccess, ToUint32"
+TRY = "The try Statement"
+WAITING = "Atomics.wait and notify: DoWait, AddWaiter, RemoveWaiters"
 MESSAGES = "Agent Clusters: messages between agents"
 
 # the section of what a command answers, and of what it refuses

@@ -16,10 +16,12 @@ sys.path.insert(0, os.path.join(TOP, "tests", "lib"))
 import rules
 
 DOCS = os.path.join(TOP, "docs")
+# what the program does not know yet
+ABSENT = rules.AHEAD
 # what the schema calls an operand, by what it is for
 DEFINED = dict.fromkeys(rules.READ, "read") | {
-    "x": "assigned", "k": "key", "l": "literal", "t": "text", "c": "callback", "a": "other_agent", "i": "whole", "n": "whole",
-    "z": "words",
+    "x": "assigned", "k": "key", "l": "literal", "t": "text", "c": "callback", "a": "other_agent", "z": "words",
+    **dict.fromkeys("inp", "number"),
 }
 
 
@@ -41,7 +43,7 @@ def form(word, row):
 
 def plan_schema(text):
     """The schema of plans with the forms of all commands that a callback may have."""
-    forms = [form(word, row) for word, row in rules.COMMANDS.items() if word not in rules.COLLECTING]
+    forms = [form(word, row) for word, row in rules.COMMANDS.items() if word not in [*rules.COLLECTING, *ABSENT]]
     start = text.index('        {\n          "prefixItems"', text.index('\n    "command": {'))
     end = text.index("\n      ]\n", start)
     return text[:start] + ",\n".join(forms) + text[end:]
@@ -49,7 +51,8 @@ def plan_schema(text):
 
 def trace_schema(text):
     """The schema of traces with the words of all commands."""
-    words = textwrap.fill(", ".join(map(json.dumps, rules.COMMANDS)), 120, initial_indent=" " * 12, subsequent_indent=" " * 12)
+    known = [word for word in rules.COMMANDS if word not in ABSENT]
+    words = textwrap.fill(", ".join(map(json.dumps, known)), 120, initial_indent=" " * 12, subsequent_indent=" " * 12)
     start = text.index('"enum": [\n', text.index('\n    "command": {')) + len('"enum": [\n')
     return text[:start] + words + text[text.index("\n          ]", start):]
 

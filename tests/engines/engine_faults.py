@@ -29,7 +29,7 @@ import rules
 import session
 from engines import Tests
 from verdicts import (
-    ATOMICS, CLEAR, DEREF, ENQUEUE, MESSAGES, UNREGISTER, WEAKMAP, WEAKSET, NEVER_CALLED, NEVER_EMPTIED, Broken,
+    ATOMICS, CLEAR, DEREF, ENQUEUE, EXCHANGING, MESSAGES, UNREGISTER, WEAKMAP, WEAKSET, NEVER_CALLED, NEVER_EMPTIED, Broken,
 )
 
 NONE = os.path.join(TOP, "tests", "engines", "engine_of_rules.py")  # the engine that is none
@@ -60,6 +60,8 @@ FOUND = {
     "other-target": ("deref", [(Broken.ANSWERED, DEREF)]),
     "clone": ("messages", [(Broken.ANSWERED, MESSAGES)]),
     "copied-block": ("messages", [(Broken.ANSWERED, ATOMICS)]),
+    **dict.fromkeys(["sub", "exchange"], ("atomics", [(Broken.ANSWERED, EXCHANGING)])),
+    **dict.fromkeys(["bits", "compare"], ("atomics", [(Broken.ANSWERED, ATOMICS)])),  # a later load shows it
 }
 # the same of what breaks no rule in any one plan, with what never happens
 NEVER = {"never": ("deref cycles kept-alive", NEVER_EMPTIED), "no-calls": ("registrations queue in-callbacks", NEVER_CALLED)}

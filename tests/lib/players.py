@@ -5,6 +5,7 @@ import json
 
 import random_plans
 import rules
+import third_plans
 
 
 class Player(rules.Agent):
@@ -71,8 +72,12 @@ class Player(rules.Agent):
             yield
 
     def command_events(self, commands):
+        """The events of commands. To fall asleep is none: what comes after it is that of the `wait`."""
         for command in commands:
             line = self.do(command[0], command[1:])
+            if self.sleep:
+                yield
+                self.wake()
             if line is not None:
                 self.lines.append(line)
             yield
@@ -104,36 +109,60 @@ class Cluster:
         return not self.ledger.ports[sender, player.name] and not self.names[sender].ended
 
     def waits_in_vain(self, player):
-        """Whether a player that was told to wait has to go on waiting."""
+        """Whether a player that was told to wait has to go on waiting, or one that sleeps was not taken."""
+        if player.sleep:
+            return not player.sleep.answer
         return player.waits_for is not None and self.is_stuck(player, player.waits_for)
+
+    def is_chosen(self, player):
+        """Whether all that have not ended were told to wait, or sleep, and this one is the first of them."""
+        going = [other for other in self.players if not other.ended]
+        return going[0] is player and all(self.waits_in_vain(other) for other in going)
 
     def step(self, player):
         """One turn of a player."""
         if player.ended:
             return "Ended"
-        if not player.awaits() or player.has_message(player.next_job()):
+        if not player.sleep and player.awaits() and not player.has_message(player.next_job()):
+            return self.ask(player, player.next_job()["on"][0])
+        if not player.sleep:
             player.go_on()
-            return "Moved"
-        sender = player.next_job()["on"][0]
+        return self.ask_asleep(player) if player.sleep else "Moved"
+
+    def ask(self, player, sender):
+        """One turn of a player that finds no message of this sender."""
         if self.is_stuck(player, sender):
             player.waits_for = sender
-            going = [other for other in self.players if not other.ended]
-            if going[0] is not player or not all(self.waits_in_vain(other) for other in going):
+            if not self.is_chosen(player):
                 return "Waiting"
         player.skip()
         return "Moved"
 
+    def ask_asleep(self, player):
+        """One turn of a player that sleeps, which it may have fallen asleep in."""
+        if not player.sleep.answer:
+            if not self.is_chosen(player):
+                return "Waiting"
+            self.ledger.time_out(player.sleep)
+        player.go_on()
+        return "Moved"
+
     def stays(self, player):
-        """Whether a player waits for a message in vain, asked or not."""
+        """Whether a player waits for a message in vain, asked or not, or sleeps and was not taken."""
+        if player.sleep:
+            return not player.sleep.answer
         return player.awaits() and self.is_stuck(player, player.next_job()["on"][0])
 
     def move(self, player):
-        """The rest of a player's job with its cleanup jobs; or, between jobs, the next, or its skip, or the end."""
-        if player.awaits() and not player.has_message(player.next_job()):
+        """The rest of a player's job with its cleanup jobs, up to where it falls asleep; or, between jobs, the next, or its
+        skip, or the end. One that sleeps and was not taken times out."""
+        if player.sleep and not player.sleep.answer:
+            self.ledger.time_out(player.sleep)
+        elif not player.sleep and player.awaits() and not player.has_message(player.next_job()):
             player.skip()
             return
         player.go_on()
-        while not player.rests and not player.ended:
+        while not player.rests and not player.ended and not player.sleep:
             player.go_on()
 
     def run_turns(self):
@@ -156,7 +185,8 @@ class Cluster:
 def a_plan(rng):
     """A plan without a fault, as it is written and as it is read."""
     while True:
-        data = json.dumps(random_plans.shared_plan(rng, rng.choice(random_plans.VERSIONS))).encode()
+        plan = random_plans.shared_plan(rng, rng.choice(random_plans.VERSIONS))
+        data = json.dumps(third_plans.in_variables(rng, plan) if rng.random() < 0.3 else plan).encode()
         try:
             return data, rules.read_plan(data)
         except rules.Refused:

@@ -1,6 +1,7 @@
 """Random plans without a race: their agents have words of their own in each block, or hand blocks on, or share none."""
 
 import random_plans
+import third_plans
 
 MOST = 16384  # the most words of a block
 # where in a command the index is
@@ -70,6 +71,12 @@ def handed_on(rng):
 
 
 def random_plan(rng):
+    """A plan of version 1 or 2, or one of these as version 3 has it."""
+    plan = early_plan(rng)
+    return third_plans.in_variables(rng, plan) if rng.random() < 0.25 else plan
+
+
+def early_plan(rng):
     kind, version = rng.random(), rng.choice(random_plans.VERSIONS)
     if kind < 0.1:
         jobs_of = rng.choice([random_plans.lives, random_plans.tables, random_plans.registrations])

@@ -18,7 +18,7 @@ import copy
 import json
 
 import rules
-from rules import ASSIGNING, ON_WORDS, ONE_MORE_USE, USES
+from rules import ASSIGNING, ONE_MORE_USE, USES
 
 NAMES = ["a", "b", "c", "w", "x", "y"]
 # where suited commands have most of their WeakMaps, WeakSets, WeakRefs, FinalizationRegistries and buffers, and assign
@@ -31,8 +31,9 @@ KEYS = ["p", "q", "r"]
 VERSIONS = [1, 1, 2]
 CALLBACKS = ["cb", "B", "_x"]
 AGENTS = ["a", "main", "w", "B", "_", "x", "worker", "c8"]
+ON_WORDS = [word for word in rules.ON_WORDS if word not in rules.SINCE_THREE]
 SHARING = ["buffer", "length", "sameblock", *ON_WORDS, "post"]
-ALONE = [word for word in USES if word not in [*SHARING, "collectlater"]]
+ALONE = [word for word in USES if word not in [*SHARING, *rules.SINCE_TWO, *rules.SINCE_THREE]]
 COLLECTING = [["collect"], ["collectlater"]]
 ASKING = ["wmhas", "wmdelete", "wshas", "wsdelete"]
 # after which what they assign is mostly said
@@ -1031,7 +1032,7 @@ def doubtful_plan(rng):
     names = rng.sample(["a", "main", "w", "B"], rng.randint(1, 3))
     if rng.random() < 0.1:
         names.append(rng.choice(["1x", "a"]))
-    return {"version": rng.choice([1, 1, 2] * 6 + [3]), "agents": [doubtful_agent(rng, name) for name in names]}
+    return {"version": rng.choice([1, 1, 2] * 6 + [4]), "agents": [doubtful_agent(rng, name) for name in names]}
 
 
 def spoil(rng, value):
@@ -1056,7 +1057,7 @@ def spoil(rng, value):
         holder[rng.choice(["x", "on", "1x", "run", "name"])] = rng.choice([[], {}, None, holder[key]])
     else:
         holder[key] = rng.choice(
-            [None, True, 2, 3, 1.0, 9007199254740992, -0.0, "1x", "é", "a" * 33, "a" * 257, "", [], {}, ["say", "a"], [["say", "a"]]]
+            [None, True, 2, 4, 1.0, 9007199254740992, -0.0, "1x", "é", "a" * 33, "a" * 257, "", [], {}, ["say", "a"], [["say", "a"]]]
         )
     return value
 

@@ -1,9 +1,10 @@
 """The rules once more, independently of the program: what a plan's text is refused with, and what its run reports.
 
-Used by random_plans.py and by engines/, among others. It knows the commands of both versions.
+Used by random_plans.py and by engines/, among others. It knows the commands of all three versions.
 """
 
 import collections
+import itertools
 import json
 import os
 import re
@@ -16,26 +17,42 @@ LARGEST = 9007199254740991
 with open(os.path.join(TOP, "tests", "rows", "commands.json")) as table:
     COMMANDS = json.load(table)
 # what the operands of each are for: x is assigned, k a property's key, l a literal, t a text, z a number of words, i an
-# index, n a number, and the others are read: v as any value, o as an object, h as what can be held weakly, w as a WeakRef,
-# m as a WeakMap, s as a WeakSet, r as a FinalizationRegistry, b as a shared buffer; c names a callback, and a another agent
+# index, n a number, p a number that is put, q how many are woken, and the others are read: v as any value, o as an object, h
+# as what can be held weakly, w as a WeakRef, m as a WeakMap, s as a WeakSet, r as a FinalizationRegistry, b as a shared
+# buffer; c names a callback, a another agent, and d is the word of a command, which its operands follow
 USES = {word: row["operands"] for word, row in COMMANDS.items()}
 # an operand that may stand after these
 ONE_MORE_USE = {word: row["and"] for word, row in COMMANDS.items() if "and" in row}
 READ = "vohwmsrb"
 # of what kind the operand for a use is: n a name, l a literal, t a text, c the name of a callback, a that of another
-# agent, i a number, w a number of words
-KINDS = dict.fromkeys("xk" + READ, "n") | {"l": "l", "t": "t", "c": "c", "a": "a", "i": "i", "n": "i", "z": "w"}
+# agent, i a number and from version 3 on a number or the name of a variable, w a number of words, d a command's word
+KINDS = dict.fromkeys("xk" + READ, "n") | dict.fromkeys("inpq", "i") | {use: use for use in "ltcad"} | {"z": "w"}
 OPERANDS = {word: "".join(KINDS[use] for use in uses) for word, uses in USES.items()}
 ONE_MORE = {word: KINDS[use] for word, use in ONE_MORE_USE.items()}
 ASSIGNING = {word for word, uses in USES.items() if "x" in uses}
-# the commands on a word of a block, and what each writes, over the word and for the number, modulo 2^32
+# the commands on a word of a block, and what each writes, over the word and for the number, modulo 2^32; `compareexchange`
+# writes another number, and not always
 ON_WORDS = [word for word, uses in USES.items() if "i" in uses]
-WRITES = {"store": lambda old, number: number, "add": lambda old, number: old + number}
-VERSIONS = [1, 2]
-# what version 1 has not
+WRITES = {
+    "store": lambda old, number: number, "add": lambda old, number: old + number, "sub": lambda old, number: old - number,
+    "and": lambda old, number: old & number, "or": lambda old, number: old | number,
+    "xor": lambda old, number: old ^ number, "exchange": lambda old, number: number,
+}
+VERSIONS = [1, 2, 3]
+# what version 1 has not, and what version 2 has not
 SINCE_TWO = [word for word, row in COMMANDS.items() if row.get("since") == 2]
+SINCE_THREE = [word for word, row in COMMANDS.items() if row.get("since") == 3]
+# words of version 3 that the program does not know yet, and refuses as it refuses any other; who tries the whole of version 3
+# by these rules alone empties the list
+AHEAD = [word for word, row in COMMANDS.items() if row.get("ahead")]
 # what no callback may have
 COLLECTING = ["collect", "collectlater"]
+# the most agents that a plan has, and so the most that a `notify` wakes
+MOST_AGENTS = 8
+# a text that is a whole number, or none and so 0; of others it would take fractions and rounding to say what they are
+NUMERAL = re.compile(r" *([+-]?[0-9]{1,15})? *\Z")
+# stands in the place of a line of the report where an agent falls asleep
+ASLEEP = ""
 
 
 class Refused(Exception):
@@ -139,36 +156,57 @@ def is_plan(value):
     )
 
 
-def has_kind(kind, operand):
-    """Whether an operand is of the right JSON kind: a text, a number, or anything but an array and an object."""
+def has_kind(kind, operand, numbers):
+    """Whether an operand is of the right JSON kind: a text, a number, what may stand for a number, or anything but an array
+    and an object."""
     if kind == "l":
         return not isinstance(operand, (list, dict))
-    return isinstance(operand, Number if kind in "iw" else str)
+    return isinstance(operand, {"i": numbers, "w": Number}.get(kind, str))
+
+
+def kinds_of(command):
+    """The kinds of so many operands as the command should have."""
+    kinds = OPERANDS[command[0]]
+    return kinds + ONE_MORE.get(command[0], "") if len(command) - 1 > len(kinds) else kinds
+
+
+def has_form(command, known):
+    """Whether the word is known, and the operands are as many as it should have, and of the right JSON kinds. What `try` does
+    is a command in its turn, but no other `try`."""
+    word, operands = command[0], command[1:]
+    if word not in known["words"]:
+        return False
+    if word == "try":
+        is_begun = len(operands) >= 2 and all(isinstance(operand, str) for operand in operands[:2])
+        return is_begun and operands[1] != "try" and has_form(operands[1:], known)
+    kinds = kinds_of(command)
+    return len(kinds) == len(operands) and all(
+        has_kind(kind, operand, known["numbers"]) for kind, operand in zip(kinds, operands)
+    )
+
+
+def check_operand(kind, operand, known, place):
+    if (kind in "nca" or (kind == "i" and isinstance(operand, str))) and not NAME.match(operand):
+        raise Refused(5, *place)
+    if kind in known and operand not in known[kind]:
+        raise Refused(6, *place)
+    if kind in "lt" and isinstance(operand, str) and not is_text(operand):
+        raise Refused(8, *place)
+    if isinstance(operand, Number) and (operand.whole() is None or abs(operand.whole()) > LARGEST):
+        raise Refused(8, *place)
+    if kind == "w" and not 0 <= operand.whole() <= 16384:
+        raise Refused(10, *place)
 
 
 def check_command(command, known, where, number):
-    kinds = OPERANDS.get(command[0]) if command[0] in known["words"] else None
-    operands = command[1:]
-    if kinds is not None and len(operands) > len(kinds):
-        kinds += ONE_MORE.get(command[0], "")
-    if kinds is None or len(kinds) != len(operands):
+    if not has_form(command, known):
         raise Refused(7, *where, number)
-    for kind, operand in zip(kinds, operands):
-        if not has_kind(kind, operand):
-            raise Refused(7, *where, number)
-    if command[0] in COLLECTING and where[1][0] == "callback":
+    done = command[2:] if command[0] == "try" else command
+    if done[0] in COLLECTING and where[1][0] == "callback":
         raise Refused(9, *where, number)
-    for kind, operand in zip(kinds, operands):
-        if kind in "nca" and not NAME.match(operand):
-            raise Refused(5, *where, number)
-        if kind in known and operand not in known[kind]:
-            raise Refused(6, *where, number)
-        if kind in "lt" and isinstance(operand, str) and not is_text(operand):
-            raise Refused(8, *where, number)
-        if isinstance(operand, Number) and (operand.whole() is None or abs(operand.whole()) > LARGEST):
-            raise Refused(8, *where, number)
-        if kind == "w" and not 0 <= operand.whole() <= 16384:
-            raise Refused(10, *where, number)
+    kinds = kinds_of(done) if done is command else OPERANDS["try"] + kinds_of(done)
+    for kind, operand in zip(kinds, command[1:]):
+        check_operand(kind, operand, known, (*where, number))
 
 
 def check_run(run, known, where):
@@ -191,11 +229,13 @@ def read_plan(data):
     plan = read_json(data)
     if not is_plan(plan):
         raise Refused(2)
-    if plan["version"].whole() not in VERSIONS:
+    version = plan["version"].whole()
+    if version not in VERSIONS:
         raise Refused(3)
-    words = [word for word in OPERANDS if plan["version"].whole() == 2 or word not in SINCE_TWO]
+    words = [word for word, row in COMMANDS.items() if row.get("since", 1) <= version and word not in AHEAD]
+    numbers = Number if version < 3 else (Number, str)
     agents = plan["agents"]
-    if not 1 <= len(agents) <= 8:
+    if not 1 <= len(agents) <= MOST_AGENTS:
         raise Refused(4)
     names = set()
     for number, agent in enumerate(agents):
@@ -205,7 +245,7 @@ def read_plan(data):
     for number, agent in enumerate(agents):
         if len(agent["callbacks"]) > 1000 or len(agent["jobs"]) > 1000:
             raise Refused(10, number)
-        known = {"words": words, "c": agent["callbacks"], "a": names - {agent["name"]}}
+        known = {"words": words, "numbers": numbers, "c": agent["callbacks"], "a": names - {agent["name"]}}
         for k, name in enumerate(sorted(agent["callbacks"], key=str.encode), 1):
             if not NAME.match(name):
                 raise Refused(5, number, ("callback", k))
@@ -246,12 +286,21 @@ class Graph:
         return self.there - self.reached()
 
 
+class Sleep:
+    """A `wait` of an agent at a word: the variable that gets its answer, and the answer, which is None until the agent is
+    taken out of the list."""
+
+    def __init__(self, at, variable):
+        self.at, self.variable, self.answer = at, variable, None
+
+
 class Ledger:
-    """What the agents share: the words of each block, how many tickets each block has, in agents and in messages, and
-    the messages that were posted and neither taken nor drained. A message is a value, or a block."""
+    """What the agents share: the words of each block, who sleeps at each word, how many tickets each block has, in agents
+    and in messages, and the messages that were posted and neither taken nor drained. A message is a value, or a block."""
 
     def __init__(self):
         self.words, self.tickets, self.released = [], [], 0
+        self.sleepers = collections.defaultdict(list)  # by block and index, who fell asleep first before the others
         self.ports = collections.defaultdict(collections.deque)  # by sender and receiver, the oldest message first
         self.posted, self.taken, self.drained = 0, 0, 0
 
@@ -267,6 +316,24 @@ class Ledger:
         if self.tickets[block] == 0:
             self.words[block] = None
             self.released += 1
+
+    def sleep(self, block, index, variable):
+        """A new sleep, which is the last at its word."""
+        sleep = Sleep((block, index), variable)
+        self.sleepers[sleep.at].append(sleep)
+        return sleep
+
+    def notify(self, block, index, count):
+        """Takes the first at a word, and at most so many. How many were taken."""
+        sleepers = self.sleepers[block, index]
+        taken, sleepers[:] = sleepers[:count], sleepers[count:]
+        for sleep in taken:
+            sleep.answer = "ok"
+        return len(taken)
+
+    def time_out(self, sleep):
+        self.sleepers[sleep.at].remove(sleep)
+        sleep.answer = "timed-out"
 
     def post(self, sender, receiver, message):
         """A block's message has a ticket of its own."""
@@ -314,6 +381,8 @@ class Agent:
         self.queue = []  # the FinalizationRegistries of which cleanup jobs are due
         self.kept, self.gone = [], set()
         self.open = None  # the graph of the later collection that is not finished
+        self.sleep = None  # where it sleeps in a job, or was taken and has not gone on
+        self.under_way = None  # the lines of the move that was begun last
 
     def value(self, name):
         return self.variables.get(name, ("undefined",))
@@ -437,18 +506,72 @@ class Agent:
     def access(self, word, operands):
         """A command on a word of a block: the word that was there is given, and one is written, by what it is for."""
         words, index = self.place(operands["b"], operands["i"])
-        old = words[index]
+        old, number, put = words[index], self.as_word(operands.get("n")), self.as_word(operands.get("p"))
         if "x" in operands:
             self.variables[operands["x"]] = ("number", old)
         if word in WRITES:
-            words[index] = WRITES[word](old, operands["n"].whole()) % 2**32
+            words[index] = WRITES[word](old, number) % 2**32
+        elif word == "compareexchange" and old == number:
+            words[index] = put
 
     def place(self, name, index):
         """The words of the shared buffer in a variable, and the index of one of them."""
-        words = self.words(name)
-        if not 0 <= index.whole() < len(words):
+        words, at = self.words(name), self.as_number(index)
+        if not 0 <= at < len(words):
             raise TypeRefused("RangeError: index")
-        return words, index.whole()
+        return words, at
+
+    def as_word(self, operand):
+        """What stands for a word, modulo 2^32; None where nothing does."""
+        return None if operand is None else self.as_number(operand) % 2**32
+
+    def as_number(self, operand):
+        """The whole number that an operand is, or that the value of a variable becomes (ToIntegerOrInfinity)."""
+        if isinstance(operand, Number):
+            return operand.whole()
+        kind, *value = self.value(operand)
+        if kind == "undefined":
+            return 0
+        if kind in ("boolean", "number"):
+            return int(value[0])
+        if kind != "text":
+            raise TypeRefused("TypeError: cannot be converted to a number")
+        numeral = NUMERAL.match(value[0])
+        if not numeral:
+            raise TypeRefused("limit: texts")
+        return int(numeral[1] or 0)
+
+    def wait(self, operands):
+        """Falls asleep where a word is what is expected, in the same step as it reads it."""
+        words, index = self.place(operands["b"], operands["i"])
+        if words[index] == self.as_word(operands["n"]):
+            self.sleep = self.ledger.sleep(self.block(operands["b"]), index, operands["x"])
+        else:
+            self.variables[operands["x"]] = ("text", "not-equal")
+
+    def wake(self):
+        """Goes on after a sleep."""
+        self.variables[self.sleep.variable] = ("text", self.sleep.answer)
+        self.sleep = None
+
+    def notify(self, operands):
+        _, index = self.place(operands["b"], operands["i"])
+        woken = self.ledger.notify(self.block(operands["b"]), index, self.most_woken(operands.get("q")))
+        self.variables[operands["x"]] = ("number", woken)
+
+    def most_woken(self, operand):
+        """How many a `notify` wakes at most: all, where it does not say it, or where a variable is undefined."""
+        if operand is None or (isinstance(operand, str) and self.value(operand) == ("undefined",)):
+            return MOST_AGENTS
+        return min(max(self.as_number(operand), 0), MOST_AGENTS)
+
+    def tried(self, name, command):
+        """Does a command; where it is refused, a variable gets the refusal's text."""
+        try:
+            return self.do(command[0], command[1:])
+        except TypeRefused as refused:
+            self.variables[name] = ("text", str(refused))
+            return None
 
     def post(self, receiver, value):
         message = value
@@ -524,9 +647,13 @@ class Agent:
         return len(dead)
 
     def run(self, commands):
-        """The lines of commands, up to the first that is refused."""
+        """The lines of commands, up to the first that is refused. Where the agent falls asleep it is to be asked for more
+        when it can go on."""
         for command in commands:
             line = self.do(command[0], command[1:])
+            if self.sleep:
+                yield ASLEEP
+                self.wake()
             if line is not None:
                 yield line
 
@@ -590,7 +717,13 @@ class Agent:
         return bool(self.ledger.ports[job["on"][0], self.name])
 
     def move(self):
-        """Runs the next job with its cleanup jobs, or skips it where it waits and no message is there, or ends."""
+        """Runs the next job with its cleanup jobs, or skips it where it waits and no message is there, or ends. After a sleep
+        it runs the rest of these; where nobody took it, it times out."""
+        if self.sleep:
+            if not self.sleep.answer:
+                self.ledger.time_out(self.sleep)
+            self.go_on_awake()
+            return
         job = self.next_job()
         if job is None:
             self.end()
@@ -599,8 +732,12 @@ class Agent:
         if "on" in job and not self.has_message(job):
             self.lines.append(f"skipped {self.done}")
         else:
-            self.lines += self.job(job)
-            self.lines += self.cleanup_jobs()
+            self.under_way = itertools.chain(self.job(job), self.cleanup_jobs())
+            self.go_on_awake()
+
+    def go_on_awake(self):
+        """Runs what is under way, up to its end or to where the agent falls asleep."""
+        self.lines += itertools.takewhile(lambda line: line != ASLEEP, self.under_way)
 
     def end(self):
         """Spends the tickets of all buffers, and counts what became of the registrations."""
@@ -676,8 +813,14 @@ class Agent:
             self.variables[args[0]] = ("number", len(self.words(args[1])))
         elif word == "sameblock":
             self.variables[args[0]] = ("boolean", self.block(args[1]) == self.block(args[2]))
+        elif word == "wait":
+            self.wait(dict(zip(USES[word], args)))
+        elif word == "notify":
+            self.notify(dict(zip(USES[word] + ONE_MORE_USE[word], args)))
         elif word in ON_WORDS:
             self.access(word, dict(zip(USES[word], args)))
+        elif word == "try":
+            return self.tried(args[0], args[1:])
         elif word == "post":
             self.post(args[0], self.value(args[1]))
         elif word == "collect":
@@ -739,14 +882,17 @@ def printed(value):
 
 
 def stays(agent, agents):
-    """Whether an agent's next job waits for an agent that has not ended, of which no message is there."""
+    """Whether an agent sleeps and nobody took it, or its next job waits for an agent that has not ended, of which no message
+    is there."""
+    if agent.sleep:
+        return not agent.sleep.answer
     job = agent.next_job()
     return job is not None and "on" in job and not agent.has_message(job) and not agents[job["on"][0]].ended
 
 
 def run_turns(agents):
     """Runs agents, by name in their order, to their ends. Each time the first moves that can, of those that have not
-    ended: one that stays can't. Where all of them stay, the first skips its job."""
+    ended: one that stays can't. Where all of them stay, the first skips its job, or its sleep times out."""
     while going := [agent for agent in agents.values() if not agent.ended]:
         next((agent for agent in going if not stays(agent, agents)), going[0]).move()
 

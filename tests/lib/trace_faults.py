@@ -3,8 +3,8 @@
 import random
 import re
 
-import random_plans
 import rules
+import third_plans
 import trace_check
 import trace_forms
 
@@ -115,7 +115,7 @@ def try_all(count, plans, seed):
     by_hand(count)
     chance = random.Random(seed)
     for number in range(plans):
-        data = random_plans.text(chance)
+        data = third_plans.text_of_any(chance)
         try:
             rules.read_plan(data)
         except rules.Refused:

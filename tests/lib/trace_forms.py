@@ -126,9 +126,12 @@ class Rows:
 
 def command_in_words(command):
     """A command as its row has it: texts and literals as in JSON, names without signs."""
+    if command[0] == "try":
+        return f"try {command[1]} {command_in_words(command[2:])}"
     words = [command[0]]
     for kind, operand in zip(rules.OPERANDS[command[0]] + rules.ONE_MORE.get(command[0], ""), command[1:]):
-        words.append(operand if kind in "nca" else json.dumps(as_json(operand)))
+        is_name = kind in "nca" or (kind == "i" and isinstance(operand, str))
+        words.append(operand if is_name else json.dumps(as_json(operand)))
     return " ".join(words)
 
 
@@ -143,6 +146,8 @@ def told_of_agent(event):
             return f"message of {event['sender']}", rules.printed(event["value"])
         case "did":
             return told_of_command(event)
+        case "caught":
+            return command_in_words(event["command"]), rules.printed(("text", event["error"]))
         case "refused":
             return command_in_words(event["command"] or ["message"]), f"error {event['error']}"
         case "emptied":
@@ -158,7 +163,7 @@ def told_of_agent(event):
 
 def told_of_command(event):
     words, answer = command_in_words(event["command"]), event["answer"]
-    if event["command"][0] == "say":
+    if event["command"][0] == "say" or event["command"][:3:2] == ["try", "say"]:
         return words, f"say {rules.printed(event['values'][0])}"
     if answer is None:
         return (words,)
@@ -183,6 +188,12 @@ def of_ledger(event):
             return f"word {event['index']} {what} by ticket {event['ticket']}", str(event["word"])
         case "added":
             return f"word {event['index']} added to by ticket {event['ticket']}", f"{event['old']} + {event['addend']}"
+        case "slept":
+            return f"{event['agent']} sleeps at word {event['index']} by ticket {event['ticket']}", str(event["word"])
+        case "notified":
+            return f"word {event['index']} notified by ticket {event['ticket']}", str(len(event["woken"]))
+        case "woke" | "timed out" as what:
+            return f"{event['agent']} wakes", '"ok"' if what == "woke" else '"timed-out"'
         case "waiting":
             return (f"{event['agent']} waits for {event['sender']}",)
         case "passed":

@@ -8,11 +8,13 @@ those of rules.py. docs/TRACES.md says what is told; trace_forms.py writes it, a
 import rules
 from trace_kept import Heap
 
-# of the operands of each command, which name variables that it reads, by their places
-READS = {
-    word: [place for place, use in enumerate(uses + rules.ONE_MORE_USE.get(word, "")) if use in rules.READ]
-    for word, uses in rules.USES.items()
-}
+
+
+def read_by(command):
+    """The variables that a command reads, in the order of its operands. Those are some of them that may be numbers too."""
+    uses = rules.USES[command[0]] + rules.ONE_MORE_USE.get(command[0], "")
+    is_read = {use: use in rules.READ or rules.KINDS[use] == "i" for use in uses}
+    return [operand for use, operand in zip(uses, command[1:]) if is_read[use] and isinstance(operand, str)]
 
 
 class Ticket(int):
@@ -57,6 +59,22 @@ class Ledger(rules.Ledger):
     def take(self, sender, receiver):
         self.note("taken", sender=sender, receiver=receiver)
         return super().take(sender, receiver)
+
+    def sleep(self, block, index, variable):
+        sleep = super().sleep(block, index, variable)
+        sleep.agent = self.mover
+        self.note("slept", agent=self.mover, ticket=block.serial, index=index, word=self.words[block][index])
+        return sleep
+
+    def notify(self, block, index, count):
+        sleepers = [*self.sleepers[block, index]]
+        woken = super().notify(block, index, count)
+        self.note("notified", ticket=block.serial, index=index, woken=[sleep.agent for sleep in sleepers[:woken]])
+        return woken
+
+    def time_out(self, sleep):
+        super().time_out(sleep)
+        self.note("timed out", agent=sleep.agent)
 
     def drain(self):
         """By rising receiver, then by rising sender, in order of posting."""
@@ -148,7 +166,7 @@ class Teller(rules.Agent):
     def command_events(self, commands):
         for command in commands:
             try:
-                yield self.told(command)
+                yield from self.told(command)
             except rules.TypeRefused as refused:
                 refused.command = command
                 raise
@@ -157,10 +175,20 @@ class Teller(rules.Agent):
         return self.event("refused", command=refused.command, error=str(refused))
 
     def told(self, command):
-        """The event of a command that is done."""
-        word, args = command[0], command[1:]
-        values = [self.value(args[place]) for place in READS[word] if place < len(args)]
-        self.do(word, args)
+        """The event of a command that is done, or whose refusal is caught; and None before it where the agent sleeps."""
+        done = command[2:] if command[0] == "try" else command
+        values, self.caught = [*map(self.value, read_by(done))], None
+        self.do(command[0], command[1:])
+        if self.sleep:
+            while not self.sleep.answer:
+                yield None
+            self.wake()
+        yield self.of_command(command, done, values)
+
+    def of_command(self, command, done, values):
+        if self.caught:
+            return self.event("caught", command=command, error=self.caught)
+        word, args = done[0], done[1:]
         if word == "collect":
             return self.event("emptied", command=command, identities=self.dead)
         answer = None
@@ -170,24 +198,41 @@ class Teller(rules.Agent):
             answer = {"gives": self.value(args[0])}
         return self.event("did", command=command, values=values, answer=answer)
 
-    def do(self, word, args):
-        """A word of a block that is read or written is an event of the ledger too."""
-        if word not in rules.ON_WORDS:
-            return super().do(word, args)
-        operands = dict(zip(rules.USES[word], args))
-        buffer = self.value(operands["b"])
-        ticket = self.buffers.get(buffer[1]) if buffer[0] == "object" else None
-        super().do(word, args)
-        index = operands["i"].whole()
-        number = operands["n"].whole() % 2**32 if "n" in operands else None
-        if word == "load":
-            self.ledger.note("loaded", ticket=ticket.serial, index=index, word=self.value(operands["x"])[1])
+    def tried(self, name, command):
+        try:
+            return self.do(command[0], command[1:])
+        except rules.TypeRefused as refused:
+            self.caught = str(refused)
+            self.variables[name] = ("text", self.caught)
+            return None
+
+    # What is an event of the ledger too
+
+    def access(self, word, operands):
+        """A word of a block that is read or written."""
+        words, index = self.place(operands["b"], operands["i"])
+        at = {"ticket": self.block(operands["b"]).serial, "index": index}
+        old, number = words[index], self.as_word(operands.get("n"))
+        super().access(word, operands)
+        if word == "load" or (word == "compareexchange" and old != number):
+            self.ledger.note("loaded", **at, word=old)
         elif word == "add":
-            old = self.value(operands["x"])[1]
-            self.ledger.note("added", ticket=ticket.serial, index=index, old=old, addend=number)
+            self.ledger.note("added", **at, old=old, addend=number)
         else:
-            self.ledger.note("stored", ticket=ticket.serial, index=index, word=number)
-        return None
+            self.ledger.note("stored", **at, word=words[index])
+
+    def wait(self, operands):
+        """A word that is another than is waited for."""
+        words, index = self.place(operands["b"], operands["i"])
+        ticket = self.block(operands["b"])
+        super().wait(operands)
+        if not self.sleep:
+            self.ledger.note("loaded", ticket=ticket.serial, index=index, word=words[index])
+
+    def wake(self):
+        if self.sleep.answer == "ok":
+            self.ledger.note("woke", agent=self.name)
+        super().wake()
 
     # The turns
 
@@ -227,11 +272,14 @@ class Cluster:
         return [block for block in once if self.ledger.tickets[block - 1] == 0]
 
     def ask(self, agent):
-        """One turn of an agent that has not ended: its event, or None where it waits."""
+        """One turn of an agent that has not ended: its event, or None where it waits or sleeps."""
         self.ledger.mover = agent.name
+        if agent.sleep:
+            return self.ask_asleep(agent)
         if not agent.awaits() or agent.has_message(agent.next_job()):
             agent.waits_for = None
-            return next(agent.going)
+            event = next(agent.going)
+            return self.ask_asleep(agent) if agent.sleep else event
         sender = agent.next_job()["on"][0]
         if agent.waits_for is None:
             agent.waits_for = sender
@@ -242,17 +290,27 @@ class Cluster:
         self.ledger.note("passed", agent=agent.name, sender=sender)
         return agent.skip()
 
+    def ask_asleep(self, agent):
+        """One turn of an agent that sleeps, which it may have fallen asleep in."""
+        if not agent.sleep.answer and self.is_chosen(agent):
+            self.ledger.time_out(agent.sleep)
+        return next(agent.going) if agent.sleep.answer else None
+
     def is_chosen(self, agent):
-        """Whether all who have not ended were told to wait and still wait in vain, and this agent is the first of them."""
+        """Whether all who have not ended were told to wait and still wait in vain, or sleep, and this agent is the first of
+        them."""
         going = [other for other in self.agents.values() if not other.ended]
         return going[0] is agent and all(self.is_stuck(other) for other in going)
 
     def is_stuck(self, agent):
+        if agent.sleep:
+            return not agent.sleep.answer
         sender = agent.waits_for
         return sender is not None and not self.ledger.ports[sender, agent.name] and not self.agents[sender].ended
 
     def turns(self):
-        """The turns of a run to its end, and last what was drained. Each agent moves by a whole job with its cleanup jobs."""
+        """The turns of a run to its end, and last what was drained. Each agent moves by a whole job with its cleanup jobs, or
+        up to where it falls asleep."""
         while not all(agent.ended for agent in self.agents.values()):
             for agent in self.agents.values():
                 moved = False
@@ -263,8 +321,9 @@ class Cluster:
                     break
             else:
                 continue
-            while not agent.rests and not agent.ended:
-                yield self.asked(agent)[1]
+            while moved and not agent.rests and not agent.ended:
+                moved, told = self.asked(agent)
+                yield told
         self.ledger.drain()
         yield self.turn(None, None)
 

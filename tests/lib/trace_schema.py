@@ -6,9 +6,9 @@ import json
 import os
 import random
 
-import random_plans
 import rules
 import schema_judges
+import third_plans
 import trace_check
 import trace_forms
 
@@ -34,7 +34,7 @@ def plans(chance, number):
         with open(path, "rb") as file:
             yield file.read()
     for _ in range(number):
-        data = random_plans.text(chance)
+        data = third_plans.text_of_any(chance)
         try:
             rules.read_plan(data)
         except rules.Refused:

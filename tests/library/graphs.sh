@@ -49,7 +49,7 @@ mod random;
 mod rounds;
 ROOT
 for file in drawn random rounds; do
-    sed 's/super::/crate::/' "$top/crates/call_tests/src/tests/marks/$file.rt" >"$room/crates/graphs/src/$file.rt"
+    sed 's/super::/crate::/' "$top/tests/library/call_tests/src/tests/marks/$file.rt" >"$room/crates/graphs/src/$file.rt"
 done
 put es_parmark/src/marking.rt "const LEAST_CUT: usize = 4096;" "const LEAST_CUT: usize = 2;"
 

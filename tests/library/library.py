@@ -21,13 +21,13 @@ import time
 TOP = os.path.dirname(os.path.dirname(os.path.dirname(os.path.abspath(__file__))))
 sys.path.insert(0, os.path.join(TOP, "tests", "lib"))
 
-import random_plans
 import refused_texts
 
 PROGRAM, FOLDER = os.path.abspath(sys.argv[1]), os.path.abspath(sys.argv[2])
 os.environ["CLUSTERRUN_LIBRARY"] = os.path.join(FOLDER, "libclusterrun.so")
 sys.path.insert(0, os.path.join(TOP, "embed"))
 import clusterrun
+import third_plans
 
 LIBRARY = ctypes.CDLL(os.environ["CLUSTERRUN_LIBRARY"])
 
@@ -117,7 +117,7 @@ def random_texts(count, seed):
     """Random plans, whole and spoiled: whatever the program answers."""
     rng = random.Random(seed)
     for number in range(count):
-        plan = random_plans.text(rng)
+        plan = third_plans.text_of_any(rng)
         wanted = by_program(False, plan)
         yield wanted, by_python(False, plan), f"Python, plan {number} of seed {seed}: {plan!r}"
         yield wanted, by_buffer(False, plan, number % 200), f"room for {number % 200}, plan {number} of seed {seed}: {plan!r}"
@@ -137,7 +137,7 @@ def by_module(every, plan):
 def traces(count, seed):
     """The traces of all examples and of some random plans: what the program writes."""
     rng = random.Random(seed)
-    plans = [(f"plan {number} of seed {seed}", random_plans.text(rng)) for number in range(count // 4)]
+    plans = [(f"plan {number} of seed {seed}", third_plans.text_of_any(rng)) for number in range(count // 4)]
     for path in EXAMPLES:
         with open(path, "rb") as file:
             plans.append((path, file.read()))

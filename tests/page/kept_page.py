@@ -39,8 +39,8 @@ import origin
 import page
 import page_browser
 import page_heap
-import random_plans
 import running
+import third_plans
 
 SCRIPT = os.path.join(PLAY, "clusterrun.mjs")
 LARGEST = 1_300_000
@@ -149,7 +149,7 @@ def in_node(count, left_out, program, plans):
             compare(count, program, asked, path, file.read())
     rng = random.Random(plans)
     for number in range(plans):
-        compare(count, program, asked, f"plan {number} of {plans}", random_plans.text(rng))
+        compare(count, program, asked, f"plan {number} of {plans}", third_plans.text_of_any(rng))
     asked.end()
     page_heap.try_all(count, words, plans)
     said = subprocess.run(

@@ -356,7 +356,8 @@ def warned(count, what, answer, wanted, fault):
 def of_module(count):
     """The same rows by the calls of the module, and what it knows of operands."""
     rows, table = [*warned_rows()], json.loads(read("tests", "rows", "commands.json"))
-    forms = [(word, uses) for word, row in table.items() for uses in {row["operands"], row["operands"] + row.get("and", "")}]
+    known = {word: row for word, row in table.items() if row.get("since") != 3}
+    forms = [(word, uses) for word, row in known.items() for uses in {row["operands"], row["operands"] + row.get("and", "")}]
     flags = [] if node_package.is_wide() else [node_package.FLAG]
     paths = [os.path.join(PLAY, *name) for name in (("explain.mjs",), ("page", "mistakes", "words.mjs"))]
     asked = {"plans": [plan for _, plan, _, _ in rows], "forms": [(word, len(uses)) for word, uses in forms]}

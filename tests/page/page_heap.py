@@ -8,8 +8,8 @@ import random
 import subprocess
 
 import page_rows
-import random_plans
 import rules
+import third_plans
 import trace_check
 import trace_forms
 
@@ -133,7 +133,7 @@ def try_all(count, node, plans):
         with open(path, "rb") as file:
             compare(count, script, os.path.basename(path), file.read())
     for number in range(plans):
-        data = random_plans.text(chance)
+        data = third_plans.text_of_any(chance)
         try:
             rules.read_plan(data)
         except rules.Refused:

@@ -39,7 +39,8 @@ function isOf(form, command) {
 /** The JavaScript of each form of each command gives it. */
 function* ofPlans(textOf) {
   const rows = rowsOf("docs/PLANS.md", "Commands");
-  const words = Object.keys(JSON.parse(read("tests/rows/commands.json")));
+  const commands = JSON.parse(read("tests/rows/commands.json"));
+  const words = Object.keys(commands).filter((word) => commands[word].since !== 3); // the program does not know these yet
   const named = rows.map(([[form]]) => form.split(" ")[0]);
   yield { holds: named.sort().join() === words.sort().join(), what: "docs/PLANS.md has a row for each command" };
   for (const [forms, lines] of rows) {

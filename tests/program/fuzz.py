@@ -9,7 +9,7 @@ seed and a number is always the same.
 
 The plans of tests/rows/found come first, with each number of helpers: each `.json` there is asked for what `bytes` are, and
 for what `threads` are, or `races` where it has a race. Then there are four kinds of trial:
-- `plans`: plans of random_plans.py, whole and spoiled, checked and run by turns.
+- `plans`: plans of random_plans.py and third_plans.py, whole and spoiled, checked and run by turns.
 - `bytes`: the same with bytes, pieces and words changed, put in, taken out and moved, checked, explained and run by turns.
 - `threads`: plans of raceless_plans.py, by turns, in threads, and in threads with helpers beside a watcher.
 - `races`: plans of agents that share, in threads beside a watcher. What their report says is not known, but that each agent
@@ -35,6 +35,7 @@ import racing
 import random_plans
 import rules
 import running
+import third_plans
 import threads
 from shrinking import shrunk
 
@@ -172,10 +173,12 @@ def trial(seed, number):
     rng = random.Random(f"{seed} {number}")
     kind = rng.choices(["plans", "bytes", "threads", "races"], [30, 35, 25, 10])[0]
     if kind == "plans":
-        return kind, random_plans.text(rng), by_turns
+        return kind, third_plans.text_of_any(rng), by_turns
     if kind == "bytes":
-        return kind, changed(rng, random_plans.text(rng)), by_turns
+        return kind, changed(rng, third_plans.text_of_any(rng)), by_turns
     plan = raceless_plans.random_plan(rng) if kind == "threads" else random_plans.shared_plan(rng)
+    if kind == "races" and rng.random() < 0.3:
+        plan = third_plans.in_variables(rng, plan)
     data, ways = written(rng, plan), in_threads(rng.choice(threads.HELPERS), rng.choice(threads.AUDITS))
     asked = without_races if kind == "threads" else with_races
     return kind, data, lambda program, data: asked(program, data, ways)

@@ -1,6 +1,6 @@
 #!/usr/bin/env python3
 """Random plans, whole and spoiled, through the program, by turns, and through rules.py: each answer must be the same. The
-plans are those of random_plans.py.
+plans are those of random_plans.py and third_plans.py.
 
 Usage: plans_by_rules.py PROGRAM COUNT SEED. Prints each plan that differs, how many have what, and `N passed, M failed`
 last.
@@ -17,6 +17,7 @@ sys.path.insert(0, os.path.join(TOP, "tests", "lib"))
 
 import random_plans
 import rules
+import third_plans
 
 
 def main():
@@ -25,7 +26,7 @@ def main():
     failed = 0
     have = dict.fromkeys(["refused", *random_plans.PARTS], 0)
     for number in range(count):
-        data = random_plans.text(rng)
+        data = third_plans.text_of_any(rng)
         ran = subprocess.run([program, "run", "--turns"], input=data, capture_output=True, timeout=60, check=False)
         got = (ran.returncode, ran.stdout.decode(), ran.stderr.decode())
         want = rules.answer(data)

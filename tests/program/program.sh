@@ -281,7 +281,7 @@ explained_agent() {
 }
 explained '{"version":1' 'S1 line 1 column 1' "This { is never closed."
 explained '{"version":1}' 'S2 ""' "A plan has version and agents: agents is missing." 'found {"version":1}'
-explained '{"version":3,"agents":[]}' 'S3 "/version"' "The version is 1 or 2." "found 3"
+explained '{"version":4,"agents":[]}' 'S3 "/version"' "The version is 1, 2 or 3." "found 4"
 explained '{"version":1,"agents":[]}' 'S4 "/agents"' "A plan has 1 to 8 agents, and here are none." "found []"
 explained '{"version":1,"agents":[{"name":"1","callbacks":{},"jobs":[]}]}' 'S5 "/agents/0/name"' '"1" is no name: it begins with a digit.' 'found "1"'
 explained_agent '"callbacks":{"b/c":[]},"jobs":[]' 'S5 "/agents/0/callbacks/b~1c"' '"b/c" is no name: it has "/".' 'found "b/c"'

@@ -41,15 +41,15 @@ LONGEST_FOR_LIBRARY = 50_000
 # What an operand is, by the definition of the schema that it has and by its name in the table of commands.
 TYPES = {
     "assigned": "name", "read": "name", "key": "name", "literal": "literal", "text": "text", "callback": "callback",
-    "other_agent": "agent", "whole": "whole", "words": "words",
+    "other_agent": "agent", "number": "amount", "words": "words",
 }
 # What an operand has for a letter in docs/PLANS.md.
 LETTERS = {
     "assigned": "X", "read": "YZOWMSRHTBD", "key": "K", "literal": "L", "text": ("TEXT",), "callback": "C",
-    "other_agent": "A", "whole": "NI", "words": "N",
+    "other_agent": "A", "number": "NIP", "words": "N",
 }
 SOME_OPERAND = {
-    "name": "x", "literal": None, "text": "t", "callback": "c", "agent": "b", "whole": -1, "words": 1,
+    "name": "x", "literal": None, "text": "t", "callback": "c", "agent": "b", "amount": -1, "words": 1,
 }
 ODD_OPERANDS = [
     None, True, 0, -1, 1.5, 16384, 16385, 9007199254740991, 9007199254740992, -9007199254740991, -9007199254740992,
@@ -89,7 +89,7 @@ def wanted(text, answer):
         return True
     if answer.split(" ")[1] not in SHOWN or is_used_before(text.value, answer):
         return None
-    is_fault_of_spelling = answer.startswith("refused S8 ") or answer == "refused S3" and text.value["version"] in (1, 2)
+    is_fault_of_spelling = answer.startswith("refused S8 ") or answer == "refused S3" and text.value["version"] in (1, 2, 3)
     return text.is_spelled_oddly and is_fault_of_spelling
 
 
@@ -127,16 +127,17 @@ def commands_of(root):
 
 
 def table():
-    """The program's table of commands: of each word whether it stands in jobs alone, and the lists of operands. Those of
-    version 2 alone are among them."""
+    """The program's table of commands, as version 3 has it: of each word whether it stands in jobs alone, and the lists of
+    operands."""
     text = read("crates/es_reading/specs/Forms.antt")
+    modified = re.findall(r'^word_for .* = codes "(\w+)"', read("crates/es_event/specs/Access.antt"), re.M)
     found = {}
-    for word, takes in re.findall(r'codes "(\w+)"\) then (.*)', text):
+    for word, takes in [*re.findall(r'codes "(\w+)"\) then (.*)', text), *((word, "modify_form v") for word in modified)]:
         lines = [takes]
         if takes.startswith("register_form"):
             lines = re.findall(r"(?:then|else) (takes .*)", text.split("register_form n =")[1].split("\n\n")[0])
-        elif takes.startswith("later_form"):
-            lines = re.findall(r"later_form Two = (takes.*)", text)
+        elif form := re.match(r"(\w+_form) v", takes):
+            lines = re.findall(rf"^{form[1]} (?:Three|v)(?: how)? = (takes.*)", text, re.M)[:1]
         for line in lines:
             jobs, kinds = re.match(r"takes(_in_jobs|) (?:\((.*?) ∷ \[\]\)|\[\]) ", line).groups()
             found.setdefault(word, (bool(jobs), []))[1].append(kinds.split(" ∷ ") if kinds else [])
@@ -163,17 +164,18 @@ def plan_of(command, in_callback=False, version=1):
 
 
 def small_plans(root):
-    """Plans with one command: each whole, in a job and in a callback, with one operand too few and too many, in both
-    versions; and with each odd operand at each place."""
+    """Plans with one command: each whole, in a job and in a callback, with one operand too few and too many, in each
+    version; and with each odd operand at each place, in version 1, and in version 3 where this takes variables for numbers."""
     for command in itertools.chain(*commands_of(root)):
         word, names, least = operands_of(command)
         whole = [SOME_OPERAND[TYPES[name]] for name in names]
         for count in range(least - 1, len(whole) + 2):
             some = [word, *(whole + ["x"])[: max(count, 0)]]
-            for version, in_callback in itertools.product((1, 2), (False, True)):
+            for version, in_callback in itertools.product((1, 2, 3), (False, True)):
                 yield plan_of(some, in_callback, version)
         for place, odd in itertools.product(range(len(whole)), ODD_OPERANDS):
-            yield plan_of([word, *whole[:place], odd, *whole[place + 1 :]])
+            for version in (1, 3) if "number" in names else (1,):
+                yield plan_of([word, *whole[:place], odd, *whole[place + 1 :]], version=version)
     for odd in ODD_OPERANDS:
         yield plan_of([odd])
         yield plan_of(odd)
@@ -229,7 +231,7 @@ def test_table(count, root):
 
 def test_limits(count, root):
     defs, most = root["$defs"], limits()
-    agent, whole = defs["agent"]["properties"], 9007199254740991
+    agent, whole, number = defs["agent"]["properties"], 9007199254740991, defs["number"]["anyOf"][0]
     for what, found, limit in (
         ("agents", root["properties"]["agents"]["maxItems"], most["MOST_AGENTS"]),
         ("callbacks", agent["callbacks"]["maxProperties"], most["MOST_CALLBACKS"]),
@@ -241,7 +243,7 @@ def test_limits(count, root):
         ("a literal's text", defs["literal"]["maxLength"], most["LONGEST_TEXT"]),
         ("a literal's pattern", defs["literal"]["pattern"], defs["text"]["pattern"]),
         ("words", defs["words"]["maximum"], most["MOST_WORDS"]),
-        ("whole numbers", (defs["whole"]["minimum"], defs["whole"]["maximum"]), (-whole, whole)),
+        ("whole numbers", (number["minimum"], number["maximum"]), (-whole, whole)),
         ("a literal's numbers", (defs["literal"]["minimum"], defs["literal"]["maximum"]), (-whole, whole)),
     ):
         count.test(found == limit, f"{what}: {found} in the schema, {limit} in the program")

@@ -27,9 +27,9 @@ import sys
 TOP = os.path.dirname(os.path.dirname(os.path.dirname(os.path.abspath(__file__))))
 sys.path.insert(0, os.path.join(TOP, "tests", "lib"))
 
-import random_plans
 import rules
 import running
+import third_plans
 import trace_check
 import trace_faults
 import trace_forms
@@ -195,7 +195,7 @@ def main():
         forms.agree(os.path.basename(path), plan, True)
     chance = random.Random(seed)
     for index in range(number):
-        plan = random_plans.text(chance)
+        plan = third_plans.text_of_any(chance)
         agrees(program, count, f"plan {index} of seed {seed}", plan)
         forms.agree(f"plan {index} of seed {seed}", plan, index % SHARE == 0)
     count.end()

@@ -132,7 +132,7 @@ fn access_word<L: LedgerName>(
     ensures agents { ledger.new.agents ≡ ledger.old.agents }
 {
     let _ = core.history();
-    let old = ledger.access(stake, core.ticket(buffer), index, access.change)?;
+    let old = ledger.edit(stake, core.ticket(buffer), index, access.edit)?;
     if access.gives_word {
         Ok(Given::Word(old))
     } else {

@@ -1,5 +1,5 @@
 -- A step of an agent without buffer objects leaves it so, and makes its history one event longer.
-use Rattle.std.proofs.Common.{◌≡◌, ℕ, ◌+◌, Bool, true, false, ◌∙◌, ap, refl, [], length, subst, sym, arith}
+use Rattle.std.proofs.Common.{◌≡◌, ℕ, ◌+◌, Bool, true, false, ◌∙◌, ap, [], length, subst, sym, arith}
 use Rattle.es_record.specs.AgentView.{AgentView}
 use Rattle.embed.specs.declared.drive.Outside.{Outside}
 use Rattle.embed.specs.Outside.{MeetsAll}
@@ -11,14 +11,6 @@ pub record Stepped (first : AgentView) (before : Outside) (n : ℕ) (b : AgentVi
   pub bare : b.over ≡ []
   pub meets : MeetsAll b.history before after
   pub long : length b.history ≡ n
-
-pub none_stepped : (b : AgentView) (o : Outside) → b.over ≡ [] → b.history ≡ [] → Stepped b o 0 b o
-none_stepped b o bare fresh = record {
-  plan = refl;
-  bare = bare;
-  meets = subst (λ h. MeetsAll h o o) (sym fresh) refl;
-  long = ap length fresh;
-}
 
 pub one_stepped : (first b new : AgentView) (before o after : Outside) (n : ℕ) (went : Bool) → went ≡ true → Stepped first before n b o → Goes went b o new after → Stepped first before (n + 1) new after
 one_stepped first b new before o after n false so was goes = cc

@@ -1,6 +1,6 @@
 -- What an agent keeps for an open later collection, after one more event.
 use Rattle.std.proofs.Common.{◌≡◌, ℕ, ◌&&◌, Bool, true, false, cond, not, nat_lt, nat_le, sym, ◌∙◌, ap, refl, subst, arith, List, [], ◌∷◌, ◌++◌, reverse, Option, Some, None, inl, inr, ◌==◌}
-use Rattle.std.specs.Prelude.{is_some, unwrap_or}
+use Rattle.std.specs.Prelude.{unwrap_or}
 use Rattle.std.specs.List.{filter, list_all}
 use Rattle.std.proofs.lemmas.Bool.{cases_Bool, and_from}
 use Rattle.std.proofs.lemmas.List.Sorted.{list_any-IsPermutation, IsPermutation-reverse}
@@ -10,7 +10,6 @@ use Rattle.es_event.specs.declared.event.Event.{Event}
 use Rattle.es_event.specs.declared.event.Event.TheVariants.{Did, Emptied}
 use Rattle.es_event.specs.declared.command.Command.{Command}
 use Rattle.es_event.specs.declared.command.Command.TheVariants.{CollectLater}
-use Rattle.es_event.specs.declared.row.Row.{Row}
 use Rattle.es_event.specs.History.{History}
 use Rattle.es_event.specs.Identities.{is_gone, is_made, is_there, made}
 use Rattle.es_event.specs.Registrations.{fate, is_present}
@@ -20,7 +19,7 @@ use Rattle.es_event.proofs.Cells.{fate_same}
 use Rattle.es_mark.specs.Graph.{IsNumbered}
 use Rattle.es_parmark.specs.Snapshot.{SnapshotView, IsCopyOf, are_made}
 use Rattle.es_tables.specs.Effects.{IsQuiet}
-use Rattle.es_record.specs.AgentView.{AgentView, Records, with_buffer}
+use Rattle.es_record.specs.AgentView.{AgentView, Records}
 use Rattle.es_record.specs.Graph.{HasRoots, HasEdges, HasEntries, as_at}
 use Rattle.es_agent.specs.Keeping.{noted, IsKept}
 use Rattle.es_agent.specs.Later.{opening, IsCopyAt}
@@ -59,25 +58,6 @@ kept_after b e o k quiet plain is kept =
     subst (λ q. IsKept (record b { history = e ∷ b.history }) q (option_map (λ k. (k.0, noted k.0.made o k.1)) k)) (sym (same_snapshot e b.history quiet plain)) (kept_at b e o (snapshot b.history) k is plain kept)
 
 -- and gives nothing by a deref
-
-none_noted : (k : Option (SnapshotView × List ℕ)) → option_map (λ k. (k.0, noted k.0.made None k.1)) k ≡ k
-none_noted None = refl
-none_noted (Some k) = refl
-
-pub kept_plain : (b : AgentView) (e : Event) (k : Option (SnapshotView × List ℕ)) → IsQuiet e → begins_later e ≡ false → derefs e ≡ [] → IsKept b (snapshot b.history) k
-    → IsKept (record b { history = e ∷ b.history }) (snapshot (e ∷ b.history)) k
-kept_plain b e k quiet plain none kept = subst (IsKept (record b { history = e ∷ b.history }) (snapshot (e ∷ b.history))) (none_noted k) (kept_after b e None k quiet plain (sym none) kept)
-
--- over one buffer object more
-kept_over : (r : Row) (b : AgentView) (q : Option History) (k : Option (SnapshotView × List ℕ)) → IsKept b q k → IsKept (with_buffer r b) q k
-kept_over r b None None kept = tt
-kept_over r b None (Some k) kept = absurd kept
-kept_over r b (Some p) None kept = absurd kept
-kept_over r b (Some p) (Some k) kept = kept
-
-pub kept_buffer : (r : Row) (b : AgentView) (e : Event) (k : Option (SnapshotView × List ℕ)) → IsQuiet e → begins_later e ≡ false → derefs e ≡ [] → IsKept b (snapshot b.history) k
-    → IsKept (record (with_buffer r b) { history = e ∷ b.history }) (snapshot (e ∷ b.history)) k
-kept_buffer r b e k quiet plain none kept = kept_plain (with_buffer r b) e k quiet plain none (kept_over r b (snapshot b.history) k kept)
 
 -- Opening a later collection
 
@@ -141,11 +121,6 @@ module _ (b : AgentView) where
   later_opened s c p is = let same : opening ∷ b.history ≡ p = cc in subst (λ p. IsCopyAt (record b { history = opening ∷ b.history }) p s) same (copy_opened s c)
 
 -- What is kept
-
-pub some_kept : (b : AgentView) (q : Option History) (k : Option (SnapshotView × List ℕ)) → is_some q ≡ true → IsKept b q k → is_some k ≡ true
-some_kept b None k e kept = cc
-some_kept b (Some p) None e kept = absurd kept
-some_kept b (Some p) (Some k) e kept = refl
 
 pub copy_kept : (b : AgentView) (q : Option History) (k : Option (SnapshotView × List ℕ)) (s : SnapshotView) (ids : List ℕ) → k ≡ Some (s, ids) → IsKept b q k → (p : History) → q ≡ Some p
     → IsCopyAt b p s × (ids ≡ filter (is_made p) (derefed_since b.history))

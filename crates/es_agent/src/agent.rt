@@ -27,8 +27,7 @@ mod reach;
 
 use crate::admission::{AdmitFault, enter};
 use crate::recorder::Recorder;
-use es_cursor::Due;
-use es_event::{AgentPlan, Answer, Event, Row, Sequence};
+use es_event::{AgentPlan, Answer, Due, Event, Row, Sequence};
 use es_mark::{Graph, Marks};
 use es_parmark::Snapshot;
 use es_record::AgentRecord;

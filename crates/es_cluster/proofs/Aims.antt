@@ -1,9 +1,9 @@
 -- A buffer object that a request names has a ticket, whose block has a word at the request's index; and a value that is posted has no identity.
 use Rattle.std.proofs.Common.{◌≡◌, ℕ, ◌+◌, ◌<◌, ◌==◌, ◌||◌, Bool, true, false, cond, not, sym, ◌∙◌, ap, refl, subst, List, [], ◌∷◌, ◌++◌, reverse, Option, Some, None, inl, inr}
-use Rattle.std.specs.Prelude.{ℤ, pos, negsuc, is_some, unsigned_abs}
+use Rattle.std.specs.Prelude.{ℤ, pos, negsuc, is_some, unsigned_abs, map}
 use Rattle.std.specs.Option.{option_map, option_map_or, option_and_then}
 use Rattle.std.specs.List.{filter}
-use Rattle.std.proofs.lemmas.Bool.{cases_Bool, eqb-true, ltb-true}
+use Rattle.std.proofs.lemmas.Bool.{cases_Bool, eqb-true, false≢true, ltb-true}
 use Rattle.std.proofs.lemmas.List.{reverse-append}
 use Rattle.es_value.specs.declared.value.Value.{Value}
 use Rattle.es_value.specs.declared.value.Value.TheVariants.{Object, Symbol}
@@ -12,21 +12,21 @@ use Rattle.es_event.specs.declared.command.Command.{Command}
 use Rattle.es_event.specs.declared.command.Command.TheVariants.{SharedArrayBuffer, Atomic, Post}
 use Rattle.es_event.specs.declared.event.Event.{Event}
 use Rattle.es_event.specs.declared.event.Event.TheVariants.{Received, Did}
-use Rattle.es_event.specs.declared.event.Refusal.TheVariants.{NotASharedArrayBuffer, NotPostable}
+use Rattle.es_event.specs.declared.event.Refusal.TheVariants.{NotPostable}
 use Rattle.es_event.specs.declared.plan.AgentPlan.{AgentPlan}
 use Rattle.es_event.specs.declared.row.Row.{Row}
-use Rattle.es_event.specs.Access.{access_of}
+use Rattle.es_event.specs.Numbers.{access_of, index_of, index_read, words_read}
 use Rattle.es_event.specs.Commands.{reads, Kind, kind_made, opens_words}
 use Rattle.es_event.specs.History.{History}
 use Rattle.es_event.specs.Identities.{identity, object_of, made, kind, born, is_gone}
 use Rattle.es_event.specs.Jobs.{Receivers, receivers}
 use Rattle.es_event.specs.Variables.{var}
 use Rattle.es_event.specs.Sharing.{Buffers, row_at, words_of, is_index}
-use Rattle.es_event.specs.Rules.{is_buffer, kind_of, of_index, room_for_post, is_postable, refusal, first_refusal}
+use Rattle.es_event.specs.Rules.{Test, is_buffer, kind_of, of_buffer, of_number, of_index, room_for_post, is_postable, refusal, first_refusal}
 use Rattle.es_event.specs.Legal.{values_of, HasWords, Arrives, Lawful, LegalBy}
 use Rattle.es_event.specs.Order.{Phase, between, handed, inside, stopped, ended, phase, due_at, due}
 use Rattle.es_event.specs.Runs.{IsRunOver}
-use Rattle.es_event.proofs.Accepted.{first_holds}
+use Rattle.es_event.proofs.Accepted.{first_holds, word_holds}
 use Rattle.es_event.proofs.Alive.{reached_not_gone}
 use Rattle.es_event.proofs.Births.{birth, received, born_next}
 use Rattle.es_event.proofs.LookBacks.{at_either}
@@ -34,6 +34,7 @@ use Rattle.es_ticket.specs.Stakes.{at}
 use Rattle.es_record.specs.AgentView.{AgentView}
 use Rattle.es_rules.specs.Needs.{Request, for_block, for_post, for_buffer_post, for_access, access_at, posts_to, asked, Need, asks_ledger, asks_nothing, need_of, need}
 use Rattle.es_rules.proofs.Needs.{ledger_due, not_refused}
+use Rattle.es_cluster.proofs.Asking.{word_asked}
 use Rattle.es_agent.specs.Tickets.{is_ended, tickets}
 
 -- The table has each buffer object that was made
@@ -159,13 +160,13 @@ pub aimed_at : (into : Receivers) (h : History) (x : List ℕ) (o : ℕ) → obj
 aimed_at into h x o e b = record { name = x; holds = at_object (var into h x) o e; buffer = ap (λ q. is_buffer (option_and_then (kind h) q)) (sym e) ∙ b }
 
 -- an access: the value is a buffer object, and its block has a word there
-word_aimed : (over : Buffers) (into : Receivers) (h : History) (x : List ℕ) (j : ℤ) (a : Access) (r : Request) (o : ℕ)
-    → access_at (var into h x) j a ≡ Some r → first_refusal ((is_buffer (kind_of h (var into h x)), NotASharedArrayBuffer) ∷ of_index over (var into h x) j ∷ []) ≡ None → aim r ≡ Some o → Aimed into h o
-word_aimed over into h x j a r o is none e =
+word_aimed : (over : Buffers) (into : Receivers) (h : History) (x : List ℕ) (n : Test) (j : ℤ) (ts : List Test) (a : Access) (r : Request) (o : ℕ)
+    → access_at (var into h x) j a ≡ Some r → first_refusal (of_buffer h (var into h x) ∷ n ∷ of_index over (var into h x) j ∷ ts) ≡ None → aim r ≡ Some o → Aimed into h o
+word_aimed over into h x n j ts a r o is none e =
     let m = mapped (λ o. for_access o (unsigned_abs j) a) (object_of (var into h x)) r is in
     let here : ◌≡◌ {A = Option ℕ} (Some m.0) (Some o) = ap aim m.2 ∙ e in
     let same : m.0 ≡ o = cc in
-    aimed_at into h x o (m.1 ∙ ap Some same) (first_holds _ NotASharedArrayBuffer (of_index over (var into h x) j ∷ []) none).0
+    aimed_at into h x o (m.1 ∙ ap Some same) (word_holds over h (var into h x) n j ts none).0
 
 post_aimed : (into : Receivers) (h : History) (x : List ℕ) (a : ℕ) (v : Value) (r : Request) (o : ℕ) → var into h x ≡ v → Some (posts_to a v) ≡ Some r → is_postable h v ≡ true → aim r ≡ Some o → Aimed into h o
 post_aimed into h x a (Object i) r o holds is may e =
@@ -178,7 +179,9 @@ post_aimed into h x a v r o holds is may e =
     let none : ◌≡◌ {A = Option ℕ} None (Some o) = ap aim m ∙ e in cc
 
 command_aims : (over : Buffers) (into : Receivers) (h : History) (c : Command) (r : Request) (o : ℕ) → asked c (values_of into h (reads c)) ≡ Some r → refusal over h c (values_of into h (reads c)) ≡ None → aim r ≡ Some o → Aimed into h o
-command_aims over into h (Atomic c) r o is none e = word_aimed over into h c.buffer c.index (access_of c.operation) r o is none e
+command_aims over into h (Atomic c) r o is none e =
+    let vs = values_of into h (reads (Atomic c)) in
+    word_aimed over into h c.buffer (of_number (index_read c vs)) (index_of c vs) (map of_number (words_read c vs)) (access_of c vs) r o is none e
 command_aims over into h (Post a y) r o is none e = post_aimed into h y a (var into h y) r o refl is (first_holds _ NotPostable (room_for_post h ∷ []) none).0 e
 command_aims over into h (SharedArrayBuffer to n) r o is none e =
     let m : for_block n ≡ r = cc in
@@ -203,21 +206,23 @@ index_within : (j : ℤ) (words : ℕ) → is_index j words ≡ true → unsigne
 index_within (pos i) words e = ltb-true i words e
 index_within (negsuc i) words e = cc
 
-word_placed : (over : Buffers) (h : History) (v : Value) (j : ℤ) (a : Access) (r : Request) (o i : ℕ) → access_at v j a ≡ Some r → first_refusal ((is_buffer (kind_of h v), NotASharedArrayBuffer) ∷ of_index over v j ∷ []) ≡ None → aim r ≡ Some o → place r ≡ Some i
+word_placed : (over : Buffers) (h : History) (v : Value) (n : Test) (j : ℤ) (ts : List Test) (a : Access) (r : Request) (o i : ℕ) → access_at v j a ≡ Some r → first_refusal (of_buffer h v ∷ n ∷ of_index over v j ∷ ts) ≡ None → aim r ≡ Some o → place r ≡ Some i
     → (w : Row) → Some w ≡ row_at over o → i < w.words
-word_placed over h v j a r o i is none aims places w here =
+word_placed over h v n j ts a r o i is none aims places w here =
     let m = mapped (λ o. for_access o (unsigned_abs j) a) (object_of v) r is in
     let first : ◌≡◌ {A = Option ℕ} (Some m.0) (Some o) = ap aim m.2 ∙ aims in
     let second : ◌≡◌ {A = Option ℕ} (Some (unsigned_abs j)) (Some i) = ap place m.2 ∙ places in
     let same : m.0 ≡ o = cc in
     let index : unsigned_abs j ≡ i = cc in
-    let inside = (first_holds _ _ [] (first_holds _ NotASharedArrayBuffer (of_index over v j ∷ []) none).1).0 in
+    let inside = (word_holds over h v n j ts none).1 in
     let words : words_of over v ≡ w.words = ap (λ q. option_map_or (λ r. r.words) (option_and_then (row_at over) q) 0) (m.1 ∙ ap Some same) ∙ ap (λ q. option_map_or (λ r. r.words) q 0) (sym here) in
     subst (λ i. i < w.words) index (index_within j w.words (ap (is_index j) (sym words) ∙ inside))
 
 command_places : (over : Buffers) (into : Receivers) (h : History) (c : Command) (r : Request) (o i : ℕ) → asked c (values_of into h (reads c)) ≡ Some r → refusal over h c (values_of into h (reads c)) ≡ None
     → aim r ≡ Some o → place r ≡ Some i → (w : Row) → Some w ≡ row_at over o → i < w.words
-command_places over into h (Atomic c) r o i is none aims places = word_placed over h (var into h c.buffer) c.index (access_of c.operation) r o i is none aims places
+command_places over into h (Atomic c) r o i is none aims places =
+    let vs = values_of into h (reads (Atomic c)) in
+    word_placed over h (var into h c.buffer) (of_number (index_read c vs)) (index_of c vs) (map of_number (words_read c vs)) (access_of c vs) r o i is none aims places
 command_places over into h (Post a y) r o i is none aims places = absurd (no_place a (var into h y) r i is places)
   where
     no_place : (a : ℕ) (v : Value) (r : Request) (i : ℕ) → Some (posts_to a v) ≡ Some r → place r ≡ Some i → ⊥
@@ -246,7 +251,9 @@ plain_post h a b v w is may = let same : v ≡ w = cc in ap identity (sym same)
 
 command_posts : (over : Buffers) (into : Receivers) (h : History) (c : Command) (a : ℕ) (w : Value) → asked c (values_of into h (reads c)) ≡ Some (for_post a w) → refusal over h c (values_of into h (reads c)) ≡ None → identity w ≡ None
 command_posts over into h (Post b y) a w is none = plain_post h b a (var into h y) w is (first_holds _ NotPostable (room_for_post h ∷ []) none).0
-command_posts over into h (Atomic c) a w is none = let m = mapped (λ o. for_access o (unsigned_abs c.index) (access_of c.operation)) (object_of (var into h c.buffer)) (for_post a w) is in cc
+command_posts over into h (Atomic c) a w is none =
+    let vs = values_of into h (reads (Atomic c)) in
+    absurd (false≢true (word_asked (var into h c.buffer) (index_of c vs) (access_of c vs) (for_post a w) is))
 command_posts over into h _ a w is none = cc
 
 -- a value that is posted has no identity

@@ -1,14 +1,16 @@
 -- What an event asks of the ledger is what the agent asked for, and the deeds that were done meet it.
 use Rattle.std.proofs.Common.{◌≡◌, ℕ, ◌==◌, ◌&&◌, ◌||◌, Bool, true, false, cond, if◌then◌else◌, not, sym, ◌∙◌, ap, refl, subst, List, [], ◌∷◌, ◌++◌, Option, Some, None, eq-eqb}
-use Rattle.std.specs.Prelude.{ℤ, pos, negsuc, ◌-◌, unsigned_abs, is_some, unwrap_or, slice_get}
+use Rattle.std.specs.Prelude.{ℤ, pos, negsuc, ◌-◌, unsigned_abs, is_some, unwrap_or, slice_get, map}
 use Rattle.std.specs.Option.{option_map, option_map_or, option_and_then}
 use Rattle.std.specs.Ordering.{int_eq}
+use Rattle.std.proofs.lemmas.Bool.{false≢true}
 use Rattle.std.proofs.lemmas.Bool.Decides.{Decides-int_eq}
 use Rattle.std.proofs.lemmas.Slice.Eq.{bytes_eq-Decides}
 use Rattle.es_value.specs.Values.{identity, is_same}
 use Rattle.es_value.specs.declared.value.Value.{Value}
 use Rattle.es_value.specs.declared.value.Value.TheVariants.{Undefined, Boolean, Number, Text, Registered, Object, Symbol}
 use Rattle.es_event.specs.declared.access.Access.{Access}
+use Rattle.es_event.specs.declared.atomic.AtomicParts.{AtomicParts}
 use Rattle.es_event.specs.declared.command.Command.{Command}
 use Rattle.es_event.specs.declared.command.Command.TheVariants.{SharedArrayBuffer, Atomic, Post}
 use Rattle.es_event.specs.declared.event.Answer.{Answer}
@@ -17,11 +19,11 @@ use Rattle.es_event.specs.declared.event.Event.{Event}
 use Rattle.es_event.specs.declared.event.Event.TheVariants.{JobBegun, CleanupBegun, Received, Refused, JobEnded, Skipped, Closed}
 use Rattle.es_event.specs.declared.plan.AgentPlan.{AgentPlan}
 use Rattle.es_event.specs.declared.plan.Job.{Job}
-use Rattle.es_event.specs.declared.event.Refusal.TheVariants.{NotASharedArrayBuffer}
 use Rattle.es_event.specs.declared.ledger_event.Body.TheVariants.{Plain, Block}
 use Rattle.es_event.specs.declared.row.Row.{Row}
-use Rattle.es_event.specs.Access.{access_of, is_same_change}
-use Rattle.es_event.specs.Commands.{reads}
+use Rattle.es_event.specs.Access.{change_by, is_same_change}
+use Rattle.es_event.specs.Numbers.{access_of, index_of, index_read, words_read}
+use Rattle.es_event.specs.Commands.{reads, first}
 use Rattle.es_event.specs.History.{History}
 use Rattle.es_event.specs.Identities.{object_of}
 use Rattle.es_event.specs.Variables.{var}
@@ -29,11 +31,11 @@ use Rattle.es_event.specs.Jobs.{Receivers, receivers, job, cleaning}
 use Rattle.es_event.specs.Registrations.{first_awaiting}
 use Rattle.es_event.specs.Follows.{Permits, Follows}
 use Rattle.es_event.specs.Sharing.{Buffers, row_at, is_index, words_of}
-use Rattle.es_event.specs.Rules.{is_buffer, kind_of, of_index, refusal, first_refusal}
+use Rattle.es_event.specs.Rules.{Test, of_buffer, of_number, of_index, refusal, first_refusal}
 use Rattle.es_event.specs.Legal.{values_of}
 use Rattle.es_event.specs.Later.{snapshot}
 use Rattle.es_event.specs.Order.{Phase, between, handed, inside, stopped, ended, phase, phase_after, receive, run, clean, left, queue, due_end, due_after, due_inside, due_job, due_between, due_at, due}
-use Rattle.es_event.proofs.Accepted.{first_holds}
+use Rattle.es_event.proofs.Accepted.{word_holds}
 use Rattle.es_event.proofs.Accesses.{same_as_itself}
 use Rattle.es_match.specs.Asks.{to_open, to_access, to_post, to_receive, to_pass, given, asks_did, between_jobs}
 use Rattle.es_match.specs.Cluster.{awaited}
@@ -85,17 +87,29 @@ pub object_at : (v : Value) (o : ℕ) → object_of v ≡ Some o → v ≡ Objec
 object_at (Object i) o e = let same : i ≡ o = cc in ap Object same
 object_at _ o e = cc
 
-mapped : (f : ℕ → Request) (q : Option ℕ) (r : Request) → option_map f q ≡ Some r → (o : ℕ) × (q ≡ Some o) × (f o ≡ r)
-mapped f None r e = cc
-mapped f (Some o) r e = (o, refl, cc)
+abbrev asks_word : Request → Bool
+asks_word (for_block n) = false
+asks_word (for_post a v) = false
+asks_word (for_buffer_post a o) = false
+asks_word (for_access o i a) = true
+
+-- a command on a word asks for an access, and for nothing else
+pub word_asked : (v : Value) (j : ℤ) (c : Access) (r : Request) → access_at v j c ≡ Some r → asks_word r ≡ true
+word_asked (Object p) j c r e = let same : for_access p (unsigned_abs j) c ≡ r = cc in ap asks_word (sym same)
+word_asked _ j c r e = cc
+
+word_only : (b : AgentView) (c : AtomicParts) (r : Request) → asks_word r ≡ false → DueCommand b (Atomic c) r → ⊥
+word_only b c r other d =
+    let vs = values_of (receivers b.plan.jobs) b.history (reads (Atomic c)) in
+    false≢true (sym other ∙ word_asked (first vs) (index_of c vs) (access_of c vs) r d.asks)
 
 positive : (j : ℤ) (words : ℕ) → is_index j words ≡ true → j ≡ pos (unsigned_abs j)
 positive (pos i) words e = refl
 positive (negsuc i) words e = cc
 
--- the index of a load, a store or an add is not negative
-index_of : (over : Buffers) (h : History) (v : Value) (j : ℤ) (i : ℕ) → first_refusal ((is_buffer (kind_of h v), NotASharedArrayBuffer) ∷ of_index over v j ∷ []) ≡ None → unsigned_abs j ≡ i → j ≡ pos i
-index_of over h v j i none is = positive j (words_of over v) (first_holds _ _ [] (first_holds _ NotASharedArrayBuffer (of_index over v j ∷ []) none).1).0 ∙ ap pos is
+-- the index of a word is not negative
+index_positive : (over : Buffers) (h : History) (v : Value) (n : Test) (j : ℤ) (ts : List Test) (i : ℕ) → first_refusal (of_buffer h v ∷ n ∷ of_index over v j ∷ ts) ≡ None → unsigned_abs j ≡ i → j ≡ pos i
+index_positive over h v n j ts i none is = positive j (words_of over v) (word_holds over h v n j ts none).1 ∙ ap pos is
 
 -- An access
 
@@ -109,10 +123,10 @@ record Accessed (v : Value) (j : ℤ) (c : Access) (o i : ℕ) (a : Access) : Ty
   pub index : j ≡ pos i
   pub access : c ≡ a
 
-accessed : (over : Buffers) (h : History) (v : Value) (j : ℤ) (c : Access) (o i : ℕ) (a : Access) → first_refusal ((is_buffer (kind_of h v), NotASharedArrayBuffer) ∷ of_index over v j ∷ []) ≡ None → access_at v j c ≡ Some (for_access o i a) → Accessed v j c o i a
-accessed over h v j c o i a none asks =
+accessed : (over : Buffers) (h : History) (v : Value) (n : Test) (j : ℤ) (ts : List Test) (c : Access) (o i : ℕ) (a : Access) → first_refusal (of_buffer h v ∷ n ∷ of_index over v j ∷ ts) ≡ None → access_at v j c ≡ Some (for_access o i a) → Accessed v j c o i a
+accessed over h v n j ts c o i a none asks =
     let is = access_asked v j c o i a asks in
-    record { object = object_at v o is.0; index = index_of over h v j i none is.1; access = is.2 }
+    record { object = object_at v o is.0; index = index_positive over h v n j ts i none is.1; access = is.2 }
 
 post_no_access : (t : ℕ) (u : Value) (o i : ℕ) (a : Access) → Some (posts_to t u) ≡ Some (for_access o i a) → ⊥
 post_no_access t (Object p) o i a e = cc
@@ -123,7 +137,9 @@ access_so v j c o i a u is = ap (λ v. to_access v j c u) is.object ∙ ap (λ j
 
 pub access_asks : (b : AgentView) (c : Command) (o i : ℕ) (a : Access) (r : Answer) → DueCommand b c (for_access o i a)
     → asks_did c (values_of (receivers b.plan.jobs) b.history (reads c)) r ≡ to_access (Object o) (pos i) a (given r)
-access_asks b (Atomic c) o i a r d = access_so _ c.index (access_of c.operation) o i a (given r) (accessed b.over b.history _ c.index (access_of c.operation) o i a d.accepted d.asks)
+access_asks b (Atomic c) o i a r d =
+    let vs = values_of (receivers b.plan.jobs) b.history (reads (Atomic c)) in
+    access_so _ (index_of c vs) (access_of c vs) o i a (given r) (accessed b.over b.history _ (of_number (index_read c vs)) (index_of c vs) (map of_number (words_read c vs)) (access_of c vs) o i a d.accepted d.asks)
 access_asks b (Post t y) o i a r d = absurd (post_no_access t _ o i a d.asks)
 access_asks b c o i a r d = let e = d.asks in cc
 
@@ -134,18 +150,18 @@ answered a w = by_gift a.gives_word
     by_gift true = (Decides-int_eq (pos w) (pos w)).1 refl
     by_gift false = refl
 
-pub access_met : (ts : Tickets) (o i w : ℕ) (a : Access) (r : Row) → Some r ≡ at o ts → after ts (to_access (Object o) (pos i) a (given (answer_to a w))) (Accesses r.serial i a.change w ∷ []) ≡ Some ts
+pub access_met : (ts : Tickets) (o i w : ℕ) (a : Access) (r : Row) → Some r ≡ at o ts → after ts (to_access (Object o) (pos i) a (given (answer_to a w))) (Accesses r.serial i (change_by a.edit w) w ∷ []) ≡ Some ts
 access_met ts o i w a r here =
-    ap (λ b. some_if (b && (int_eq (pos i) (pos i) && (is_same_change a.change a.change && answers a (given (answer_to a w)) w))) ts) (this_ticket ts o r here)
-    ∙ ap (λ b. some_if (b && (is_same_change a.change a.change && answers a (given (answer_to a w)) w)) ts) ((Decides-int_eq (pos i) (pos i)).1 refl)
-    ∙ ap (λ b. some_if (b && answers a (given (answer_to a w)) w) ts) (same_as_itself a.change)
+    ap (λ b. some_if (b && (int_eq (pos i) (pos i) && (is_same_change (change_by a.edit w) (change_by a.edit w) && answers a (given (answer_to a w)) w))) ts) (this_ticket ts o r here)
+    ∙ ap (λ b. some_if (b && (is_same_change (change_by a.edit w) (change_by a.edit w) && answers a (given (answer_to a w)) w)) ts) ((Decides-int_eq (pos i) (pos i)).1 refl)
+    ∙ ap (λ b. some_if (b && answers a (given (answer_to a w)) w) ts) (same_as_itself (change_by a.edit w))
     ∙ ap (λ b. some_if b ts) (answered a w)
 
 -- A new block
 
 pub open_asks : (b : AgentView) (c : Command) (n : ℕ) (v : Value) → DueCommand b c (for_block n) → (vs : List Value) → asks_did c vs (Gives v) ≡ to_open n v
 open_asks b (SharedArrayBuffer to m) n v d vs = let same : m ≡ n = (let e = d.asks in cc) in ap (λ m. to_open m v) same
-open_asks b (Atomic c) n v d vs = let m = mapped (λ o. for_access o (unsigned_abs c.index) (access_of c.operation)) _ _ d.asks in cc
+open_asks b (Atomic c) n v d vs = absurd (word_only b c (for_block n) refl d)
 open_asks b (Post a y) n v d vs = absurd (no_post a _ d.asks)
   where
     no_post : (a : ℕ) (u : Value) → Some (posts_to a u) ≡ Some (for_block n) → ⊥
@@ -178,12 +194,12 @@ posted_buffer a r o (Symbol i) e = cc
 
 pub post_asks : (b : AgentView) (c : Command) (r : ℕ) (v : Value) (a : Answer) → DueCommand b c (for_post r v) → asks_did c (values_of (receivers b.plan.jobs) b.history (reads c)) a ≡ to_post r v
 post_asks b (Post t y) r v a d = let u = var (receivers b.plan.jobs) b.history y in let p = posted t r u v d.asks in ap (λ t. to_post t u) p.0 ∙ ap (to_post r) p.1
-post_asks b (Atomic c) r v a d = let m = mapped (λ o. for_access o (unsigned_abs c.index) (access_of c.operation)) _ _ d.asks in cc
+post_asks b (Atomic c) r v a d = absurd (word_only b c (for_post r v) refl d)
 post_asks b c r v a d = let e = d.asks in cc
 
 pub buffer_asks : (b : AgentView) (c : Command) (r o : ℕ) (a : Answer) → DueCommand b c (for_buffer_post r o) → asks_did c (values_of (receivers b.plan.jobs) b.history (reads c)) a ≡ to_post r (Object o)
 buffer_asks b (Post t y) r o a d = let u = var (receivers b.plan.jobs) b.history y in let p = posted_buffer t r o u d.asks in ap (λ t. to_post t u) p.0 ∙ ap (to_post r) p.1
-buffer_asks b (Atomic c) r o a d = let m = mapped (λ o. for_access o (unsigned_abs c.index) (access_of c.operation)) _ _ d.asks in cc
+buffer_asks b (Atomic c) r o a d = absurd (word_only b c (for_buffer_post r o) refl d)
 buffer_asks b c r o a d = let e = d.asks in cc
 
 no_object : (v : Value) → identity v ≡ None → is_some (object_of v) ≡ false

@@ -7,7 +7,6 @@ use Rattle.es_event.specs.declared.row.Row.{Row}
 use Rattle.es_event.specs.Ledger.{Ledger, ended}
 use Rattle.es_event.specs.declared.ledger_event.LedgerEvent.TheVariants.{Spent}
 use Rattle.es_event.specs.Order.{phase}
-use Rattle.es_ticket.specs.Owned.{Owns}
 use Rattle.es_ticket.proofs.Counted.{counted_last, owned_last}
 use Rattle.es_ticket.specs.Stakes.{StakeView, at}
 use Rattle.es_record.specs.AgentView.{AgentView}
@@ -21,10 +20,6 @@ counted_rows p (t ∷ ts) =
     let a = sum_by-cons (λ r. cond {A = ℕ} (p r) 1 0) t.1 (map (λ t. t.1) ts) in
     let b = sum_by-cons {X = ℕ × Row} (λ t. cond {A = ℕ} (p t.1) 1 0) t ts in
     let ih = counted_rows p ts in omega (arith, a, b, ih)
-
--- where a rack has the same rows, each of its tickets is there
-pub owns_same : (ts : List (ℕ × Row)) (rows : List Row) → SameRows (map (λ t. t.1) ts) rows → Owns rows ts
-owns_same ts rows same p = let a = same p in let b = counted_rows p ts in omega (arith, a, b)
 
 -- the last ticket was spent
 pub spent_last : (ts : List (ℕ × Row)) (i : ℕ) (r : Row) (l : Ledger) → spent (ts ++ (i, r) ∷ []) l ≡ spent ts (Spent r.serial ∷ l)

@@ -53,14 +53,6 @@ works_moved p n old new b is moved works = subst (λ b. IsLess b n old new) is (
 pub asked_on : (a b c : ClusterView) → Asked a b → Asked b c → Asked a c
 asked_on a b c one two = record { agents = two.agents ∙ one.agents; whole = two.whole; waits = λ end runs. one.waits end (two.waits end runs) }
 
-pub asked_none : (c : ClusterView) → c.failed ≡ false → AskedUpTo 0 c c
-asked_none c whole = record {
-  asked = record { agents = refl; whole = whole; waits = λ end runs. runs };
-  number = refl;
-  settled = refl;
-  again = λ all. (refl, refl);
-}
-
 settled_next : (l : Ledger) (i : ℕ) → all_stuck l i ≡ true → ended l i ≡ true → all_stuck l (i + 1) ≡ true
 settled_next l i all end =
     let next : suc i ≡ i + 1 = omega arith in

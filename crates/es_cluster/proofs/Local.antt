@@ -1,6 +1,6 @@
 -- A step that asks nobody asks nothing of the ledger, or what its tickets tell.
 use Rattle.std.proofs.Common.{◌≡◌, ℕ, ◌==◌, ◌&&◌, Bool, true, false, cond, sym, ◌∙◌, ap, refl, List, [], ◌∷◌, Option, Some, None}
-use Rattle.std.specs.Prelude.{pos, is_some}
+use Rattle.std.specs.Prelude.{pos, is_some, map}
 use Rattle.std.specs.Option.{option_map, option_map_or, option_and_then}
 use Rattle.std.proofs.lemmas.Bool.Decides.{Decides-int_eq}
 use Rattle.es_value.specs.Values.{identity, is_same}
@@ -19,7 +19,8 @@ use Rattle.es_event.specs.Identities.{object_of, kind}
 use Rattle.es_event.specs.Jobs.{receivers}
 use Rattle.es_event.specs.Variables.{var}
 use Rattle.es_event.specs.Sharing.{row_at, words_of, block_of}
-use Rattle.es_event.specs.Rules.{is_buffer, kind_of, of_index, of_buffer, refusal, first_refusal, tests, result}
+use Rattle.es_event.specs.Numbers.{index_of, index_read, words_read}
+use Rattle.es_event.specs.Rules.{is_buffer, kind_of, of_index, of_number, of_buffer, refusal, first_refusal, tests, result}
 use Rattle.es_event.specs.Legal.{values_of, word_in, Lawful}
 use Rattle.es_event.specs.Order.{Due, begin, receive, run, clean, take_cell, finish, end_job, close, nothing, phase, due}
 use Rattle.es_event.specs.Follows.{Permits}
@@ -115,7 +116,9 @@ did_met b (SameBlock to x y) history named going none silent w =
 did_met b (SharedArrayBuffer to n) history named going none silent w = cc
 did_met b (Atomic a) history named going none silent w =
     let value = var (receivers b.plan.jobs) b.history a.buffer in
-    absurd (no_object b.history value _ (first_holds _ NotASharedArrayBuffer (of_index b.over value a.index ∷ []) none).0 silent)
+    let vs = values_of (receivers b.plan.jobs) b.history (reads (Atomic a)) in
+    let behind = of_number (index_read a vs) ∷ of_index b.over value (index_of a vs) ∷ map of_number (words_read a vs) in
+    absurd (no_object b.history value _ (first_holds _ NotASharedArrayBuffer behind none).0 silent)
 did_met b (Post a y) history named going none silent w = cc
 did_met b c history named going none silent w = refl
 

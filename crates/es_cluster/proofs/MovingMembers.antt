@@ -1,6 +1,5 @@
 -- What one more event leaves of an agent: its place among the agents, and its tickets, counted.
-use Rattle.std.proofs.Common.{◌≡◌, ℕ, ◌+◌, ◌||◌, Bool, true, false, cond, not, sym, ◌∙◌, ap, refl, subst, arith, List, [], ◌∷◌, ◌++◌, map, reverse, Option, Some, None, Result, Ok, Err, eq-eqb}
-use Rattle.std.specs.Prelude.{IfOk, OnErr}
+use Rattle.std.proofs.Common.{◌≡◌, ℕ, ◌+◌, ◌||◌, Bool, true, false, cond, not, sym, ◌∙◌, ap, refl, subst, arith, List, [], ◌∷◌, ◌++◌, map, reverse, Option, Some, None, eq-eqb}
 use Rattle.std.specs.List.{filter, count_by}
 use Rattle.std.proofs.lemmas.List.{reverse-append}
 use Rattle.std.proofs.lemmas.List.Elements.{filter-append}
@@ -32,12 +31,10 @@ use Rattle.es_agent.specs.Later.{opening}
 use Rattle.es_rules.proofs.Needs.{local_is_quiet, closes}
 use Rattle.es_agent.specs.Tickets.{is_ended, tickets, RecordsNext, Empties, Admits, RefusesMessage, Receives, DoesWith, Skips}
 use Rattle.es_agent.proofs.Racks.{open_before, open_after, local_stays, kept_tickets, emptied_tickets, done_leaves, brings_leaves}
-use Rattle.es_cluster.specs.Members.{MemberView, rows_of, Holds, HoldsBeside}
+use Rattle.es_cluster.specs.Members.{rows_of, Holds, HoldsBeside}
 use Rattle.es_match.specs.Deeds.{Ends}
 use Rattle.es_cluster.specs.Tied.{AreDeedsOf, GrowsBy}
-use Rattle.es_cluster.specs.Turned.{GrowsByOne, Proceeds, Keeps, spent}
-use Rattle.es_cluster.specs.declared.member.Progress.{Progress}
-use Rattle.es_cluster.specs.declared.member.Progress.TheVariants.{Moved, Waiting, Ended}
+use Rattle.es_cluster.specs.Turned.{GrowsByOne, Keeps, spent}
 use Rattle.es_cluster.specs.Midway.{IsHeld}
 use Rattle.es_cluster.proofs.CountingTickets.{counted_rows}
 use Rattle.es_cluster.proofs.Growing.{grows_none, grows_on}
@@ -276,15 +273,3 @@ closed_keeps old new before after s t out records is holds agent counts agents h
     }
 
 -- A turn, whatever came of it
-
-pub moved_same : (old new : AgentView) → GrowsByOne old new → (new.plan ≡ old.plan) × (new.agents ≡ old.agents)
-moved_same old new m = (ap (λ b. b.plan) m.3, ap (λ b. b.agents) m.3)
-
-proceeded_same : (p : Progress) (old new : MemberView) → Proceeds p old new → (new.core.plan ≡ old.core.plan) × (new.core.agents ≡ old.core.agents)
-proceeded_same Moved old new m = moved_same old.core new.core m
-proceeded_same Waiting old new e = (ap (λ s. s.core.plan) e.2, ap (λ s. s.core.agents) e.2)
-proceeded_same Ended old new e = (ap (λ s. s.core.plan) e.1, ap (λ s. s.core.agents) e.1)
-
-pub turned_same : {E : Type 0} (r : Result Progress E) (old new : MemberView) → IfOk r (λ p. Proceeds p old new) → OnErr r (new.core ≡ old.core) → (new.core.plan ≡ old.core.plan) × (new.core.agents ≡ old.core.agents)
-turned_same (Ok p) old new ok err = proceeded_same p old new ok
-turned_same (Err e) old new ok err = (ap (λ b. b.plan) err, ap (λ b. b.agents) err)

@@ -15,12 +15,9 @@ use Rattle.es_event.proofs.Coming.{Comes, begins_job, begins_handed, receives, s
 use Rattle.es_event.proofs.Work.{plan_work, cleanup_work, cleanup_less, plan_less}
 use Rattle.es_agent.specs.Tickets.{is_ended}
 use Rattle.es_cluster.specs.Turned.{GrowsByOne}
-use Rattle.es_cluster.specs.declared.member.Progress.{Progress}
-use Rattle.es_cluster.specs.declared.member.Progress.TheVariants.{Moved, Waiting, Ended}
 use Rattle.es_record.specs.AgentView.{AgentView, with_row}
 use Rattle.es_rules.specs.Needs.{Request, request, Need, asks_nobody, asks_marks, asks_copy, asks_late_marks, asks_ledger, asks_message, asks_closing, asks_nothing, ledger_or_nobody, opens_now, need_of, need}
 use Rattle.es_cluster.specs.Moves.{is_between, rests}
-use Rattle.es_cluster.specs.Turns.{Takes}
 
 -- Outside of all jobs
 
@@ -148,12 +145,6 @@ nothing_at b ended is = refl
 
 pub nothing_over : (b : AgentView) → need b ≡ asks_nothing → is_ended (phase b.history) ≡ true
 nothing_over b is = nothing_at b (phase b.history) is
-
--- an agent that does not rest moves
-pub moves_on : (p : Progress) (old new : AgentView) → IsRunOver old.over old.plan old.history → rests old ≡ false → Takes p old new → p ≡ Moved
-moves_on Moved old new run not_yet turn = refl
-moves_on Waiting old new run not_yet turn = let clash : true ≡ false = sym (idle_rests old run (ap is_idle turn.1)) ∙ not_yet in cc
-moves_on Ended old new run not_yet turn = let clash : true ≡ false = sym (idle_rests old run (ap is_idle turn.0)) ∙ not_yet in cc
 
 -- A turn leaves less
 

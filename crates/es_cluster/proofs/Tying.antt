@@ -16,6 +16,7 @@ use Rattle.es_event.specs.declared.ledger_event.Body.TheVariants.{Plain, Block}
 use Rattle.es_event.specs.declared.ledger_event.LedgerEvent.{LedgerEvent}
 use Rattle.es_event.specs.declared.ledger_event.LedgerEvent.TheVariants.{Opened, Posted, Taken, Spent, Accessed, Passed, Ended}
 use Rattle.es_event.specs.declared.row.Row.{Row}
+use Rattle.es_event.specs.Access.{change_by}
 use Rattle.es_event.specs.Commands.{reads}
 use Rattle.es_event.specs.Jobs.{receivers}
 use Rattle.es_event.specs.Identities.{made}
@@ -105,10 +106,10 @@ pub owned : (old : AgentView) (s : StakeView) (l : LedgerView) (r : Row) (d : De
 owned old s l r d same holder here = by_ticket l.history r.serial s.agent r d (holder r here) ∙ ap (λ n. Some (n, d)) same
 
 pub access_ties : (old new : AgentView) (s : StakeView) (l : LedgerView) (m : Ledger) (o i w : ℕ) (a : Access) (r : Row) → IsReady old s l → need old ≡ asks_ledger (for_access o i a) → Contains s.rows r → Some r ≡ at o (tickets old)
-    → m ≡ Accessed r.serial i a.change w ∷ l.history → DoesWith old (answer_to a w) new → IsSettled new m
+    → m ≡ Accessed r.serial i (change_by a.edit w) w ∷ l.history → DoesWith old (answer_to a w) new → IsSettled new m
 access_ties old new s l m o i w a r ready is mine here more done =
-    done_ties old new s l m (Accessed r.serial i a.change w) (Accesses r.serial i a.change w) (for_access o i a) (answer_to a w) ready is more (owned old s l r (Accesses r.serial i a.change w) ready.held.0 ready.holder mine) refl refl done refl
-    (ap (λ q. after (tickets old) q (Accesses r.serial i a.change w ∷ [])) (access_asks old done.1.0 o i a (answer_to a w) (due_command old done.1.0 (for_access o i a) done.1.1 is)) ∙ access_met (tickets old) o i w a r here)
+    done_ties old new s l m (Accessed r.serial i (change_by a.edit w) w) (Accesses r.serial i (change_by a.edit w) w) (for_access o i a) (answer_to a w) ready is more (owned old s l r (Accesses r.serial i (change_by a.edit w) w) ready.held.0 ready.holder mine) refl refl done refl
+    (ap (λ q. after (tickets old) q (Accesses r.serial i (change_by a.edit w) w ∷ [])) (access_asks old done.1.0 o i a (answer_to a w) (due_command old done.1.0 (for_access o i a) done.1.1 is)) ∙ access_met (tickets old) o i w a r here)
 
 pub post_grows : (old : AgentView) (l m : Ledger) (n a : ℕ) (b : Body) → n ≡ old.number → m ≡ Posted n a b ∷ l → GrowsBy old.number l m
 post_grows old l m n a b same more = grows_one old.number l m (Posted n a b) (Posts a b) more (ap (λ n. Some (n, Posts a b)) same)

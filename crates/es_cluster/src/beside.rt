@@ -1,7 +1,7 @@
 //! An agent beside others, each of which has a thread: it has the ledger only where it asks the ledger,
 //! and does not know what the ledger says of it.
 
-ghost use Rattle.std.specs.Prelude.{◌≡◌, ◌↔◌, ◌||◌, ⊤, false, IsTrue, IfOk, IfSome, IfNone, OnOk, OnErr};
+ghost use Rattle.std.specs.Prelude.{◌≡◌, ◌↔◌, ◌||◌, ⊤, false, IsTrue, IfOk, OnOk, OnErr};
 ghost use Rattle.std.specs.Arc.{arc_value};
 ghost use Rattle.es_event.specs.Commands.{collects, posts};
 ghost use Rattle.es_event.specs.Later.{is_later};
@@ -16,8 +16,7 @@ use crate::planned::Planned;
 use crate::spending::spend_shared;
 use crate::turns::ask;
 use es_agent::{AgentCore, Need, Request};
-use es_cursor::Due;
-use es_event::Command;
+use es_event::{Command, Due};
 use es_ledger::LedgerCore;
 use es_mark::Marks;
 use es_parmark::Snapshot;
@@ -56,19 +55,6 @@ impl<L: Planned> Member<L> {
         self.core.perform_alone()
     }
 
-    /// The marks for its next event, where that empties: those of what it reaches, or, to finish a later
-    /// collection, those of its copy and of what derefs gave since.
-    pub fn marks(&self) -> Result<Option<Marks>, NoMemory>
-        ensures own { IfOk result (λ o. IfSome o (AreAskedFor (need self.now.core) self.now.core)) }
-        ensures none { IfOk result (λ o. IfNone o (AsksMarks (need self.now.core) → ⊥)) }
-    {
-        match self.core.next() {
-            Need::Collect => Ok(Some(self.core.marks()?)),
-            Need::Finish => Ok(Some(self.core.late_marks()?)),
-            _ => Ok(None),
-        }
-    }
-
     /// What its next event needs before it has the ledger.
     pub fn beforehand(&self) -> Beforehand
         ensures said { result ≡ beforehand (need self.now.core) }
@@ -100,9 +86,10 @@ impl<L: Planned> Member<L> {
         self.core.begin_later()
     }
 
-    /// Its next event, which empties, by the marks that `marks` gave. Its tables are emptied while others may
-    /// have the ledger, whose lock is taken only to spend the tickets of buffer objects among what was emptied.
-    /// Where there is no memory nothing has changed.
+    /// Its next event, which empties, by the marks that it asks for: those of what it reaches, or, to finish a later
+    /// collection, those of its copy and of what derefs gave since. Its tables are emptied while others may have
+    /// the ledger, whose lock is taken only to spend the tickets of buffer objects among what was emptied. Where
+    /// there is no memory nothing has changed.
     pub fn empty<R: Wait>(
         &mut self,
         rt: &R,

@@ -12,7 +12,7 @@ use Rattle.es_theorems.proofs.Reports.{reports_as_by_turns, reports_in_threads}
 use Rattle.es_script.specs.Grammar.{no_callback_collects}
 use Rattle.es_turns.specs.Answer.{IsAnswer}
 use Rattle.es_engine.specs.declared.run_fault.RunFault.{RunFault}
-use Rattle.es_engine.specs.Engine.{Answers, GavePlan, RunsAsByTurns, with_turns}
+use Rattle.es_engine.specs.Engine.{Answers, GavePlan, RunsAsByTurns}
 
 pub one_answer : (check a b : Bool) (plan : Plan) (s t : List ℕ) → share_no_word plan ≡ true → IsAnswer check a plan s → IsAnswer check b plan t → s ≡ t
 one_answer true a b plan s t apart first second = first ∙ sym second

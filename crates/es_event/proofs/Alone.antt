@@ -3,7 +3,7 @@
 use Rattle.std.proofs.Common.{◌≡◌, ℕ, zero, suc, ◌+◌, ◌-◌, ◌≤◌, not, Bool, true, false, sym, ◌∙◌, ap, refl, subst, arith, List, [], ◌∷◌, ◌++◌, drop, length, Option, Some, None, inl, inr}
 use Rattle.std.specs.Prelude.{is_none, is_some, slice_get}
 use Rattle.std.specs.List.{list_all, list_any}
-use Rattle.std.specs.Option.{option_map, option_map_or}
+use Rattle.std.specs.Option.{option_map_or}
 use Rattle.std.proofs.lemmas.Bool.{and_parts, or_parts, not-true, cases_lt}
 use Rattle.std.proofs.lemmas.List.{append-nil}
 use Rattle.es_value.specs.declared.value.Value.{Value}
@@ -23,7 +23,7 @@ use Rattle.es_event.specs.Jobs.{Receivers, receivers, job, stays_alone}
 use Rattle.es_event.specs.Sharing.{Buffers}
 use Rattle.es_event.specs.Rules.{refusal, completion}
 use Rattle.es_event.specs.Legal.{word_in, HasWords, Lawful, values_of}
-use Rattle.es_event.specs.Order.{Phase, between, handed, inside, stopped, ended, phase, left, queue, Due, receive, run, due_after, due_inside, due_job, due_between, due_at, due}
+use Rattle.es_event.specs.Order.{Phase, between, handed, inside, stopped, ended, phase, left, queue, Due, run, due_after, due_inside, due_job, due_between, due_at, due}
 use Rattle.es_event.specs.Follows.{Permits, Follows}
 use Rattle.es_event.specs.Runs.{ComesNext, silence, heard_by, heard, IsRunOver, IsWholeRunOver}
 use Rattle.es_event.proofs.Coming.{next_cell, Comes, begins_job, begins_handed, receives, skips, refuses_message, begins_cleanup, does, refuses, empties_dead, takes, ends, stops, finishes, finishes_stopped, closes, comes}
@@ -198,46 +198,6 @@ due_local_at plan h stopped c e d = absurd (end_runs_nothing (snapshot h) c d)
 due_local_at plan h ended c e d = cc
 
 -- for users of a plan's test
-
-pub left_alone : (over : Buffers) (plan : AgentPlan) (h : History) → stays_alone plan ≡ true → Follows over plan h → list_any is_shared (left plan h) ≡ false
-left_alone over plan h alone f = left_local over plan (is_alone plan alone) h f
-
-pub due_local : (over : Buffers) (plan : AgentPlan) (h : History) → stays_alone plan ≡ true → Follows over plan h → (c : Command) → due plan h ≡ run c → is_shared c ≡ false
-due_local over plan h alone f c d = due_local_at plan h (phase h) c (left_alone over plan h alone f) d
-
-end_receives_none : (o : Option History) (n s : ℕ) → due_end o ≡ receive n s → ⊥
-end_receives_none None n s e = cc
-end_receives_none (Some p) n s e = cc
-
-after_receives_none : (h : History) (o : Option ℕ) (n s : ℕ) → due_after h o ≡ receive n s → ⊥
-after_receives_none h None n s e = end_receives_none (snapshot h) n s e
-after_receives_none h (Some m) n s e = cc
-
-inside_receives_none : (h : History) (cs : List Command) (n s : ℕ) → due_inside h cs ≡ receive n s → ⊥
-inside_receives_none h [] n s e = after_receives_none h (next_cell h) n s e
-inside_receives_none h (c ∷ cs) n s e = cc
-
-on_receives_none : (m : ℕ) (on : Option (ℕ × List ℕ)) (n s : ℕ) → is_none on ≡ true → due_job m (Some on) ≡ receive n s → ⊥
-on_receives_none m None n s free e = cc
-on_receives_none m (Some on) n s free e = cc
-
-job_receives_none : (m : ℕ) (at : Option Job) (n s : ℕ) → ((j : Job) → at ≡ Some j → is_none j.on ≡ true) → due_job m (option_map (λ j. j.on) at) ≡ receive n s → ⊥
-job_receives_none m None n s free e = cc
-job_receives_none m (Some j) n s free e = on_receives_none m j.on n s (free j refl) e
-
-between_receives_none : (plan : AgentPlan) → IsAlone plan → (h : History) (rs : List ℕ) (n s : ℕ) → due_between plan h rs ≡ receive n s → ⊥
-between_receives_none plan alone h [] n s e = job_receives_none (job h) (slice_get plan.jobs (job h - 1)) n s (λ j is. (alone.jobs (job h - 1) j is).0) e
-between_receives_none plan alone h (r ∷ rs) n s e = cc
-
-receives_none_at : (plan : AgentPlan) → IsAlone plan → (h : History) (at : Phase) (n s : ℕ) → due_at plan h at ≡ receive n s → ⊥
-receives_none_at plan alone h between n s e = between_receives_none plan alone h (queue h) n s e
-receives_none_at plan alone h handed n s e = cc
-receives_none_at plan alone h inside n s e = inside_receives_none h (left plan h) n s e
-receives_none_at plan alone h stopped n s e = end_receives_none (snapshot h) n s e
-receives_none_at plan alone h ended n s e = cc
-
-pub due_no_message : (plan : AgentPlan) (h : History) → stays_alone plan ≡ true → (n s : ℕ) → due plan h ≡ receive n s → ⊥
-due_no_message plan h alone n s e = receives_none_at plan (is_alone plan alone) h (phase h) n s e
 
 -- Over any other table
 

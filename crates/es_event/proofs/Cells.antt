@@ -1,8 +1,8 @@
 -- What one more event leaves of cells, and of what became of each registration.
 use Rattle.std.proofs.Common.{◌≡◌, ℕ, ◌+◌, ◌<◌, ◌≤◌, ◌==◌, ◌&&◌, ◌||◌, Bool, true, false, cond, sym, ◌∙◌, ap, refl, subst, arith, List, [], ◌∷◌, ◌++◌, Option, Some, None, inl, inr}
-use Rattle.std.specs.Prelude.{unwrap_or, nat_lt, nat_le}
+use Rattle.std.specs.Prelude.{unwrap_or, nat_lt}
 use Rattle.std.specs.Option.{option_map, option_map_or, option_or}
-use Rattle.std.proofs.lemmas.Bool.{eqb-true, eq-eqb, ltb-true, leb-true, cases_Bool, false≢true, and_parts, or_left}
+use Rattle.std.proofs.lemmas.Bool.{eqb-true, eq-eqb, ltb-true, cases_Bool, false≢true, or_left}
 use Rattle.std.proofs.lemmas.Bool.Decides.{nat_tests}
 use Rattle.es_value.specs.declared.value.Value.{Value}
 use Rattle.es_value.specs.declared.value.Value.TheVariants.{Object}
@@ -15,7 +15,7 @@ use Rattle.es_event.specs.Commands.{first, second, third, fourth}
 use Rattle.es_event.specs.History.{History, earliest, at_key}
 use Rattle.es_event.specs.Identities.{identity, is_in, is_gone, empties, gone}
 use Rattle.es_event.specs.Jobs.{Receivers}
-use Rattle.es_event.specs.Registrations.{Cell, registers, registered, is_registered, numbered_cell, cell, Fate, live, awaiting, unregistered, taken, same_fate, has_token, is_under, unregisters_by, removes, present_fate, fate, is_present}
+use Rattle.es_event.specs.Registrations.{Cell, registers, registered, numbered_cell, cell, Fate, live, awaiting, unregistered, taken, same_fate, has_token, is_under, unregisters_by, removes, present_fate, fate, is_present}
 use Rattle.es_event.specs.Sharing.{Buffers}
 use Rattle.es_event.specs.Legal.{Lawful, LegalBy}
 use Rattle.es_event.proofs.Entries.{mapped, inner}
@@ -62,9 +62,6 @@ cell_new e h c is =
     ap (λ r. unwrap_or (at_key (λ i j. i == j) n (option_map (λ c. (n, Some c)) r)) (cell h n)) is
     ∙ ap (λ b. unwrap_or (cond b (Some (Some c)) None) (cell h n)) (eq-eqb n n refl)
 
-pub under_before : (e : Event) (h : History) (r t n : ℕ) → n ≤ registered h → is_under (e ∷ h) r t n ≡ is_under h r t n
-under_before e h r t n within = ap (λ k. option_map_or (has_token r t) k false) (cell_before e h n within)
-
 pub registered_more : (e : Event) (h : History) → registered h ≤ registered (e ∷ h)
 registered_more e h = omega arith
 
@@ -95,10 +92,6 @@ has_cell (e ∷ h) n low high =
       | inl t ↦ has_new e h n (registers e) refl (ltb-true (registered h) n t) high
       | inr f ↦ let within : n ≤ registered h = grind (arith, nat_tests, f) in let c = has_cell h n low within in (c.0, cell_before e h n within ∙ c.1)
     ]
-
-pub registered_cell : (h : History) (n : ℕ) → is_registered h n ≡ true → (c : Cell) × (cell h n ≡ Some c)
-registered_cell h n is = let parts = and_parts (nat_lt 0 n) (nat_le n (registered h)) is in
-    has_cell h n (ltb-true 0 n parts.0) (leb-true n (registered h) parts.1)
 
 -- Removals
 
@@ -150,9 +143,6 @@ still_present e h n is =
 
 pub awaiting_present : (h : History) (n : ℕ) → fate h n ≡ awaiting → is_present (fate h n) ≡ true
 awaiting_present h n is = ap is_present is
-
-pub live_present : (h : History) (n : ℕ) → fate h n ≡ live → is_present (fate h n) ≡ true
-live_present h n is = ap is_present is
 
 -- The target of a live one is there, and that of one that awaits its cleanup is gone
 

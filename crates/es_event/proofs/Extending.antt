@@ -1,5 +1,5 @@
 -- A history stays legal, and follows its plan, over another table that says the same of the objects that were made so far.
-use Rattle.std.proofs.Common.{◌≡◌, ℕ, ◌+◌, ◌==◌, Bool, true, false, cond, ◌∙◌, ap, refl, arith, List, [], ◌∷◌, Option, Some, None, Ok, Err, inl, inr}
+use Rattle.std.proofs.Common.{◌≡◌, ℕ, ◌+◌, ◌==◌, Bool, true, false, cond, ◌∙◌, ap, refl, arith, List, [], ◌∷◌, Option, Some, None, Ok, Err, inl, inr, map}
 use Rattle.std.specs.Prelude.{ℤ, pos, is_some}
 use Rattle.std.specs.Option.{option_map, option_map_or}
 use Rattle.std.proofs.lemmas.Bool.{cases_Bool, eqb-true}
@@ -20,7 +20,8 @@ use Rattle.es_event.specs.History.{History}
 use Rattle.es_event.specs.Identities.{kind, made}
 use Rattle.es_event.specs.Jobs.{Receivers, receivers}
 use Rattle.es_event.specs.Sharing.{Buffers, row_at, row_of, block_of, is_index, AgreeSoFar}
-use Rattle.es_event.specs.Rules.{is_buffer, kind_of, of_buffer, of_index, refusal, first_refusal, result, refuse_or, completion}
+use Rattle.es_event.specs.Numbers.{index_of, index_read, words_read}
+use Rattle.es_event.specs.Rules.{Test, is_buffer, kind_of, of_buffer, of_number, of_index, refusal, first_refusal, result, refuse_or, completion}
 use Rattle.es_event.specs.Legal.{word_in, HasWords, Arrives, Lawful, LegalBy, values_of}
 use Rattle.es_event.specs.Order.{Due, run, due}
 use Rattle.es_event.specs.Follows.{Permits, Follows}
@@ -65,11 +66,11 @@ by_test true code f g x y e = e refl
 by_test false code f g x y e = refl
 
 -- a buffer's index is judged alike
-same_index : (over more : Buffers) (into : Receivers) (h : History) → LegalBy over into h → AgreeSoFar h over more → (v : Value) (i : ℤ) (x : Answer)
-    → refuse_or (first_refusal (of_buffer h v ∷ of_index more v i ∷ [])) x ≡ refuse_or (first_refusal (of_buffer h v ∷ of_index over v i ∷ [])) x
-same_index over more into h l a v i x =
+same_index : (over more : Buffers) (into : Receivers) (h : History) → LegalBy over into h → AgreeSoFar h over more → (v : Value) (n : Test) (i : ℤ) (ts : List Test) (x : Answer)
+    → refuse_or (first_refusal (of_buffer h v ∷ n ∷ of_index more v i ∷ ts)) x ≡ refuse_or (first_refusal (of_buffer h v ∷ n ∷ of_index over v i ∷ ts)) x
+same_index over more into h l a v n i ts x =
     by_test (is_buffer (kind_of h v)) NotASharedArrayBuffer _ _ x x
-    (λ is. ap (λ r. refuse_or (cond (is_index i (option_map_or (λ r. r.words) r 0)) None (Some IndexOutOfRange)) x) (same_of over more into h l a v is))
+    (λ is. ap (λ r. refuse_or (cond n.0 (cond (is_index i (option_map_or (λ r. r.words) r 0)) (first_refusal ts) (Some IndexOutOfRange)) (Some n.1)) x) (same_of over more into h l a v is))
 
 pub same_completion : (over more : Buffers) (into : Receivers) (h : History) → LegalBy over into h → AgreeSoFar h over more → (c : Command) (vs : List Value) (w : ℕ) → completion more h c vs w ≡ completion over h c vs w
 same_completion over more into h l a (Length to b) vs w =
@@ -80,7 +81,7 @@ same_completion over more into h l a (SameBlock to b c) vs w =
     (λ left. by_test (is_buffer (kind_of h (second vs))) NotASharedArrayBuffer None None _ _
     (λ right. ap (λ n. Ok (Gives (Boolean (n == block_of more (second vs))))) (ap (λ r. option_map_or (λ r. r.block) r 0) (same_of over more into h l a (first vs) left))
     ∙ ap (λ n. Ok (Gives (Boolean (block_of over (first vs) == n)))) (ap (λ r. option_map_or (λ r. r.block) r 0) (same_of over more into h l a (second vs) right))))
-same_completion over more into h l a (Atomic c) vs w = same_index over more into h l a (first vs) c.index _
+same_completion over more into h l a (Atomic c) vs w = same_index over more into h l a (first vs) (of_number (index_read c vs)) (index_of c vs) (map of_number (words_read c vs)) _
 same_completion over more into h l a _ vs w = refl
 
 pub refuses_so : (f : Option Refusal) (x : Answer) (code : Refusal) → refuse_or f x ≡ Err code → f ≡ Some code

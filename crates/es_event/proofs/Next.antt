@@ -15,7 +15,7 @@ use Rattle.es_event.specs.declared.event.Refusal.{Refusal}
 use Rattle.es_event.specs.declared.command.Command.{Command}
 use Rattle.es_event.specs.declared.command.Command.TheVariants.{Atomic, Collect}
 use Rattle.es_event.specs.declared.plan.AgentPlan.{AgentPlan}
-use Rattle.es_event.specs.Access.{access_of}
+use Rattle.es_event.specs.Access.{given_to}
 use Rattle.es_event.specs.Commands.{reads, opens_words, collects}
 use Rattle.es_event.specs.History.{History}
 use Rattle.es_event.specs.Identities.{identity, object_of, made, is_there, is_made, is_gone, is_in}
@@ -50,10 +50,6 @@ same_answer : (o : Result Answer Refusal) (r q : Answer) → o ≡ Ok r → o �
 same_answer (Ok a) r q e f = cc
 same_answer (Err code) r q e f = cc
 
-same_code : (o : Result Answer Refusal) (a b : Refusal) → o ≡ Err a → o ≡ Err b → a ≡ b
-same_code (Ok r) a b e f = cc
-same_code (Err code) a b e f = cc
-
 not_both : (o : Result Answer Refusal) (r : Answer) (a : Refusal) → o ≡ Ok r → o ≡ Err a → ⊥
 not_both (Ok q) r a e f = cc
 not_both (Err code) r a e f = cc
@@ -78,7 +74,7 @@ same_given true v w e = ap (word_if true) (a_word_of v w e)
 same_given false v w e = refl
 
 same_word : (over : Buffers) (h : History) (c : Command) (vs : List Value) (r q : Answer) → heard_by c r ≡ heard_by c q → completion over h c vs (word_in r) ≡ completion over h c vs (word_in q)
-same_word over h (Atomic a) vs r q e = ap (refuse_or (refusal over h (Atomic a) vs)) (same_given (access_of a.operation).gives_word (word_in r) (word_in q) e)
+same_word over h (Atomic a) vs r q e = ap (refuse_or (refusal over h (Atomic a) vs)) (same_given (is_some (given_to a.operation)) (word_in r) (word_in q) e)
 same_word over h _ vs r q e = refl
 
 none_refuses : (b : Bool) (code : Refusal) → b ≡ true → first_refusal ((b, CollectionOpen) ∷ []) ≡ Some code → ⊥
@@ -225,7 +221,7 @@ given_itself false r is = refl
 -- what is answered where the word is 0 is answered where it is the answer's word
 pub its_own_word : (over : Buffers) (h : History) (c : Command) (vs : List Value) (r : Answer) → completion over h c vs 0 ≡ Ok r → completion over h c vs (word_in r) ≡ Ok r
 its_own_word over h (Atomic a) vs r e =
-    ap (refuse_or (refusal over h (Atomic a) vs)) (given_itself (access_of a.operation).gives_word r (is_result over h (Atomic a) vs 0 r e)) ∙ e
+    ap (refuse_or (refusal over h (Atomic a) vs)) (given_itself (is_some (given_to a.operation)) r (is_result over h (Atomic a) vs 0 r e)) ∙ e
 its_own_word over h _ vs r e = e
 
 answered : (over : Buffers) (into : Receivers) (h : History) (c : Command) → collects c ≡ false → (o : Result Answer Refusal)

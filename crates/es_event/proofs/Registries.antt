@@ -1,32 +1,26 @@
 -- In a legal history the registry of each cell is one, and what a cell is made with was made. In a run no registry is emptied,
 -- and a new registration is live.
-use Rattle.std.proofs.Common.{◌≡◌, ℕ, ◌+◌, ◌<◌, ◌≤◌, true, false, sym, ◌∙◌, ap, refl, subst, List, [], ◌∷◌, Option, Some, None}
+use Rattle.std.proofs.Common.{◌≡◌, ℕ, ◌<◌, ◌≤◌, true, ◌∙◌, ap, refl, subst, List, [], ◌∷◌, Option, Some, None}
 use Rattle.std.specs.Prelude.{is_some}
 use Rattle.std.specs.Option.{option_and_then}
 use Rattle.es_value.specs.declared.value.Value.{Value}
-use Rattle.es_event.specs.declared.event.Answer.{Answer}
 use Rattle.es_event.specs.declared.event.Event.{Event}
 use Rattle.es_event.specs.declared.event.Event.TheVariants.{Did}
 use Rattle.es_event.specs.declared.event.Refusal.TheVariants.{NotAFinalizationRegistry}
 use Rattle.es_event.specs.declared.command.Command.{Command}
 use Rattle.es_event.specs.declared.command.Command.TheVariants.{Register}
-use Rattle.es_event.specs.declared.plan.AgentPlan.{AgentPlan}
-use Rattle.es_event.specs.Commands.{first, second, third, fourth, reads, Kind, ordinary, weakref_to, weak_map, weak_set, registry_of, shared_buffer}
+use Rattle.es_event.specs.Commands.{first, second, third, fourth, Kind, ordinary, weakref_to, weak_map, weak_set, registry_of, shared_buffer}
 use Rattle.es_event.specs.History.{History}
-use Rattle.es_event.specs.Identities.{identity, made, kind, is_gone, is_there}
-use Rattle.es_event.specs.Jobs.{Receivers, receivers}
-use Rattle.es_event.specs.Registrations.{callback_in, callback, Cell, registers, registers_by, registered, cell, live, fate}
+use Rattle.es_event.specs.Identities.{identity, made, kind}
+use Rattle.es_event.specs.Jobs.{Receivers}
+use Rattle.es_event.specs.Registrations.{callback_in, callback, Cell, registers, registers_by, cell, live}
 use Rattle.es_event.specs.Sharing.{Buffers}
 use Rattle.es_event.specs.Rules.{is_registry, kind_of, of_held_weakly, of_other, of_token, tests, first_refusal}
 use Rattle.es_event.specs.Legal.{word_in, LegalBy}
-use Rattle.es_event.specs.Follows.{Follows}
 use Rattle.es_event.proofs.Accepted.{is_accepted, first_holds}
-use Rattle.es_event.proofs.Alive.{Alive, alive_at, stays_along}
-use Rattle.es_event.proofs.Cells.{made_by, cell_either, live_target, fate_new}
-use Rattle.es_event.proofs.Holds.{second_of}
+use Rattle.es_event.proofs.Cells.{made_by, cell_either}
 use Rattle.es_event.proofs.Maps.{kind_same}
 use Rattle.es_event.proofs.Objects.{held_made, object_within, made_within}
-use Rattle.es_event.proofs.Safe.{there_from}
 
 -- Registries
 
@@ -37,14 +31,6 @@ a_kind (Some k) e = refl
 -- a registry stays one
 pub registry_stays : (over : Buffers) (into : Receivers) (e : Event) (h : History) → LegalBy over into (e ∷ h) → (r : ℕ) → is_registry (kind h r) ≡ true → is_registry (kind (e ∷ h) r) ≡ true
 registry_stays over into e h l r is = ap is_registry (kind_same over into e h l r (a_kind (kind h r) is)) ∙ is
-
-some_kind : (k : Option Kind) → is_some (option_and_then callback_in k) ≡ true → is_some k ≡ true
-some_kind None e = cc
-some_kind (Some k) e = refl
-
--- and keeps its callback
-pub callback_same : (over : Buffers) (into : Receivers) (e : Event) (h : History) → LegalBy over into (e ∷ h) → (r : ℕ) → is_some (callback h r) ≡ true → callback (e ∷ h) r ≡ callback h r
-callback_same over into e h l r is = ap (option_and_then callback_in) (kind_same over into e h l r (some_kind (kind h r) is))
 
 -- what registers is given a registry
 registry_test : (over : Buffers) (h : History) (c : Command) (vs : List Value) (k : Cell) → registers_by c vs ≡ Some k → first_refusal (tests over h c vs) ≡ None → is_registry (kind_of h (first vs)) ≡ true
@@ -74,9 +60,6 @@ called (Some shared_buffer) e = cc
 pub callback_of : (over : Buffers) (into : Receivers) (h : History) → LegalBy over into h → (n : ℕ) (k : Cell) → cell h n ≡ Some k → (c : ℕ) × (callback h k.registry ≡ Some c)
 callback_of over into h l n k e = called (kind h k.registry) (cell_registry over into h l n k e)
 
-pub has_callback : (over : Buffers) (into : Receivers) (h : History) → LegalBy over into h → (n : ℕ) (k : Cell) → cell h n ≡ Some k → is_some (callback h k.registry) ≡ true
-has_callback over into h l n k e = ap is_some (callback_of over into h l n k e).1
-
 -- What a cell is made with was made
 
 pub registry_within : (over : Buffers) (into : Receivers) (h : History) → LegalBy over into h → (n : ℕ) (k : Cell) → cell h n ≡ Some k → (0 < k.registry) × (k.registry ≤ made h)
@@ -91,26 +74,4 @@ holding_within over into h l n k i e is = made_within over into h l k.held i ((h
 pub token_within : (over : Buffers) (into : Receivers) (h : History) → LegalBy over into h → (n : ℕ) (k : Cell) (t : ℕ) → cell h n ≡ Some k → k.token ≡ Some t → (0 < t) × (t ≤ made h)
 token_within over into h l n k t e is = let token = (held_made over into h l).tokens n k t e is in made_within over into h l token.value t token.had token.is
 
--- the target of a live registration is there
-pub live_there : (over : Buffers) (into : Receivers) (h : History) → LegalBy over into h → (n : ℕ) (k : Cell) → cell h n ≡ Some k → fate h n ≡ live → is_there h k.target ≡ true
-live_there over into h l n k e is = let within = watched_within over into h l n k e in there_from h k.target (live_target h n k e is) within.0 within.1
-
 -- In a run
-
-pub registry_there : (over : Buffers) (plan : AgentPlan) (h : History) → LegalBy over (receivers plan.jobs) h → Follows over plan h → (n : ℕ) (k : Cell) → cell h n ≡ Some k → is_there h k.registry ≡ true
-registry_there over plan h l f n k e =
-    let c = callback_of over (receivers plan.jobs) h l n k e in
-    let within = registry_within over (receivers plan.jobs) h l n k e in
-    there_from h k.registry ((stays_along over plan h l f).held.registries k.registry c.0 c.1) within.0 within.1
-
--- what a command registers is not emptied
-pub registered_there : (over : Buffers) (plan : AgentPlan) (h : History) (c : Command) (vs : List Value) (r : Answer) (k : Cell)
-    → LegalBy over (receivers plan.jobs) (Did (c, vs, r) ∷ h) → Follows over plan (Did (c, vs, r) ∷ h) → registers (Did (c, vs, r)) ≡ Some k → is_gone h k.target ≡ false
-registered_there over plan h c vs r k l f new =
-    let into : Receivers = receivers plan.jobs in
-    let alive : Alive h (second vs) = subst (Alive h) (ap second (sym l.0.0)) (second_of (Alive h) into h (reads c) (stays_along over plan h l.1 f.1).held) in
-    alive_at h (second vs) k.target alive (made_by c vs r k new).target
-
-pub registered_live : (over : Buffers) (plan : AgentPlan) (h : History) (c : Command) (vs : List Value) (r : Answer) (k : Cell)
-    → LegalBy over (receivers plan.jobs) (Did (c, vs, r) ∷ h) → Follows over plan (Did (c, vs, r) ∷ h) → registers (Did (c, vs, r)) ≡ Some k → fate (Did (c, vs, r) ∷ h) (registered h + 1) ≡ live
-registered_live over plan h c vs r k l f new = fate_new over (receivers plan.jobs) h c vs r k l new (registered_there over plan h c vs r k l f new)

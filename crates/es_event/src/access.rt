@@ -1,18 +1,47 @@
 //! What is done to a word of shared memory.
 
-ghost use Rattle.std.specs.Prelude.{◌≡◌};
-ghost use Rattle.es_event.specs.Access.{is_same_change, to_uint32};
+ghost use Rattle.std.specs.Prelude.{◌≡◌, ◌<◌, ◌^◌};
+ghost use Rattle.es_event.specs.Access.{change_by, is_same_change, modified, to_uint32, word_for};
 
 /// What a command does with a word of a Shared Data Block, in one step (ECMA-262, The Atomics Object).
 #[derive(Clone, Copy, Debug)]
 pub struct Access {
-    /// What becomes of the word.
-    pub change: Change,
+    /// What is done to the word.
+    pub edit: Edit,
     /// Whether the command gives the word that was there.
     pub gives_word: bool,
 }
 
-/// What becomes of a word of a Shared Data Block.
+/// What is done to a word of a Shared Data Block, whatever word it is.
+#[derive(Clone, Copy, Debug)]
+pub enum Edit {
+    /// The same becomes of each word.
+    Plain(Change),
+    /// It is modified by this word (ECMA-262, AtomicReadModifyWrite).
+    Modify(Modification, u32),
+    /// Where it is the first of these words, the second is written in its place (ECMA-262,
+    /// Atomics.compareExchange).
+    Compare(u32, u32),
+}
+
+/// How a word of a Shared Data Block is modified by another (ECMA-262, AtomicReadModifyWrite).
+#[derive(Clone, Copy, Debug, PartialEq, Eq)]
+pub enum Modification {
+    /// Their sum, modulo 2^32 (Atomics.add).
+    Add,
+    /// The difference, modulo 2^32 (Atomics.sub).
+    Sub,
+    /// The bits that both have (Atomics.and).
+    And,
+    /// The bits that one of them has (Atomics.or).
+    Or,
+    /// The bits that just one of them has (Atomics.xor).
+    Xor,
+    /// The other word (Atomics.exchange).
+    Exchange,
+}
+
+/// What becomes of a word of a Shared Data Block, as the ledger's event says it.
 #[derive(Clone, Copy, Debug)]
 pub enum Change {
     /// It stays as it is (Atomics.load).
@@ -21,6 +50,56 @@ pub enum Change {
     Write(u32),
     /// This word is added to it, modulo 2^32 (Atomics.add).
     Add(u32),
+}
+
+impl Edit {
+    /// What becomes of the word, where it is this one.
+    pub fn on(self, word: u32) -> Change
+        ensures { result ≡ change_by self word }
+    {
+        match self {
+            Edit::Plain(change) => change,
+            Edit::Modify(Modification::Add, addend) => Change::Add(addend),
+            Edit::Modify(how, other) => Change::Write(how.of(word, other)),
+            Edit::Compare(expected, replacement) => {
+                if word == expected {
+                    Change::Write(replacement)
+                } else {
+                    Change::Keep
+                }
+            }
+        }
+    }
+}
+
+impl Modification {
+    /// The word of a plan that names it.
+    pub fn word(self) -> &'static str
+        ensures { result.now ≡ word_for self }
+    {
+        match self {
+            Modification::Add => "add",
+            Modification::Sub => "sub",
+            Modification::And => "and",
+            Modification::Or => "or",
+            Modification::Xor => "xor",
+            Modification::Exchange => "exchange",
+        }
+    }
+
+    /// The word that is written in the place of a word, by another.
+    fn of(self, word: u32, other: u32) -> u32
+        ensures { result ≡ modified self other word }
+    {
+        match self {
+            Modification::Add => word.wrapping_add(other),
+            Modification::Sub => word.wrapping_sub(other),
+            Modification::And => word & other,
+            Modification::Or => word | other,
+            Modification::Xor => word ^ other,
+            Modification::Exchange => other,
+        }
+    }
 }
 
 impl Change {

@@ -1,11 +1,16 @@
 //! Commands on words of shared memory.
 
-ghost use Rattle.std.specs.Prelude.{◌≡◌, IfOk};
-ghost use Rattle.std.specs.Option.{option_copied};
-ghost use Rattle.es_event.specs.Access.{access_of, change_of, given_to};
+ghost use Rattle.std.specs.Prelude.{◌≡◌, ◌∷◌, ◌++◌, IfOk, is_some};
+ghost use Rattle.std.specs.Option.{option_copied, option_to_list};
+ghost use Rattle.es_event.specs.Access.{edit_of, given_to, operands_of, to_uint32 as to_uint32_said, variables_of};
+ghost use Rattle.es_event.specs.Numbers.{access_of, index_of, number_or_0, numbers_of, operand_number, word_at};
+ghost use Rattle.es_event.specs.Reading.{names_of};
 
-use crate::access::{Access, Change, to_uint32};
-use es_value::{Name, NoMemory};
+use crate::Refusal;
+use crate::access::{Access, Change, Edit, Modification, to_uint32};
+use crate::command::OperandNames;
+use crate::operand::{Operand, without_first};
+use es_value::{Name, NoMemory, Value};
 use std::alloc::Global;
 use std::marker::Model;
 
@@ -29,20 +34,36 @@ pub struct AtomicParts {
     /// The variable that has the buffer.
     buffer: Name,
     /// The word's place in the buffer's block, counted from 0.
-    index: i64,
+    index: Operand,
     /// What is done to the word.
     operation: Operation,
 }
 
-/// What a command does to a word of shared memory.
+/// What a command does to a word of shared memory. Numbers are taken modulo 2^32.
 #[derive(Drop)]
 pub enum Operation {
     /// `load X B I`: assigns the word (Atomics.load).
-    Load { to: Name },
-    /// `store B I N`: writes a number, modulo 2^32, in its place (Atomics.store).
-    Store { number: i64 },
-    /// `add X B I N`: adds a number, modulo 2^32, assigns the word that was there (Atomics.add).
-    Add { to: Name, number: i64 },
+    Load {
+        to: Name,
+    },
+    /// `store B I N`: writes a number in its place (Atomics.store).
+    Store {
+        number: Operand,
+    },
+    /// `add X B I N`, and `sub`, `and`, `or`, `xor`, `exchange`: modifies it by a number, assigns the word that was
+    /// there (AtomicReadModifyWrite).
+    Modify {
+        to: Name,
+        how: Modification,
+        number: Operand,
+    },
+    /// `compareexchange X B I N P`: where it is the first number, writes the second in its place; assigns the word
+    /// that was there (Atomics.compareExchange).
+    CompareExchange {
+        to: Name,
+        expected: Operand,
+        replacement: Operand,
+    },
 }
 
 impl Model for Atomic {
@@ -58,7 +79,7 @@ impl Atomic {
     pub fn new(
         alloc: Global,
         buffer: Name,
-        index: i64,
+        index: Operand,
         operation: Operation,
     ) -> Result<Atomic, NoMemory>
         ensures { IfOk result (λ a. (a.buffer ≡ buffer) × (a.index ≡ index) × (a.operation ≡ operation)) }
@@ -82,10 +103,49 @@ impl Atomic {
     }
 
     /// The word's place in the buffer's block, counted from 0.
-    pub fn index(&self) -> i64
-        ensures { result ≡ self.now.index }
+    pub fn index(&self) -> &Operand
+        ensures { result.now ≡ self.now.index }
     {
-        self.parts.index
+        &self.parts.index
+    }
+
+    /// The variables whose values the command takes, in order: the buffer's, and those of the operands.
+    #[inline]
+    pub(crate) fn reads(&self) -> OperandNames<'_>
+        ensures { names_of result ≡ self.now.buffer ∷ variables_of (self.now.index ∷ operands_of self.now.operation) }
+    {
+        let (first, second) = self.parts.operation.variables();
+        let names = OperandNames::One(&self.parts.buffer).and(self.parts.index.variable());
+        names.and(first).and(second)
+    }
+
+    /// The word's place, where these are the values that the command takes; 0 where one of them is no number.
+    pub fn index_of(&self, values: &[Value]) -> i64
+        ensures { result ≡ index_of self.now values.now }
+    {
+        number_or_0(self.parts.index.number(without_first(values)))
+    }
+
+    /// What is done to the word, where these are the values that the command takes.
+    pub fn access_of(&self, values: &[Value]) -> Access
+        ensures { result ≡ access_of self.now values.now }
+    {
+        let (first, second) = self
+            .parts
+            .operation
+            .words(self.parts.index.rest(without_first(values)));
+        self.access_by(first, second)
+    }
+
+    /// What is done to the word, by these words of its operands.
+    pub fn access_by(&self, first: u32, second: u32) -> Access
+        ensures { result ≡ record { edit = edit_of self.now.operation first second; gives_word = is_some (given_to self.now.operation) } }
+    {
+        let operation = &self.parts.operation;
+        Access {
+            edit: operation.edit(first, second),
+            gives_word: operation.assigns().is_some(),
+        }
     }
 
     /// What the command does to the word.
@@ -94,24 +154,46 @@ impl Atomic {
     {
         &self.parts.operation
     }
+}
 
-    /// What is done to the word.
-    pub fn access(&self) -> Access
-        ensures { result ≡ access_of self.now.operation }
-    {
-        self.parts.operation.access()
-    }
+/// The number, and 0 where there is none.
+fn number_or_0(number: Result<i64, Refusal>) -> i64
+    ensures { result ≡ number_or_0 number }
+{
+    number.unwrap_or(0)
 }
 
 impl Operation {
-    /// What is done: the change, and the word that was there is given where a variable gets it.
-    pub fn access(&self) -> Access
-        ensures { result ≡ access_of self.now }
+    /// The words of its operands, where these are the values of their variables.
+    fn words(&self, values: &[Value]) -> (u32, u32)
+        ensures first { result.0 ≡ word_at 0 (numbers_of (operands_of self.now) values.now) }
+        ensures second { result.1 ≡ word_at 1 (numbers_of (operands_of self.now) values.now) }
     {
-        let (change, to) = self.effect();
-        Access {
-            change,
-            gives_word: to.is_some(),
+        match self {
+            Operation::Load { .. } => (0, 0),
+            Operation::Store { number } | Operation::Modify { number, .. } => {
+                (word_of(number, values), 0)
+            }
+            Operation::CompareExchange {
+                expected,
+                replacement,
+                ..
+            } => (
+                word_of(expected, values),
+                word_of(replacement, expected.rest(values)),
+            ),
+        }
+    }
+
+    /// What is done to the word, by these words of its operands.
+    fn edit(&self, first: u32, second: u32) -> Edit
+        ensures { result ≡ edit_of self.now first second }
+    {
+        match self {
+            Operation::Load { .. } => Edit::Plain(Change::Keep),
+            Operation::Store { .. } => Edit::Plain(Change::Write(first)),
+            Operation::Modify { how, .. } => Edit::Modify(*how, first),
+            Operation::CompareExchange { .. } => Edit::Compare(first, second),
         }
     }
 
@@ -119,20 +201,34 @@ impl Operation {
     pub fn assigns(&self) -> Option<&Name>
         ensures { option_copied result ≡ given_to self.now }
     {
-        self.effect().1
-    }
-
-    /// What becomes of the word, where a number is written and added modulo 2^32, and the variable that the word is
-    /// assigned that was there, if one is.
-    #[inline(always)]
-    fn effect(&self) -> (Change, Option<&Name>)
-        ensures changed { result.0 ≡ change_of self.now }
-        ensures given { option_copied result.1 ≡ given_to self.now }
-    {
         match self {
-            Operation::Load { to } => (Change::Keep, Some(to)),
-            Operation::Store { number } => (Change::Write(to_uint32(*number)), None),
-            Operation::Add { to, number } => (Change::Add(to_uint32(*number)), Some(to)),
+            Operation::Load { to }
+            | Operation::Modify { to, .. }
+            | Operation::CompareExchange { to, .. } => Some(to),
+            Operation::Store { .. } => None,
         }
     }
+    /// The variables of its operands after the index, of which there are two at most.
+    fn variables(&self) -> (Option<&Name>, Option<&Name>)
+        ensures { option_to_list (option_copied result.0) ++ option_to_list (option_copied result.1) ≡ variables_of (operands_of self.now) }
+    {
+        match self {
+            Operation::Load { .. } => (None, None),
+            Operation::Store { number } | Operation::Modify { number, .. } => {
+                (number.variable(), None)
+            }
+            Operation::CompareExchange {
+                expected,
+                replacement,
+                ..
+            } => (expected.variable(), replacement.variable()),
+        }
+    }
+}
+
+/// The word of an operand, where these are the values of the variables from it on.
+fn word_of(operand: &Operand, values: &[Value]) -> u32
+    ensures { result ≡ to_uint32_said (number_or_0 (operand_number operand.now values.now)) }
+{
+    to_uint32(number_or_0(operand.number(values)))
 }

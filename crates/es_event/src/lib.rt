@@ -4,13 +4,17 @@
 mod access;
 mod atomic;
 mod command;
+mod cursor;
 mod done;
+mod due;
 mod event;
 mod held;
 mod kept;
 mod ledger_event;
 mod literal;
 mod log;
+mod numbers;
+mod operand;
 mod optional_name;
 mod outcome;
 mod plan;
@@ -19,14 +23,20 @@ mod row;
 mod sequence;
 mod shared_list;
 
-pub use access::{Access, Change, to_uint32};
+pub use access::{Access, Change, Edit, Modification, to_uint32};
 pub use atomic::{Atomic, AtomicParts, Operation};
 pub use command::{Command, OperandNames};
+pub use cursor::{
+    Cleanup, Cursor, Position, callback_command, callback_commands, commands, job_command,
+};
 pub use done::{AnswerRef, Done};
+pub use due::{Due, due_command};
 pub use event::{Answer, Event, Refusal};
 pub use ledger_event::{Body, LedgerEvent};
 pub use literal::Literal;
 pub use log::Log;
+pub use numbers::number_of;
+pub use operand::Operand;
 pub use optional_name::OptionalName;
 pub use outcome::Outcome;
 pub use plan::{AgentPlan, Callback, Job, Plan};

@@ -29,7 +29,7 @@ one d = array (item d no_items)
 abbrev command : Data → Data → Data
 command w d = array (item w (item d no_items))
 
-version : cause (at Whole 0 Version) plan (number (unsigned 3)) ≡ codes "The version is 1 or 2."
+version : cause (at Whole 0 Version) plan (number (unsigned 4)) ≡ codes "The version is 1, 2 or 3."
 version = refl
 
 count : cause (at Whole 0 AgentCount) plan (array no_items) ≡ codes "A plan has 1 to 8 agents, and here are none."

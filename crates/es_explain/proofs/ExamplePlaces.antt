@@ -28,7 +28,7 @@ abbrev agent : Data
 agent = object (member (codes "callbacks") callbacks (member (codes "jobs") jobs (member (codes "name") (string (codes "a")) no_members)))
 
 abbrev plan : Data
-plan = object (member (codes "agents") (array (item agent no_items)) (member (codes "version") (number (unsigned 3)) no_members))
+plan = object (member (codes "agents") (array (item agent no_items)) (member (codes "version") (number (unsigned 4)) no_members))
 
 -- the fault's place is this pointer, which leads to this part of the plan
 abbrev Leads : ScriptFault → List ℕ → Data → Type 0
@@ -39,7 +39,7 @@ whole : Leads (at Whole 0 Shape) (codes "/agents/0/jobs/1/on") (array no_items)
 unfolding digits chars serde_json_on_literals plan_trouble agents_trouble agent_trouble name_trouble callbacks_trouble callback_trouble jobs_trouble job_trouble run_trouble on_trouble command_trouble version_trouble
 whole = (refl, refl)
 
-version : Leads (at Whole 0 Version) (codes "/version") (number (unsigned 3))
+version : Leads (at Whole 0 Version) (codes "/version") (number (unsigned 4))
 unfolding digits serde_json_on_literals
 version = (refl, refl)
 

@@ -1,5 +1,5 @@
 -- To believe: the sentence that says what a fault of a plan's value is.
-use Rattle.std.specs.Prelude.{ℕ, ◌+◌, ◌==◌, not, nat_le, nat_lt, Bool, true, false, List, [], ◌∷◌, ◌++◌, length, Option, Some, None, option_and_then, option_map, unwrap_or, codes, decimal, if◌then◌else◌}
+use Rattle.std.specs.Prelude.{ℕ, ◌+◌, ◌==◌, ◌||◌, not, is_some, nat_le, nat_lt, Bool, true, false, List, [], ◌∷◌, ◌++◌, length, Option, Some, None, option_and_then, option_map, unwrap_or, codes, decimal, if◌then◌else◌}
 use Rattle.std.specs.Str.{bytes_eq, chars}
 use Rattle.serde_json.specs.Data.{Data, number, string, array, Num, unsigned, negative, float, Items, no_items, item, Members, no_members, member}
 use Rattle.serde_json.specs.Events.{items_len, members_len}
@@ -15,7 +15,7 @@ use Rattle.es_reading.specs.declared.version.Version.{Version}
 use Rattle.es_reading.specs.declared.version.Version.TheVariants.{One}
 use Rattle.es_reading.specs.Versions.{version_of}
 use Rattle.es_reading.specs.Parts.{items_in, members_in, text_in}
-use Rattle.es_reading.specs.Forms.{OperandType, name, literal, text, callback, agent, whole, words, Form, form, is_whole, fits}
+use Rattle.es_reading.specs.Forms.{OperandType, name, literal, text, callback, agent, whole, amount, words, Form, form, is_whole, fits, modification_named}
 use Rattle.es_explain.specs.Words.{table, letters_in, nearest}
 use Rattle.es_explain.specs.Texts.{◌▸◌, quoted, letter, value_text}
 use Rattle.es_explain.specs.Misshapen.{sentence_of, plan_trouble}
@@ -114,6 +114,7 @@ type_text text = codes "a text"
 type_text callback = codes "the name of a callback"
 type_text agent = codes "the name of an agent"
 type_text whole = codes "a number"
+type_text amount = codes "a name or a number"
 type_text words = codes "a number"
 
 -- whether an operand of the type has the fault
@@ -122,6 +123,7 @@ is_wrong Operands k d = not (fits k d)
 is_wrong Name name (string s) = not (is_name s)
 is_wrong Name callback (string s) = not (is_name s)
 is_wrong Name agent (string s) = not (is_name s)
+is_wrong Name amount (string s) = not (is_name s)
 is_wrong Unknown callback d = true
 is_wrong Unknown agent d = true
 is_wrong Profile literal (string s) = not (is_text s)
@@ -151,10 +153,15 @@ abbrev pub meant : Option (List ℕ) → List ℕ
 meant None = []
 meant (Some near) = codes " Did you mean " ▸ near ▸ codes "?"
 
--- a word that the version has not: version 1 lacks collectlater
+-- a command that came with version 3
+abbrev pub is_of_three : List ℕ → Bool
+is_of_three w = is_some (modification_named w) || bytes_eq w (codes "compareexchange")
+
+-- a word that the version has not: version 1 lacks collectlater, and both before 3 lack what came with it
 abbrev pub no_word : List ℕ → List ℕ
 no_word w =
     if bytes_eq w (codes "collectlater") then codes "collectlater is a command of version 2." else
+    if is_of_three w then w ▸ codes " is a command of version 3." else
     codes "There is no command " ▸ quoted w ▸ codes "." ▸ meant (nearest w)
 
 abbrev pub operands_here : ℕ → List ℕ
@@ -171,8 +178,13 @@ misfit w x = operand_text w x.number ▸ codes " is " ▸ type_text x.type ▸ c
 abbrev pub advice : List ℕ → List ℕ
 advice w = if bytes_eq w (codes "say") then codes " A text is said by a variable that let gave it." else []
 
+-- what stands in the place of a name
+abbrev pub named_text : OperandType → List ℕ
+named_text amount = codes "a name or a number"
+named_text k = codes "a name"
+
 abbrev pub misnamed : List ℕ → Wrong → List ℕ
-misnamed w x = operand_text w x.number ▸ codes " is a name, and " ▸ no_name (text_in (Some x.operand)) ▸ advice w
+misnamed w x = operand_text w x.number ▸ codes " is " ▸ named_text x.type ▸ codes ", and " ▸ no_name (text_in (Some x.operand)) ▸ advice w
 
 -- in agent a's commands
 abbrev pub unknown_name : Data → ℕ → OperandType → List ℕ → List ℕ
@@ -276,7 +288,7 @@ inside c d a part = []
 -- outside of commands, where this part of the value has the fault
 abbrev pub beside : FaultCode → Data → Place → Data → List ℕ
 beside Shape d p part = sentence_of (plan_trouble d)
-beside WrongVersion d p part = codes "The version is 1 or 2."
+beside WrongVersion d p part = codes "The version is 1, 2 or 3."
 beside AgentCount d p part = agent_count (items_len (items_in (Some part)))
 beside Name d p part = name_sentence p part
 beside Unknown d p part = awaited_sentence d (agent_of p) part

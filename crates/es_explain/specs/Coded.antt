@@ -5,7 +5,7 @@ use Rattle.es_value.specs.Spelling.{is_name_byte, is_text_byte}
 use Rattle.es_reading.specs.Forms as forms
 use Rattle.es_explain.specs.declared.words.Row.{Row}
 use Rattle.es_explain.specs.declared.kinds.Kind.{Kind}
-use Rattle.es_explain.specs.declared.kinds.Kind.TheVariants.{Name, Literal, Text, Callback, Agent, Whole, Words}
+use Rattle.es_explain.specs.declared.kinds.Kind.TheVariants.{Name, Literal, Text, Callback, Agent, Whole, Amount, Words}
 use Rattle.es_explain.specs.declared.spelling.Alphabet.{Alphabet}
 use Rattle.es_explain.specs.declared.spelling.Alphabet.TheVariants.{Names, Texts}
 use Rattle.es_explain.specs.declared.wrong.Wrong.{Wrong}
@@ -28,6 +28,7 @@ type_of Text = forms.text
 type_of Callback = forms.callback
 type_of Agent = forms.agent
 type_of Whole = forms.whole
+type_of Amount = forms.amount
 type_of Words = forms.words
 
 abbrev pub types_of : List Kind → List forms.OperandType

@@ -8,7 +8,7 @@ ghost use Rattle.serde_json.specs.Find.{get, as_number, as_i64};
 ghost use Rattle.es_value.specs.Spelling.{is_text_byte};
 ghost use Rattle.es_reading.specs.Versions.{version_of};
 ghost use Rattle.es_explain.specs.Words.{table, letters_in};
-ghost use Rattle.es_explain.specs.Causes.{advice, command_sentence, form_sentence, if_wrong, ill_number, ill_size, ill_text, ill_words, inside, is_negative, meant, misfit, misnamed, no_word, operand_text, operands_here, operands_sentence, outside, type_text, unknown_name, version_in, wrong_count, wrong_operand};
+ghost use Rattle.es_explain.specs.Causes.{advice, command_sentence, ill_number, ill_text, ill_words, inside, is_negative, is_of_three, meant, misfit, misnamed, named_text, no_word, operand_text, operands_here, operands_sentence, outside, type_text, unknown_name, version_in, wrong_count, wrong_operand};
 ghost use Rattle.es_explain.specs.Coded.{type_of, types_of, wrong_of};
 
 use crate::kinds::{Kind, kinds_of};
@@ -17,7 +17,7 @@ use crate::spelling::{Alphabet, first_other};
 use crate::text::{quoted, quoted_letter, value_text};
 use crate::words::{letters_of, nearest};
 use crate::wrong::{Wrong, first_wrong};
-use es_reading::{FaultCode, Version};
+use es_reading::{FaultCode, Version, modification_named};
 use es_value::{LONGEST_TEXT, MOST_WORDS};
 use serde_json::{Number, Value};
 use std::alloc::{AllocError, Global};
@@ -58,28 +58,10 @@ fn command_sentence(
         FaultCode::Collection => {
             format!(in alloc; "{word} can't stand in a callback: collect in a job.")
         }
-        _ => {
-            let kinds = kinds_of(version_in(plan), word, count_of(operands));
-            form_sentence(alloc, code, plan, agent, word, kinds, operands)
-        }
-    }
-}
-
-fn form_sentence(
-    alloc: Global,
-    code: FaultCode,
-    plan: &Value,
-    agent: usize,
-    word: &str,
-    kinds: Option<&[Kind]>,
-    operands: &[Value],
-) -> Result<String, AllocError>
-    ensures { IfOk result (λ s. string_bytes s
-        ≡ form_sentence code (view plan.now) agent word.now (option_map (λ ks. types_of ks.now) kinds.entry) (items_view operands.now)) }
-{
-    match kinds {
-        Some(kinds) => operands_sentence(alloc, code, plan, agent, word, kinds, operands),
-        None => no_word(alloc, word),
+        _ => match kinds_of(version_in(plan), word, count_of(operands)) {
+            Some(kinds) => operands_sentence(alloc, code, plan, agent, word, kinds, operands),
+            None => no_word(alloc, word),
+        },
     }
 }
 
@@ -100,14 +82,10 @@ fn operands_sentence(
     if count != kinds.len() {
         return wrong_count(alloc, word, count);
     }
-    if_wrong(
-        alloc,
-        code,
-        plan,
-        agent,
-        word,
-        first_wrong(code, kinds, operands),
-    )
+    match first_wrong(code, kinds, operands) {
+        Some(wrong) => wrong_operand(alloc, code, plan, agent, word, wrong),
+        None => Ok(String::new(alloc)),
+    }
 }
 
 /// How many values there are.
@@ -115,23 +93,6 @@ pub(crate) fn count_of(values: &[Value]) -> usize
     ensures { result ≡ items_len (items_view values.now) }
 {
     values.len()
-}
-
-fn if_wrong(
-    alloc: Global,
-    code: FaultCode,
-    plan: &Value,
-    agent: usize,
-    word: &str,
-    wrong: Option<Wrong<'_>>,
-) -> Result<String, AllocError>
-    ensures { IfOk result (λ s. string_bytes s
-        ≡ if_wrong code (view plan.now) agent word.now (option_map wrong_of wrong.entry)) }
-{
-    match wrong {
-        Some(wrong) => wrong_operand(alloc, code, plan, agent, word, wrong),
-        None => Ok(String::new(alloc)),
-    }
 }
 
 fn wrong_operand(
@@ -180,10 +141,11 @@ fn number_in(plan: &Value) -> Option<i64>
 fn version_numbered(number: i64) -> Version
     ensures { result ≡ unwrap_or (version_of (Some number)) Version.One }
 {
-    if number == 2 {
-        return Version::Two;
+    match number {
+        2 => Version::Two,
+        3 => Version::Three,
+        _ => Version::One,
     }
-    Version::One
 }
 
 /// That there is no such command, and which one may be meant.
@@ -193,9 +155,19 @@ fn no_word(alloc: Global, word: &str) -> Result<String, AllocError>
     if word == "collectlater" {
         return String::from_str(alloc, "collectlater is a command of version 2.");
     }
+    if is_of_three(word) {
+        return format!(in alloc; "{word} is a command of version 3.");
+    }
     let shown = quoted(alloc, word)?;
     let meant = meant(alloc, nearest(alloc, word)?)?;
     format!(in alloc; "There is no command {shown}.{meant}")
+}
+
+/// Whether a command came with version 3.
+fn is_of_three(word: &str) -> bool
+    ensures { result ≡ is_of_three word.now }
+{
+    modification_named(word).is_some() || word == "compareexchange"
 }
 
 fn meant(alloc: Global, near: Option<&str>) -> Result<String, AllocError>
@@ -254,6 +226,7 @@ fn type_text(kind: Kind) -> &'static str
         Kind::Callback => "the name of a callback",
         Kind::Agent => "the name of an agent",
         Kind::Whole => "a number",
+        Kind::Amount => "a name or a number",
         Kind::Words => "a number",
     }
 }
@@ -265,7 +238,18 @@ fn misnamed(alloc: Global, word: &str, wrong: Wrong<'_>) -> Result<String, Alloc
     let operand = operand_text(alloc, word, wrong.number)?;
     let why = no_name(alloc, text_of(Some(wrong.operand)))?;
     let advice = advice(word);
-    format!(in alloc; "{operand} is a name, and {why}{advice}")
+    let kind = named_text(wrong.kind);
+    format!(in alloc; "{operand} is {kind}, and {why}{advice}")
+}
+
+/// What stands in the place of a name.
+fn named_text(kind: Kind) -> &'static str
+    ensures { result.now ≡ named_text (type_of kind) }
+{
+    match kind {
+        Kind::Amount => "a name or a number",
+        _ => "a name",
+    }
 }
 
 /// What helps where a text stands in the place of a variable.
@@ -342,18 +326,12 @@ fn ill_words(alloc: Global, value: &Value) -> Result<String, AllocError>
     ensures { IfOk result (λ s. string_bytes s ≡ ill_words (view value.now)) }
 {
     match value {
-        Value::Number(number) => ill_size(alloc, number),
+        Value::Number(number) if is_negative(number) => {
+            String::from_str(alloc, "A buffer can't have fewer than 0 words.")
+        }
+        Value::Number(_) => format!(in alloc; "A buffer has at most {MOST_WORDS} words."),
         _ => Ok(String::new(alloc)),
     }
-}
-
-fn ill_size(alloc: Global, number: &Number) -> Result<String, AllocError>
-    ensures { IfOk result (λ s. string_bytes s ≡ ill_size (number_view number.now)) }
-{
-    if is_negative(number) {
-        return String::from_str(alloc, "A buffer can't have fewer than 0 words.");
-    }
-    format!(in alloc; "A buffer has at most {MOST_WORDS} words.")
 }
 
 fn is_negative(number: &Number) -> bool

@@ -1,14 +1,15 @@
 //! What the operands of each command are.
 
 ghost use Rattle.std.specs.Prelude.{◌≡◌, option_map};
-ghost use Rattle.es_reading.specs.Forms.{form, later_form, weak_form, shared_form, registry_form, register_form};
+ghost use Rattle.es_reading.specs.Forms.{compare_form, form, later_form, load_form, modify_form, register_form, registry_form, shared_form, store_form, weak_form};
 ghost use Rattle.es_explain.specs.Causes.{types};
 ghost use Rattle.es_explain.specs.Coded.{types_of};
 
-use es_reading::Version;
+use es_event::Modification;
+use es_reading::{Version, modification_named};
 
 /// What an operand is: a variable or a property's key, a literal, a text, the name of a callback or of
-/// another agent, a number, or a number of words.
+/// another agent, a number, a number or a variable that has one, or a number of words.
 #[derive(Clone, Copy, Debug)]
 pub(crate) enum Kind {
     Name,
@@ -17,6 +18,7 @@ pub(crate) enum Kind {
     Callback,
     Agent,
     Whole,
+    Amount,
     Words,
 }
 
@@ -39,7 +41,7 @@ pub(crate) fn kinds_of(version: Version, word: &str, count: usize) -> Option<&'s
         "keys" => Some(&[Kind::Name]),
         "collect" => Some(&[]),
         "collectlater" => later_kinds(version),
-        _ => weak_kinds(word, count),
+        _ => weak_kinds(version, word, count),
     }
 }
 
@@ -48,12 +50,12 @@ fn later_kinds(version: Version) -> Option<&'static [Kind]>
 {
     match version {
         Version::One => None,
-        Version::Two => Some(&[]),
+        Version::Two | Version::Three => Some(&[]),
     }
 }
 
-fn weak_kinds(word: &str, count: usize) -> Option<&'static [Kind]>
-    ensures { option_map (λ ks. types_of ks.now) result ≡ types (weak_form word.now count) }
+fn weak_kinds(version: Version, word: &str, count: usize) -> Option<&'static [Kind]>
+    ensures { option_map (λ ks. types_of ks.now) result ≡ types (weak_form version word.now count) }
 {
     match word {
         "weakref" => Some(&[Kind::Name, Kind::Name]),
@@ -67,22 +69,70 @@ fn weak_kinds(word: &str, count: usize) -> Option<&'static [Kind]>
         "wsadd" => Some(&[Kind::Name, Kind::Name]),
         "wshas" => Some(&[Kind::Name, Kind::Name, Kind::Name]),
         "wsdelete" => Some(&[Kind::Name, Kind::Name, Kind::Name]),
-        _ => shared_kinds(word, count),
+        _ => shared_kinds(version, word, count),
     }
 }
 
-fn shared_kinds(word: &str, count: usize) -> Option<&'static [Kind]>
-    ensures { option_map (λ ks. types_of ks.now) result ≡ types (shared_form word.now count) }
+fn shared_kinds(version: Version, word: &str, count: usize) -> Option<&'static [Kind]>
+    ensures { option_map (λ ks. types_of ks.now) result ≡ types (shared_form version word.now count) }
 {
     match word {
         "buffer" => Some(&[Kind::Name, Kind::Words]),
         "length" => Some(&[Kind::Name, Kind::Name]),
         "sameblock" => Some(&[Kind::Name, Kind::Name, Kind::Name]),
-        "load" => Some(&[Kind::Name, Kind::Name, Kind::Whole]),
-        "store" => Some(&[Kind::Name, Kind::Whole, Kind::Whole]),
-        "add" => Some(&[Kind::Name, Kind::Name, Kind::Whole, Kind::Whole]),
+        "load" => load_kinds(version),
+        "store" => store_kinds(version),
+        "compareexchange" => compare_kinds(version),
         "post" => Some(&[Kind::Agent, Kind::Name]),
-        _ => registry_kinds(word, count),
+        _ => match modification_named(word) {
+            Some(how) => modify_kinds(version, how),
+            None => registry_kinds(word, count),
+        },
+    }
+}
+
+fn load_kinds(version: Version) -> Option<&'static [Kind]>
+    ensures { option_map (λ ks. types_of ks.now) result ≡ types (load_form version) }
+{
+    match version {
+        Version::Three => Some(&[Kind::Name, Kind::Name, Kind::Amount]),
+        _ => Some(&[Kind::Name, Kind::Name, Kind::Whole]),
+    }
+}
+
+fn store_kinds(version: Version) -> Option<&'static [Kind]>
+    ensures { option_map (λ ks. types_of ks.now) result ≡ types (store_form version) }
+{
+    match version {
+        Version::Three => Some(&[Kind::Name, Kind::Amount, Kind::Amount]),
+        _ => Some(&[Kind::Name, Kind::Whole, Kind::Whole]),
+    }
+}
+
+fn modify_kinds(version: Version, how: Modification) -> Option<&'static [Kind]>
+    ensures { option_map (λ ks. types_of ks.now) result ≡ types (modify_form version how) }
+{
+    match (version, how) {
+        (Version::Three, _) => Some(&[Kind::Name, Kind::Name, Kind::Amount, Kind::Amount]),
+        (_, Modification::Add) => Some(&[Kind::Name, Kind::Name, Kind::Whole, Kind::Whole]),
+        _ => None,
+    }
+}
+
+fn compare_kinds(version: Version) -> Option<&'static [Kind]>
+    ensures { option_map (λ ks. types_of ks.now) result ≡ types (compare_form version) }
+{
+    match version {
+        Version::Three => {
+            Some(&[
+                Kind::Name,
+                Kind::Name,
+                Kind::Amount,
+                Kind::Amount,
+                Kind::Amount,
+            ])
+        }
+        _ => None,
     }
 }
 

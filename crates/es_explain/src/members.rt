@@ -1,6 +1,6 @@
 //! Members that an object of a plan has, and those that it has not.
 
-ghost use Rattle.std.specs.Prelude.{◌≡◌, Some, decimal, string_bytes, option_map, IfOk};
+ghost use Rattle.std.specs.Prelude.{◌≡◌, Some, string_bytes, option_map, IfOk};
 ghost use Rattle.serde_json.specs.View.{view, members_view};
 ghost use Rattle.es_explain.specs.Misshapen.{first_unknown, here, is_owned, missing, other, owned, owner_name, under, unknown, unknown_member};
 ghost use Rattle.es_explain.specs.Coded.{trouble_of};
@@ -55,23 +55,6 @@ pub(crate) fn under(
     match trouble {
         Some(Trouble { place, sentence }) => {
             let place = format!(in alloc; "/{key}{place}")?;
-            Ok(Some(Trouble { place, sentence }))
-        }
-        None => Ok(None),
-    }
-}
-
-/// The same in an item of a list.
-pub(crate) fn under_index(
-    alloc: Global,
-    index: usize,
-    trouble: Option<Trouble>,
-) -> Result<Option<Trouble>, AllocError>
-    ensures { IfOk result (λ o. option_map trouble_of o ≡ under (decimal index) (option_map trouble_of trouble)) }
-{
-    match trouble {
-        Some(Trouble { place, sentence }) => {
-            let place = format!(in alloc; "/{index}{place}")?;
             Ok(Some(Trouble { place, sentence }))
         }
         None => Ok(None),

@@ -43,7 +43,7 @@ fn beside(
 {
     match code {
         FaultCode::Shape => sentence_of_trouble(alloc, plan),
-        FaultCode::Version => String::from_str(alloc, "The version is 1 or 2."),
+        FaultCode::Version => String::from_str(alloc, "The version is 1, 2 or 3."),
         FaultCode::AgentCount => agent_count(alloc, count_of(items_of(Some(part)))),
         FaultCode::Name => name_sentence(alloc, place, part),
         FaultCode::Unknown => awaited_sentence(alloc, plan, agent_of(place), part),

@@ -1,17 +1,74 @@
 //! The first part of a value that keeps it from having the shape of a plan.
 
-ghost use Rattle.std.specs.Prelude.{◌≡◌, Some, codes, option_map, option_and_then, string_bytes, IfOk};
-ghost use Rattle.serde_json.specs.Data.{array};
+ghost use Rattle.std.specs.Prelude.{◌≡◌, Option, codes, option_map, option_and_then, string_bytes, IfOk};
+ghost use Rattle.serde_json.specs.Data.{Data};
 ghost use Rattle.serde_json.specs.View.{view, items_view, members_view};
-ghost use Rattle.es_reading.specs.Shape.{is_text_pair};
-ghost use Rattle.es_explain.specs.Misshapen.{agent_trouble, agents_trouble, at_key, callback_trouble, callbacks_trouble, command_trouble, each_item, each_member, first_trouble, job_trouble, jobs_trouble, name_trouble, on_trouble, place_of, plan_trouble, run_trouble, sentence_of, version_trouble};
+ghost use Rattle.es_explain.specs.Misshapen.{Trouble as Told, agent_trouble, agents_trouble, at_key, callback_trouble, callbacks_trouble, command_trouble, each_item, each_member, first_trouble, job_trouble, jobs_trouble, list_trouble, name_trouble, on_trouble, other, place_of, plan_trouble, run_trouble, sentence_of, under, version_trouble};
 ghost use Rattle.es_explain.specs.Coded.{trouble_of};
 
-use crate::members::{Owner, Trouble, here, missing, other, under, under_index, unknown};
+use crate::members::{Owner, Trouble, here, missing, other, under, unknown};
 use crate::pointer::escaped;
 use crate::text::value_text;
+use es_script::is_text_pair;
 use serde_json::{Map, Value};
 use std::alloc::{AllocError, Global};
+
+/// A part of a plan, which has a shape of its own.
+trait Part {
+    ghost fault: { Data → Option Told };
+
+    /// The first trouble with its shape.
+    fn trouble(alloc: Global, value: &Value) -> Result<Option<Trouble>, AllocError>
+        ensures { IfOk result (λ o. option_map trouble_of o ≡ fault (view value.now)) };
+}
+
+/// The trouble with the list that has this key, where there is one.
+fn at_list<P: Part>(
+    alloc: Global,
+    key: &str,
+    wanted: &str,
+    value: &Value,
+) -> Result<Option<Trouble>, AllocError>
+    ensures { IfOk result (λ o. option_map trouble_of o ≡ at_key key.now (list_trouble wanted.now P.fault) (view value.now)) }
+{
+    match value.get(key) {
+        Some(list) => under(alloc, key, list_trouble::<P>(alloc, wanted, list)?),
+        None => Ok(None),
+    }
+}
+
+/// That the member with this key is something else.
+fn at(alloc: Global, key: &str, wanted: &str, value: &Value) -> Result<Option<Trouble>, AllocError>
+    ensures { IfOk result (λ o. option_map trouble_of o ≡ under key.now (other wanted.now (view value.now))) }
+{
+    under(alloc, key, Some(other(alloc, wanted, value)?))
+}
+
+/// The trouble with a list, or that it is none.
+fn list_trouble<P: Part>(
+    alloc: Global,
+    wanted: &str,
+    value: &Value,
+) -> Result<Option<Trouble>, AllocError>
+    ensures { IfOk result (λ o. option_map trouble_of o ≡ list_trouble wanted.now P.fault (view value.now)) }
+{
+    match value {
+        Value::Array(list) => each_item::<P>(alloc, list.as_slice()),
+        _ => Ok(Some(other(alloc, wanted, value)?)),
+    }
+}
+
+fn each_item<P: Part>(alloc: Global, list: &[Value]) -> Result<Option<Trouble>, AllocError>
+    ensures { IfOk result (λ o. option_map trouble_of o ≡ each_item P.fault 0 (items_view list.now)) }
+{
+    for (index, value) in list.iter().enumerate() {
+        if let Some(trouble) = P::trouble(alloc, value)? {
+            let place = format!(in alloc; "{index}")?;
+            return under(alloc, place.as_str(), Some(trouble));
+        }
+    }
+    Ok(None)
+}
 
 /// Where the first trouble with a plan's shape is.
 pub(crate) fn place_of_trouble(alloc: Global, value: Option<&Value>) -> Result<String, AllocError>
@@ -36,7 +93,7 @@ pub(crate) fn sentence_of_trouble(alloc: Global, value: &Value) -> Result<String
     }
 }
 
-#[tactic(auto, unfolding(crate::specs::Misshapen::plan_trouble))]
+#[tactic(auto, unfolding(crate::specs::Misshapen::plan_trouble, crate::specs::Misshapen::agents_trouble))]
 fn plan_trouble(alloc: Global, value: &Value) -> Result<Option<Trouble>, AllocError>
     ensures { IfOk result (λ o. option_map trouble_of o ≡ plan_trouble (view value.now)) }
 {
@@ -55,102 +112,59 @@ fn plan_trouble(alloc: Global, value: &Value) -> Result<Option<Trouble>, AllocEr
     if let Some(trouble) = at_version(alloc, value)? {
         return Ok(Some(trouble));
     }
-    at_agents(alloc, value)
+    at_list::<Agent>(alloc, "agents", "agents is a list", value)
 }
 
+#[tactic(auto, unfolding(crate::specs::Misshapen::version_trouble))]
 fn at_version(alloc: Global, value: &Value) -> Result<Option<Trouble>, AllocError>
     ensures { IfOk result (λ o. option_map trouble_of o ≡ at_key (codes "version") version_trouble (view value.now)) }
 {
     match value.get("version") {
-        Some(version) => under(alloc, "version", version_trouble(alloc, version)?),
-        None => Ok(None),
+        None | Some(Value::Number(_)) => Ok(None),
+        Some(other) => at(alloc, "version", "version is a number", other),
     }
 }
 
-#[tactic(auto, unfolding(crate::specs::Misshapen::version_trouble))]
-fn version_trouble(alloc: Global, value: &Value) -> Result<Option<Trouble>, AllocError>
-    ensures { IfOk result (λ o. option_map trouble_of o ≡ version_trouble (view value.now)) }
-{
-    match value {
-        Value::Number(_) => Ok(None),
-        _ => Ok(Some(other(alloc, "version is a number", value)?)),
-    }
-}
+/// An item of the agents.
+struct Agent;
 
-fn at_agents(alloc: Global, value: &Value) -> Result<Option<Trouble>, AllocError>
-    ensures { IfOk result (λ o. option_map trouble_of o ≡ at_key (codes "agents") agents_trouble (view value.now)) }
-{
-    match value.get("agents") {
-        Some(agents) => under(alloc, "agents", agents_trouble(alloc, agents)?),
-        None => Ok(None),
-    }
-}
+impl Part for Agent {
+    ghost fault = { agent_trouble };
 
-#[tactic(auto, unfolding(crate::specs::Misshapen::agents_trouble))]
-fn agents_trouble(alloc: Global, value: &Value) -> Result<Option<Trouble>, AllocError>
-    ensures { IfOk result (λ o. option_map trouble_of o ≡ agents_trouble (view value.now)) }
-{
-    match value {
-        Value::Array(list) => each_agent(alloc, list.as_slice()),
-        _ => Ok(Some(other(alloc, "agents is a list", value)?)),
-    }
-}
-
-fn each_agent(alloc: Global, list: &[Value]) -> Result<Option<Trouble>, AllocError>
-    ensures { IfOk result (λ o. option_map trouble_of o ≡ each_item agent_trouble 0 (items_view list.now)) }
-{
-    for (index, value) in list.iter().enumerate() {
-        if let Some(trouble) = agent_trouble(alloc, value)? {
-            return under_index(alloc, index, Some(trouble));
+    #[tactic(auto, unfolding(crate::specs::Misshapen::agent_trouble, crate::specs::Misshapen::jobs_trouble))]
+    fn trouble(alloc: Global, value: &Value) -> Result<Option<Trouble>, AllocError> {
+        let Value::Object(members) = value else {
+            return Ok(Some(other(alloc, "An agent is an object", value)?));
+        };
+        if let Some(trouble) = unknown(alloc, Owner::Agent, members)? {
+            return Ok(Some(trouble));
         }
-    }
-    Ok(None)
-}
-
-#[tactic(auto, unfolding(crate::specs::Misshapen::agent_trouble))]
-fn agent_trouble(alloc: Global, value: &Value) -> Result<Option<Trouble>, AllocError>
-    ensures { IfOk result (λ o. option_map trouble_of o ≡ agent_trouble (view value.now)) }
-{
-    let Value::Object(members) = value else {
-        return Ok(Some(other(alloc, "An agent is an object", value)?));
-    };
-    if let Some(trouble) = unknown(alloc, Owner::Agent, members)? {
-        return Ok(Some(trouble));
-    }
-    if let Some(trouble) = missing(alloc, Owner::Agent, "name", value)? {
-        return Ok(Some(trouble));
-    }
-    if let Some(trouble) = missing(alloc, Owner::Agent, "callbacks", value)? {
-        return Ok(Some(trouble));
-    }
-    if let Some(trouble) = missing(alloc, Owner::Agent, "jobs", value)? {
-        return Ok(Some(trouble));
-    }
-    if let Some(trouble) = at_name(alloc, value)? {
-        return Ok(Some(trouble));
-    }
-    if let Some(trouble) = at_callbacks(alloc, value)? {
-        return Ok(Some(trouble));
-    }
-    at_jobs(alloc, value)
-}
-
-fn at_name(alloc: Global, value: &Value) -> Result<Option<Trouble>, AllocError>
-    ensures { IfOk result (λ o. option_map trouble_of o ≡ at_key (codes "name") name_trouble (view value.now)) }
-{
-    match value.get("name") {
-        Some(name) => under(alloc, "name", name_trouble(alloc, name)?),
-        None => Ok(None),
+        if let Some(trouble) = missing(alloc, Owner::Agent, "name", value)? {
+            return Ok(Some(trouble));
+        }
+        if let Some(trouble) = missing(alloc, Owner::Agent, "callbacks", value)? {
+            return Ok(Some(trouble));
+        }
+        if let Some(trouble) = missing(alloc, Owner::Agent, "jobs", value)? {
+            return Ok(Some(trouble));
+        }
+        if let Some(trouble) = at_name(alloc, value)? {
+            return Ok(Some(trouble));
+        }
+        if let Some(trouble) = at_callbacks(alloc, value)? {
+            return Ok(Some(trouble));
+        }
+        at_list::<Job>(alloc, "jobs", "jobs is a list", value)
     }
 }
 
 #[tactic(auto, unfolding(crate::specs::Misshapen::name_trouble))]
-fn name_trouble(alloc: Global, value: &Value) -> Result<Option<Trouble>, AllocError>
-    ensures { IfOk result (λ o. option_map trouble_of o ≡ name_trouble (view value.now)) }
+fn at_name(alloc: Global, value: &Value) -> Result<Option<Trouble>, AllocError>
+    ensures { IfOk result (λ o. option_map trouble_of o ≡ at_key (codes "name") name_trouble (view value.now)) }
 {
-    match value {
-        Value::String(_) => Ok(None),
-        _ => Ok(Some(other(alloc, "The name of an agent is a text", value)?)),
+    match value.get("name") {
+        None | Some(Value::String(_)) => Ok(None),
+        Some(other) => at(alloc, "name", "The name of an agent is a text", other),
     }
 }
 
@@ -173,11 +187,16 @@ fn callbacks_trouble(alloc: Global, value: &Value) -> Result<Option<Trouble>, Al
     }
 }
 
+#[tactic(auto, unfolding(crate::specs::Misshapen::callback_trouble))]
 fn each_callback(alloc: Global, members: &Map<String, Value>) -> Result<Option<Trouble>, AllocError>
     ensures { IfOk result (λ o. option_map trouble_of o ≡ each_member callback_trouble (members_view members.now.entries)) }
 {
     for (key, value) in members.iter() {
-        if let Some(trouble) = callback_trouble(alloc, value)? {
+        if let Some(trouble) = list_trouble::<Command>(
+            alloc,
+            "A callback is a list of commands",
+            value,
+        )? {
             let place = escaped(alloc, key.as_str())?;
             return under(alloc, place.as_str(), Some(trouble));
         }
@@ -185,147 +204,70 @@ fn each_callback(alloc: Global, members: &Map<String, Value>) -> Result<Option<T
     Ok(None)
 }
 
-#[tactic(auto, unfolding(crate::specs::Misshapen::callback_trouble))]
-fn callback_trouble(alloc: Global, value: &Value) -> Result<Option<Trouble>, AllocError>
-    ensures { IfOk result (λ o. option_map trouble_of o ≡ callback_trouble (view value.now)) }
-{
-    match value {
-        Value::Array(list) => each_command(alloc, list.as_slice()),
-        _ => Ok(Some(other(alloc, "A callback is a list of commands", value)?)),
-    }
-}
+/// An item of the jobs.
+struct Job;
 
-fn at_jobs(alloc: Global, value: &Value) -> Result<Option<Trouble>, AllocError>
-    ensures { IfOk result (λ o. option_map trouble_of o ≡ at_key (codes "jobs") jobs_trouble (view value.now)) }
-{
-    match value.get("jobs") {
-        Some(jobs) => under(alloc, "jobs", jobs_trouble(alloc, jobs)?),
-        None => Ok(None),
-    }
-}
+impl Part for Job {
+    ghost fault = { job_trouble };
 
-#[tactic(auto, unfolding(crate::specs::Misshapen::jobs_trouble))]
-fn jobs_trouble(alloc: Global, value: &Value) -> Result<Option<Trouble>, AllocError>
-    ensures { IfOk result (λ o. option_map trouble_of o ≡ jobs_trouble (view value.now)) }
-{
-    match value {
-        Value::Array(list) => each_job(alloc, list.as_slice()),
-        _ => Ok(Some(other(alloc, "jobs is a list", value)?)),
-    }
-}
-
-fn each_job(alloc: Global, list: &[Value]) -> Result<Option<Trouble>, AllocError>
-    ensures { IfOk result (λ o. option_map trouble_of o ≡ each_item job_trouble 0 (items_view list.now)) }
-{
-    for (index, value) in list.iter().enumerate() {
-        if let Some(trouble) = job_trouble(alloc, value)? {
-            return under_index(alloc, index, Some(trouble));
+    #[tactic(auto, unfolding(crate::specs::Misshapen::job_trouble, crate::specs::Misshapen::run_trouble))]
+    fn trouble(alloc: Global, value: &Value) -> Result<Option<Trouble>, AllocError> {
+        let Value::Object(members) = value else {
+            return Ok(Some(other(alloc, "A job is an object", value)?));
+        };
+        if let Some(trouble) = unknown(alloc, Owner::Job, members)? {
+            return Ok(Some(trouble));
         }
-    }
-    Ok(None)
-}
-
-#[tactic(auto, unfolding(crate::specs::Misshapen::job_trouble))]
-fn job_trouble(alloc: Global, value: &Value) -> Result<Option<Trouble>, AllocError>
-    ensures { IfOk result (λ o. option_map trouble_of o ≡ job_trouble (view value.now)) }
-{
-    let Value::Object(members) = value else {
-        return Ok(Some(other(alloc, "A job is an object", value)?));
-    };
-    if let Some(trouble) = unknown(alloc, Owner::Job, members)? {
-        return Ok(Some(trouble));
-    }
-    if let Some(trouble) = missing(alloc, Owner::Job, "run", value)? {
-        return Ok(Some(trouble));
-    }
-    if let Some(trouble) = at_run(alloc, value)? {
-        return Ok(Some(trouble));
-    }
-    at_on(alloc, value)
-}
-
-fn at_run(alloc: Global, value: &Value) -> Result<Option<Trouble>, AllocError>
-    ensures { IfOk result (λ o. option_map trouble_of o ≡ at_key (codes "run") run_trouble (view value.now)) }
-{
-    match value.get("run") {
-        Some(run) => under(alloc, "run", run_trouble(alloc, run)?),
-        None => Ok(None),
-    }
-}
-
-#[tactic(auto, unfolding(crate::specs::Misshapen::run_trouble))]
-fn run_trouble(alloc: Global, value: &Value) -> Result<Option<Trouble>, AllocError>
-    ensures { IfOk result (λ o. option_map trouble_of o ≡ run_trouble (view value.now)) }
-{
-    match value {
-        Value::Array(list) => each_command(alloc, list.as_slice()),
-        _ => Ok(Some(other(alloc, "run is a list of commands", value)?)),
-    }
-}
-
-fn at_on(alloc: Global, value: &Value) -> Result<Option<Trouble>, AllocError>
-    ensures { IfOk result (λ o. option_map trouble_of o ≡ at_key (codes "on") on_trouble (view value.now)) }
-{
-    match value.get("on") {
-        Some(on) => under(alloc, "on", on_trouble(alloc, on)?),
-        None => Ok(None),
+        if let Some(trouble) = missing(alloc, Owner::Job, "run", value)? {
+            return Ok(Some(trouble));
+        }
+        if let Some(trouble) = at_list::<Command>(
+            alloc,
+            "run",
+            "run is a list of commands",
+            value,
+        )? {
+            return Ok(Some(trouble));
+        }
+        at_on(alloc, value)
     }
 }
 
 #[tactic(auto, unfolding(crate::specs::Misshapen::on_trouble))]
-fn on_trouble(alloc: Global, value: &Value) -> Result<Option<Trouble>, AllocError>
-    ensures { IfOk result (λ o. option_map trouble_of o ≡ on_trouble (view value.now)) }
+fn at_on(alloc: Global, value: &Value) -> Result<Option<Trouble>, AllocError>
+    ensures { IfOk result (λ o. option_map trouble_of o ≡ at_key (codes "on") on_trouble (view value.now)) }
 {
-    if is_text_pair(value) {
+    let Some(on) = value.get("on") else {
+        return Ok(None);
+    };
+    if is_text_pair(Some(on)) {
         return Ok(None);
     }
     let sentence = String::from_str(
         alloc,
         "on is a list of two texts: the agent that is waited for, and a variable.",
     )?;
-    Ok(Some(here(alloc, sentence)))
+    under(alloc, "on", Some(here(alloc, sentence)))
 }
 
-fn is_text_pair(value: &Value) -> bool
-    ensures { result ≡ is_text_pair (Some (view value.now)) }
-{
-    match value {
-        Value::Array(list) => are_two_texts(list.as_slice()),
-        _ => false,
-    }
-}
+/// An item of a list of commands.
+struct Command;
 
-#[tactic(auto, using(es_script::proofs::Pairs::no_pair))]
-fn are_two_texts(list: &[Value]) -> bool
-    ensures { result ≡ is_text_pair (Some (array (items_view list.now))) }
-{
-    matches!(list, [Value::String(_), Value::String(_)])
-}
+impl Part for Command {
+    ghost fault = { command_trouble };
 
-fn each_command(alloc: Global, list: &[Value]) -> Result<Option<Trouble>, AllocError>
-    ensures { IfOk result (λ o. option_map trouble_of o ≡ each_item command_trouble 0 (items_view list.now)) }
-{
-    for (index, value) in list.iter().enumerate() {
-        if let Some(trouble) = command_trouble(alloc, value)? {
-            return under_index(alloc, index, Some(trouble));
-        }
-    }
-    Ok(None)
-}
-
-#[tactic(auto, unfolding(crate::specs::Misshapen::command_trouble))]
-fn command_trouble(alloc: Global, value: &Value) -> Result<Option<Trouble>, AllocError>
-    ensures { IfOk result (λ o. option_map trouble_of o ≡ command_trouble (view value.now)) }
-{
-    match value {
-        Value::Array(list) => first_trouble(alloc, list.first()),
-        _ => {
-            let trouble = other(
-                alloc,
-                "A command is a list that begins with its word",
-                value,
-            )?;
-            Ok(Some(trouble))
+    #[tactic(auto, unfolding(crate::specs::Misshapen::command_trouble))]
+    fn trouble(alloc: Global, value: &Value) -> Result<Option<Trouble>, AllocError> {
+        match value {
+            Value::Array(list) => first_trouble(alloc, list.first()),
+            _ => {
+                let trouble = other(
+                    alloc,
+                    "A command is a list that begins with its word",
+                    value,
+                )?;
+                Ok(Some(trouble))
+            }
         }
     }
 }

@@ -66,6 +66,7 @@ fn fits(kind: Kind, operand: &Value) -> bool
         Kind::Literal => !matches!(operand, Value::Array(_) | Value::Object(_)),
         Kind::Whole => matches!(operand, Value::Number(_)),
         Kind::Words => matches!(operand, Value::Number(_)),
+        Kind::Amount => matches!(operand, Value::String(_) | Value::Number(_)),
         _ => matches!(operand, Value::String(_)),
     }
 }
@@ -74,7 +75,7 @@ fn is_misnamed(kind: Kind, operand: &Value) -> bool
     ensures { result ≡ is_wrong FaultCode.Name (type_of kind) (view operand.now) }
 {
     match (kind, operand) {
-        (Kind::Name | Kind::Callback | Kind::Agent, Value::String(name)) => {
+        (Kind::Name | Kind::Callback | Kind::Agent | Kind::Amount, Value::String(name)) => {
             !spells_name(name.as_str())
         }
         _ => false,

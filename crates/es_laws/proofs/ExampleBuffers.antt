@@ -14,7 +14,6 @@ use Rattle.es_event.specs.declared.plan.AgentPlan.{AgentPlan}
 use Rattle.es_event.specs.Rows.{row}
 use Rattle.es_event.specs.History.{History}
 use Rattle.es_event.specs.Identities.{made}
-use Rattle.es_event.specs.Jobs.{Receivers, receivers}
 use Rattle.es_event.specs.Sharing.{Buffers, row_at, words_of, block_of, AgreeSoFar, blocks_opened, messages_posted}
 use Rattle.es_event.specs.Rules.{refusal}
 use Rattle.es_event.specs.Runs.{IsWholeRun}
@@ -50,9 +49,6 @@ one_word = (1, row 1 1 1) ∷ []
 abbrev pub plan_words : AgentPlan
 plan_words = plan_of ((SharedArrayBuffer b 1 ∷ store b (pos 0) (negsuc 0) ∷ load x b (pos 0) ∷ Say x ∷ add y b (pos 0) (pos 2) ∷ Say y ∷ load z b (pos 0) ∷ Say z ∷ []) ∷ [])
 
-abbrev pub into_words : Receivers
-into_words = receivers plan_words.jobs
-
 abbrev pub begun_words : History
 begun_words = JobBegun 1 ∷ []
 
@@ -86,9 +82,6 @@ no_word = (1, row 1 1 0) ∷ []
 abbrev pub plan_empty : AgentPlan
 plan_empty = plan_of ((SharedArrayBuffer b 0 ∷ Length n b ∷ Say n ∷ load x b (pos 0) ∷ []) ∷ [])
 
-abbrev pub into_empty : Receivers
-into_empty = receivers plan_empty.jobs
-
 abbrev pub made_empty : History
 made_empty = made_buffer b 0 1 ∷ JobBegun 1 ∷ []
 
@@ -112,9 +105,6 @@ two_blocks = (2, row 5 2 3) ∷ (1, row 1 1 3) ∷ []
 
 abbrev pub plan_same : AgentPlan
 plan_same = plan_waiting (job_of (SharedArrayBuffer b 3 ∷ []) ∷ job_on 1 m (SameBlock x b m ∷ Say x ∷ SameBlock y m m ∷ Say y ∷ []) ∷ [])
-
-abbrev pub into_same : Receivers
-into_same = receivers plan_same.jobs
 
 abbrev pub begun_other : History
 begun_other =
@@ -159,9 +149,6 @@ plan_refused =
     ∷ (SameBlock x b o ∷ [])
     ∷ (SameBlock x o b ∷ [])
     ∷ [])
-
-abbrev pub into_refused : Receivers
-into_refused = receivers plan_refused.jobs
 
 abbrev pub made_ordinary : History
 made_ordinary = made_new o 1 ∷ JobBegun 1 ∷ []
@@ -216,9 +203,6 @@ plan_object =
     ∷ (Length n w ∷ [])
     ∷ (WeakMap m ∷ WeakMapSet m b b ∷ WeakMapHas y m b ∷ Say y ∷ [])
     ∷ [])
-
-abbrev pub into_object : Receivers
-into_object = receivers plan_object.jobs
 
 abbrev pub made_object : History
 made_object = made_buffer b 3 1 ∷ JobBegun 1 ∷ []

@@ -10,13 +10,12 @@ use Rattle.es_event.specs.declared.event.Event.TheVariants.{JobBegun, Did, Refus
 use Rattle.es_event.specs.declared.event.Refusal.TheVariants.{NotAWeakRef}
 use Rattle.es_event.specs.declared.plan.AgentPlan.{AgentPlan}
 use Rattle.es_event.specs.History.{History}
-use Rattle.es_event.specs.Jobs.{Receivers, receivers}
+use Rattle.es_event.specs.Jobs.{receivers}
 use Rattle.es_event.specs.Reach.{AreDead}
-use Rattle.es_event.specs.Follows.{Follows, FollowsWhole}
 use Rattle.es_event.proofs.Examples.{plan_of, IsUnlawful, IsOutOfPlace}
 use Rattle.es_event.proofs.Deciding.{dead_by, other_set, by_variable, by_keeping, by_property}
 use Rattle.es_laws.proofs.Letters.{a, b, c, p, s, t, u, v, w, x, y}
-use Rattle.es_laws.proofs.Worked.{IsWorked}
+use Rattle.es_laws.proofs.Worked.{IsWorked, dead_but, dead_beside}
 
 abbrev pub new : List ℕ → Command
 new x = New x
@@ -28,9 +27,6 @@ forget x = Let x NoLiteral
 
 abbrev pub plan_kept : AgentPlan
 plan_kept = plan_of ((new a ∷ WeakRef w a ∷ forget a ∷ Collect ∷ Deref b w ∷ Say b ∷ []) ∷ (forget b ∷ Collect ∷ Deref b w ∷ Say b ∷ []) ∷ [])
-
-abbrev pub into_kept : Receivers
-into_kept = receivers plan_kept.jobs
 
 abbrev pub forgot_a : History
 forgot_a =
@@ -56,24 +52,15 @@ closed =
     Closed ∷ JobEnded ∷ Did (Say b, Undefined ∷ [], Nothing)
     ∷ Did (Deref b w, Object 2 ∷ [], Gives Undefined) ∷ collected_again
 
-pub kept_by_its_weakref : AreDead into_kept forgot_a []
-kept_by_its_weakref = dead_by into_kept forgot_a (1 ∷ 2 ∷ []) [] refl (by_keeping into_kept forgot_a 1 refl, (by_variable into_kept forgot_a w 2 refl, tt))
+pub kept_by_its_weakref : AreDead (receivers plan_kept.jobs) forgot_a []
+kept_by_its_weakref = dead_by (receivers plan_kept.jobs) forgot_a (1 ∷ 2 ∷ []) [] refl (by_keeping (receivers plan_kept.jobs) forgot_a 1 refl, (by_variable (receivers plan_kept.jobs) forgot_a w 2 refl, tt))
 
-pub dead_in_the_next_job : AreDead into_kept forgot_b (1 ∷ [])
-dead_in_the_next_job = dead_by into_kept forgot_b (2 ∷ []) (1 ∷ []) refl (by_variable into_kept forgot_b w 2 refl, tt)
-
-follows_first : Follows [] plan_kept forgot_a
-follows_first = search rules
-
-follows_second : Follows [] plan_kept forgot_b
-follows_second = (refl, (refl, (tt, (refl, (refl, ((refl, kept_by_its_weakref), follows_first))))))
-
-pub follows_kept : FollowsWhole [] plan_kept closed
-follows_kept = ((tt, (tt, (refl, (refl, ((refl, dead_in_the_next_job), follows_second))))), refl)
+pub dead_in_the_next_job : AreDead (receivers plan_kept.jobs) forgot_b (1 ∷ [])
+dead_in_the_next_job = dead_but plan_kept forgot_b (w ∷ []) (1 ∷ []) refl
 
 pub worked_kept : IsWorked [] plan_kept closed (codes "agent a\nemptied 0\nsay object 1\nemptied 1\nsay undefined\nend live 0 awaiting 0 unregistered 0 taken 0\n")
 unfolding digits
-worked_kept = record { whole = (search rules, follows_kept); report = refl }
+worked_kept = record { whole = (search rules, search (rules, kept_by_its_weakref, dead_in_the_next_job)); report = refl }
 
 -- One that reaches another: both go in one event
 
@@ -83,9 +70,6 @@ plan_reaches = plan_of (
     ∷ (Collect ∷ Deref x u ∷ Deref y v ∷ Say x ∷ Say y ∷ [])
     ∷ []
     )
-
-abbrev pub into_reaches : Receivers
-into_reaches = receivers plan_reaches.jobs
 
 abbrev pub forgot_both : History
 forgot_both =
@@ -106,15 +90,12 @@ closed_reaches =
     ∷ Emptied (1 ∷ 2 ∷ [])
     ∷ forgot_both
 
-pub dead_both : AreDead into_reaches forgot_both (1 ∷ 2 ∷ [])
-dead_both = dead_by into_reaches forgot_both (3 ∷ 4 ∷ []) (1 ∷ 2 ∷ []) refl (by_variable into_reaches forgot_both u 3 refl, (by_variable into_reaches forgot_both v 4 refl, tt))
-
-follows_forgot : Follows [] plan_reaches forgot_both
-follows_forgot = search rules
+pub dead_both : AreDead (receivers plan_reaches.jobs) forgot_both (1 ∷ 2 ∷ [])
+dead_both = dead_but plan_reaches forgot_both (u ∷ v ∷ []) (1 ∷ 2 ∷ []) refl
 
 pub worked_reaches : IsWorked [] plan_reaches closed_reaches (codes "agent a\nemptied 2\nsay undefined\nsay undefined\nend live 0 awaiting 0 unregistered 0 taken 0\n")
 unfolding digits
-worked_reaches = record { whole = (search rules, ((tt, (tt, (refl, (refl, (refl, (refl, ((refl, dead_both), follows_forgot))))))), refl)); report = refl }
+worked_reaches = record { whole = (search rules, search (rules, dead_both)); report = refl }
 
 -- A cycle goes as a whole, once nothing in KeptAlive reaches it
 
@@ -124,9 +105,6 @@ plan_cycle = plan_of (
     ∷ (Collect ∷ Deref x w ∷ Say x ∷ [])
     ∷ []
     )
-
-abbrev pub into_cycle : Receivers
-into_cycle = receivers plan_cycle.jobs
 
 abbrev pub forgot_cycle : History
 forgot_cycle =
@@ -152,43 +130,39 @@ closed_cycle =
     ∷ Emptied (1 ∷ 2 ∷ [])
     ∷ next_job
 
-pub kept_cycle : AreDead into_cycle forgot_cycle []
-kept_cycle = dead_by into_cycle forgot_cycle (1 ∷ 2 ∷ 3 ∷ []) [] refl (
-  by_keeping into_cycle forgot_cycle 1 refl,
-  (by_property into_cycle forgot_cycle 1 p (Object 2) 2 (by_keeping into_cycle forgot_cycle 1 refl) refl refl, (by_variable into_cycle forgot_cycle w 3 refl, tt)),
-)
+pub kept_cycle : AreDead (receivers plan_cycle.jobs) forgot_cycle []
+kept_cycle =
+    let first = by_keeping (receivers plan_cycle.jobs) forgot_cycle 1 refl in
+    dead_beside plan_cycle forgot_cycle (w ∷ []) (1 ∷ 2 ∷ []) [] refl (first, (by_property (receivers plan_cycle.jobs) forgot_cycle 1 p (Object 2) 2 first refl refl, tt))
 
-pub dead_cycle : AreDead into_cycle next_job (1 ∷ 2 ∷ [])
-dead_cycle = dead_by into_cycle next_job (3 ∷ []) (1 ∷ 2 ∷ []) refl (by_variable into_cycle next_job w 3 refl, tt)
-
-follows_cycle : Follows [] plan_cycle forgot_cycle
-follows_cycle = search rules
+pub dead_cycle : AreDead (receivers plan_cycle.jobs) next_job (1 ∷ 2 ∷ [])
+dead_cycle = dead_but plan_cycle next_job (w ∷ []) (1 ∷ 2 ∷ []) refl
 
 pub worked_cycle : IsWorked [] plan_cycle closed_cycle (codes "agent a\nemptied 0\nemptied 2\nsay undefined\nend live 0 awaiting 0 unregistered 0 taken 0\n")
 unfolding digits
-worked_cycle = record { whole = (search rules, ((tt, (tt, (refl, (refl, ((refl, dead_cycle), (refl, (tt, ((refl, kept_cycle), follows_cycle)))))))), refl)); report = refl }
+worked_cycle = record { whole = (search rules, search (rules, dead_cycle, kept_cycle)); report = refl }
 
 -- Wrong neighbours
 
 -- KeptAlive is passed over
 passes_over_kept_alive : IsOutOfPlace plan_kept forgot_a (Emptied (1 ∷ []))
-passes_over_kept_alive p = other_set into_kept forgot_a (1 ∷ []) [] 1 p.1 kept_by_its_weakref refl refl
+passes_over_kept_alive p = other_set (receivers plan_kept.jobs) forgot_a (1 ∷ []) [] 1 p.1 kept_by_its_weakref refl refl
 
 -- nothing is emptied
 empties_nothing : IsOutOfPlace plan_kept forgot_b (Emptied [])
-empties_nothing p = other_set into_kept forgot_b (1 ∷ []) [] 1 dead_in_the_next_job p.1 refl refl
+empties_nothing p = other_set (receivers plan_kept.jobs) forgot_b (1 ∷ []) [] 1 dead_in_the_next_job p.1 refl refl
 
 -- what is reached is emptied too
 empties_the_weakref : IsOutOfPlace plan_kept forgot_b (Emptied (1 ∷ 2 ∷ []))
-empties_the_weakref p = other_set into_kept forgot_b (1 ∷ 2 ∷ []) (1 ∷ []) 2 p.1 dead_in_the_next_job refl refl
+empties_the_weakref p = other_set (receivers plan_kept.jobs) forgot_b (1 ∷ 2 ∷ []) (1 ∷ []) 2 p.1 dead_in_the_next_job refl refl
 
 -- only what has no properties is emptied
 empties_the_leaf : IsOutOfPlace plan_reaches forgot_both (Emptied (2 ∷ []))
-empties_the_leaf p = other_set into_reaches forgot_both (1 ∷ 2 ∷ []) (2 ∷ []) 1 dead_both p.1 refl refl
+empties_the_leaf p = other_set (receivers plan_reaches.jobs) forgot_both (1 ∷ 2 ∷ []) (2 ∷ []) 1 dead_both p.1 refl refl
 
 -- only what nothing holds is emptied
 empties_the_first : IsOutOfPlace plan_reaches forgot_both (Emptied (1 ∷ []))
-empties_the_first p = other_set into_reaches forgot_both (1 ∷ 2 ∷ []) (1 ∷ []) 2 dead_both p.1 refl refl
+empties_the_first p = other_set (receivers plan_reaches.jobs) forgot_both (1 ∷ 2 ∷ []) (1 ∷ []) 2 dead_both p.1 refl refl
 
 -- the collection is recorded as a command that was done
 records_a_command : IsUnlawful plan_kept forgot_a (Did (Collect, [], Nothing))

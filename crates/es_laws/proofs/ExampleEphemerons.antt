@@ -12,18 +12,16 @@ use Rattle.es_event.specs.declared.event.Refusal.TheVariants.{NotAWeakMap, NotAW
 use Rattle.es_event.specs.declared.plan.AgentPlan.{AgentPlan}
 use Rattle.es_event.specs.History.{History}
 use Rattle.es_event.specs.Ephemerons.{entry, is_member}
-use Rattle.es_event.specs.Jobs.{Receivers, receivers}
+use Rattle.es_event.specs.Jobs.{receivers}
 use Rattle.es_event.specs.Rules.{completion}
-use Rattle.es_event.specs.Legal.{LegalBy}
 use Rattle.es_event.specs.Reach.{AreDead, IsHeld, in_variable, in_entry}
 use Rattle.es_event.specs.Live.{Live}
-use Rattle.es_event.specs.Follows.{Follows, FollowsWhole}
 use Rattle.es_event.specs.Runs.{IsWholeRun}
 use Rattle.es_event.proofs.Examples.{plan_of, IsUnlawful, IsOutOfPlace}
 use Rattle.es_event.proofs.Deciding.{dead_by, other_set, by_variable, by_entry}
 use Rattle.es_event.proofs.Dead.{not_live}
 use Rattle.es_laws.proofs.Letters.{a, b, f, k, l, m, n, p, s, t, u, v, x, y}
-use Rattle.es_laws.proofs.Worked.{IsWorked}
+use Rattle.es_laws.proofs.Worked.{IsWorked, dead_but}
 
 abbrev pub forget : List ℕ → Command
 forget x = Let x NoLiteral
@@ -36,9 +34,6 @@ plan_chain = plan_of (
     ∷ forget (codes "k2") ∷ forget v ∷ Collect ∷ forget (codes "k1") ∷ Collect ∷ [])
     ∷ []
     )
-
-abbrev pub into_chain : Receivers
-into_chain = receivers plan_chain.jobs
 
 abbrev pub first_key_held : History
 first_key_held =
@@ -58,23 +53,20 @@ no_key_held = Did (forget (codes "k1"), [], Gives Undefined) ∷ Emptied [] ∷ 
 abbrev pub closed_chain : History
 closed_chain = Closed ∷ JobEnded ∷ Emptied (1 ∷ 2 ∷ 3 ∷ []) ∷ no_key_held
 
-pub reached_along_the_chain : AreDead into_chain first_key_held []
+pub reached_along_the_chain : AreDead (receivers plan_chain.jobs) first_key_held []
 reached_along_the_chain =
-    let map = by_variable into_chain first_key_held m 4 refl in
-    let first = by_variable into_chain first_key_held (codes "k1") 1 refl in
-    let second = by_entry into_chain first_key_held 4 1 (Object 2) 2 map first refl refl in
-    let third = by_entry into_chain first_key_held 4 2 (Object 3) 3 map second refl refl in
-    dead_by into_chain first_key_held (1 ∷ 2 ∷ 3 ∷ 4 ∷ []) [] refl (first, (second, (third, (map, tt))))
+    let map = by_variable (receivers plan_chain.jobs) first_key_held m 4 refl in
+    let first = by_variable (receivers plan_chain.jobs) first_key_held (codes "k1") 1 refl in
+    let second = by_entry (receivers plan_chain.jobs) first_key_held 4 1 (Object 2) 2 map first refl refl in
+    let third = by_entry (receivers plan_chain.jobs) first_key_held 4 2 (Object 3) 3 map second refl refl in
+    dead_by (receivers plan_chain.jobs) first_key_held (1 ∷ 2 ∷ 3 ∷ 4 ∷ []) [] refl (first, (second, (third, (map, tt))))
 
-pub dead_chain : AreDead into_chain no_key_held (1 ∷ 2 ∷ 3 ∷ [])
-dead_chain = dead_by into_chain no_key_held (4 ∷ []) (1 ∷ 2 ∷ 3 ∷ []) refl (by_variable into_chain no_key_held m 4 refl, tt)
-
-follows_chain : Follows [] plan_chain first_key_held
-follows_chain = search rules
+pub dead_chain : AreDead (receivers plan_chain.jobs) no_key_held (1 ∷ 2 ∷ 3 ∷ [])
+dead_chain = dead_but plan_chain no_key_held (m ∷ []) (1 ∷ 2 ∷ 3 ∷ []) refl
 
 pub worked_chain : IsWorked [] plan_chain closed_chain (codes "agent a\nemptied 0\nemptied 3\nend live 0 awaiting 0 unregistered 0 taken 0\n")
 unfolding digits
-worked_chain = record { whole = (search rules, ((tt, (tt, ((refl, dead_chain), (refl, ((refl, reached_along_the_chain), follows_chain))))), refl)); report = refl }
+worked_chain = record { whole = (search rules, search (rules, dead_chain, reached_along_the_chain)); report = refl }
 
 -- A value that leads to its own key does not keep the key
 
@@ -83,9 +75,6 @@ plan_own_key = plan_of (
     (New k ∷ New v ∷ WeakMap m ∷ Set v p k ∷ WeakMapSet m k v ∷ forget k ∷ forget v ∷ Collect ∷ [])
     ∷ []
     )
-
-abbrev pub into_own_key : Receivers
-into_own_key = receivers plan_own_key.jobs
 
 abbrev pub leads_back : History
 leads_back =
@@ -102,15 +91,12 @@ leads_back =
 abbrev pub closed_own_key : History
 closed_own_key = Closed ∷ JobEnded ∷ Emptied (1 ∷ 2 ∷ []) ∷ leads_back
 
-pub dead_with_its_key : AreDead into_own_key leads_back (1 ∷ 2 ∷ [])
-dead_with_its_key = dead_by into_own_key leads_back (3 ∷ []) (1 ∷ 2 ∷ []) refl (by_variable into_own_key leads_back m 3 refl, tt)
-
-follows_own_key : Follows [] plan_own_key leads_back
-follows_own_key = search rules
+pub dead_with_its_key : AreDead (receivers plan_own_key.jobs) leads_back (1 ∷ 2 ∷ [])
+dead_with_its_key = dead_but plan_own_key leads_back (m ∷ []) (1 ∷ 2 ∷ []) refl
 
 pub worked_own_key : IsWorked [] plan_own_key closed_own_key (codes "agent a\nemptied 2\nend live 0 awaiting 0 unregistered 0 taken 0\n")
 unfolding digits
-worked_own_key = record { whole = (search rules, ((tt, (tt, ((refl, dead_with_its_key), follows_own_key))), refl)); report = refl }
+worked_own_key = record { whole = (search rules, search (rules, dead_with_its_key)); report = refl }
 
 -- An entry's value where both its WeakMap and its key are held, where only the key is, and where only the WeakMap is
 
@@ -119,12 +105,6 @@ plan_key = plan_of ((New k ∷ New v ∷ WeakMap m ∷ WeakMapSet m k v ∷ forg
 
 abbrev pub plan_map : AgentPlan
 plan_map = plan_of ((New k ∷ New v ∷ WeakMap m ∷ WeakMapSet m k v ∷ forget v ∷ WeakMapGet x m k ∷ forget x ∷ forget k ∷ Collect ∷ []) ∷ [])
-
-abbrev pub into_key : Receivers
-into_key = receivers plan_key.jobs
-
-abbrev pub into_map : Receivers
-into_map = receivers plan_map.jobs
 
 abbrev pub entered : History
 entered =
@@ -155,44 +135,38 @@ abbrev pub closed_map : History
 closed_map = Closed ∷ JobEnded ∷ Emptied (1 ∷ 2 ∷ []) ∷ map_held
 
 -- both: the value is reached
-pub reached_by_both : AreDead into_key both_held []
+pub reached_by_both : AreDead (receivers plan_key.jobs) both_held []
 reached_by_both =
-    let map = by_variable into_key both_held m 3 refl in
-    let key = by_variable into_key both_held k 1 refl in
-    dead_by into_key both_held (1 ∷ 2 ∷ 3 ∷ []) [] refl (key, (by_entry into_key both_held 3 1 (Object 2) 2 map key refl refl, (map, tt)))
+    let map = by_variable (receivers plan_key.jobs) both_held m 3 refl in
+    let key = by_variable (receivers plan_key.jobs) both_held k 1 refl in
+    dead_by (receivers plan_key.jobs) both_held (1 ∷ 2 ∷ 3 ∷ []) [] refl (key, (by_entry (receivers plan_key.jobs) both_held 3 1 (Object 2) 2 map key refl refl, (map, tt)))
 
 -- the key alone: the value is dead, and the WeakMap
-pub dead_without_its_map : AreDead into_key key_held (2 ∷ 3 ∷ [])
-dead_without_its_map = dead_by into_key key_held (1 ∷ []) (2 ∷ 3 ∷ []) refl (by_variable into_key key_held k 1 refl, tt)
+pub dead_without_its_map : AreDead (receivers plan_key.jobs) key_held (2 ∷ 3 ∷ [])
+dead_without_its_map = dead_but plan_key key_held (k ∷ []) (2 ∷ 3 ∷ []) refl
 
 -- the WeakMap alone: the value is dead, and the key, also in the job of a get, which keeps nothing
-pub dead_without_its_key : AreDead into_map map_held (1 ∷ 2 ∷ [])
-dead_without_its_key = dead_by into_map map_held (3 ∷ []) (1 ∷ 2 ∷ []) refl (by_variable into_map map_held m 3 refl, tt)
-
-follows_both : Follows [] plan_key both_held
-follows_both = search rules
-
-follows_map : Follows [] plan_map map_held
-follows_map = search rules
+pub dead_without_its_key : AreDead (receivers plan_map.jobs) map_held (1 ∷ 2 ∷ [])
+dead_without_its_key = dead_but plan_map map_held (m ∷ []) (1 ∷ 2 ∷ []) refl
 
 pub whole_key : IsWholeRun plan_key closed_key
-whole_key = ([], search rules, ((tt, (tt, ((refl, dead_without_its_map), (refl, ((refl, reached_by_both), follows_both))))), refl))
+whole_key = ([], search rules, search (rules, dead_without_its_map, reached_by_both))
 
 pub whole_map : IsWholeRun plan_map closed_map
-whole_map = ([], search rules, ((tt, (tt, ((refl, dead_without_its_key), follows_map))), refl))
+whole_map = ([], search rules, search (rules, dead_without_its_key))
 
 -- so it is held and live where both are, since a get can give it, and dead where one alone is
-pub held_by_both : IsHeld into_key both_held (Object 2)
+pub held_by_both : IsHeld (receivers plan_key.jobs) both_held (Object 2)
 held_by_both = in_entry 3 1 (Object 1) (Object 2) (in_variable m (Object 3) refl) (in_variable k (Object 1) refl) refl refl
 
-pub entry_is_live : Live into_key both_held (2 ∷ [])
-entry_is_live = inr (record { over = []; other = into_key; agree = search rules; before = []; event = Did (WeakMapGet x m k, Object 3 ∷ Object 1 ∷ [], Gives (Object 2)); oblivious = search rules; observed = refl })
+pub entry_is_live : Live (receivers plan_key.jobs) both_held (2 ∷ [])
+entry_is_live = inr (record { over = []; other = receivers plan_key.jobs; agree = search rules; before = []; event = Did (WeakMapGet x m k, Object 3 ∷ Object 1 ∷ [], Gives (Object 2)); oblivious = search rules; observed = refl })
 
-pub not_live_without_its_map : Live into_key key_held (2 ∷ 3 ∷ []) → ⊥
-not_live_without_its_map = not_live into_key key_held (2 ∷ 3 ∷ []) dead_without_its_map
+pub not_live_without_its_map : Live (receivers plan_key.jobs) key_held (2 ∷ 3 ∷ []) → ⊥
+not_live_without_its_map = not_live (receivers plan_key.jobs) key_held (2 ∷ 3 ∷ []) dead_without_its_map
 
-pub not_live_without_its_key : Live into_map map_held (1 ∷ 2 ∷ []) → ⊥
-not_live_without_its_key = not_live into_map map_held (1 ∷ 2 ∷ []) dead_without_its_key
+pub not_live_without_its_key : Live (receivers plan_map.jobs) map_held (1 ∷ 2 ∷ []) → ⊥
+not_live_without_its_key = not_live (receivers plan_map.jobs) map_held (1 ∷ 2 ∷ []) dead_without_its_key
 
 -- what is under a key that was emptied is there no more, also where the value is
 pub entry_is_there : entry entered 3 1 ≡ Some (Object 2)
@@ -209,9 +183,6 @@ plan_members = plan_of (
     ∷ WeakSetHas x s b ∷ Say x ∷ WeakSetHas x s a ∷ Say x ∷ [])
     ∷ []
     )
-
-abbrev pub into_members : Receivers
-into_members = receivers plan_members.jobs
 
 abbrev pub joined : History
 joined =
@@ -239,15 +210,12 @@ closed_members =
     ∷ Did (WeakSetHas x s b, Object 3 ∷ Object 2 ∷ [], Gives (Boolean true))
     ∷ emptied_member
 
-pub dead_member : AreDead into_members forgot_member (1 ∷ [])
-dead_member = dead_by into_members forgot_member (2 ∷ 3 ∷ []) (1 ∷ []) refl (by_variable into_members forgot_member b 2 refl, (by_variable into_members forgot_member s 3 refl, tt))
-
-follows_members : Follows [] plan_members forgot_member
-follows_members = search rules
+pub dead_member : AreDead (receivers plan_members.jobs) forgot_member (1 ∷ [])
+dead_member = dead_but plan_members forgot_member (b ∷ s ∷ []) (1 ∷ []) refl
 
 pub worked_members : IsWorked [] plan_members closed_members (codes "agent a\nemptied 1\nsay true\nsay false\nend live 0 awaiting 0 unregistered 0 taken 0\n")
 unfolding digits
-worked_members = record { whole = (search rules, ((tt, (tt, (refl, (refl, (refl, (refl, ((refl, dead_member), follows_members))))))), refl)); report = refl }
+worked_members = record { whole = (search rules, search (rules, dead_member)); report = refl }
 
 -- what was emptied was a member before and is none afterwards; the other member is one
 pub member_before : is_member forgot_member 3 1 ≡ true
@@ -450,11 +418,8 @@ closed_apart =
     ∷ Did (WeakMapHas x l k, Object 3 ∷ Object 1 ∷ [], Gives (Boolean false))
     ∷ entered_in_one
 
-pub legal_apart : LegalBy [] (receivers plan_apart.jobs) closed_apart
-legal_apart = search rules
-
-pub follows_apart : FollowsWhole [] plan_apart closed_apart
-follows_apart = search rules
+pub whole_apart : IsWholeRun plan_apart closed_apart
+whole_apart = ([], search rules, search rules)
 
 -- Wrong neighbours: reading
 
@@ -542,40 +507,40 @@ map_for_a_set p = cc
 
 -- a value is emptied whose WeakMap and key are both reached
 empties_a_held_value : IsOutOfPlace plan_key both_held (Emptied (2 ∷ []))
-empties_a_held_value p = other_set into_key both_held (2 ∷ []) [] 2 p.1 reached_by_both refl refl
+empties_a_held_value p = other_set (receivers plan_key.jobs) both_held (2 ∷ []) [] 2 p.1 reached_by_both refl refl
 
 -- the key alone keeps the value
 key_keeps_the_value : IsOutOfPlace plan_key key_held (Emptied (3 ∷ []))
-key_keeps_the_value p = other_set into_key key_held (2 ∷ 3 ∷ []) (3 ∷ []) 2 dead_without_its_map p.1 refl refl
+key_keeps_the_value p = other_set (receivers plan_key.jobs) key_held (2 ∷ 3 ∷ []) (3 ∷ []) 2 dead_without_its_map p.1 refl refl
 
 -- the WeakMap alone keeps the value
 map_keeps_the_value : IsOutOfPlace plan_map map_held (Emptied (1 ∷ []))
-map_keeps_the_value p = other_set into_map map_held (1 ∷ 2 ∷ []) (1 ∷ []) 2 dead_without_its_key p.1 refl refl
+map_keeps_the_value p = other_set (receivers plan_map.jobs) map_held (1 ∷ 2 ∷ []) (1 ∷ []) 2 dead_without_its_key p.1 refl refl
 
 -- or it keeps the key
 map_keeps_the_key : IsOutOfPlace plan_map map_held (Emptied [])
-map_keeps_the_key p = other_set into_map map_held (1 ∷ 2 ∷ []) [] 1 dead_without_its_key p.1 refl refl
+map_keeps_the_key p = other_set (receivers plan_map.jobs) map_held (1 ∷ 2 ∷ []) [] 1 dead_without_its_key p.1 refl refl
 
 -- a value keeps its own key, as a WeakMap that holds its values would have it
 value_keeps_its_key : IsOutOfPlace plan_own_key leads_back (Emptied [])
-value_keeps_its_key p = other_set into_own_key leads_back (1 ∷ 2 ∷ []) [] 1 dead_with_its_key p.1 refl refl
+value_keeps_its_key p = other_set (receivers plan_own_key.jobs) leads_back (1 ∷ 2 ∷ []) [] 1 dead_with_its_key p.1 refl refl
 
 -- only the first step of a chain of entries is taken
 stops_at_the_second : IsOutOfPlace plan_chain first_key_held (Emptied (3 ∷ []))
-stops_at_the_second p = other_set into_chain first_key_held (3 ∷ []) [] 3 p.1 reached_along_the_chain refl refl
+stops_at_the_second p = other_set (receivers plan_chain.jobs) first_key_held (3 ∷ []) [] 3 p.1 reached_along_the_chain refl refl
 
 -- only the first key of a chain goes
 empties_the_first_key : IsOutOfPlace plan_chain no_key_held (Emptied (1 ∷ []))
-empties_the_first_key p = other_set into_chain no_key_held (1 ∷ 2 ∷ 3 ∷ []) (1 ∷ []) 3 dead_chain p.1 refl refl
+empties_the_first_key p = other_set (receivers plan_chain.jobs) no_key_held (1 ∷ 2 ∷ 3 ∷ []) (1 ∷ []) 3 dead_chain p.1 refl refl
 
 -- the WeakMap goes with its keys
 empties_the_map : IsOutOfPlace plan_chain no_key_held (Emptied (1 ∷ 2 ∷ 3 ∷ 4 ∷ []))
-empties_the_map p = other_set into_chain no_key_held (1 ∷ 2 ∷ 3 ∷ 4 ∷ []) (1 ∷ 2 ∷ 3 ∷ []) 4 p.1 dead_chain refl refl
+empties_the_map p = other_set (receivers plan_chain.jobs) no_key_held (1 ∷ 2 ∷ 3 ∷ 4 ∷ []) (1 ∷ 2 ∷ 3 ∷ []) 4 p.1 dead_chain refl refl
 
 -- a WeakSet keeps its members
 set_keeps_its_member : IsOutOfPlace plan_members forgot_member (Emptied [])
-set_keeps_its_member p = other_set into_members forgot_member (1 ∷ []) [] 1 dead_member p.1 refl refl
+set_keeps_its_member p = other_set (receivers plan_members.jobs) forgot_member (1 ∷ []) [] 1 dead_member p.1 refl refl
 
 -- or it goes with one
 empties_the_set : IsOutOfPlace plan_members forgot_member (Emptied (1 ∷ 3 ∷ []))
-empties_the_set p = other_set into_members forgot_member (1 ∷ 3 ∷ []) (1 ∷ []) 3 p.1 dead_member refl refl
+empties_the_set p = other_set (receivers plan_members.jobs) forgot_member (1 ∷ 3 ∷ []) (1 ∷ []) 3 p.1 dead_member refl refl

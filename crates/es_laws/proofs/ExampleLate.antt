@@ -12,17 +12,16 @@ use Rattle.es_event.specs.declared.event.Event.TheVariants.{JobBegun, CleanupBeg
 use Rattle.es_event.specs.declared.event.Refusal.TheVariants.{NotAnObject, CollectionOpen}
 use Rattle.es_event.specs.declared.plan.AgentPlan.{AgentPlan}
 use Rattle.es_event.specs.History.{History}
-use Rattle.es_event.specs.Jobs.{Receivers, receivers}
+use Rattle.es_event.specs.Jobs.{receivers}
 use Rattle.es_event.specs.Late.{AreLate}
 use Rattle.es_event.specs.Reach.{AreDead}
-use Rattle.es_event.specs.Follows.{Follows}
 use Rattle.es_event.specs.Runs.{IsWholeRun}
 use Rattle.es_event.proofs.Examples.{plan_of, plan_with, IsUnlawful, IsOutOfPlace}
 use Rattle.es_laws.proofs.ExampleCollect.{new, forget}
-use Rattle.es_event.proofs.Deciding.{dead_by, by_variable, by_registry, by_cell}
+use Rattle.es_event.proofs.Deciding.{by_variable, by_registry, by_cell}
 use Rattle.es_laws.proofs.DecidingLate.{late_by, other_late, by_root, by_deref, on_by_property, on_by_entry}
 use Rattle.es_laws.proofs.Letters.{a, h, k, m, p, q, r, v, w, x, y, z}
-use Rattle.es_laws.proofs.Worked.{IsWorked}
+use Rattle.es_laws.proofs.Worked.{IsWorked, dead_but}
 
 -- the event by which a later collection is opened
 abbrev pub opening : Event
@@ -37,9 +36,6 @@ plan_revived = plan_of (
     ∷ (Collect ∷ [])
     ∷ []
     )
-
-abbrev pub into_revived : Receivers
-into_revived = receivers plan_revived.jobs
 
 abbrev pub all_made : History
 all_made =
@@ -72,35 +68,32 @@ next_job = JobBegun 3 ∷ JobEnded ∷ finished
 abbrev pub closed : History
 closed = Closed ∷ JobEnded ∷ Emptied (1 ∷ 2 ∷ []) ∷ next_job
 
-pub late_without_the_revived : AreLate into_revived copied (1 ∷ []) (4 ∷ [])
-late_without_the_revived = late_by into_revived copied (1 ∷ []) (1 ∷ 2 ∷ 3 ∷ []) (4 ∷ []) refl (
-  by_deref into_revived copied (1 ∷ []) 1 refl,
-  (on_by_property into_revived copied (1 ∷ []) 1 p (Object 2) 2 (by_deref into_revived copied (1 ∷ []) 1 refl) refl refl, (by_root into_revived copied (1 ∷ []) 3 (by_variable into_revived copied w 3 refl), tt)),
+pub late_without_the_revived : AreLate (receivers plan_revived.jobs) copied (1 ∷ []) (4 ∷ [])
+late_without_the_revived = late_by (receivers plan_revived.jobs) copied (1 ∷ []) (1 ∷ 2 ∷ 3 ∷ []) (4 ∷ []) refl (
+  by_deref (receivers plan_revived.jobs) copied (1 ∷ []) 1 refl,
+  (on_by_property (receivers plan_revived.jobs) copied (1 ∷ []) 1 p (Object 2) 2 (by_deref (receivers plan_revived.jobs) copied (1 ∷ []) 1 refl) refl refl, (by_root (receivers plan_revived.jobs) copied (1 ∷ []) 3 (by_variable (receivers plan_revived.jobs) copied w 3 refl), tt)),
 )
 
-pub dead_in_the_next_job : AreDead into_revived next_job (1 ∷ 2 ∷ [])
-dead_in_the_next_job = dead_by into_revived next_job (3 ∷ []) (1 ∷ 2 ∷ []) refl (by_variable into_revived next_job w 3 refl, tt)
-
-follows_to_finish : Follows [] plan_revived to_finish
-follows_to_finish = search rules
+pub dead_in_the_next_job : AreDead (receivers plan_revived.jobs) next_job (1 ∷ 2 ∷ [])
+dead_in_the_next_job = dead_but plan_revived next_job (w ∷ []) (1 ∷ 2 ∷ []) refl
 
 pub worked_revived : IsWorked [] plan_revived closed (codes "agent a\nemptied 1\nemptied 2\nend live 0 awaiting 0 unregistered 0 taken 0\n")
 unfolding digits
-worked_revived = record { whole = (search rules, ((tt, (tt, ((refl, dead_in_the_next_job), (refl, (tt, (late_without_the_revived, follows_to_finish)))))), refl)); report = refl }
+worked_revived = record { whole = (search rules, search (rules, dead_in_the_next_job, late_without_the_revived)); report = refl }
 
 -- Wrong neighbours
 
 -- the deref is passed over
 ignores_the_deref : IsOutOfPlace plan_revived to_finish (Emptied (1 ∷ 2 ∷ 4 ∷ []))
-ignores_the_deref p = other_late into_revived copied (1 ∷ []) (1 ∷ 2 ∷ 4 ∷ []) (4 ∷ []) 1 p late_without_the_revived refl refl
+ignores_the_deref p = other_late (receivers plan_revived.jobs) copied (1 ∷ []) (1 ∷ 2 ∷ 4 ∷ []) (4 ∷ []) 1 p late_without_the_revived refl refl
 
 -- what it gave stays, but not what that reaches
 forgets_what_it_reaches : IsOutOfPlace plan_revived to_finish (Emptied (2 ∷ 4 ∷ []))
-forgets_what_it_reaches p = other_late into_revived copied (1 ∷ []) (2 ∷ 4 ∷ []) (4 ∷ []) 2 p late_without_the_revived refl refl
+forgets_what_it_reaches p = other_late (receivers plan_revived.jobs) copied (1 ∷ []) (2 ∷ 4 ∷ []) (4 ∷ []) 2 p late_without_the_revived refl refl
 
 -- nothing is emptied
 finishes_with_nothing : IsOutOfPlace plan_revived to_finish (Emptied [])
-finishes_with_nothing p = other_late into_revived copied (1 ∷ []) (4 ∷ []) [] 4 late_without_the_revived p refl refl
+finishes_with_nothing p = other_late (receivers plan_revived.jobs) copied (1 ∷ []) (4 ∷ []) [] 4 late_without_the_revived p refl refl
 
 -- the job ends, and the collection stays open
 ends_unfinished : IsOutOfPlace plan_revived to_finish JobEnded
@@ -123,9 +116,6 @@ finishes_at_once p = let clash : false ≡ true = p.0 in cc
 abbrev pub plan_since : AgentPlan
 plan_since = plan_of ((CollectLater ∷ new a ∷ forget a ∷ []) ∷ (Collect ∷ []) ∷ [])
 
-abbrev pub into_since : Receivers
-into_since = receivers plan_since.jobs
-
 abbrev pub copied_first : History
 copied_first = opening ∷ JobBegun 1 ∷ []
 
@@ -135,33 +125,27 @@ made_since = Did (forget a, [], Gives Undefined) ∷ Did (new a, [], Gives (Obje
 abbrev pub closed_since : History
 closed_since = Closed ∷ JobEnded ∷ Emptied (1 ∷ []) ∷ JobBegun 2 ∷ JobEnded ∷ Emptied [] ∷ made_since
 
-pub nothing_late : AreLate into_since copied_first [] []
-nothing_late = late_by into_since copied_first [] [] [] refl tt
+pub nothing_late : AreLate (receivers plan_since.jobs) copied_first [] []
+nothing_late = late_by (receivers plan_since.jobs) copied_first [] [] [] refl tt
 
-pub dead_since : AreDead into_since made_since (1 ∷ [])
-dead_since = dead_by into_since made_since [] (1 ∷ []) refl tt
+pub dead_since : AreDead (receivers plan_since.jobs) made_since (1 ∷ [])
+dead_since = dead_but plan_since made_since [] (1 ∷ []) refl
 
-dead_later : AreDead into_since (JobBegun 2 ∷ JobEnded ∷ Emptied [] ∷ made_since) (1 ∷ [])
-dead_later = dead_by into_since (JobBegun 2 ∷ JobEnded ∷ Emptied [] ∷ made_since) [] (1 ∷ []) refl tt
-
-follows_since : Follows [] plan_since made_since
-follows_since = search rules
+dead_later : AreDead (receivers plan_since.jobs) (JobBegun 2 ∷ JobEnded ∷ Emptied [] ∷ made_since) (1 ∷ [])
+dead_later = dead_but plan_since (JobBegun 2 ∷ JobEnded ∷ Emptied [] ∷ made_since) [] (1 ∷ []) refl
 
 pub worked_since : IsWorked [] plan_since closed_since (codes "agent a\nemptied 0\nemptied 1\nend live 0 awaiting 0 unregistered 0 taken 0\n")
 unfolding digits
-worked_since = record { whole = (search rules, ((tt, (tt, ((refl, dead_later), (refl, (tt, (nothing_late, follows_since)))))), refl)); report = refl }
+worked_since = record { whole = (search rules, search (rules, dead_later, nothing_late)); report = refl }
 
 -- what was made since is emptied
 empties_what_was_made_since : IsOutOfPlace plan_since made_since (Emptied (1 ∷ []))
-empties_what_was_made_since p = other_late into_since copied_first [] (1 ∷ []) [] 1 p nothing_late refl refl
+empties_what_was_made_since p = other_late (receivers plan_since.jobs) copied_first [] (1 ∷ []) [] 1 p nothing_late refl refl
 
 -- While one is open, another is refused, and the refused job still finishes the first
 
 abbrev pub plan_twice : AgentPlan
 plan_twice = plan_of ((CollectLater ∷ Collect ∷ []) ∷ [])
-
-abbrev pub into_twice : Receivers
-into_twice = receivers plan_twice.jobs
 
 abbrev pub refused_second : History
 refused_second = Refused CollectionOpen ∷ copied_first
@@ -169,15 +153,12 @@ refused_second = Refused CollectionOpen ∷ copied_first
 abbrev pub closed_twice : History
 closed_twice = Closed ∷ JobEnded ∷ Emptied [] ∷ refused_second
 
-late_twice : AreLate into_twice copied_first [] []
-late_twice = late_by into_twice copied_first [] [] [] refl tt
-
-follows_twice : Follows [] plan_twice refused_second
-follows_twice = search rules
+late_twice : AreLate (receivers plan_twice.jobs) copied_first [] []
+late_twice = late_by (receivers plan_twice.jobs) copied_first [] [] [] refl tt
 
 pub worked_twice : IsWorked [] plan_twice closed_twice (codes "agent a\nerror a collection is open\nemptied 0\nend live 0 awaiting 0 unregistered 0 taken 0\n")
 unfolding digits
-worked_twice = record { whole = (search rules, ((tt, (tt, (late_twice, follows_twice))), refl)); report = refl }
+worked_twice = record { whole = (search rules, search (rules, late_twice)); report = refl }
 
 -- a collection is made while one is open
 collects_while_open : IsOutOfPlace plan_twice copied_first (Emptied [])
@@ -204,9 +185,6 @@ plan_stopped = plan_of (
     ∷ []
     )
 
-abbrev pub into_stopped : Receivers
-into_stopped = receivers plan_stopped.jobs
-
 abbrev pub copied_after : History
 copied_after =
     opening
@@ -224,15 +202,12 @@ stopped = Refused NotAnObject ∷ Did (Let y (NumberLiteral (pos 1)), [], Gives 
 abbrev pub closed_stopped : History
 closed_stopped = Closed ∷ JobEnded ∷ Emptied (1 ∷ []) ∷ stopped
 
-late_stopped : AreLate into_stopped copied_after [] (1 ∷ [])
-late_stopped = late_by into_stopped copied_after [] (2 ∷ []) (1 ∷ []) refl (by_root into_stopped copied_after [] 2 (by_variable into_stopped copied_after w 2 refl), tt)
-
-follows_stopped : Follows [] plan_stopped stopped
-follows_stopped = search rules
+late_stopped : AreLate (receivers plan_stopped.jobs) copied_after [] (1 ∷ [])
+late_stopped = late_by (receivers plan_stopped.jobs) copied_after [] (2 ∷ []) (1 ∷ []) refl (by_root (receivers plan_stopped.jobs) copied_after [] 2 (by_variable (receivers plan_stopped.jobs) copied_after w 2 refl), tt)
 
 pub worked_stopped : IsWorked [] plan_stopped closed_stopped (codes "agent a\nerror TypeError: not an object\nemptied 1\nend live 0 awaiting 0 unregistered 0 taken 0\n")
 unfolding digits
-worked_stopped = record { whole = (search rules, ((tt, (tt, (late_stopped, follows_stopped))), refl)); report = refl }
+worked_stopped = record { whole = (search rules, search (rules, late_stopped)); report = refl }
 
 -- A WeakMap's entry comes back with its key
 
@@ -242,9 +217,6 @@ plan_entry = plan_of (
     ∷ (CollectLater ∷ Deref x w ∷ [])
     ∷ []
     )
-
-abbrev pub into_entry : Receivers
-into_entry = receivers plan_entry.jobs
 
 abbrev pub copied_entry : History
 copied_entry =
@@ -266,30 +238,27 @@ abbrev pub closed_entry : History
 closed_entry = Closed ∷ JobEnded ∷ Emptied [] ∷ key_given
 
 -- without the deref both were late
-late_unless_given : AreLate into_entry copied_entry [] (2 ∷ 3 ∷ [])
-late_unless_given = late_by into_entry copied_entry [] (1 ∷ 4 ∷ []) (2 ∷ 3 ∷ []) refl (
-  by_root into_entry copied_entry [] 1 (by_variable into_entry copied_entry m 1 refl),
-  (by_root into_entry copied_entry [] 4 (by_variable into_entry copied_entry w 4 refl), tt),
+late_unless_given : AreLate (receivers plan_entry.jobs) copied_entry [] (2 ∷ 3 ∷ [])
+late_unless_given = late_by (receivers plan_entry.jobs) copied_entry [] (1 ∷ 4 ∷ []) (2 ∷ 3 ∷ []) refl (
+  by_root (receivers plan_entry.jobs) copied_entry [] 1 (by_variable (receivers plan_entry.jobs) copied_entry m 1 refl),
+  (by_root (receivers plan_entry.jobs) copied_entry [] 4 (by_variable (receivers plan_entry.jobs) copied_entry w 4 refl), tt),
 )
 
-pub nothing_late_with_the_key : AreLate into_entry copied_entry (2 ∷ []) []
+pub nothing_late_with_the_key : AreLate (receivers plan_entry.jobs) copied_entry (2 ∷ []) []
 nothing_late_with_the_key =
-    let map = by_root into_entry copied_entry (2 ∷ []) 1 (by_variable into_entry copied_entry m 1 refl) in
-    let key = by_deref into_entry copied_entry (2 ∷ []) 2 refl in
-    late_by into_entry copied_entry (2 ∷ []) (1 ∷ 2 ∷ 3 ∷ 4 ∷ []) [] refl (
+    let map = by_root (receivers plan_entry.jobs) copied_entry (2 ∷ []) 1 (by_variable (receivers plan_entry.jobs) copied_entry m 1 refl) in
+    let key = by_deref (receivers plan_entry.jobs) copied_entry (2 ∷ []) 2 refl in
+    late_by (receivers plan_entry.jobs) copied_entry (2 ∷ []) (1 ∷ 2 ∷ 3 ∷ 4 ∷ []) [] refl (
       map,
-      (key, (on_by_entry into_entry copied_entry (2 ∷ []) 1 2 (Object 3) 3 map key refl refl, (by_root into_entry copied_entry (2 ∷ []) 4 (by_variable into_entry copied_entry w 4 refl), tt))),
+      (key, (on_by_entry (receivers plan_entry.jobs) copied_entry (2 ∷ []) 1 2 (Object 3) 3 map key refl refl, (by_root (receivers plan_entry.jobs) copied_entry (2 ∷ []) 4 (by_variable (receivers plan_entry.jobs) copied_entry w 4 refl), tt))),
     )
 
-follows_entry : Follows [] plan_entry key_given
-follows_entry = search rules
-
 pub whole_entry : IsWholeRun plan_entry closed_entry
-whole_entry = ([], search rules, ((tt, (tt, (nothing_late_with_the_key, follows_entry))), refl))
+whole_entry = ([], search rules, search (rules, nothing_late_with_the_key))
 
 -- the key stays, but not the value of its entry
 forgets_the_entry : IsOutOfPlace plan_entry key_given (Emptied (3 ∷ []))
-forgets_the_entry p = other_late into_entry copied_entry (2 ∷ []) (3 ∷ []) [] 3 p nothing_late_with_the_key refl refl
+forgets_the_entry p = other_late (receivers plan_entry.jobs) copied_entry (2 ∷ []) (3 ∷ []) [] 3 p nothing_late_with_the_key refl refl
 
 -- A cell whose target is late awaits its cleanup, and what it holds stays
 
@@ -298,9 +267,6 @@ plan_cell = plan_with (Say (codes "held") ∷ []) (
     (FinalizationRegistry r 1 ∷ new x ∷ new h ∷ Register r x h None ∷ forget x ∷ forget h ∷ CollectLater ∷ [])
     ∷ []
     )
-
-abbrev pub into_cell : Receivers
-into_cell = receivers plan_cell.jobs
 
 abbrev pub copied_cell : History
 copied_cell =
@@ -317,19 +283,16 @@ copied_cell =
 abbrev pub closed_cell : History
 closed_cell = Closed ∷ JobEnded ∷ Did (Say (codes "held"), Object 3 ∷ [], Nothing) ∷ Taken 1 (Object 3) ∷ CleanupBegun 1 ∷ JobEnded ∷ Emptied (2 ∷ []) ∷ copied_cell
 
-pub late_target : AreLate into_cell copied_cell [] (2 ∷ [])
-late_target = late_by into_cell copied_cell [] (1 ∷ 3 ∷ []) (2 ∷ []) refl (
-  by_root into_cell copied_cell [] 1 (by_registry into_cell copied_cell 1 1 refl),
-  (by_root into_cell copied_cell [] 3 (by_cell into_cell copied_cell 1 (record { registry = 1; target = 2; held = Object 3; token = None }) 3 refl refl refl), tt),
+pub late_target : AreLate (receivers plan_cell.jobs) copied_cell [] (2 ∷ [])
+late_target = late_by (receivers plan_cell.jobs) copied_cell [] (1 ∷ 3 ∷ []) (2 ∷ []) refl (
+  by_root (receivers plan_cell.jobs) copied_cell [] 1 (by_registry (receivers plan_cell.jobs) copied_cell 1 1 refl),
+  (by_root (receivers plan_cell.jobs) copied_cell [] 3 (by_cell (receivers plan_cell.jobs) copied_cell 1 (record { registry = 1; target = 2; held = Object 3; token = None }) 3 refl refl refl), tt),
 )
-
-follows_cell : Follows [] plan_cell copied_cell
-follows_cell = search rules
 
 pub worked_cell : IsWorked [] plan_cell closed_cell (codes "agent a\nemptied 1\ncleanup 1 held object 3\nsay object 3\nend live 0 awaiting 0 unregistered 0 taken 1\n")
 unfolding digits
-worked_cell = record { whole = (search rules, ((tt, (tt, (refl, (refl, (refl, (tt, (late_target, follows_cell))))))), refl)); report = refl }
+worked_cell = record { whole = (search rules, search (rules, late_target)); report = refl }
 
 -- what the cell holds is emptied
 empties_the_held : IsOutOfPlace plan_cell copied_cell (Emptied (2 ∷ 3 ∷ []))
-empties_the_held p = other_late into_cell copied_cell [] (2 ∷ 3 ∷ []) (2 ∷ []) 3 p late_target refl refl
+empties_the_held p = other_late (receivers plan_cell.jobs) copied_cell [] (2 ∷ 3 ∷ []) (2 ∷ []) 3 p late_target refl refl

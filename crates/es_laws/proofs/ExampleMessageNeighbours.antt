@@ -14,7 +14,7 @@ use Rattle.es_event.specs.declared.event.Refusal.TheVariants.{NotAnObject, Index
 use Rattle.es_event.specs.Commands.{shared_buffer, is_shared}
 use Rattle.es_event.specs.History.{History}
 use Rattle.es_event.specs.Identities.{is_in, made, kind}
-use Rattle.es_event.specs.Jobs.{Receivers, job, cleaning, stays_alone}
+use Rattle.es_event.specs.Jobs.{Receivers, receivers, job, cleaning, stays_alone}
 use Rattle.es_event.specs.Variables.{var}
 use Rattle.es_event.specs.WeakRefs.{kept}
 use Rattle.es_event.specs.Sharing.{blocks_opened, messages_posted}
@@ -46,7 +46,7 @@ added_word_too_big : IsUnlawfulOver Buffers.one_word Buffers.plan_words Buffers.
 added_word_too_big l = false≢true (ap (gave 4294967297) l.1)
 
 -- the greatest word is read
-greatest_word : Lawful Buffers.one_word Buffers.into_words Buffers.stored (loaded x b (pos 0) 1 4294967295)
+greatest_word : Lawful Buffers.one_word (receivers Buffers.plan_words.jobs) Buffers.stored (loaded x b (pos 0) 1 4294967295)
 greatest_word = search rules
 
 -- a load gives a number below 0
@@ -210,7 +210,7 @@ other_words_than_asked : IsOutOfPlaceOver Buffers.one_word Buffers.plan_words Bu
 other_words_than_asked p = cc
 
 -- an ordinary object needs no row
-object_without_a_row : Lawful [] Buffers.into_refused (JobBegun 1 ∷ []) (made_new o 1)
+object_without_a_row : Lawful [] (receivers Buffers.plan_refused.jobs) (JobBegun 1 ∷ []) (made_new o 1)
 object_without_a_row = search rules
 
 -- What is received
@@ -232,7 +232,7 @@ received_without_a_row : IsUnlawful Messages.plan_buffer [] (Received 1 (Object 
 received_without_a_row l = cc
 
 -- what has no identity needs no row
-received_undefined : Lawful [] Messages.into_buffer [] (Received 1 Undefined)
+received_undefined : Lawful [] (receivers Messages.plan_buffer.jobs) [] (Received 1 Undefined)
 received_undefined = search rules
 
 -- from another sender
@@ -292,11 +292,11 @@ refused_otherwise : IsOutOfPlace Messages.plan_buffer [] (Refused NotPostable)
 refused_otherwise p = cc
 
 -- the message goes to the variable of another job
-assigns_another : var Messages.into_two Messages.received_two m ≡ Undefined
+assigns_another : var (receivers Messages.plan_two.jobs) Messages.received_two m ≡ Undefined
 assigns_another = refl
 
 -- to that of its own job it does
-assigns_its_own : var Messages.into_two Messages.received_two n ≡ Text k
+assigns_its_own : var (receivers Messages.plan_two.jobs) Messages.received_two n ≡ Text k
 assigns_its_own = refl
 
 -- it is read before it is received
@@ -550,7 +550,7 @@ weakref_is_a_buffer l = cc
 -- Liveness
 
 -- an execution that is oblivious of a set receives a member of it
-receives_a_member : Oblivious (1 ∷ []) Messages.two_rows Messages.into_buffer Messages.forgot (Received 1 (Object 1) ∷ []) → ⊥
+receives_a_member : Oblivious (1 ∷ []) Messages.two_rows (receivers Messages.plan_buffer.jobs) Messages.forgot (Received 1 (Object 1) ∷ []) → ⊥
 receives_a_member e = let number = e.0.0 in cc
 
 -- what it receives is no member of an older set, though it reads it
@@ -570,9 +570,9 @@ skip_observes : observes (1 ∷ []) (Skipped 1 1) ≡ false
 skip_observes = refl
 
 -- a history empties what a variable holds, before a receipt
-dishonest_before_a_receipt : Honest Messages.into_buffer (Received 1 Undefined ∷ Emptied (1 ∷ []) ∷ Messages.ended_buffer) → ⊥
+dishonest_before_a_receipt : Honest (receivers Messages.plan_buffer.jobs) (Received 1 Undefined ∷ Emptied (1 ∷ []) ∷ Messages.ended_buffer) → ⊥
 dishonest_before_a_receipt honest = honest.0 Messages.buffer_is_live
 
 -- or before a skip
-dishonest_before_a_skip : Honest Messages.into_buffer (Skipped 1 1 ∷ Emptied (1 ∷ []) ∷ Messages.ended_buffer) → ⊥
+dishonest_before_a_skip : Honest (receivers Messages.plan_buffer.jobs) (Skipped 1 1 ∷ Emptied (1 ∷ []) ∷ Messages.ended_buffer) → ⊥
 dishonest_before_a_skip honest = honest.0 Messages.buffer_is_live

@@ -21,15 +21,15 @@ use Rattle.es_event.specs.Rules.{refusal}
 use Rattle.es_event.specs.Reach.{AreDead}
 use Rattle.es_event.specs.Live.{Oblivious, Live}
 use Rattle.es_event.specs.Order.{begin, receive, end_job, due}
-use Rattle.es_event.specs.Follows.{Permits, Follows, FollowsWhole}
+use Rattle.es_event.specs.Follows.{Permits}
 use Rattle.es_event.specs.Runs.{IsWholeRun}
 use Rattle.es_event.specs.Report.{agent_text}
 use Rattle.es_event.proofs.Examples.{job_of, job_on, plan_of, plan_waiting, callback_of}
-use Rattle.es_event.proofs.Deciding.{dead_by, other_set, by_variable}
+use Rattle.es_event.proofs.Deciding.{other_set}
 use Rattle.es_event.proofs.Dead.{not_live}
 use Rattle.es_laws.proofs.ExampleBuffers.{one_word, said, made_buffer, made_new}
 use Rattle.es_laws.proofs.Letters.{b, e, f, h, k, m, n, o, r, s, t, u, w, x}
-use Rattle.es_laws.proofs.Worked.{IsWorked}
+use Rattle.es_laws.proofs.Worked.{IsWorked, dead_but}
 
 abbrev pub posted : List ℕ → Value → Event
 posted from v = Did (Post 1 from, v ∷ [], Nothing)
@@ -38,9 +38,6 @@ posted from v = Did (Post 1 from, v ∷ [], Nothing)
 
 abbrev pub plan_number : AgentPlan
 plan_number = plan_waiting (job_on 1 m (Say m ∷ []) ∷ [])
-
-abbrev pub into_number : Receivers
-into_number = receivers plan_number.jobs
 
 abbrev pub received : History
 received = Received 1 (Number (pos 1)) ∷ []
@@ -68,16 +65,13 @@ unfolding digits
 worked_skipped = record { whole = (search rules, search rules); report = refl }
 
 -- the variable stays undefined
-stays_undefined : var into_number closed_skipped m ≡ Undefined
+stays_undefined : var (receivers plan_number.jobs) closed_skipped m ≡ Undefined
 stays_undefined = refl
 
 -- Two jobs wait, each for another sender: the first is skipped, and the message of the second goes to the variable of the second
 
 abbrev pub plan_two : AgentPlan
 plan_two = plan_waiting (job_on 1 m (Say m ∷ []) ∷ job_on 2 n (Say n ∷ Say m ∷ []) ∷ job_of (Say n ∷ []) ∷ [])
-
-abbrev pub into_two : Receivers
-into_two = receivers plan_two.jobs
 
 abbrev pub received_two : History
 received_two = Received 2 (Text k) ∷ Skipped 1 1 ∷ []
@@ -97,9 +91,6 @@ worked_two = record { whole = (search rules, search rules); report = refl }
 abbrev pub plan_twice : AgentPlan
 plan_twice = plan_waiting (job_on 1 m (Say m ∷ []) ∷ job_on 1 m (Say m ∷ []) ∷ [])
 
-abbrev pub into_twice : Receivers
-into_twice = receivers plan_twice.jobs
-
 abbrev pub closed_twice : History
 closed_twice =
     Closed ∷ JobEnded ∷ said m (Registered k) ∷ JobBegun 2 ∷ Received 1 (Registered k)
@@ -116,9 +107,6 @@ four_words = (1, row 3 2 4) ∷ []
 
 abbrev pub plan_buffer : AgentPlan
 plan_buffer = plan_waiting (job_on 1 m (Length n m ∷ Say n ∷ []) ∷ job_of (Collect ∷ Say m ∷ Let m NoLiteral ∷ Collect ∷ []) ∷ [])
-
-abbrev pub into_buffer : Receivers
-into_buffer = receivers plan_buffer.jobs
 
 abbrev pub received_buffer : History
 received_buffer = Received 1 (Object 1) ∷ []
@@ -138,45 +126,39 @@ forgot = Did (Let m NoLiteral, [], Gives Undefined) ∷ said m (Object 1) ∷ Em
 abbrev pub closed_buffer : History
 closed_buffer = Closed ∷ JobEnded ∷ Emptied (1 ∷ []) ∷ forgot
 
-pub none_dead : AreDead into_buffer begun_collecting []
-none_dead = dead_by into_buffer begun_collecting (1 ∷ []) [] refl (by_variable into_buffer begun_collecting m 1 refl, tt)
+pub none_dead : AreDead (receivers plan_buffer.jobs) begun_collecting []
+none_dead = dead_but plan_buffer begun_collecting (m ∷ []) [] refl
 
-pub dead_once_forgotten : AreDead into_buffer forgot (1 ∷ [])
-dead_once_forgotten = dead_by into_buffer forgot [] (1 ∷ []) refl tt
+pub dead_once_forgotten : AreDead (receivers plan_buffer.jobs) forgot (1 ∷ [])
+dead_once_forgotten = dead_but plan_buffer forgot [] (1 ∷ []) refl
 
 -- a collection before that empties another set than it
-not_dead_before : AreDead into_buffer begun_collecting (1 ∷ []) → ⊥
-not_dead_before d = other_set into_buffer begun_collecting (1 ∷ []) [] 1 d none_dead refl refl
+not_dead_before : AreDead (receivers plan_buffer.jobs) begun_collecting (1 ∷ []) → ⊥
+not_dead_before d = other_set (receivers plan_buffer.jobs) begun_collecting (1 ∷ []) [] 1 d none_dead refl refl
 
 -- and one after it does not leave it
-not_left_afterwards : AreDead into_buffer forgot [] → ⊥
-not_left_afterwards d = other_set into_buffer forgot (1 ∷ []) [] 1 dead_once_forgotten d refl refl
-
-follows_first : Follows four_words plan_buffer begun_collecting
-follows_first = search rules
-
-pub follows_buffer : FollowsWhole four_words plan_buffer closed_buffer
-follows_buffer = ((tt, (tt, ((refl, dead_once_forgotten), (refl, (refl, ((refl, none_dead), follows_first)))))), refl)
+not_left_afterwards : AreDead (receivers plan_buffer.jobs) forgot [] → ⊥
+not_left_afterwards d = other_set (receivers plan_buffer.jobs) forgot (1 ∷ []) [] 1 dead_once_forgotten d refl refl
 
 pub worked_buffer : IsWorked four_words plan_buffer closed_buffer (codes "agent a\nsay 4\nemptied 0\nsay object 1\nemptied 1\nend live 0 awaiting 0 unregistered 0 taken 0\n")
 unfolding digits
-worked_buffer = record { whole = (search rules, follows_buffer); report = refl }
+worked_buffer = record { whole = (search rules, search (rules, none_dead, dead_once_forgotten)); report = refl }
 
 -- Liveness: a buffer that a variable holds is live, as any object is
 
-pub buffer_is_live : Live into_buffer ended_buffer (1 ∷ [])
-buffer_is_live = inr (record { over = four_words; other = into_buffer; agree = search rules; before = []; event = said m (Object 1); oblivious = search rules; observed = refl })
+pub buffer_is_live : Live (receivers plan_buffer.jobs) ended_buffer (1 ∷ [])
+buffer_is_live = inr (record { over = four_words; other = receivers plan_buffer.jobs; agree = search rules; before = []; event = said m (Object 1); oblivious = search rules; observed = refl })
 
 -- also where another message comes first, since after the history a receipt may assign any variable
 abbrev pub into_x_later : Receivers
-into_x_later earlier = if nat_le 5 (length earlier) then x else into_buffer earlier
+into_x_later earlier = if nat_le 5 (length earlier) then x else (receivers plan_buffer.jobs) earlier
 
-live_past_a_receipt : Live into_buffer ended_buffer (1 ∷ [])
+live_past_a_receipt : Live (receivers plan_buffer.jobs) ended_buffer (1 ∷ [])
 live_past_a_receipt = inr (record { over = four_words; other = into_x_later; agree = search rules; before = Received 1 Undefined ∷ []; event = said m (Object 1); oblivious = search rules; observed = refl })
 
 -- a receipt makes a new buffer, so a set of older ones has no member of it: this one is dead once it is forgotten
-buffer_is_not_live : Live into_buffer forgot (1 ∷ []) → ⊥
-buffer_is_not_live = not_live into_buffer forgot (1 ∷ []) dead_once_forgotten
+buffer_is_not_live : Live (receivers plan_buffer.jobs) forgot (1 ∷ []) → ⊥
+buffer_is_not_live = not_live (receivers plan_buffer.jobs) forgot (1 ∷ []) dead_once_forgotten
 
 -- receipts that all assign m
 abbrev pub into_m : Receivers
@@ -190,16 +172,13 @@ received_beside : Oblivious (1 ∷ []) two_rows into_m forgot (said m (Object 2)
 received_beside = search rules
 
 -- what is not made yet is no member of a set that is emptied; by itself it would be live, since it may be received
-unmade_is_live : Live into_buffer [] (1 ∷ [])
+unmade_is_live : Live (receivers plan_buffer.jobs) [] (1 ∷ [])
 unmade_is_live = inr (record { over = four_words; other = into_m; agree = search rules; before = Received 1 (Object 1) ∷ []; event = said m (Object 1); oblivious = search rules; observed = refl })
 
 -- A receipt replaces what its variable held, which is dead then
 
 abbrev pub plan_replaced : AgentPlan
 plan_replaced = plan_waiting (job_of (New m ∷ []) ∷ job_on 1 m (Collect ∷ Say m ∷ []) ∷ [])
-
-abbrev pub into_replaced : Receivers
-into_replaced = receivers plan_replaced.jobs
 
 abbrev pub ended_replaced : History
 ended_replaced = JobEnded ∷ made_new m 1 ∷ JobBegun 1 ∷ []
@@ -210,15 +189,12 @@ begun_replaced = JobBegun 2 ∷ Received 1 (Number (pos 1)) ∷ ended_replaced
 abbrev pub closed_replaced : History
 closed_replaced = Closed ∷ JobEnded ∷ said m (Number (pos 1)) ∷ Emptied (1 ∷ []) ∷ begun_replaced
 
-pub dead_replaced : AreDead into_replaced begun_replaced (1 ∷ [])
-dead_replaced = dead_by into_replaced begun_replaced [] (1 ∷ []) refl tt
-
-follows_begun_replaced : Follows [] plan_replaced begun_replaced
-follows_begun_replaced = search rules
+pub dead_replaced : AreDead (receivers plan_replaced.jobs) begun_replaced (1 ∷ [])
+dead_replaced = dead_but plan_replaced begun_replaced [] (1 ∷ []) refl
 
 pub worked_replaced : IsWorked [] plan_replaced closed_replaced (codes "agent a\nemptied 1\nsay 1\nend live 0 awaiting 0 unregistered 0 taken 0\n")
 unfolding digits
-worked_replaced = record { whole = (search rules, ((tt, (tt, (refl, ((refl, dead_replaced), follows_begun_replaced)))), refl)); report = refl }
+worked_replaced = record { whole = (search rules, search (rules, dead_replaced)); report = refl }
 
 -- A skip replaces nothing
 
@@ -228,19 +204,16 @@ closed_not_replaced = Closed ∷ Skipped 2 1 ∷ ended_replaced
 pub whole_not_replaced : IsWholeRun plan_replaced closed_not_replaced
 whole_not_replaced = ([], search rules, search rules)
 
-not_replaced : var into_replaced closed_not_replaced m ≡ Object 1
+not_replaced : var (receivers plan_replaced.jobs) closed_not_replaced m ≡ Object 1
 not_replaced = refl
 
-held_past_a_skip : AreDead into_replaced closed_not_replaced []
-held_past_a_skip = dead_by into_replaced closed_not_replaced (1 ∷ []) [] refl (by_variable into_replaced closed_not_replaced m 1 refl, tt)
+held_past_a_skip : AreDead (receivers plan_replaced.jobs) closed_not_replaced []
+held_past_a_skip = dead_but plan_replaced closed_not_replaced (m ∷ []) [] refl
 
 -- A buffer that was posted does not stay for that: here it is emptied, and a WeakRef gives undefined
 
 abbrev pub plan_posted : AgentPlan
 plan_posted = plan_of ((SharedArrayBuffer s 1 ∷ WeakRef w s ∷ Post 1 s ∷ Let s NoLiteral ∷ []) ∷ (Collect ∷ Deref x w ∷ Say x ∷ []) ∷ [])
-
-abbrev pub into_posted : Receivers
-into_posted = receivers plan_posted.jobs
 
 abbrev pub begun_posted : History
 begun_posted = JobBegun 2 ∷ JobEnded ∷ Did (Let s NoLiteral, [], Gives Undefined) ∷ posted s (Object 1) ∷ Did (WeakRef w s, Object 1 ∷ [], Gives (Object 2)) ∷ made_buffer s 1 1 ∷ JobBegun 1 ∷ []
@@ -248,23 +221,17 @@ begun_posted = JobBegun 2 ∷ JobEnded ∷ Did (Let s NoLiteral, [], Gives Undef
 abbrev pub closed_posted : History
 closed_posted = Closed ∷ JobEnded ∷ said x Undefined ∷ Did (Deref x w, Object 2 ∷ [], Gives Undefined) ∷ Emptied (1 ∷ []) ∷ begun_posted
 
-pub dead_posted : AreDead into_posted begun_posted (1 ∷ [])
-dead_posted = dead_by into_posted begun_posted (2 ∷ []) (1 ∷ []) refl (by_variable into_posted begun_posted w 2 refl, tt)
-
-follows_begun_posted : Follows one_word plan_posted begun_posted
-follows_begun_posted = search rules
+pub dead_posted : AreDead (receivers plan_posted.jobs) begun_posted (1 ∷ [])
+dead_posted = dead_but plan_posted begun_posted (w ∷ []) (1 ∷ []) refl
 
 pub worked_posted : IsWorked one_word plan_posted closed_posted (codes "agent a\nemptied 1\nsay undefined\nend live 0 awaiting 0 unregistered 0 taken 0\n")
 unfolding digits
-worked_posted = record { whole = (search rules, ((tt, (tt, (refl, (refl, ((refl, dead_posted), follows_begun_posted))))), refl)); report = refl }
+worked_posted = record { whole = (search rules, search (rules, dead_posted)); report = refl }
 
 -- A cleanup job comes before a message
 
 abbrev pub plan_cleanup : AgentPlan
 plan_cleanup = record { name = codes "a"; callbacks = callback_of [] ∷ []; jobs = job_of (FinalizationRegistry r 1 ∷ New x ∷ Register r x u None ∷ Let x NoLiteral ∷ Collect ∷ []) ∷ job_on 1 m (Say m ∷ []) ∷ [] }
-
-abbrev pub into_cleanup : Receivers
-into_cleanup = receivers plan_cleanup.jobs
 
 abbrev pub forgot_x : History
 forgot_x = Did (Let x NoLiteral, [], Gives Undefined) ∷ Did (Register r x u None, Object 1 ∷ Object 2 ∷ Undefined ∷ [], Nothing) ∷ made_new x 2 ∷ Did (FinalizationRegistry r 1, [], Gives (Object 1)) ∷ JobBegun 1 ∷ []
@@ -284,22 +251,16 @@ closed_cleanup = Closed ∷ JobEnded ∷ said m (Boolean true) ∷ JobBegun 2 �
 abbrev pub closed_cleanup_skipped : History
 closed_cleanup_skipped = Closed ∷ Skipped 2 1 ∷ cleaned
 
-pub dead_cleanup : AreDead into_cleanup forgot_x (2 ∷ [])
-dead_cleanup = dead_by into_cleanup forgot_x (1 ∷ []) (2 ∷ []) refl (by_variable into_cleanup forgot_x r 1 refl, tt)
-
-follows_forgot_x : Follows [] plan_cleanup forgot_x
-follows_forgot_x = search rules
-
-pub follows_cleaned : Follows [] plan_cleanup cleaned
-follows_cleaned = (tt, (refl, (refl, (tt, ((refl, dead_cleanup), follows_forgot_x)))))
+pub dead_cleanup : AreDead (receivers plan_cleanup.jobs) forgot_x (2 ∷ [])
+dead_cleanup = dead_but plan_cleanup forgot_x (r ∷ []) (2 ∷ []) refl
 
 pub worked_cleanup : IsWorked [] plan_cleanup closed_cleanup (codes "agent a\nemptied 1\ncleanup 1 held undefined\nsay true\nend live 0 awaiting 0 unregistered 0 taken 1\n")
 unfolding digits
-worked_cleanup = record { whole = (search rules, ((tt, (tt, (refl, (refl, ((refl, tt), follows_cleaned))))), refl)); report = refl }
+worked_cleanup = record { whole = (search rules, search (rules, dead_cleanup)); report = refl }
 
 pub worked_cleanup_skipped : IsWorked [] plan_cleanup closed_cleanup_skipped (codes "agent a\nemptied 1\ncleanup 1 held undefined\nskipped 2\nend live 0 awaiting 0 unregistered 0 taken 1\n")
 unfolding digits
-worked_cleanup_skipped = record { whole = (search rules, ((tt, ((refl, refl), follows_cleaned)), refl)); report = refl }
+worked_cleanup_skipped = record { whole = (search rules, search (rules, dead_cleanup)); report = refl }
 
 -- the line of a skip has the number of the job, not the sender's
 -- What is posted, and what is not
@@ -312,9 +273,6 @@ plan_posts =
     ∷ (WeakRef w o ∷ Post 1 w ∷ [])
     ∷ (Symbol s ∷ Post 1 s ∷ [])
     ∷ [])
-
-abbrev pub into_posts : Receivers
-into_posts = receivers plan_posts.jobs
 
 -- a buffer that was posted can be posted again
 abbrev pub ended_posts : History
@@ -380,7 +338,7 @@ number_needs_none : (over : Buffers) (plan : AgentPlan) (h : History) → made h
 number_needs_none over plan h full at = subst (λ d. Permits over (receivers plan.jobs) h d (Received 1 (Number (pos 1)))) (sym at) (refl, tt)
 
 -- a refused receipt assigns nothing
-refused_assigns_nothing : (h : History) → var into_buffer (Refused TooManyValues ∷ h) m ≡ var into_buffer h m
+refused_assigns_nothing : (h : History) → var (receivers plan_buffer.jobs) (Refused TooManyValues ∷ h) m ≡ var (receivers plan_buffer.jobs) h m
 refused_assigns_nothing h = refl
 
 -- A refused receipt stops the job before it begins, and the next job is due

@@ -1,5 +1,5 @@
 -- FinalizationRegistries: what they hold, what goes, and which cells are taken for their cleanup, in which order.
-use Rattle.std.proofs.Common.{◌≡◌, ℕ, true, false, refl, List, [], ◌∷◌, Some, None, inr, reverse, codes, rules}
+use Rattle.std.proofs.Common.{ℕ, true, false, refl, List, [], ◌∷◌, Some, None, inr, codes, rules}
 use Rattle.std.specs.Prelude.{pos}
 use Rattle.std.specs.Fmt.{digits}
 use Rattle.es_value.specs.declared.value.Value.TheVariants.{Undefined, Boolean, Number, Object}
@@ -12,18 +12,15 @@ use Rattle.es_event.specs.declared.event.Event.TheVariants.{JobBegun, CleanupBeg
 use Rattle.es_event.specs.declared.event.Refusal.TheVariants.{NotAnObject, NotHeldWeakly, SameTargetAndHeld}
 use Rattle.es_event.specs.declared.plan.AgentPlan.{AgentPlan}
 use Rattle.es_event.specs.History.{History}
-use Rattle.es_event.specs.Jobs.{Receivers, receivers}
+use Rattle.es_event.specs.Jobs.{receivers}
 use Rattle.es_event.specs.Registrations.{Cell}
 use Rattle.es_event.specs.Reach.{AreDead}
 use Rattle.es_event.specs.Live.{Live}
-use Rattle.es_event.specs.Follows.{Follows}
-use Rattle.es_event.specs.Runs.{IsWholeRun}
-use Rattle.es_event.specs.Report.{agent_text}
 use Rattle.es_event.proofs.Examples.{plan_with}
 use Rattle.es_event.proofs.Deciding.{dead_by, by_variable, by_cell, by_property}
 use Rattle.es_event.proofs.Dead.{not_live}
 use Rattle.es_laws.proofs.Letters.{a, b, c, h, i, n, p, q, r, t, w, x, y}
-use Rattle.es_laws.proofs.Worked.{IsWorked}
+use Rattle.es_laws.proofs.Worked.{IsWorked, dead_but}
 
 -- Variables
 
@@ -63,9 +60,6 @@ forgot to = Did (forget to, [], Gives Undefined)
 abbrev pub plan_own_token : AgentPlan
 plan_own_token = plan_with [] ((registry r ∷ New x ∷ number h 5 ∷ Register r x h (Some x) ∷ forget x ∷ Collect ∷ []) ∷ [])
 
-abbrev pub into_own_token : Receivers
-into_own_token = receivers plan_own_token.jobs
-
 abbrev pub let_own_token : History
 let_own_token = let_number h 5 ∷ made_new x 2 ∷ made_registry r 1 ∷ JobBegun 1 ∷ []
 
@@ -81,27 +75,21 @@ taken_own_token = Taken 1 (Number (pos 5)) ∷ CleanupBegun 1 ∷ ended_own_toke
 abbrev pub closed_own_token : History
 closed_own_token = Closed ∷ JobEnded ∷ taken_own_token
 
-pub dead_own_token : AreDead into_own_token forgot_own_token (2 ∷ [])
-dead_own_token = dead_by into_own_token forgot_own_token (1 ∷ []) (2 ∷ []) refl (by_variable into_own_token forgot_own_token r 1 refl, tt)
-
-follows_own_token : Follows [] plan_own_token forgot_own_token
-follows_own_token = search rules
+pub dead_own_token : AreDead (receivers plan_own_token.jobs) forgot_own_token (2 ∷ [])
+dead_own_token = dead_but plan_own_token forgot_own_token (r ∷ []) (2 ∷ []) refl
 
 pub worked_own_token : IsWorked [] plan_own_token closed_own_token (codes "agent a\nemptied 1\ncleanup 1 held 5\nend live 0 awaiting 0 unregistered 0 taken 1\n")
 unfolding digits
-worked_own_token = record { whole = (search rules, ((tt, (tt, (refl, (refl, (tt, ((refl, dead_own_token), follows_own_token)))))), refl)); report = refl }
+worked_own_token = record { whole = (search rules, search (rules, dead_own_token)); report = refl }
 
 -- so the target is not live, though its cell is in the registry
-pub target_is_not_live : Live into_own_token forgot_own_token (2 ∷ []) → ⊥
-target_is_not_live = not_live into_own_token forgot_own_token (2 ∷ []) dead_own_token
+pub target_is_not_live : Live (receivers plan_own_token.jobs) forgot_own_token (2 ∷ []) → ⊥
+target_is_not_live = not_live (receivers plan_own_token.jobs) forgot_own_token (2 ∷ []) dead_own_token
 
 -- The held value is held, and what leads on from it: here its own target, which so stays
 
 abbrev pub plan_held : AgentPlan
 plan_held = plan_with [] ((registry r ∷ New x ∷ New h ∷ Set h p x ∷ Register r x h None ∷ forget x ∷ forget h ∷ Collect ∷ []) ∷ [])
-
-abbrev pub into_held : Receivers
-into_held = receivers plan_held.jobs
 
 abbrev pub forgot_held : History
 forgot_held =
@@ -120,31 +108,25 @@ closed_held = Closed ∷ JobEnded ∷ Emptied [] ∷ forgot_held
 abbrev pub cell_held : Cell
 cell_held = record { registry = 1; target = 2; held = Object 3; token = None }
 
-pub reached_by_a_cell : AreDead into_held forgot_held []
+pub reached_by_a_cell : AreDead (receivers plan_held.jobs) forgot_held []
 reached_by_a_cell =
-    let value = by_cell into_held forgot_held 1 cell_held 3 refl refl refl in
-    let target = by_property into_held forgot_held 3 p (Object 2) 2 value refl refl in
-    dead_by into_held forgot_held (1 ∷ 2 ∷ 3 ∷ []) [] refl (by_variable into_held forgot_held r 1 refl, (target, (value, tt)))
-
-follows_held : Follows [] plan_held forgot_held
-follows_held = search rules
+    let value = by_cell (receivers plan_held.jobs) forgot_held 1 cell_held 3 refl refl refl in
+    let target = by_property (receivers plan_held.jobs) forgot_held 3 p (Object 2) 2 value refl refl in
+    dead_by (receivers plan_held.jobs) forgot_held (1 ∷ 2 ∷ 3 ∷ []) [] refl (by_variable (receivers plan_held.jobs) forgot_held r 1 refl, (target, (value, tt)))
 
 pub worked_held : IsWorked [] plan_held closed_held (codes "agent a\nemptied 0\nend live 1 awaiting 0 unregistered 0 taken 0\n")
 unfolding digits
-worked_held = record { whole = (search rules, ((tt, (tt, ((refl, reached_by_a_cell), follows_held))), refl)); report = refl }
+worked_held = record { whole = (search rules, search (rules, reached_by_a_cell)); report = refl }
 
 -- it is live: its target may be emptied, and then a cleanup job takes the cell
-pub held_is_live : Live into_held forgot_held (3 ∷ [])
-held_is_live = inr (record { over = []; other = into_held; agree = search rules; before = CleanupBegun 1 ∷ Emptied (2 ∷ []) ∷ []; event = Taken 1 (Object 3); oblivious = search rules; observed = refl })
+pub held_is_live : Live (receivers plan_held.jobs) forgot_held (3 ∷ [])
+held_is_live = inr (record { over = []; other = receivers plan_held.jobs; agree = search rules; before = CleanupBegun 1 ∷ Emptied (2 ∷ []) ∷ []; event = Taken 1 (Object 3); oblivious = search rules; observed = refl })
 
 -- A cell whose target is emptied is found by its token, until it is taken: both cells go at once
 
 abbrev pub plan_shared_token : AgentPlan
 plan_shared_token =
     plan_with [] ((registry r ∷ New x ∷ New y ∷ New t ∷ number h 1 ∷ Register r x h (Some t) ∷ Register r y h (Some t) ∷ forget x ∷ Collect ∷ Unregister b r t ∷ Say b ∷ []) ∷ [])
-
-abbrev pub into_shared_token : Receivers
-into_shared_token = receivers plan_shared_token.jobs
 
 abbrev pub forgot_shared_token : History
 forgot_shared_token =
@@ -172,19 +154,12 @@ begun_shared_token = CleanupBegun 1 ∷ JobEnded ∷ Did (Say b, Boolean true �
 abbrev pub closed_shared_token : History
 closed_shared_token = Closed ∷ JobEnded ∷ begun_shared_token
 
-pub dead_shared_token : AreDead into_shared_token forgot_shared_token (2 ∷ [])
-dead_shared_token =
-    let at_r = by_variable into_shared_token forgot_shared_token r 1 refl in
-    let at_y = by_variable into_shared_token forgot_shared_token y 3 refl in
-    let at_t = by_variable into_shared_token forgot_shared_token t 4 refl in
-    dead_by into_shared_token forgot_shared_token (1 ∷ 3 ∷ 4 ∷ []) (2 ∷ []) refl (at_r, (at_y, (at_t, tt)))
-
-follows_shared_token : Follows [] plan_shared_token forgot_shared_token
-follows_shared_token = search rules
+pub dead_shared_token : AreDead (receivers plan_shared_token.jobs) forgot_shared_token (2 ∷ [])
+dead_shared_token = dead_but plan_shared_token forgot_shared_token (r ∷ y ∷ t ∷ []) (2 ∷ []) refl
 
 pub worked_shared_token : IsWorked [] plan_shared_token closed_shared_token (codes "agent a\nemptied 1\nsay true\nend live 0 awaiting 0 unregistered 2 taken 0\n")
 unfolding digits
-worked_shared_token = record { whole = (search rules, ((tt, (tt, (refl, (tt, (refl, (refl, ((refl, dead_shared_token), follows_shared_token))))))), refl)); report = refl }
+worked_shared_token = record { whole = (search rules, search (rules, dead_shared_token)); report = refl }
 
 -- A callback that is refused ends its cleanup job, and another begins for the cells that are left
 
@@ -193,9 +168,6 @@ jobs_refused = (registry r ∷ New x ∷ New y ∷ number h 1 ∷ number i 2 ∷
 
 abbrev pub plan_refused : AgentPlan
 plan_refused = plan_with (Set held p held ∷ []) jobs_refused
-
-abbrev pub into_refused : Receivers
-into_refused = receivers plan_refused.jobs
 
 abbrev pub forgot_refused : History
 forgot_refused =
@@ -223,19 +195,12 @@ refused_first = Refused NotAnObject ∷ taken_refused
 abbrev pub closed_refused : History
 closed_refused = Closed ∷ JobEnded ∷ Refused NotAnObject ∷ Taken 2 (Number (pos 2)) ∷ CleanupBegun 1 ∷ JobEnded ∷ refused_first
 
-pub dead_refused : AreDead into_refused forgot_refused (2 ∷ 3 ∷ [])
-dead_refused = dead_by into_refused forgot_refused (1 ∷ []) (2 ∷ 3 ∷ []) refl (by_variable into_refused forgot_refused r 1 refl, tt)
+pub dead_refused : AreDead (receivers plan_refused.jobs) forgot_refused (2 ∷ 3 ∷ [])
+dead_refused = dead_but plan_refused forgot_refused (r ∷ []) (2 ∷ 3 ∷ []) refl
 
-follows_refused : Follows [] plan_refused forgot_refused
-follows_refused = search rules
-
-pub whole_refused : IsWholeRun plan_refused closed_refused
-whole_refused = ([], search rules, ((tt, (tt, (refl, (refl, (refl, (tt, (refl, (refl, (refl, (tt, ((refl, dead_refused), follows_refused))))))))))), refl))
-
-pub reported_refused : agent_text plan_refused.name (reverse closed_refused)
-    ≡ codes "agent a\nemptied 2\ncleanup 1 held 1\nerror TypeError: not an object\ncleanup 2 held 2\nerror TypeError: not an object\nend live 0 awaiting 0 unregistered 0 taken 2\n"
+pub worked_refused : IsWorked [] plan_refused closed_refused (codes "agent a\nemptied 2\ncleanup 1 held 1\nerror TypeError: not an object\ncleanup 2 held 2\nerror TypeError: not an object\nend live 0 awaiting 0 unregistered 0 taken 2\n")
 unfolding digits
-reported_refused = refl
+worked_refused = record { whole = (search rules, search (rules, dead_refused)); report = refl }
 
 -- No target is its own held value, and none is a number
 
@@ -251,22 +216,15 @@ let_same = let_number n 5 ∷ JobBegun 2 ∷ JobEnded ∷ Refused SameTargetAndH
 abbrev pub closed_same : History
 closed_same = Closed ∷ JobEnded ∷ Refused NotHeldWeakly ∷ let_same
 
-pub whole_same : IsWholeRun plan_same closed_same
-whole_same = ([], search rules, search rules)
-
-pub reported_same : agent_text plan_same.name (reverse closed_same)
-    ≡ codes "agent a\nerror TypeError: target and held value are the same\nerror TypeError: cannot be held weakly\nend live 0 awaiting 0 unregistered 0 taken 0\n"
+pub worked_same : IsWorked [] plan_same closed_same (codes "agent a\nerror TypeError: target and held value are the same\nerror TypeError: cannot be held weakly\nend live 0 awaiting 0 unregistered 0 taken 0\n")
 unfolding digits
-reported_same = refl
+worked_same = record { whole = (search rules, search rules); report = refl }
 
 -- A cell that was unregistered is not found again, and is not taken once its target is emptied
 
 abbrev pub plan_unregistered : AgentPlan
 plan_unregistered =
     plan_with [] ((registry r ∷ New x ∷ New t ∷ number h 1 ∷ Register r x h (Some t) ∷ Unregister b r t ∷ Unregister c r t ∷ Say b ∷ Say c ∷ forget x ∷ Collect ∷ []) ∷ [])
-
-abbrev pub into_unregistered : Receivers
-into_unregistered = receivers plan_unregistered.jobs
 
 abbrev pub unregistered_once : History
 unregistered_once =
@@ -293,18 +251,12 @@ emptied_unregistered = Emptied (2 ∷ []) ∷ forgot_unregistered
 abbrev pub closed_unregistered : History
 closed_unregistered = Closed ∷ JobEnded ∷ emptied_unregistered
 
-pub dead_unregistered : AreDead into_unregistered forgot_unregistered (2 ∷ [])
-dead_unregistered =
-    let at_r = by_variable into_unregistered forgot_unregistered r 1 refl in
-    let at_t = by_variable into_unregistered forgot_unregistered t 3 refl in
-    dead_by into_unregistered forgot_unregistered (1 ∷ 3 ∷ []) (2 ∷ []) refl (at_r, (at_t, tt))
-
-follows_unregistered : Follows [] plan_unregistered forgot_unregistered
-follows_unregistered = search rules
+pub dead_unregistered : AreDead (receivers plan_unregistered.jobs) forgot_unregistered (2 ∷ [])
+dead_unregistered = dead_but plan_unregistered forgot_unregistered (r ∷ t ∷ []) (2 ∷ []) refl
 
 pub worked_unregistered : IsWorked [] plan_unregistered closed_unregistered (codes "agent a\nsay true\nsay false\nemptied 1\nend live 0 awaiting 0 unregistered 1 taken 0\n")
 unfolding digits
-worked_unregistered = record { whole = (search rules, ((tt, (tt, ((refl, dead_unregistered), follows_unregistered))), refl)); report = refl }
+worked_unregistered = record { whole = (search rules, search (rules, dead_unregistered)); report = refl }
 
 -- The callback reads the held value in the variable held, and a WeakRef to the target gives undefined by then
 
@@ -312,9 +264,6 @@ abbrev pub plan_callback : AgentPlan
 plan_callback =
     plan_with (Say held ∷ Deref y w ∷ Say y ∷ [])
     ((registry r ∷ New x ∷ WeakRef w x ∷ number h 3 ∷ Register r x h None ∷ forget x ∷ []) ∷ (Collect ∷ Say h ∷ []) ∷ [])
-
-abbrev pub into_callback : Receivers
-into_callback = receivers plan_callback.jobs
 
 abbrev pub begun_second : History
 begun_second =
@@ -344,30 +293,17 @@ closed_callback =
     ∷ Did (Say held, Number (pos 3) ∷ [], Nothing)
     ∷ taken_callback
 
-pub dead_callback : AreDead into_callback begun_second (2 ∷ [])
-dead_callback =
-    let at_r = by_variable into_callback begun_second r 1 refl in
-    let at_w = by_variable into_callback begun_second w 3 refl in
-    dead_by into_callback begun_second (1 ∷ 3 ∷ []) (2 ∷ []) refl (at_r, (at_w, tt))
+pub dead_callback : AreDead (receivers plan_callback.jobs) begun_second (2 ∷ [])
+dead_callback = dead_but plan_callback begun_second (r ∷ w ∷ []) (2 ∷ []) refl
 
-follows_second : Follows [] plan_callback begun_second
-follows_second = search rules
-
-pub whole_callback : IsWholeRun plan_callback closed_callback
-whole_callback = ([], search rules, ((tt, (tt, (refl, (refl, (refl, (refl, (refl, (tt, (refl, ((refl, dead_callback), follows_second)))))))))), refl))
-
-pub reported_callback : agent_text plan_callback.name (reverse closed_callback)
-    ≡ codes "agent a\nemptied 1\nsay 3\ncleanup 1 held 3\nsay 3\nsay undefined\nend live 0 awaiting 0 unregistered 0 taken 1\n"
+pub worked_callback : IsWorked [] plan_callback closed_callback (codes "agent a\nemptied 1\nsay 3\ncleanup 1 held 3\nsay 3\nsay undefined\nend live 0 awaiting 0 unregistered 0 taken 1\n")
 unfolding digits
-reported_callback = refl
+worked_callback = record { whole = (search rules, search (rules, dead_callback)); report = refl }
 
 -- The queue is by rising identity of the registries, not by the order of registrations
 
 abbrev pub plan_order : AgentPlan
 plan_order = plan_with [] ((registry r ∷ registry q ∷ New x ∷ number h 1 ∷ number i 2 ∷ Register q x i None ∷ Register r x h None ∷ forget x ∷ Collect ∷ []) ∷ [])
-
-abbrev pub into_order : Receivers
-into_order = receivers plan_order.jobs
 
 abbrev pub forgot_order : History
 forgot_order =
@@ -396,14 +332,9 @@ closed_order =
     ∷ CleanupBegun 1
     ∷ ended_order
 
-pub dead_order : AreDead into_order forgot_order (3 ∷ [])
-dead_order =
-    dead_by into_order forgot_order (1 ∷ 2 ∷ []) (3 ∷ []) refl
-    (by_variable into_order forgot_order r 1 refl, (by_variable into_order forgot_order q 2 refl, tt))
-
-follows_order : Follows [] plan_order forgot_order
-follows_order = search rules
+pub dead_order : AreDead (receivers plan_order.jobs) forgot_order (3 ∷ [])
+dead_order = dead_but plan_order forgot_order (r ∷ q ∷ []) (3 ∷ []) refl
 
 pub worked_order : IsWorked [] plan_order closed_order (codes "agent a\nemptied 1\ncleanup 2 held 1\ncleanup 1 held 2\nend live 0 awaiting 0 unregistered 0 taken 2\n")
 unfolding digits
-worked_order = record { whole = (search rules, ((tt, (tt, (refl, (refl, (tt, (refl, (refl, (tt, ((refl, dead_order), follows_order))))))))), refl)); report = refl }
+worked_order = record { whole = (search rules, search (rules, dead_order)); report = refl }

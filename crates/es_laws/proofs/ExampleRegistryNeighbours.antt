@@ -10,6 +10,7 @@ use Rattle.es_event.specs.declared.event.Event.TheVariants.{JobBegun, CleanupBeg
 use Rattle.es_event.specs.declared.event.Refusal.TheVariants.{NotAnObject, NotHeldWeakly, SameTargetAndHeld}
 use Rattle.es_event.specs.declared.plan.AgentPlan.{AgentPlan}
 use Rattle.es_event.specs.Identities.{is_in}
+use Rattle.es_event.specs.Jobs.{receivers}
 use Rattle.es_event.specs.WeakRefs.{kept}
 use Rattle.es_event.specs.Registrations.{live, unregistered, fate, tally}
 use Rattle.es_event.specs.Live.{Oblivious, observes, Honest}
@@ -220,47 +221,47 @@ no_registry_is_asked e = cc
 
 -- the held value is emptied while its cell is in the registry
 empties_the_held_value : IsOutOfPlace Cleanups.plan_released Cleanups.held_by_its_cell (Emptied (3 ∷ []))
-empties_the_held_value e = other_set Cleanups.into_released Cleanups.held_by_its_cell (3 ∷ []) [] 3 e.1 Cleanups.reached_by_its_cell refl refl
+empties_the_held_value e = other_set (receivers Cleanups.plan_released.jobs) Cleanups.held_by_its_cell (3 ∷ []) [] 3 e.1 Cleanups.reached_by_its_cell refl refl
 
 -- or while its cell awaits its cleanup there
 empties_while_awaiting : IsOutOfPlace Cleanups.plan_awaiting Cleanups.emptied_awaiting (Emptied (3 ∷ []))
-empties_while_awaiting e = other_set Cleanups.into_awaiting Cleanups.emptied_awaiting (3 ∷ []) [] 3 e.1 Cleanups.reached_while_awaiting refl refl
+empties_while_awaiting e = other_set (receivers Cleanups.plan_awaiting.jobs) Cleanups.emptied_awaiting (3 ∷ []) [] 3 e.1 Cleanups.reached_while_awaiting refl refl
 
 -- or with what it leads to, its own target
 empties_what_it_holds : IsOutOfPlace Registries.plan_held Registries.forgot_held (Emptied (2 ∷ 3 ∷ []))
-empties_what_it_holds e = other_set Registries.into_held Registries.forgot_held (2 ∷ 3 ∷ []) [] 2 e.1 Registries.reached_by_a_cell refl refl
+empties_what_it_holds e = other_set (receivers Registries.plan_held.jobs) Registries.forgot_held (2 ∷ 3 ∷ []) [] 2 e.1 Registries.reached_by_a_cell refl refl
 
 empties_the_target : IsOutOfPlace Registries.plan_held Registries.forgot_held (Emptied (2 ∷ []))
-empties_the_target e = other_set Registries.into_held Registries.forgot_held (2 ∷ []) [] 2 e.1 Registries.reached_by_a_cell refl refl
+empties_the_target e = other_set (receivers Registries.plan_held.jobs) Registries.forgot_held (2 ∷ []) [] 2 e.1 Registries.reached_by_a_cell refl refl
 
 -- a cell that is out of its registry keeps its held value
 keeps_the_held_value : IsOutOfPlace Cleanups.plan_released Cleanups.released (Emptied [])
-keeps_the_held_value e = other_set Cleanups.into_released Cleanups.released (3 ∷ []) [] 3 Cleanups.dead_once_released e.1 refl refl
+keeps_the_held_value e = other_set (receivers Cleanups.plan_released.jobs) Cleanups.released (3 ∷ []) [] 3 Cleanups.dead_once_released e.1 refl refl
 
 -- a cell keeps its target
 cell_keeps_its_target : IsOutOfPlace Registries.plan_callback Registries.begun_second (Emptied [])
-cell_keeps_its_target e = other_set Registries.into_callback Registries.begun_second (2 ∷ []) [] 2 Registries.dead_callback e.1 refl refl
+cell_keeps_its_target e = other_set (receivers Registries.plan_callback.jobs) Registries.begun_second (2 ∷ []) [] 2 Registries.dead_callback e.1 refl refl
 
 -- or its token, here the target
 cell_keeps_its_token : IsOutOfPlace Registries.plan_own_token Registries.forgot_own_token (Emptied [])
-cell_keeps_its_token e = other_set Registries.into_own_token Registries.forgot_own_token (2 ∷ []) [] 2 Registries.dead_own_token e.1 refl refl
+cell_keeps_its_token e = other_set (receivers Registries.plan_own_token.jobs) Registries.forgot_own_token (2 ∷ []) [] 2 Registries.dead_own_token e.1 refl refl
 
 -- a registry goes that no variable holds
 empties_the_registry : IsOutOfPlace Cleanups.plan_forgotten Cleanups.forgot_both (Emptied (1 ∷ 2 ∷ []))
-empties_the_registry e = other_set Cleanups.into_forgotten Cleanups.forgot_both (1 ∷ 2 ∷ []) (2 ∷ []) 1 e.1 Cleanups.registry_stays refl refl
+empties_the_registry e = other_set (receivers Cleanups.plan_forgotten.jobs) Cleanups.forgot_both (1 ∷ 2 ∷ []) (2 ∷ []) 1 e.1 Cleanups.registry_stays refl refl
 
 -- Liveness
 
 -- an execution takes a cell whose target it has not emptied
-takes_a_live_cell : Oblivious (3 ∷ []) [] Cleanups.into_released Cleanups.held_by_its_cell (Taken 1 (Object 3) ∷ CleanupBegun 1 ∷ []) → ⊥
+takes_a_live_cell : Oblivious (3 ∷ []) [] (receivers Cleanups.plan_released.jobs) Cleanups.held_by_its_cell (Taken 1 (Object 3) ∷ CleanupBegun 1 ∷ []) → ⊥
 takes_a_live_cell o = cc
 
 -- or one that was unregistered
-takes_a_released_cell : Oblivious (3 ∷ []) [] Cleanups.into_released Cleanups.released (Taken 1 (Object 3) ∷ Emptied (2 ∷ []) ∷ []) → ⊥
+takes_a_released_cell : Oblivious (3 ∷ []) [] (receivers Cleanups.plan_released.jobs) Cleanups.released (Taken 1 (Object 3) ∷ Emptied (2 ∷ []) ∷ []) → ⊥
 takes_a_released_cell o = cc
 
 -- the held value is emptied, which is live
-empties_a_live_value : Honest Registries.into_held (Emptied (3 ∷ []) ∷ Registries.forgot_held) → ⊥
+empties_a_live_value : Honest (receivers Registries.plan_held.jobs) (Emptied (3 ∷ []) ∷ Registries.forgot_held) → ⊥
 empties_a_live_value honest = honest.0 Registries.held_is_live
 
 -- a cell that is taken observes its target or its token, and not its held value alone

@@ -1,6 +1,6 @@
 -- Symbols outside the registry are held weakly: as the target of a WeakRef, as a WeakMap's key, as a WeakSet's member, and as
 -- the target and the token of a registration. Registered symbols are not.
-use Rattle.std.proofs.Common.{◌≡◌, ℕ, true, false, refl, List, [], ◌∷◌, Some, None, reverse, codes, rules}
+use Rattle.std.proofs.Common.{◌≡◌, ℕ, true, false, refl, List, [], ◌∷◌, Some, None, codes, rules}
 use Rattle.std.specs.Prelude.{pos}
 use Rattle.std.specs.Fmt.{digits}
 use Rattle.es_value.specs.declared.value.Value.TheVariants.{Undefined, Boolean, Number, Registered, Object, Symbol as SymbolValue}
@@ -12,16 +12,14 @@ use Rattle.es_event.specs.declared.event.Event.TheVariants.{JobBegun, CleanupBeg
 use Rattle.es_event.specs.declared.event.Refusal.TheVariants.{NotHeldWeakly, SameTargetAndHeld}
 use Rattle.es_event.specs.declared.plan.AgentPlan.{AgentPlan}
 use Rattle.es_event.specs.History.{History}
-use Rattle.es_event.specs.Jobs.{Receivers, receivers}
+use Rattle.es_event.specs.Jobs.{receivers}
 use Rattle.es_event.specs.Ephemerons.{entry, is_member}
 use Rattle.es_event.specs.Reach.{AreDead}
-use Rattle.es_event.specs.Follows.{Follows}
 use Rattle.es_event.specs.Runs.{IsWholeRun}
-use Rattle.es_event.specs.Report.{agent_text}
 use Rattle.es_event.proofs.Examples.{plan_of, plan_with, IsUnlawful}
 use Rattle.es_event.proofs.Deciding.{dead_by, other_set, by_variable, by_keeping, by_entry}
 use Rattle.es_laws.proofs.Letters.{f, h, k, m, p, r, s, t, u, v, w, x, y}
-use Rattle.es_laws.proofs.Worked.{IsWorked}
+use Rattle.es_laws.proofs.Worked.{IsWorked, dead_but, dead_beside}
 
 -- Variables, and a property's key
 
@@ -50,9 +48,6 @@ plan_target = plan_of (
     ∷ []
     )
 
-abbrev pub into_target : Receivers
-into_target = receivers plan_target.jobs
-
 abbrev pub forgot_target : History
 forgot_target = forgot s ∷ Did (WeakRef w s, SymbolValue 1 ∷ [], Gives (Object 2)) ∷ made_symbol s 1 ∷ JobBegun 1 ∷ []
 
@@ -70,28 +65,18 @@ closed_target =
     Closed ∷ JobEnded ∷ Did (Say x, Undefined ∷ [], Nothing) ∷ Did (Deref x w, Object 2 ∷ [], Gives Undefined)
     ∷ Emptied (1 ∷ []) ∷ begun_third
 
-pub kept_target : AreDead into_target forgot_target []
-kept_target = dead_by into_target forgot_target (1 ∷ 2 ∷ []) [] refl (by_keeping into_target forgot_target 1 refl, (by_variable into_target forgot_target w 2 refl, tt))
+pub kept_target : AreDead (receivers plan_target.jobs) forgot_target []
+kept_target = dead_by (receivers plan_target.jobs) forgot_target (1 ∷ 2 ∷ []) [] refl (by_keeping (receivers plan_target.jobs) forgot_target 1 refl, (by_variable (receivers plan_target.jobs) forgot_target w 2 refl, tt))
 
-pub kept_again : AreDead into_target forgot_again []
-kept_again = dead_by into_target forgot_again (1 ∷ 2 ∷ []) [] refl (by_keeping into_target forgot_again 1 refl, (by_variable into_target forgot_again w 2 refl, tt))
+pub kept_again : AreDead (receivers plan_target.jobs) forgot_again []
+kept_again = dead_by (receivers plan_target.jobs) forgot_again (1 ∷ 2 ∷ []) [] refl (by_keeping (receivers plan_target.jobs) forgot_again 1 refl, (by_variable (receivers plan_target.jobs) forgot_again w 2 refl, tt))
 
-pub dead_target : AreDead into_target begun_third (1 ∷ [])
-dead_target = dead_by into_target begun_third (2 ∷ []) (1 ∷ []) refl (by_variable into_target begun_third w 2 refl, tt)
+pub dead_target : AreDead (receivers plan_target.jobs) begun_third (1 ∷ [])
+dead_target = dead_but plan_target begun_third (w ∷ []) (1 ∷ []) refl
 
-follows_target : Follows [] plan_target forgot_target
-follows_target = search rules
-
-pub whole_target : IsWholeRun plan_target closed_target
-whole_target = (
-  [],
-  search rules,
-  ((tt, (tt, (refl, (refl, ((refl, dead_target), (refl, (tt, ((refl, kept_again), (refl, (refl, (refl, (refl, (tt, ((refl, kept_target), follows_target)))))))))))))), refl),
-)
-
-pub reported_target : agent_text plan_target.name (reverse closed_target) ≡ codes "agent a\nemptied 0\nsay symbol 1\nemptied 0\nemptied 1\nsay undefined\nend live 0 awaiting 0 unregistered 0 taken 0\n"
+pub worked_target : IsWorked [] plan_target closed_target (codes "agent a\nemptied 0\nsay symbol 1\nemptied 0\nemptied 1\nsay undefined\nend live 0 awaiting 0 unregistered 0 taken 0\n")
 unfolding digits
-reported_target = refl
+worked_target = record { whole = (search rules, search (rules, dead_target, kept_again, kept_target)); report = refl }
 
 -- A WeakMap with a symbol as key: the entry's value is reached where both are, and leads to the key without keeping it
 
@@ -101,9 +86,6 @@ plan_key = plan_of (
     ∷ Let x NoLiteral ∷ Let k NoLiteral ∷ Collect ∷ [])
     ∷ []
     )
-
-abbrev pub into_key : Receivers
-into_key = receivers plan_key.jobs
 
 abbrev pub forgot_value : History
 forgot_value =
@@ -127,24 +109,16 @@ emptied_key = Emptied (1 ∷ 2 ∷ []) ∷ forgot_key
 abbrev pub closed_key : History
 closed_key = Closed ∷ JobEnded ∷ emptied_key
 
-pub reached_by_key : AreDead into_key forgot_value []
-reached_by_key = dead_by into_key forgot_value (1 ∷ 2 ∷ 3 ∷ []) [] refl (
-  by_variable into_key forgot_value k 1 refl,
-  (
-    by_entry into_key forgot_value 3 1 (Object 2) 2 (by_variable into_key forgot_value m 3 refl) (by_variable into_key forgot_value k 1 refl) refl refl,
-    (by_variable into_key forgot_value m 3 refl, tt),
-  ),
-)
+pub reached_by_key : AreDead (receivers plan_key.jobs) forgot_value []
+reached_by_key = dead_beside plan_key forgot_value (k ∷ m ∷ []) (2 ∷ []) [] refl
+    (by_entry (receivers plan_key.jobs) forgot_value 3 1 (Object 2) 2 (by_variable (receivers plan_key.jobs) forgot_value m 3 refl) (by_variable (receivers plan_key.jobs) forgot_value k 1 refl) refl refl, tt)
 
-pub dead_key : AreDead into_key forgot_key (1 ∷ 2 ∷ [])
-dead_key = dead_by into_key forgot_key (3 ∷ []) (1 ∷ 2 ∷ []) refl (by_variable into_key forgot_key m 3 refl, tt)
-
-follows_key : Follows [] plan_key forgot_value
-follows_key = search rules
+pub dead_key : AreDead (receivers plan_key.jobs) forgot_key (1 ∷ 2 ∷ [])
+dead_key = dead_but plan_key forgot_key (m ∷ []) (1 ∷ 2 ∷ []) refl
 
 pub worked_key : IsWorked [] plan_key closed_key (codes "agent a\nemptied 0\nsay true\nemptied 2\nend live 0 awaiting 0 unregistered 0 taken 0\n")
 unfolding digits
-worked_key = record { whole = (search rules, ((tt, (tt, ((refl, dead_key), (refl, (refl, (refl, (refl, (refl, ((refl, reached_by_key), follows_key))))))))), refl)); report = refl }
+worked_key = record { whole = (search rules, search (rules, dead_key, reached_by_key)); report = refl }
 
 pub entry_of_the_symbol : entry forgot_value 3 1 ≡ Some (Object 2)
 entry_of_the_symbol = refl
@@ -160,9 +134,6 @@ plan_member = plan_of (
     ∷ (Let s NoLiteral ∷ Let y NoLiteral ∷ Collect ∷ [])
     ∷ []
     )
-
-abbrev pub into_member : Receivers
-into_member = receivers plan_member.jobs
 
 abbrev pub joined : History
 joined = Did (WeakSetAdd w s, Object 2 ∷ SymbolValue 1 ∷ [], Nothing) ∷ Did (WeakSet w, [], Gives (Object 2)) ∷ made_symbol s 1 ∷ JobBegun 1 ∷ []
@@ -183,15 +154,12 @@ emptied_member = Emptied (1 ∷ []) ∷ forgot_member
 abbrev pub closed_member : History
 closed_member = Closed ∷ JobEnded ∷ emptied_member
 
-pub dead_member : AreDead into_member forgot_member (1 ∷ [])
-dead_member = dead_by into_member forgot_member (2 ∷ 3 ∷ []) (1 ∷ []) refl (by_variable into_member forgot_member w 2 refl, (by_variable into_member forgot_member u 3 refl, tt))
-
-follows_member : Follows [] plan_member forgot_member
-follows_member = search rules
+pub dead_member : AreDead (receivers plan_member.jobs) forgot_member (1 ∷ [])
+dead_member = dead_but plan_member forgot_member (w ∷ u ∷ []) (1 ∷ []) refl
 
 pub worked_member : IsWorked [] plan_member closed_member (codes "agent a\nsay true\nsay symbol 1\nemptied 1\nend live 0 awaiting 0 unregistered 0 taken 0\n")
 unfolding digits
-worked_member = record { whole = (search rules, ((tt, (tt, ((refl, dead_member), follows_member))), refl)); report = refl }
+worked_member = record { whole = (search rules, search (rules, dead_member)); report = refl }
 
 pub member_before : is_member forgot_member 2 1 ≡ true
 member_before = refl
@@ -207,9 +175,6 @@ plan_token = plan_with [] (
     ∷ Unregister x r t ∷ Say x ∷ Let s NoLiteral ∷ Collect ∷ [])
     ∷ []
     )
-
-abbrev pub into_token : Receivers
-into_token = receivers plan_token.jobs
 
 abbrev pub forgot_token : History
 forgot_token =
@@ -228,15 +193,12 @@ forgot_token =
 abbrev pub closed_token : History
 closed_token = Closed ∷ JobEnded ∷ Taken 1 (Number (pos 5)) ∷ CleanupBegun 1 ∷ JobEnded ∷ Emptied (2 ∷ []) ∷ forgot_token
 
-pub dead_token : AreDead into_token forgot_token (2 ∷ [])
-dead_token = dead_by into_token forgot_token (1 ∷ 3 ∷ []) (2 ∷ []) refl (by_variable into_token forgot_token r 1 refl, (by_variable into_token forgot_token t 3 refl, tt))
-
-follows_token : Follows [] plan_token forgot_token
-follows_token = search rules
+pub dead_token : AreDead (receivers plan_token.jobs) forgot_token (2 ∷ [])
+dead_token = dead_but plan_token forgot_token (r ∷ t ∷ []) (2 ∷ []) refl
 
 pub worked_token : IsWorked [] plan_token closed_token (codes "agent a\nsay true\nemptied 1\ncleanup 1 held 5\nend live 0 awaiting 0 unregistered 1 taken 1\n")
 unfolding digits
-worked_token = record { whole = (search rules, ((tt, (tt, (refl, (refl, (tt, ((refl, dead_token), follows_token)))))), refl)); report = refl }
+worked_token = record { whole = (search rules, search (rules, dead_token)); report = refl }
 
 -- A symbol is not its own held value; a registered one is no target and no token
 
@@ -286,12 +248,12 @@ undefined_for_a_symbol : IsUnlawful plan_target begun_second (Did (Deref x w, Ob
 undefined_for_a_symbol l = cc
 
 -- the symbol goes while KeptAlive has it
-empties_the_kept : AreDead into_target forgot_target (1 ∷ []) → ⊥
-empties_the_kept d = other_set into_target forgot_target (1 ∷ []) [] 1 d kept_target refl refl
+empties_the_kept : AreDead (receivers plan_target.jobs) forgot_target (1 ∷ []) → ⊥
+empties_the_kept d = other_set (receivers plan_target.jobs) forgot_target (1 ∷ []) [] 1 d kept_target refl refl
 
 -- or while it leads to what is under it
-empties_the_value : AreDead into_key forgot_value (2 ∷ []) → ⊥
-empties_the_value d = other_set into_key forgot_value (2 ∷ []) [] 2 d reached_by_key refl refl
+empties_the_value : AreDead (receivers plan_key.jobs) forgot_value (2 ∷ []) → ⊥
+empties_the_value d = other_set (receivers plan_key.jobs) forgot_value (2 ∷ []) [] 2 d reached_by_key refl refl
 
 -- a symbol that is a member is asked in vain
 denies_the_member : IsUnlawful plan_member joined (Did (WeakSetHas x w s, Object 2 ∷ SymbolValue 1 ∷ [], Gives (Boolean false)))

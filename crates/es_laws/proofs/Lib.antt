@@ -26,5 +26,6 @@ pub mod ExampleCleanups
 pub mod ExampleRegistryNeighbours
 pub mod ExampleNeighbours
 pub mod ExampleBuffers
+pub mod ExampleNumbers
 pub mod ExampleMessages
 pub mod ExampleMessageNeighbours

@@ -29,14 +29,9 @@ still_under p q same is none = false≢true (sym none ∙ ap is_under_way same �
 
 none_next : (over : Buffers) (plan : AgentPlan) (h : History) (at : Phase) (e : Event) → Comes over (receivers plan.jobs) plan h at e → phase h ≡ at → (is_under_way at ≡ false → snapshot h ≡ None)
     → is_under_way (phase (e ∷ h)) ≡ false → snapshot (e ∷ h) ≡ None
-none_next over plan h at _ (begins_job k j b none is same) here before off = cc
-none_next over plan h at _ (begins_handed k i same) here before off = cc
 none_next over plan h at _ (receives j s v b none is on room) here before off = before (ap is_under_way b)
 none_next over plan h at _ (skips k j s b none is on same) here before off = before (ap is_under_way b)
-none_next over plan h at _ (refuses_message j code b none is on same) here before off = cc
-none_next over plan h at _ (begins_cleanup q rs b is) here before off = cc
 none_next over plan h at _ (does d cs vs a i is) here before off = absurd (still_under (phase h) inside (here ∙ i) refl off)
-none_next over plan h at _ (refuses d cs code i is) here before off = cc
 none_next over plan h at _ (empties_dead d cs ids i is co dead) here before off = refl
 none_next over plan h at _ (takes m v i is next) here before off = absurd (still_under (phase h) inside (here ∙ i) refl off)
 none_next over plan h at _ (ends i is none shut) here before off = shut
@@ -44,6 +39,7 @@ none_next over plan h at _ (stops s shut) here before off = shut
 none_next over plan h at _ (finishes ids i is none fin) here before off = refl
 none_next over plan h at _ (finishes_stopped ids s fin) here before off = refl
 none_next over plan h at _ (closes b none) here before off = before (ap is_under_way b)
+none_next over plan h at _ _ here before off = cc
 
 pub none_open : (over : Buffers) (plan : AgentPlan) (h : History) → Follows over plan h → is_under_way (phase h) ≡ false → snapshot h ≡ None
 none_open over plan [] f off = refl
@@ -68,13 +64,11 @@ shut_next over plan h at _ (does d cs vs a i is) here off calm before r e =
     let none : list_any opens_or_collects (d ∷ cs) ≡ false = ap (list_any opens_or_collects) (sym is) ∙ calm r e in
     not_opened d vs a h (or_parts (opens_or_collects d) (list_any opens_or_collects cs) none).0 ∙ before r e
 shut_next over plan h at _ (refuses d cs code i is) here off calm before r e = before r e
-shut_next over plan h at _ (empties_dead d cs ids i is co dead) here off calm before r e = refl
 shut_next over plan h at _ (takes m v i is next) here off calm before r e = before r e
 shut_next over plan h at _ (ends i is none shut) here off calm before r e = shut
 shut_next over plan h at _ (stops s shut) here off calm before r e = shut
-shut_next over plan h at _ (finishes ids i is none fin) here off calm before r e = refl
-shut_next over plan h at _ (finishes_stopped ids s fin) here off calm before r e = refl
 shut_next over plan h at _ (closes b none) here off calm before r e = off (ap is_under_way b)
+shut_next over plan h at _ _ here off calm before r e = refl
 
 pub none_in_cleanup : (over : Buffers) (plan : AgentPlan) (h : History) (r : ℕ) → callbacks_collect_nothing plan ≡ true → Follows over plan h → cleaning h ≡ Some r → snapshot h ≡ None
 none_in_cleanup over plan [] r all f is = refl
@@ -84,21 +78,14 @@ none_in_cleanup over plan (e ∷ h) r all f is =
 -- At the end of a run
 
 end_next : (over : Buffers) (plan : AgentPlan) (h : History) (at : Phase) (e : Event) → Comes over (receivers plan.jobs) plan h at e → phase h ≡ at → phase (e ∷ h) ≡ ended → (queue (e ∷ h) ≡ []) × (cleaning (e ∷ h) ≡ None)
-end_next over plan h at _ (begins_job k j b none is same) here last = cc
-end_next over plan h at _ (begins_handed k i same) here last = cc
-end_next over plan h at _ (receives j s v b none is on room) here last = cc
 end_next over plan h at _ (skips k j s b none is on same) here last = let clash : between ≡ ended = sym (here ∙ b) ∙ last in cc
-end_next over plan h at _ (refuses_message j code b none is on same) here last = cc
-end_next over plan h at _ (begins_cleanup q rs b is) here last = cc
 end_next over plan h at _ (does d cs vs a i is) here last = let clash : inside ≡ ended = sym (here ∙ i) ∙ last in cc
-end_next over plan h at _ (refuses d cs code i is) here last = cc
 end_next over plan h at _ (empties_dead d cs ids i is co dead) here last = let clash : inside ≡ ended = sym (here ∙ i) ∙ last in cc
 end_next over plan h at _ (takes m v i is next) here last = let clash : inside ≡ ended = sym (here ∙ i) ∙ last in cc
-end_next over plan h at _ (ends i is none shut) here last = cc
-end_next over plan h at _ (stops s shut) here last = cc
 end_next over plan h at _ (finishes ids i is none fin) here last = let clash : inside ≡ ended = sym (here ∙ i) ∙ last in cc
 end_next over plan h at _ (finishes_stopped ids s fin) here last = let clash : stopped ≡ ended = sym (here ∙ s) ∙ last in cc
 end_next over plan h at _ (closes b none) here last = (none, between_clean h (here ∙ b))
+end_next over plan h at _ _ here last = cc
 
 pub nothing_left : (over : Buffers) (plan : AgentPlan) (h : History) → IsWholeRunOver over plan h → (snapshot h ≡ None) × (queue h ≡ []) × (cleaning h ≡ None)
 nothing_left over plan h run =

@@ -94,9 +94,6 @@ pub record Counted (m : ℕ) (l : Ledger) (counts : List ℕ) (tickets released 
   pub gone : released ≡ released_below m l
   pub fewer : released ≤ m
 
-pub none_yet : (l : Ledger) → Counted 0 l [] 0 0
-none_yet l = record { size = refl; each = λ k less. absurd (omega arith); total = refl; below = refl; gone = refl; fewer = omega arith }
-
 -- a block that was made is released where it has no ticket
 released_at : (l : Ledger) (m : ℕ) → m < opened l → is_released l (m + 1) ≡ (count l (m + 1) == 0)
 released_at l m within = step (is_opened l (m + 1)) made

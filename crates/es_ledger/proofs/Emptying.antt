@@ -4,7 +4,6 @@ use Rattle.std.proofs.lemmas.Bool.{eqb-true, false≢true, and_parts, and_from}
 use Rattle.std.specs.Prelude.{slice_get, slice_index_or, is_some, map, nat_lt}
 use Rattle.std.proofs.lemmas.Bool.Decides.{nat_tests}
 use Rattle.std.specs.Option.{option_and_then}
-use Rattle.es_value.specs.declared.value.Value.{Value}
 use Rattle.es_event.specs.declared.ledger_event.Body.{Body}
 use Rattle.es_event.specs.declared.ledger_event.Body.TheVariants.{Plain as PlainBody, Block as BlockBody}
 use Rattle.es_event.specs.declared.ledger_event.LedgerEvent.{LedgerEvent}
@@ -15,7 +14,7 @@ use Rattle.es_event.specs.Rows.{moved}
 use Rattle.es_event.specs.Ledger.{Ledger, opened, count, port_of, front, serial_in, is_at, ended}
 use Rattle.es_event.specs.LegalLedger.{ComesNext, LegalSoFar, has_message, all_ended, owed}
 use Rattle.es_ledger.specs.declared.message.Letter.{Letter}
-use Rattle.es_ledger.specs.declared.message.Letter.TheVariants.{Plain, Block}
+use Rattle.es_ledger.specs.declared.message.Letter.TheVariants.{Block}
 use Rattle.es_ledger.specs.Blocks.{tickets_at, lost}
 use Rattle.es_ledger.specs.Letters.{body_of}
 use Rattle.es_ledger.specs.Ports.{QueueView, no_queue, letters_at}
@@ -23,26 +22,10 @@ use Rattle.std.proofs.lemmas.List.{get_or_past}
 use Rattle.es_ledger.specs.Draining.{drained_one, drained_each, drained_to, drained_below}
 use Rattle.es_ledger.specs.Ties.{Columns, LedgerTies}
 use Rattle.es_ledger.proofs.Mail.{mail_same, mail_popped, waiting_same}
-use Rattle.es_ledger.proofs.Tying.{left_same, still_ties, less_ties}
+use Rattle.es_ledger.proofs.Tying.{left_same, less_ties}
 use Rattle.es_ledger.proofs.Lain.{front_is, ticket_line, drained_count, drained_length}
 
 -- One message
-
-pub drained_plain_ties : {L : Type 0} (n : ℕ) (l : Ledger) (k : Columns L) (queues : List (QueueView L)) (number more s r : ℕ) (v : Value)
-    → LedgerTies n l k → s < n → r < n → all_ended l n ≡ true
-    → length queues ≡ length k.queues → letters_at k.queues s r ≡ Plain v ∷ letters_at queues s r → ((t u : ℕ) → u < 8 → (t ≡ s → u ≡ r → ⊥) → letters_at queues t u ≡ letters_at k.queues t u)
-    → k.messages ≡ 1 + number → k.places ≤ more + 1
-    → LedgerTies n (Drained s r ∷ l) (record k { queues = queues; messages = number; places = more })
-drained_plain_ties n l k queues number more s r v ties sender receiver over columns here others one last =
-    let few = ties.few in
-    let column : r < 8 = omega (arith, few, receiver) in
-    let at_front = front_is n l k.waits k.queues s r (Plain v) (letters_at queues s r) ties.mail sender column here in
-    let waits = waiting_same l (Drained s r) n (λ a. refl) in
-    let room = ties.room in
-    still_ties n l k _ (Drained s r) ties (over, ap is_some at_front) (ap (option_and_then serial_in) at_front)
-    ties.tabled (zero-add (opened l)) (λ b. refl) (λ b. refl) (λ b. refl) (λ b i. refl)
-    refl refl (mail_popped n l k.waits k.waits k.queues queues s r (Plain v) (Drained s r) ties.mail columns here others (λ t u. refl) refl ties.mail.awaited (λ c t within is. is))
-    (omega (arith, waits, room, one, last))
 
 -- its ticket is still there, and there is room for its spending
 pub drained_there : {L : Type 0} (n : ℕ) (l : Ledger) (k : Columns L) (s r : ℕ) (x : Row) (rest : List (Letter L))
@@ -98,21 +81,6 @@ drained_block_ties n l k queues number middle more s r x ties sender receiver ov
 the_front : (p : List Body) → is_some (slice_get p 0) ≡ true → (m : Body) × (p ≡ m ∷ drop 1 p)
 the_front [] e = cc
 the_front (m ∷ p) e = (m, refl)
-
--- a message is there, so the queue has a letter
-pub not_empty : {L : Type 0} (n : ℕ) (l : Ledger) (k : Columns L) (s r : ℕ)
-    → LedgerTies n l k → s < n → r < n → has_message l s r ≡ true → letters_at k.queues s r ≡ [] → ⊥
-not_empty n l k s r ties sender receiver there none =
-    let few = ties.few in
-    let empty = sym (ties.mail.ports s r sender (omega (arith, few, receiver))) ∙ ap (map body_of) none in
-    false≢true (sym (ap (λ p. is_some (slice_get p 0)) empty) ∙ there)
-
-pub front_of : {L : Type 0} (n : ℕ) (l : Ledger) (k : Columns L) (s r : ℕ) (x : Letter L) (rest : List (Letter L)) (m : Body)
-    → LedgerTies n l k → s < n → r < n → letters_at k.queues s r ≡ x ∷ rest → front l s r ≡ Some m → m ≡ body_of x
-front_of n l k s r x rest m ties sender receiver is at =
-    let few = ties.few in
-    let is_x = front_is n l k.waits k.queues s r x rest ties.mail sender (omega (arith, few, receiver)) is in
-    cc
 
 -- Histories
 

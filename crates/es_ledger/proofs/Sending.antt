@@ -199,10 +199,6 @@ taken_tickets : {L : Type 0} (n : ℕ) (l : Ledger) (ws : List (Option ℕ)) (qs
 taken_tickets n l ws qs s r (Plain v) rest legal mail sender receiver is = refl
 taken_tickets n l ws qs s r (Block t) rest legal mail sender receiver is = taken_unspent n l s r r t legal (ticket_line n l ws qs s r t rest legal mail sender receiver is)
 
-pub taken_room : {L : Type 0} (n : ℕ) (l : Ledger) (k : Columns L) (number : ℕ)
-    → LedgerTies n l k → k.messages ≡ 1 + number → 0 < k.places
-taken_room n l k number ties one = let room = ties.room in omega (arith, room, one)
-
 pub taken_ties : {L : Type 0} (n : ℕ) (l : Ledger) (k : Columns L) (queues : List (QueueView L)) (number more s r : ℕ) (x : Letter L)
     → LedgerTies n l k → s < n → r < n
     → length queues ≡ length k.queues → letters_at k.queues s r ≡ x ∷ letters_at queues s r → ((t u : ℕ) → u < 8 → (t ≡ s → u ≡ r → ⊥) → letters_at queues t u ≡ letters_at k.queues t u)

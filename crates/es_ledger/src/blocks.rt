@@ -1,12 +1,12 @@
 //! The blocks of a ledger: the words of each, and how many tickets of it are not spent.
 
 ghost use Rattle.std.specs.Prelude.{◌≡◌, ◌<◌, ◌^◌, ◌≤◌, ◌+◌, ◌-◌, ◌++◌, ◌∷◌, [], ◌↔◌, IsTrue, length, replicate, IfOk, OnOk, Some};
-ghost use Rattle.es_event.specs.Access.{IsStorable, written};
+ghost use Rattle.es_event.specs.Access.{IsStorable, change_by, written};
 ghost use Rattle.es_block.specs.Words.{word};
 ghost use Rattle.es_ledger.specs.Blocks.{tickets_at, words_at, lost, gained, with_written, words_written};
 
 use es_block::Block;
-use es_event::Change;
+use es_event::{Change, Edit};
 use es_value::NoMemory;
 use std::alloc::Global;
 use std::marker::Model;
@@ -83,15 +83,20 @@ impl Blocks {
         }
     }
 
-    /// Does this to the word at an index of a block that is not released, and gives the word that was there.
-    pub fn change(&mut self, number: u64, index: usize, change: Change) -> u32
+    /// Does this to the word at an index of a block that is not released, and gives the word that was there, and what
+    /// became of it.
+    pub fn edit(&mut self, number: u64, index: usize, edit: Edit) -> (u32, Change)
         requires { index < length (words_at self.old.all number) }
-        ensures was { result ≡ word (words_at self.old.all number) index }
-        ensures now { self.new.all ≡ with_written self.old.all number index (written change (word (words_at self.old.all number) index)) }
-        ensures fits { IsStorable change }
+        ensures was { result.0 ≡ word (words_at self.old.all number) index }
+        ensures becomes { result.1 ≡ change_by edit result.0 }
+        ensures now { self.new.all ≡ with_written self.old.all number index (written result.1 (word (words_at self.old.all number) index)) }
+        ensures fits { IsStorable result.1 }
     {
         match &mut self.all[number as usize - 1].words {
-            Some(words) => change_word(words, index, change),
+            Some(words) => {
+                let change = edit.on(words.load(index));
+                (change_word(words, index, change), change)
+            }
             None => unreachable!(),
         }
     }

@@ -4,6 +4,7 @@ ghost use Rattle.std.specs.Prelude.{◌≡◌, ◌<◌, ◌≤◌, ◌+◌, ◌^
 ghost use Rattle.std.specs.List.{Contains};
 ghost use Rattle.es_ticket.specs.Stakes.{StakeView, erase};
 ghost use Rattle.es_event.specs.declared.row.Row.{Row};
+ghost use Rattle.es_event.specs.Access.{change_by};
 ghost use Rattle.es_event.specs.Rows.{row, held};
 ghost use Rattle.es_event.specs.Ledger.{opened, serials, table, count, word as word_at, ended, holder_of};
 ghost use Rattle.es_event.specs.LegalLedger.{LegalLedger};
@@ -13,7 +14,7 @@ ghost use Rattle.es_event.specs.declared.ledger_event.LedgerEvent.TheVariants.{O
 use crate::blocks::Blocks;
 use crate::ports::Ports;
 use es_block::Block;
-use es_event::{Change, LedgerEvent, Log};
+use es_event::{Change, Edit, LedgerEvent, Log};
 use es_ticket::{LedgerName, Opened, Rows, Stake, Ticket};
 use es_value::NoMemory;
 use std::alloc::Global;
@@ -148,20 +149,19 @@ impl<L: LedgerName> LedgerCore<L> {
         self.rows.look(stake);
     }
 
-    /// Does this to the word at an index through a ticket, and gives the word that was there (ECMA-262,
-    /// Atomics.load, store and add). Where there is no memory nothing has changed. The block is never
-    /// found gone.
-    pub fn access(
+    /// Does this to the word at an index through a ticket, and gives the word that was there (ECMA-262, The
+    /// Atomics Object). Where there is no memory nothing has changed. The block is never found gone.
+    pub fn edit(
         &mut self,
         stake: &mut Stake<L>,
         ticket: &Ticket<L>,
         index: usize,
-        change: Change,
+        edit: Edit,
     ) -> Result<u32, NoMemory>
         requires here { Contains stake.old.rows ticket.now }
         requires inside { index < ticket.now.words }
         ensures word { IfOk result (λ w. w ≡ word_at self.old.history ticket.now.block index) }
-        ensures history { IfOk result (λ w. (self.new.agents ≡ self.old.agents) × (self.new.history ≡ Accessed ticket.now.serial index change w ∷ self.old.history)) }
+        ensures history { IfOk result (λ w. (self.new.agents ≡ self.old.agents) × (self.new.history ≡ Accessed ticket.now.serial index (change_by edit w) w ∷ self.old.history)) }
         ensures there { 0 < count self.old.history ticket.now.block }
         ensures stake { stake.new ≡ stake.old }
         ensures err { OnErr result (self.new ≡ self.old) }
@@ -169,7 +169,7 @@ impl<L: LedgerName> LedgerCore<L> {
         self.rows.look(stake);
         let agents = self.ended.as_slice().len();
         make_room(&mut self.history, &self.rows, &self.ports, agents, 1)?;
-        let old = self.blocks.change(ticket.block(), index, change);
+        let (old, change) = self.blocks.edit(ticket.block(), index, edit);
         self.history.append(LedgerEvent::Accessed {
             serial: ticket.serial(),
             index,
@@ -179,7 +179,7 @@ impl<L: LedgerName> LedgerCore<L> {
         Ok(old)
     }
 
-    /// Reads a word through a ticket (ECMA-262, Atomics.load), as `access` does.
+    /// Reads a word through a ticket (ECMA-262, Atomics.load), as `edit` does.
     pub fn load(
         &mut self,
         stake: &mut Stake<L>,
@@ -194,10 +194,10 @@ impl<L: LedgerName> LedgerCore<L> {
         ensures stake { stake.new ≡ stake.old }
         ensures err { OnErr result (self.new ≡ self.old) }
     {
-        self.access(stake, ticket, index, Change::Keep)
+        self.edit(stake, ticket, index, Edit::Plain(Change::Keep))
     }
 
-    /// Writes a word through a ticket (ECMA-262, Atomics.store), as `access` does.
+    /// Writes a word through a ticket (ECMA-262, Atomics.store), as `edit` does.
     pub fn store(
         &mut self,
         stake: &mut Stake<L>,
@@ -212,12 +212,12 @@ impl<L: LedgerName> LedgerCore<L> {
         ensures stake { stake.new ≡ stake.old }
         ensures err { OnErr result (self.new ≡ self.old) }
     {
-        self.access(stake, ticket, index, Change::Write(word))?;
+        self.edit(stake, ticket, index, Edit::Plain(Change::Write(word)))?;
         Ok(())
     }
 
     /// Adds to a word through a ticket, modulo 2^32, and gives the word that was there (ECMA-262,
-    /// Atomics.add), as `access` does.
+    /// Atomics.add), as `edit` does.
     pub fn add(
         &mut self,
         stake: &mut Stake<L>,
@@ -233,7 +233,7 @@ impl<L: LedgerName> LedgerCore<L> {
         ensures stake { stake.new ≡ stake.old }
         ensures err { OnErr result (self.new ≡ self.old) }
     {
-        self.access(stake, ticket, index, Change::Add(addend))
+        self.edit(stake, ticket, index, Edit::Plain(Change::Add(addend)))
     }
 
     /// An agent that has not ended ends. It takes no memory.

@@ -8,7 +8,7 @@ use Rattle.es_mark.specs.declared.way.Way.{Way}
 use Rattle.es_mark.specs.Ways.{sources, has_way, IsWay, AreOrdered, IsClosed}
 use Rattle.es_mark.specs.Added.{with_way, with_ways, AreAdded}
 use Rattle.es_mark.specs.Search.{IsLed}
-use Rattle.es_mark.proofs.StepLists.{all_mono}
+use Rattle.es_mark.proofs.Lists.{all_mono}
 
 -- What a list has
 

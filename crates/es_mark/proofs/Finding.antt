@@ -9,7 +9,7 @@ use Rattle.es_mark.specs.Finds.{Finds, FindsEntries, has_pair, IsBound}
 use Rattle.es_mark.specs.Added.{AreAdded}
 use Rattle.es_mark.specs.Search.{HasRoom, IsLed}
 use Rattle.es_mark.proofs.Adding.{added_length}
-use Rattle.es_mark.proofs.StepLists.{all_mono}
+use Rattle.es_mark.proofs.Lists.{all_mono}
 
 module _ {leads : Step → ℕ → Type 0} {origin : List ℕ} {found : List Way} (f : Finds leads origin [] found) where
   pub found_fit : (size : ℕ) → HasRoom leads size → AllByRecursion (λ (w : Way). w.value < size) found

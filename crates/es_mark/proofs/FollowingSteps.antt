@@ -12,7 +12,7 @@ use Rattle.es_mark.specs.WaitingEntries.{WaitingEntriesView, waiting_for}
 use Rattle.es_mark.specs.Search.{HasRoom, IsLed, IsWaiting, Covers, Searching, Sorting, Stands, AreEntered, ready, delayed, released}
 use Rattle.es_mark.proofs.Adding.{has_append, has_take, added_more, added_keeps, added_has, added_front, added_length, added_ordered, led_mono}
 use Rattle.es_mark.proofs.Finding.{found_led, found_every, entries_only, entries_every}
-use Rattle.es_mark.proofs.StepLists.{all_mono, all_join}
+use Rattle.es_mark.proofs.Lists.{all_mono, all_join}
 use Rattle.es_mark.proofs.Pairs.{pair_front, pair_back, has_ready, has_delayed, has_released, led_ready, waits_delayed, led_released}
 use Rattle.es_mark.proofs.Sorted.{sorting_followed}
 

@@ -1,7 +1,5 @@
 pub mod Bits
 pub mod CallerLemmas
-pub mod Chaining
-pub mod Drawing
 pub mod Following
 pub mod Listed
 pub mod Lists
@@ -11,13 +9,11 @@ pub mod Whole
 pub mod Adding
 pub mod Beginning
 pub mod Covering
-pub mod DrawingSteps
 pub mod Ending
 pub mod Entering
 pub mod ExampleWays
 pub mod Finding
 pub mod FollowingSteps
-pub mod StepLists
 pub mod Pairs
 pub mod Placing
 pub mod EntryQueues

@@ -1,11 +1,11 @@
 -- The places of ways: of an empty list, and of a list with one more way.
-use Rattle.std.proofs.Common.{◌≡◌, ℕ, ◌+◌, ◌<◌, ◌≤◌, ◌==◌, ◌&&◌, ◌||◌, Bool, true, false, sym, ◌∙◌, ap, subst, arith, zero, suc, List, [], ◌∷◌, ◌++◌, length, take, replicate, nat_lt, nat_le, inl, inr, refl, ◌-◌, Option, None, if◌then◌else◌, slice_get}
+use Rattle.std.proofs.Common.{◌≡◌, ℕ, ◌+◌, ◌<◌, ◌≤◌, ◌==◌, ◌&&◌, ◌||◌, Bool, true, false, sym, ◌∙◌, ap, subst, arith, zero, suc, List, [], ◌∷◌, ◌++◌, length, take, replicate, nat_lt, nat_le, inl, inr, refl}
 use Rattle.std.proofs.Math.ListN.{set, get_or, length-set}
-use Rattle.std.proofs.lemmas.Bool.{cases_Bool, both_ways, and_from, and_left, and_right, eqb-true, eqb-false, lt-ltb, le-ltb, le-leb, ltb-true, ltb-false, false_from_ne_true, or_parts, lt-leb}
+use Rattle.std.proofs.lemmas.Bool.{cases_Bool, both_ways, and_from, and_left, and_right, eqb-true, eqb-false, lt-ltb, le-ltb, le-leb, ltb-true, ltb-false, false_from_ne_true}
 use Rattle.std.proofs.lemmas.Bool.Decides.{nat_tests}
 use Rattle.std.proofs.lemmas.List.{get_or-set_same, get_or-set_other, get_or_past, get_or_read, get_or-replicate, length-replicate, length_push, take_all}
 use Rattle.es_mark.specs.declared.way.Way.{Way}
-use Rattle.es_mark.specs.Ways.{has_way, way_of}
+use Rattle.es_mark.specs.Ways.{has_way}
 use Rattle.es_mark.specs.Placed.{free, ArePlaced}
 use Rattle.es_mark.proofs.Adding.{has_take}
 
@@ -32,10 +32,6 @@ placed_none n = record {
 }
 
 -- Tests
-
-or_end : (b : Bool) → (b || false) ≡ b
-or_end true = refl
-or_end false = refl
 
 suc_lt : (a b : ℕ) → nat_lt (suc a) (suc b) ≡ nat_lt a b
 suc_lt a b = grind (arith, nat_tests)
@@ -131,53 +127,3 @@ is_past ws places n i d a same l =
 -- among all ways
 pub among_all : (ws : List Way) (n i : ℕ) → n ≡ length ws → has_way (take n ws) i ≡ has_way ws i
 among_all ws n i is = ap (λ (l : List Way). has_way l i) (take_all n ws (omega arith))
-
--- The way at its place
-
-suc_le : (a b : ℕ) → nat_le (suc a) (suc b) ≡ nat_le a b
-suc_le a b = grind (arith, nat_tests)
-
-way_none : (ws : List Way) (i : ℕ) → has_way ws i ≡ false → way_of ws i ≡ None
-way_none [] i e = refl
-way_none (w ∷ ws) i e = let parts = or_parts (w.value == i) (has_way ws i) e in rw parts.0 (way_none ws i parts.1)
-
-way_some : (ws : List Way) (i k : ℕ) → ((d : ℕ) → has_way (take d ws) i ≡ nat_le (suc k) d) → slice_get ws k ≡ way_of ws i
-way_some [] i k each = absurd (both_ways (nat_le (suc k) (suc k)) (sym (each (suc k))) (le-leb (suc k) (suc k) (omega arith)))
-way_some (w ∷ ws) i zero each =
-    let is : (w.value == i) ≡ true = sym (or_end (w.value == i)) ∙ each 1 ∙ le-leb 1 1 (omega arith) in
-    rw is refl
-way_some (w ∷ ws) i (suc k) each =
-    let is : (w.value == i) ≡ false = sym (or_end (w.value == i)) ∙ each 1 ∙ lt-leb (suc (suc k)) 1 (omega arith) in
-    let rest : (d : ℕ) → has_way (take d ws) i ≡ nat_le (suc k) d = λ d. (rw is at (each (suc d))) ∙ suc_le (suc k) d in
-    rw is (way_some ws i k rest)
-
-module _ (ws : List Way) (places : List ℕ) (a : ArePlaced ws places) (i p : ℕ) (here : p ≡ get_or places i 0) where
-  at_none : p ≡ 0 → has_way ws i ≡ false
-  at_none none =
-      sym (among_all ws (length ws) i refl) ∙ a.placed i (length ws)
-      ∙ ap (λ (q : ℕ). nat_lt 0 q && nat_le q (length ws)) (sym here ∙ none)
-
-  at_some : 0 < p → (d : ℕ) → has_way (take d ws) i ≡ nat_le (suc (p - 1)) d
-  at_some positive d =
-      let next : p ≡ suc (p - 1) = omega arith in
-      a.placed i d ∙ ap (λ (q : ℕ). nat_lt 0 q && nat_le q d) (sym here) ∙ ap (λ (b : Bool). b && nat_le p d) (lt-ltb 0 p positive) ∙ ap (λ (q : ℕ). nat_le q d) next
-
-  way_at_place : (if p == 0 then None else slice_get ws (p - 1)) ≡ way_of ws i
-  way_at_place = elim (cases_Bool (p == 0)) [
-    | inl s ↦ rw s (sym (way_none ws i (at_none (eqb-true p 0 s))))
-    | inr s ↦
-        let ne : p ≡ 0 → ⊥ = eqb-false p 0 s in
-        rw s (way_some ws i (p - 1) (at_some (omega (arith, ne))))
-  ]
-
-pub is_way : (ws : List Way) (places : List ℕ) (n i place : ℕ) (items : List Way) (r : Option Way) → ArePlaced ws places → n ≡ i → n < length places → place ≡ get_or places n place → items ≡ ws
-    → r ≡ (if place == 0 then None else slice_get items (place - 1)) → r ≡ way_of ws i
-is_way ws places n i place items r a same l is all found =
-    let read : place ≡ get_or places n 0 = get_or_read places n place l is 0 in
-    let here : place ≡ get_or places i 0 = read ∙ ap (λ (j : ℕ). get_or places j 0) same in
-    found ∙ ap (λ (l : List Way). if place == 0 then None else slice_get l (place - 1)) all ∙ way_at_place ws places a i place here
-
-pub no_way : (ws : List Way) (places : List ℕ) (n i : ℕ) → ArePlaced ws places → n ≡ i → length places ≤ n → None ≡ way_of ws i
-no_way ws places n i a same l =
-    let none : get_or places i 0 ≡ 0 = ap (λ (j : ℕ). get_or places j 0) (sym same) ∙ get_or_past places n 0 l in
-    sym (way_none ws i (at_none ws places a i (get_or places i 0) refl none))

@@ -11,7 +11,7 @@ use Rattle.es_mark.specs.WaitingEntries.{WaitingEntriesView}
 use Rattle.es_mark.specs.Search.{IsLed, Searching, Stands, IsNoFarther, AreSorted, Sorting}
 use Rattle.es_mark.proofs.Adding.{has_append, led_mono}
 use Rattle.es_mark.proofs.Covering.{covered}
-use Rattle.es_mark.proofs.StepLists.{all_mono, all_join}
+use Rattle.es_mark.proofs.Lists.{all_mono, all_join}
 
 -- what holds of the value of each way holds of a value that has one
 pub way_at : (P : ℕ → Type 0) (ws : List Way) (i : ℕ) → AllByRecursion (λ w. P w.value) ws → has_way ws i ≡ true → P i

@@ -1,5 +1,5 @@
 -- Steps of marking, one alone and one after another.
-use Rattle.std.proofs.Common.{◌≡◌, ℕ, ◌==◌, Bool, true, false, sym, ◌∙◌, ap, List, [], ◌∷◌, ◌++◌, inl, inr, refl, Some, None}
+use Rattle.std.proofs.Common.{◌≡◌, ℕ, ◌==◌, Bool, true, false, sym, ◌∙◌, ap, List, [], ◌∷◌, ◌++◌, inl, inr, refl, Some}
 use Rattle.std.specs.List.{AllByRecursion}
 use Rattle.std.proofs.lemmas.Bool.{cases_Bool, eqb-true, eqb-false, eq-eqb, ne_eqb}
 use Rattle.std.proofs.lemmas.List.{append-nil, append_assoc}
@@ -77,10 +77,6 @@ step_more P xs ys a u b v c w p q =
 
 same_identity : (v : Value) (i j : ℕ) → identity v ≡ Some i → identity v ≡ Some j → j ≡ i
 same_identity v i j e f = let g : Some i ≡ Some j = sym e ∙ f in cc
-
--- it has none
-pub step_plain : (e : ℕ × Value) (order : List ℕ) (waiting : WaitingView) → identity e.1 ≡ None → IsStep (HasValues (e ∷ [])) order waiting order waiting
-step_plain e order waiting none = step_none (HasValues (e ∷ [])) order waiting (λ t. (λ _ i some. cc, tt))
 
 -- the map is marked
 pub step_entered : (e : ℕ × Value) (i : ℕ) (marks : List Bool) (old new : List ℕ) (waiting : WaitingView) → identity e.1 ≡ Some i → IsListed marks old → is_marked marks e.0 ≡ true

@@ -1,6 +1,4 @@
 pub mod Bits
-pub mod Chained
-pub mod Drawn
 pub mod Graph
 pub mod Listed
 pub mod Made
@@ -13,4 +11,3 @@ pub mod Added
 pub mod Placed
 pub mod WaitingEntries
 pub mod Search
-pub mod DrawnSteps

@@ -1,5 +1,5 @@
 -- To believe: ways to values: one to each that steps lead to, each after those that it comes from (ECMA-262, Execution; WeakMap Objects).
-use Rattle.std.specs.Prelude.{ℕ, ◌≡◌, ◌==◌, ◌||◌, Bool, true, false, List, [], ◌∷◌, ◌++◌, zero, suc, Option, Some, None, if◌then◌else◌, ⊤}
+use Rattle.std.specs.Prelude.{ℕ, ◌≡◌, ◌==◌, ◌||◌, Bool, true, false, List, [], ◌∷◌, ◌++◌, zero, suc, ⊤}
 use Rattle.std.specs.List.{AllByRecursion}
 use Rattle.es_mark.specs.declared.step.Step.{Step}
 use Rattle.es_mark.specs.declared.step.Step.TheVariants.{Variable, Kept, Registry, Held, Property, Entry}
@@ -18,11 +18,6 @@ sources (Entry m k) = m ∷ k ∷ []
 abbrev pub has_way : List Way → ℕ → Bool
 has_way [] i = false
 has_way (w ∷ ws) i = (w.value == i) || has_way ws i
-
--- the way to i, if there is one
-abbrev pub way_of : List Way → ℕ → Option Way
-way_of [] i = None
-way_of (w ∷ ws) i = if w.value == i then Some w else way_of ws i
 
 -- the step leads to the value, from values of earlier ways, and no earlier way is to this value
 pub record IsWay (leads : Step → ℕ → Type 0) (before : List Way) (w : Way) : Type 0 where

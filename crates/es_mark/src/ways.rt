@@ -1,10 +1,9 @@
 //! The ways that are found so far.
 
-ghost use Rattle.std.specs.Prelude.{◌≡◌, ◌<◌, ◌∷◌, ◌++◌, ◌&&◌, [], length, nat_lt, nat_le, take, slice_get, None, ◌==◌, ◌-◌, if◌then◌else◌, IfOk, OnOk, OnErr};
+ghost use Rattle.std.specs.Prelude.{◌≡◌, ◌<◌, ◌∷◌, ◌++◌, ◌&&◌, [], length, nat_lt, nat_le, take, IfOk, OnOk, OnErr};
 ghost use Rattle.std.specs.List.{AllByRecursion};
-ghost use Rattle.std.specs.Option.{option_copied};
 ghost use Rattle.std.proofs.Props.{props};
-ghost use Rattle.es_mark.specs.Ways.{has_way, way_of};
+ghost use Rattle.es_mark.specs.Ways.{has_way};
 ghost use Rattle.es_mark.specs.Added.{AreAdded};
 ghost use Rattle.es_mark.specs.Placed.{ArePlaced};
 
@@ -33,17 +32,6 @@ impl Ways {
             list: Vec::new(alloc),
             places,
         })
-    }
-
-    /// The way to this identity, if there is one. The ways before it, back to the roots, are those of what
-    /// its step comes from.
-    pub fn way_of(&self, id: Id) -> Option<&Way>
-        ensures { option_copied result ≡ way_of self.now.list.items id }
-    {
-        match self.places.get(id.number() as usize) {
-            Some(place) => at_place(self.list.as_slice(), *place),
-            None => None,
-        }
     }
 
     /// Whether one of the first `count` ways is to this identity.
@@ -81,17 +69,6 @@ impl Ways {
         let number = way.value.number() as usize;
         self.places[number] = self.list.len();
         Ok(())
-    }
-}
-
-/// The item at this place, counted from 1.
-fn at_place(items: &[Way], place: usize) -> Option<&Way>
-    ensures { option_copied result ≡ (if place == 0 then None else slice_get items.now (place - 1)) }
-{
-    if place == 0 {
-        None
-    } else {
-        items.get(place - 1)
     }
 }
 

@@ -40,11 +40,6 @@ reverse_on xs i k x h is =
     ∙ ap (λ l. l ++ reverse (take i xs)) (reverse-append (x ∷ []) (take k (drop (i + 1) xs)))
     ∙ append_assoc (reverse (take k (drop (i + 1) xs))) (x ∷ []) (reverse (take i xs))
 
-pub reverse_more : {A : Type 0} (xs : List A) (i : ℕ) (x : A) → i < length xs → x ≡ slice_index_or xs i x
-    → reverse (take (i + 1) xs) ≡ x ∷ reverse (take i xs)
-reverse_more xs i x h is = ap reverse (take_more xs i x h) ∙ reverse-append (take i xs) _
-    ∙ ap (λ y. y ∷ reverse (take i xs)) (sym is)
-
 -- the whole, from what was passed over, an event and what is left
 whole : {A : Type 0} (xs : List A) (i : ℕ) (x : A) → i < length xs → x ≡ slice_index_or xs i x
     → reverse xs ≡ reverse (drop (suc i) xs) ++ x ∷ reverse (take i xs)
@@ -172,11 +167,6 @@ stepped o k n l e later t qs is step = subst (λ (p : Option ℕ). IsStep p n l 
 pub may_not_come : (o : Option ℕ) (n : ℕ) (l : Ledger) (e : LedgerEvent) (later : List LedgerEvent) (t : LedgerPass) (qs : List (List Stretch)) → o ≡ None
     → IsStep o n l e later t qs → may_come n l (deed l e) ≡ false
 may_not_come o n l e later t qs is step = subst (λ (p : Option ℕ). IsStep p n l e later t qs) is step
-
--- no words follow
-pub none_after : (e : LedgerEvent) → AreWordsAfter e []
-none_after (Accessed s i m old) = tt
-none_after _ = refl
 
 -- a step stays within the history
 pub within_all : (xs later : List LedgerEvent) (i k : ℕ) (o : Option ℕ) → o ≡ Some k → IfSome o (λ j. j ≤ length later) → later ≡ drop (i + 1) xs → i < length xs

@@ -11,7 +11,7 @@ use Rattle.es_event.specs.declared.event.Refusal.{Refusal}
 use Rattle.es_event.specs.declared.event.Refusal.TheVariants.{TooManyValues}
 use Rattle.es_event.specs.declared.event.Event.{Event}
 use Rattle.es_event.specs.declared.event.Event.TheVariants.{JobBegun, CleanupBegun, Received, Did, Refused, Emptied, Taken, JobEnded, Skipped, Closed}
-use Rattle.es_event.specs.Access.{access_of}
+use Rattle.es_event.specs.Numbers.{access_of, index_of}
 use Rattle.es_event.specs.Commands.{first, second}
 use Rattle.es_event.specs.History.{History}
 
@@ -58,7 +58,7 @@ abbrev pub asks_did : Command → List Value → Answer → Asking
 asks_did (SharedArrayBuffer to n) vs r = to_open n (given r)
 asks_did (Length to b) vs r = to_measure (first vs) (given r)
 asks_did (SameBlock to b c) vs r = to_compare (first vs) (second vs) (given r)
-asks_did (Atomic a) vs r = to_access (first vs) a.index (access_of a.operation) (given r)
+asks_did (Atomic a) vs r = to_access (first vs) (index_of a vs) (access_of a vs) (given r)
 asks_did (Post a y) vs r = to_post a (first vs)
 asks_did _ vs r = nothing
 

@@ -9,7 +9,7 @@ use Rattle.es_event.specs.declared.access.Access.{Access}
 use Rattle.es_event.specs.declared.ledger_event.Body.{Body}
 use Rattle.es_event.specs.declared.ledger_event.Body.TheVariants.{Plain, Block}
 use Rattle.es_event.specs.declared.row.Row.{Row}
-use Rattle.es_event.specs.Access.{is_same_change}
+use Rattle.es_event.specs.Access.{change_by, is_same_change}
 use Rattle.es_event.specs.Identities.{is_in, object_of}
 use Rattle.es_event.specs.Rows.{row}
 use Rattle.es_event.specs.Sharing.{row_of}
@@ -54,7 +54,7 @@ abbrev pub answers : Access → Value → ℕ → Bool
 answers m v old = not m.gives_word || is_number v old
 
 abbrev pub is_access : Tickets → Value → ℤ → Access → Value → Deed → Bool
-is_access t b i m v (Accesses s j done old) = is_ticket t b s && (same_index i j && (is_same_change m.change done && answers m v old))
+is_access t b i m v (Accesses s j done old) = is_ticket t b s && (same_index i j && (is_same_change (change_by m.edit old) done && answers m v old))
 is_access t b i m v _ = false
 
 -- the message carries the value, or the block of the buffer

@@ -94,7 +94,7 @@ pub(crate) fn is_access(
         } => {
             is_ticket(tickets, buffer, *serial)
                 && same_index(at, *index)
-                && access.change.is_same(*change)
+                && access.edit.on(*old).is_same(*change)
                 && answers(access, answer, *old)
         }
         _ => false,

@@ -175,8 +175,8 @@ fn want_of<'a>(command: &Command, values: &'a [Value], answer: Option<&'a Value>
         },
         Command::Atomic(atomic) => Want::Accessing {
             buffer: first(values),
-            index: atomic.index(),
-            access: atomic.access(),
+            index: atomic.index_of(values),
+            access: atomic.access_of(values),
             answer,
         },
         Command::Post { receiver, .. } => Want::Posting {

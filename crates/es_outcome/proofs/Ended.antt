@@ -1,7 +1,5 @@
 -- What agents that ran beside each other came to.
 use Rattle.std.proofs.Common.{◌≡◌, ℕ, ◌<◌, List, [], ◌∷◌, refl, map, reverse, length, sym, ap, ◌∙◌, subst, arith, true, false}
-use Rattle.std.specs.List.{AllByRecursion}
-use Rattle.es_event.specs.declared.event.Event.{Event}
 use Rattle.es_event.specs.declared.outcome.Outcome.{Outcome}
 use Rattle.es_event.specs.declared.plan.Plan.{Plan}
 use Rattle.es_event.specs.Ledger.{Ledger, count, port_of, table}
@@ -10,13 +8,12 @@ use Rattle.es_event.specs.Rows.{held}
 use Rattle.es_ledger.proofs.Mailed.{none_counted}
 use Rattle.es_ledger.specs.LedgerView.{LedgerView}
 use Rattle.es_match.proofs.Accounts.{as_cluster}
-use Rattle.es_event.specs.Runs.{AreWholeRuns, IsOutcome, IsWholeRun}
-use Rattle.es_match.specs.Cluster.{Account, HaveCome, IsCluster, IsClusterOf}
+use Rattle.es_match.specs.Cluster.{HaveCome, IsCluster, IsClusterOf}
 use Rattle.es_record.specs.AgentView.{AgentView}
 use Rattle.es_registry.specs.declared.slot.Tally.{Tally}
 use Rattle.es_report.specs.Tallies.{AreTallies, end_tally}
 use Rattle.es_cluster.proofs.Ended.{there}
-use Rattle.es_cluster.specs.Ends.{AreHistories, HaveNoTicket, IsWhole}
+use Rattle.es_cluster.specs.Ends.{AreHistories, HaveNoTicket}
 use Rattle.es_cluster.specs.State.{accounts, plans}
 use Rattle.es_outcome.specs.Outcomes.{IsClusterOutcome, at_last}
 use Rattle.es_outcome.specs.Places.{AreAtPlaces, ArePlanned, SomeGoesOn}
@@ -72,19 +69,3 @@ pub not_told : (bs : List AgentView) (l : LedgerView) (o : Outcome) → AreHisto
     → IsClusterOf (accounts bs) (at_last l) → ⊥
 not_told bs l o histories ledger never cluster =
     never (subst (λ hs. IsTold hs (reverse o.ledger) (map said_by bs)) (sym histories.are) (subst (λ l. IsTold (map (λ b. b.history) bs) l (map said_by bs)) (sym ledger) (as_told bs (at_last l) cluster)))
-
-whole_runs : (all : List Account) (hs : List (List Event)) → map (λ a. a.history) all ≡ map (λ h. reverse h) hs → AllByRecursion IsWhole all → AreWholeRuns (map (λ a. a.plan) all) hs
-whole_runs [] [] same whole = tt
-whole_runs [] (h ∷ hs) same whole = cc
-whole_runs (a ∷ all) [] same whole = cc
-whole_runs (a ∷ all) (h ∷ hs) same whole =
-    let first : a.history ≡ reverse h = cc in
-    let rest : map (λ a. a.history) all ≡ map (λ h. reverse h) hs = cc in
-    (subst (IsWholeRun a.plan) first (a.over, whole.0.0, whole.0.1), whole_runs all hs rest whole.1)
-
--- the names of the plan, and whole runs of its agents
-pub outcome_in : (p : Plan) (o : Outcome) → IsClusterOutcome p o → IsOutcome p o
-outcome_in p o is = record {
-  names = is.names;
-  runs = subst (λ ps. AreWholeRuns ps o.histories) is.runs.plans_are (whole_runs is.agents o.histories is.runs.histories_are is.runs.whole);
-}

@@ -1,8 +1,6 @@
 -- Agents in order, one after the other, and the plans that they have.
 use Rattle.std.proofs.Common.{◌≡◌, ℕ, zero, suc, ◌<◌, Bool, true, false, List, [], ◌∷◌, Some, map, length, get_or, refl, sym, ap, ◌∙◌, arith, MutBor}
 use Rattle.std.specs.Prelude.{slice_get}
-use Rattle.std.specs.Option.{option_map}
-use Rattle.std.proofs.lemmas.Option.{slice_get-map}
 use Rattle.es_event.specs.declared.plan.AgentPlan.{AgentPlan}
 use Rattle.es_event.specs.declared.plan.Plan.{Plan}
 use Rattle.es_record.specs.AgentView.{AgentView}
@@ -12,10 +10,6 @@ use Rattle.es_cluster.specs.State.{cores, plans}
 use Rattle.es_cluster.specs.Members.{MemberView}
 use Rattle.es_rules.specs.Needs.{asks_nothing, need}
 use Rattle.es_outcome.specs.Places.{AreAtPlaces, ArePlanned}
-
--- the agent of a member at a place
-pub core_at : (ms : List MemberView) (i : ℕ) (m : MemberView) → slice_get ms i ≡ Some m → slice_get (cores ms) i ≡ Some m.core
-core_at ms i m is = slice_get-map (λ m. m.core) ms i ∙ ap (λ o. option_map (λ m. m.core) o) is
 
 -- the same of one that is lent
 pub lent_at : (ms : List (MutBor MemberView)) (i : ℕ) (d : MutBor MemberView) → i < length ms → slice_get (cores (map (λ m. m.now) ms)) i ≡ Some (get_or ms i d).now.core

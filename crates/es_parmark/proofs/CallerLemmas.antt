@@ -69,14 +69,6 @@ module _ (s : SnapshotView) (sound : IsSound s) where
   pub marks_made : (marks : List Bool) → AreMarksOf s marks → (i : ℕ) → is_marked marks i ≡ true → IsNumbered s.made i
   marks_made marks least i e = made_numbered s.made i (least.least (is_made s.made) made_closed i e)
 
--- the marks of the copy are those of its source
-pub marks_serve : {made : ℕ} {roots : (ℕ → Bool) → Type 0} {edges entries : ℕ → (ℕ → Bool) → Type 0} {s : SnapshotView} → IsCopyOf made roots edges entries s → (marks : List Bool) → AreMarksOf s marks
-    → IsLeast roots edges entries marks
-marks_serve {made} {roots} {edges} {entries} {s} c marks least = record {
-  closed = closed_in_source c (is_marked marks) (λ i e. rw (← c.made_same) (marks_made s c.sound marks least i e)) least.closed;
-  least = λ t closed. least.least t (closed_in_copy c t closed);
-}
-
 -- the same with these identities as roots besides its own
 
 module _ (s : SnapshotView) (sound : IsSound s) (more : List ℕ) (good : are_made s.made more ≡ true) (marks : List Bool) (least : AreMarksWith s more marks) where

@@ -9,7 +9,7 @@ use Rattle.es_mark.specs.Graph.{HasAll, HasValues}
 use Rattle.es_mark.specs.Made.{is_made}
 use Rattle.es_mark.specs.Marks.{is_marked}
 use Rattle.es_mark.specs.Listed.{IsListed, IsAdded}
-use Rattle.es_mark.specs.Steps.{HasBoth, IsStep, Obeys, IsFollowed}
+use Rattle.es_mark.specs.Steps.{HasBoth, IsStep, Obeys}
 use Rattle.es_mark.specs.Waiting.{waiting_for, WaitingView, Waits}
 use Rattle.es_mark.proofs.Lists.{all_mono, all_both, all_join, all_front, all_back}
 use Rattle.es_mark.proofs.Listed.{added_nothing, added_more}
@@ -209,17 +209,6 @@ module _ (made : ℕ) (edges entries : ℕ → (ℕ → Bool) → Type 0) (front
     released = λ t all. each_waiting w front t (a.all t all);
     numbered = (rw a.added (all_join _ last a.rest last_made.0 (a.only (is_made made) (waiting_each w front (is_made made) (has_front (is_made made) last_made.0, last_made.1)))), last_made.1);
   }
-
--- one that is followed where it stands
-pub followed_one : (made : ℕ) (edges entries : ℕ → (ℕ → Bool) → Type 0) (from i : ℕ) (old : List ℕ) (u : WaitingView) (new : List ℕ) (w : WaitingView) → from < length old → i ≡ get_or old from i
-    → IsFollowed made edges entries i old u new w → AreFollowed made edges entries (take (from + 1 - from) (drop from old)) old u new w
-followed_one made edges entries from i old u new w l is f =
-    let one : take (from + 1 - from) (drop from old) ≡ i ∷ [] = part_more old from from i (omega arith) l ∙ ap (λ x. x ++ get_or old from i ∷ []) (part_start from old) ∙ ap (λ x. x ∷ []) (sym is) in
-    rw one record {
-      step = step_as (Obeys edges entries i) (OfEach (Obeys edges entries) (i ∷ [])) old u new w f.step (λ t rule. rule.0) (λ t rule. (rule, tt));
-      released = λ t all. (f.released t all, tt);
-      numbered = f.numbered;
-    }
 
 -- what lasts while parts of the list are followed
 pub goes_on : (roots : (ℕ → Bool) → Type 0) (edges entries : ℕ → (ℕ → Bool) → Type 0) (made done to : ℕ) (marks : List Bool) (order : List ℕ) (waited : WaitingView) (more : List Bool) (new : List ℕ)

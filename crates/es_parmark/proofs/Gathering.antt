@@ -54,15 +54,6 @@ module _ {X : Type 0} (marks : List Bool) (test : X → Bool) (Has : (ℕ → Bo
 
 -- one identity
 
-pub sifted_one : (marks : List Bool) (order : List ℕ) (i : ℕ) → IsSifted marks (λ t. t i ≡ true) order (order ++ i ∷ [])
-sifted_one marks order i = record {
-  rest = i ∷ [];
-  added = refl;
-  passes = refl;
-  only = λ t here. (here, tt);
-  all = λ t w all. all.0;
-}
-
 -- what the graph found
 
 pub sifted_found : (made : ℕ) (marks : List Bool) (asked : (ℕ → Bool) → Type 0) (ids found old new : List ℕ) → Finds made asked [] ids → found ≡ ids → IsSifted marks (HasAll found) old new

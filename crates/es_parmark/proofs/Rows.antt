@@ -1,5 +1,5 @@
 -- Rows one after another.
-use Rattle.std.proofs.Common.{ℕ, ◌≡◌, ◌+◌, ◌-◌, ◌<◌, ◌≤◌, Bool, true, zero, suc, arith, sym, ◌∙◌, ap, refl, List, [], ◌∷◌, ◌++◌, length, take, drop, inl, inr, min}
+use Rattle.std.proofs.Common.{ℕ, ◌≡◌, ◌+◌, ◌-◌, ◌<◌, ◌≤◌, Bool, true, zero, suc, arith, ◌∙◌, ap, refl, List, [], ◌∷◌, ◌++◌, length, take, drop, inl, inr}
 use Rattle.std.proofs.Math.ListN.{get_or}
 use Rattle.std.specs.List.{AllByRecursion, list_all}
 use Rattle.std.proofs.lemmas.Bool.{cases_lt, and_parts}
@@ -12,16 +12,6 @@ use Rattle.es_parmark.specs.Snapshot.{row, IsSound, IsCopyOf}
 use Rattle.es_parmark.specs.Copying.{AreRows}
 use Rattle.es_parmark.proofs.Tests.{list_all_join, numbered_list, list_numbered}
 use Rattle.es_parmark.proofs.PairLists.{said_from, said_to, said_made}
-
--- a part that ends past the list ends with it
-pub row_cut : {X : Type 0} (xs : List X) (a b c : ℕ) → c ≡ min b (length xs) → take (c - a) (drop a xs) ≡ take (b - a) (drop a xs)
-row_cut xs a b c is = elim (cases_lt b (length xs)) [
-  | inl l ↦ let e : c ≡ b = omega arith in rw e refl
-  | inr g ↦ let f = length-drop a xs in take_all (c - a) (drop a xs) (omega arith) ∙ sym (take_all (b - a) (drop a xs) (omega arith))
-]
-
-pub row_none : {X : Type 0} (xs : List X) (a b : ℕ) → b ≤ a → [] ≡ take (b - a) (drop a xs)
-row_none xs a b l = let e : b - a ≡ 0 = omega arith in rw e refl
 
 get_front : (xs ys : List ℕ) (i d : ℕ) → i < length xs → get_or (xs ++ ys) i d ≡ get_or xs i d
 get_front [] ys i d l = absurd (omega arith)

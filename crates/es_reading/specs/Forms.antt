@@ -3,11 +3,14 @@ use Rattle.std.specs.Prelude.{ℕ, ℤ, pos, negsuc, ◌==◌, ◌&&◌, not, na
 use Rattle.std.specs.Str.{bytes_eq}
 use Rattle.serde_json.specs.Data.{Data, number, string, array, object, Items, no_items, item}
 use Rattle.es_event.specs.declared.literal.Literal.{Literal}
+use Rattle.es_event.specs.declared.access.Modification.{Modification}
 use Rattle.es_event.specs.declared.atomic.Operation.{Operation}
+use Rattle.es_event.specs.declared.operand.Operand.{Operand}
+use Rattle.es_event.specs.Access.{word_for}
 use Rattle.es_event.specs.declared.command.Command.{Command}
 use Rattle.es_event.specs.Commands.{atomic}
 use Rattle.es_reading.specs.declared.version.Version.{Version}
-use Rattle.es_reading.specs.declared.version.Version.TheVariants.{One, Two}
+use Rattle.es_reading.specs.declared.version.Version.TheVariants.{One, Three}
 
 -- what an operand is: a variable or a property's key, a literal, a text of the profile, the name of a callback or of another
 -- agent, a number of the profile, or a number of words
@@ -18,6 +21,7 @@ pub data OperandType : Type 0 where
   callback : OperandType
   agent : OperandType
   whole : OperandType
+  amount : OperandType
   words : OperandType
 
 -- what an operand stands for; the name of a callback or of an agent stands for its number
@@ -28,6 +32,7 @@ Meaning text = List ℕ
 Meaning callback = ℕ
 Meaning agent = ℕ
 Meaning whole = ℤ
+Meaning amount = Operand
 Meaning words = ℕ
 
 -- what makes a command of operands
@@ -66,21 +71,55 @@ registry_form w n =
     (if bytes_eq w (codes "unregister") then takes (name ∷ name ∷ name ∷ []) Command.Unregister else
     None))
 
+-- of words of shared memory; from version 3 on a number may be the value of a variable
+abbrev pub load_form : Version → Option Form
+load_form Three = takes (name ∷ name ∷ amount ∷ []) (λ to b i. atomic b i (Operation.Load to))
+load_form v = takes (name ∷ name ∷ whole ∷ []) (λ to b i. atomic b (Operand.Number i) (Operation.Load to))
+
+abbrev pub store_form : Version → Option Form
+store_form Three = takes (name ∷ amount ∷ amount ∷ []) (λ b i n. atomic b i (Operation.Store n))
+store_form v = takes (name ∷ whole ∷ whole ∷ []) (λ b i n. atomic b (Operand.Number i) (Operation.Store (Operand.Number n)))
+
+-- before version 3 an addition is the only one
+abbrev pub modify_form : Version → Modification → Option Form
+modify_form Three how = takes (name ∷ name ∷ amount ∷ amount ∷ []) (λ to b i n. atomic b i (Operation.Modify to how n))
+modify_form v Modification.Add = takes (name ∷ name ∷ whole ∷ whole ∷ []) (λ to b i n. atomic b (Operand.Number i) (Operation.Modify to Modification.Add (Operand.Number n)))
+modify_form v how = None
+
+abbrev pub compare_form : Version → Option Form
+compare_form Three = takes (name ∷ name ∷ amount ∷ amount ∷ amount ∷ []) (λ to b i e r. atomic b i (Operation.CompareExchange to e r))
+compare_form v = None
+
+-- the modification with this word
+abbrev pub modification_named : List ℕ → Option Modification
+modification_named w =
+    if bytes_eq w (word_for Modification.Add) then Some Modification.Add else
+    (if bytes_eq w (word_for Modification.Sub) then Some Modification.Sub else
+    (if bytes_eq w (word_for Modification.And) then Some Modification.And else
+    (if bytes_eq w (word_for Modification.Or) then Some Modification.Or else
+    (if bytes_eq w (word_for Modification.Xor) then Some Modification.Xor else
+    (if bytes_eq w (word_for Modification.Exchange) then Some Modification.Exchange else
+    None)))))
+
+abbrev pub modify_or : Version → Option Modification → Option Form → Option Form
+modify_or v (Some how) others = modify_form v how
+modify_or v None others = others
+
 -- of buffers and messages, and then those of FinalizationRegistries
-abbrev pub shared_form : List ℕ → ℕ → Option Form
-shared_form w n =
+abbrev pub shared_form : Version → List ℕ → ℕ → Option Form
+shared_form v w n =
     if bytes_eq w (codes "buffer") then takes (name ∷ words ∷ []) Command.SharedArrayBuffer else
     (if bytes_eq w (codes "length") then takes (name ∷ name ∷ []) Command.Length else
     (if bytes_eq w (codes "sameblock") then takes (name ∷ name ∷ name ∷ []) Command.SameBlock else
-    (if bytes_eq w (codes "load") then takes (name ∷ name ∷ whole ∷ []) (λ to b i. atomic b i (Operation.Load to)) else
-    (if bytes_eq w (codes "store") then takes (name ∷ whole ∷ whole ∷ []) (λ b i n. atomic b i (Operation.Store n)) else
-    (if bytes_eq w (codes "add") then takes (name ∷ name ∷ whole ∷ whole ∷ []) (λ to b i n. atomic b i (Operation.Add to n)) else
+    (if bytes_eq w (codes "load") then load_form v else
+    (if bytes_eq w (codes "store") then store_form v else
+    (if bytes_eq w (codes "compareexchange") then compare_form v else
     (if bytes_eq w (codes "post") then takes (agent ∷ name ∷ []) Command.Post else
-    registry_form w n))))))
+    modify_or v (modification_named w) (registry_form w n)))))))
 
 -- of WeakRefs, WeakMaps and WeakSets, and then those of buffers, messages and FinalizationRegistries
-abbrev pub weak_form : List ℕ → ℕ → Option Form
-weak_form w n =
+abbrev pub weak_form : Version → List ℕ → ℕ → Option Form
+weak_form v w n =
     if bytes_eq w (codes "weakref") then takes (name ∷ name ∷ []) Command.WeakRef else
     (if bytes_eq w (codes "deref") then takes (name ∷ name ∷ []) Command.Deref else
     (if bytes_eq w (codes "weakmap") then takes (name ∷ []) Command.WeakMap else
@@ -92,12 +131,12 @@ weak_form w n =
     (if bytes_eq w (codes "wsadd") then takes (name ∷ name ∷ []) Command.WeakSetAdd else
     (if bytes_eq w (codes "wshas") then takes (name ∷ name ∷ name ∷ []) Command.WeakSetHas else
     (if bytes_eq w (codes "wsdelete") then takes (name ∷ name ∷ name ∷ []) Command.WeakSetDelete else
-    shared_form w n))))))))))
+    shared_form v w n))))))))))
 
 -- of a later collection, which version 1 has not
 abbrev pub later_form : Version → Option Form
 later_form One = None
-later_form Two = takes_in_jobs [] Command.CollectLater
+later_form v = takes_in_jobs [] Command.CollectLater
 
 -- the form of a version's command with this word and so many operands: of values, variables, objects and collections, and then
 -- the others
@@ -116,7 +155,7 @@ form v w n =
     (if bytes_eq w (codes "keys") then takes (name ∷ []) Command.Keys else
     (if bytes_eq w (codes "collect") then takes_in_jobs [] Command.Collect else
     (if bytes_eq w (codes "collectlater") then later_form v else
-    weak_form w n))))))))))))
+    weak_form v w n))))))))))))
 
 -- Operands in a text
 
@@ -133,6 +172,7 @@ fits literal (object ms) = false
 fits literal d = true
 fits whole (number x) = true
 fits whole d = false
+fits amount (number x) = true
 fits words (number x) = true
 fits words d = false
 fits k (string s) = true

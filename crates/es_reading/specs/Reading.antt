@@ -8,6 +8,7 @@ use Rattle.es_value.specs.Spelling.{is_name, is_text}
 use Rattle.es_event.specs.declared.literal.Literal.{Literal}
 use Rattle.es_event.specs.declared.literal.Literal.TheVariants.{Undefined, Boolean, Number, Text}
 use Rattle.es_event.specs.declared.command.Command.{Command}
+use Rattle.es_event.specs.declared.operand.Operand.{Operand}
 use Rattle.es_event.specs.declared.plan.Callback.{Callback}
 use Rattle.es_event.specs.declared.plan.Job.{Job}
 use Rattle.es_event.specs.declared.plan.AgentPlan.{AgentPlan}
@@ -26,7 +27,7 @@ use Rattle.es_reading.specs.declared.version.Version.TheVariants.{One}
 use Rattle.serde_json.specs.Events.{items_len, members_len}
 use Rattle.es_reading.specs.Parts.{items_in, members_in, text_in}
 use Rattle.es_reading.specs.Scope.{Numbers, Scope, number_from, agent_from, other_than, is_used}
-use Rattle.es_reading.specs.Forms.{OperandType, name, literal, text, callback, agent, whole, words, Meaning, Makes, Form, form, is_allowed, is_whole, fit}
+use Rattle.es_reading.specs.Forms.{OperandType, name, literal, text, callback, agent, whole, amount, words, Meaning, Makes, Form, form, is_allowed, is_whole, fit}
 use Rattle.es_reading.specs.Places.{at, is_in_callback}
 
 -- what is read next, unless there is a fault
@@ -124,6 +125,12 @@ abbrev pub counted_read : {A : Type 0} → (Option ℤ → Result A ScriptFault)
 counted_read read s (number n) = read (as_i64 n)
 counted_read read s _ = Err (fault_at s Operands)
 
+-- a number, or the variable whose value is taken
+abbrev pub amount_read : Spot → Data → Result Operand ScriptFault
+amount_read s (string t) = then_read (name_read s t) (λ x. Ok (Operand.Variable x))
+amount_read s (number n) = then_read (whole_read s (as_i64 n)) (λ z. Ok (Operand.Number z))
+amount_read s _ = Err (fault_at s Operands)
+
 abbrev pub operand_read : Scope → Spot → (k : OperandType) → Data → Result (Meaning k) ScriptFault
 operand_read scope s name d = spelled_read (name_read s) s d
 operand_read scope s literal d = literal_read s d
@@ -131,6 +138,7 @@ operand_read scope s text d = spelled_read (text_read s) s d
 operand_read scope s callback d = spelled_read (reference_read scope.callbacks s) s d
 operand_read scope s agent d = spelled_read (reference_read scope.agents s) s d
 operand_read scope s whole d = counted_read (whole_read s) s d
+operand_read scope s amount d = amount_read s d
 operand_read scope s words d = counted_read (words_read s) s d
 
 -- Commands

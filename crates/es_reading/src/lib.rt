@@ -21,7 +21,7 @@ pub use agent::{agents_of, check_names};
 pub use fault::{FaultCode, Place, ReadFault, ScriptFault, Spot, fault_in};
 pub use job::awaited_of;
 pub use known_names::KnownNames;
-pub use named::command_named;
+pub use named::{command_named, modification_named};
 pub use number_table::{NumberTable, numbers_of};
 pub use part::{Part, Seen};
 pub use parts::{member_count, taken_items};

@@ -18,6 +18,7 @@ use crate::scope::Scope;
 use crate::version::Version;
 use crate::{Place, ReadFault};
 use es_event::Command;
+pub use shared::modification_named;
 use shared::shared_command;
 
 /// A command on values, variables or objects, or a collection, and then the others.
@@ -91,7 +92,7 @@ fn later_command<V: Seen>(scope: &Scope, operands: &[V], spot: Spot) -> Result<C
 {
     match scope.version() {
         Version::One => Err(spot.fault(FaultCode::Operands)),
-        Version::Two => {
+        Version::Two | Version::Three => {
             none(operands, spot)?;
             outside_callbacks(spot)?;
             Ok(Command::CollectLater)
@@ -107,7 +108,7 @@ fn weak_command<V: Seen>(
     operands: &[V],
     spot: Spot,
 ) -> Result<Command, ReadFault>
-    ensures { Gives (λ c. c) result (form_read (said scope.now) spot (weak_form word.now (items_len (items_of (map V.shown operands.now)))) (items_of (map V.shown operands.now))) }
+    ensures { Gives (λ c. c) result (form_read (said scope.now) spot (weak_form (said scope.now).version word.now (items_len (items_of (map V.shown operands.now)))) (items_of (map V.shown operands.now))) }
 {
     match word {
         "weakref" => {

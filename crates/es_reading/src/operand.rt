@@ -1,7 +1,7 @@
 //! What can be an operand of a command.
 
 ghost use Rattle.std.specs.Prelude.{◌≡◌};
-ghost use Rattle.es_reading.specs.Forms.{OperandType, name, literal, text, callback, agent, whole, words, Meaning, fits};
+ghost use Rattle.es_reading.specs.Forms.{OperandType, name, literal, text, callback, agent, whole, amount, words, Meaning, fits};
 ghost use Rattle.es_reading.specs.Reading.{Gives, said, operand_read};
 ghost use Rattle.es_reading.specs.Part.{part_data};
 
@@ -11,7 +11,7 @@ use crate::known_names::KnownNames;
 use crate::part::Part;
 use crate::scope::Scope;
 use crate::spelled::{agent_named, callback_named, name_of, text_of, whole_of, words_of};
-use es_event::Literal;
+use es_event::{Literal, Operand as Amount};
 use es_value::{Name, Text};
 
 /// What can be an operand of a command.
@@ -174,6 +174,30 @@ impl Operand for i64 {
     ) -> Result<i64, ReadFault> {
         match part {
             Part::Number(number) => whole_of(&number, spot),
+            _ => Err(spot.fault(FaultCode::Operands)),
+        }
+    }
+}
+
+/// A number, or the variable whose value is taken.
+impl Operand for Amount {
+    ghost kind = { amount };
+
+    ghost meaning = { λ a. a };
+
+    fn fits(part: Part<'_>) -> bool {
+        matches!(part, Part::Text(_) | Part::Number(_))
+    }
+
+    fn read(
+        names: &mut KnownNames,
+        _scope: &Scope,
+        part: Part<'_>,
+        spot: Spot,
+    ) -> Result<Amount, ReadFault> {
+        match part {
+            Part::Text(chars) => Ok(Amount::Variable(name_of(names, chars, spot)?)),
+            Part::Number(number) => Ok(Amount::Number(whole_of(&number, spot)?)),
             _ => Err(spot.fault(FaultCode::Operands)),
         }
     }

@@ -143,3 +143,37 @@ pub(crate) fn four<A: Operand, B: Operand, C: Operand, D: Operand, V: Seen>(
         _ => unreachable!(),
     }
 }
+
+/// The five operands that there are.
+pub(crate) fn five<A: Operand, B: Operand, C: Operand, D: Operand, E: Operand, V: Seen>(
+    names: &mut KnownNames,
+    scope: &Scope,
+    operands: &[V],
+    spot: Spot,
+) -> Result<(A, B, C, D, E), ReadFault>
+    ensures { Gives (λ p. (A.meaning p.0, (B.meaning p.1, (C.meaning p.2, (D.meaning p.3, (E.meaning p.4, tt)))))) result
+        (operands_read (said scope.now) spot (A.kind ∷ B.kind ∷ C.kind ∷ D.kind ∷ E.kind ∷ []) (items_of (map V.shown operands.now))) }
+{
+    if operands.len() != 5 {
+        return Err(spot.fault(FaultCode::Operands));
+    }
+    match operands {
+        [a, b, c, d, e] => {
+            if !(fits::<A, V>(a)
+                && fits::<B, V>(b)
+                && fits::<C, V>(c)
+                && fits::<D, V>(d)
+                && fits::<E, V>(e))
+            {
+                return Err(spot.fault(FaultCode::Operands));
+            }
+            let a = read::<A, V>(names, scope, a, spot)?;
+            let b = read::<B, V>(names, scope, b, spot)?;
+            let c = read::<C, V>(names, scope, c, spot)?;
+            let d = read::<D, V>(names, scope, d, spot)?;
+            let e = read::<E, V>(names, scope, e, spot)?;
+            Ok((a, b, c, d, e))
+        }
+        _ => unreachable!(),
+    }
+}

@@ -7,4 +7,6 @@ pub enum Version {
     One,
     /// The second, which has later collections besides.
     Two,
+    /// The third, which has all operations on words besides, and variables in the place of numbers.
+    Three,
 }

@@ -1,6 +1,6 @@
 -- What an agent's table of cells tells is what its history says of registrations.
-use Rattle.std.proofs.Common.{◌≡◌, ℕ, zero, suc, ◌+◌, ◌<◌, ◌≤◌, ◌==◌, ◌&&◌, Bool, true, false, cond, sym, ◌∙◌, ap, refl, subst, arith, List, [], ◌∷◌, map, Option, Some, None, Bor}
-use Rattle.std.specs.Prelude.{is_some, slice_get}
+use Rattle.std.proofs.Common.{◌≡◌, ℕ, zero, suc, ◌+◌, ◌<◌, ◌≤◌, ◌==◌, ◌&&◌, Bool, true, false, cond, sym, ◌∙◌, ap, refl, subst, arith, List, [], map, Option, Some, None, Bor}
+use Rattle.std.specs.Prelude.{is_some}
 use Rattle.std.specs.List.{list_any, find, count_by, range_with_len}
 use Rattle.std.specs.Option.{option_map, option_map_or, option_and_then, option_copied}
 use Rattle.std.proofs.lemmas.Bool.{and_parts, false≢true}
@@ -9,16 +9,9 @@ use Rattle.es_event.specs.History.{History}
 use Rattle.es_event.specs.Registrations.{Cell, Fate, live, awaiting, unregistered, taken, same_fate, is_present, has_token as has_token_said, is_under, is_of, registered, registrations, cell, fate, first_awaiting, finds_token, tally}
 use Rattle.es_event.proofs.Cells.{has_cell}
 use Rattle.es_event.proofs.Counting.{found_passes}
-use Rattle.es_event.specs.declared.command.Command.{Command}
-use Rattle.es_event.specs.declared.event.Event.{Event}
-use Rattle.es_event.specs.declared.event.Event.TheVariants.{CleanupBegun, Taken}
-use Rattle.es_event.specs.declared.plan.AgentPlan.{AgentPlan}
-use Rattle.es_event.specs.Jobs.{receivers, job, cleaning}
-use Rattle.es_event.specs.Order.{Phase, between, handed, inside, stopped, ended, phase, left, queue, clean, take_cell, due_end, due, due_at, due_after, due_inside, due_between, due_job}
-use Rattle.es_event.specs.Follows.{Permits}
-use Rattle.es_event.specs.Later.{snapshot}
-use Rattle.es_record.specs.AgentView.{AgentView, IsNext}
-use Rattle.es_record.specs.NextCell.{next_taken, IsNextCell, FindsNextCell}
+use Rattle.es_event.specs.Jobs.{job, cleaning}
+use Rattle.es_event.specs.Order.{queue, due}
+use Rattle.es_record.specs.NextCell.{FindsNextCell}
 use Rattle.es_registry.specs.declared.slot.Cell.{Cell as KeptCell}
 use Rattle.es_registry.specs.declared.slot.Slot.{Slot}
 use Rattle.es_registry.specs.Slots.{has_token, awaits, cell_of, is_live, is_awaiting, is_unregistered, is_taken}
@@ -120,101 +113,7 @@ next_found h t r says runs (Some c) is =
     let found = oldest_said h t r c says is in
     record { number = ap (option_and_then (first_awaiting h)) runs ∙ found.first; held = found.held; awaits = found.awaits }
 
-pub none_found : (h : History) → cleaning h ≡ None → FindsNextCell h None
-none_found h none = ap (option_and_then (first_awaiting h)) none
-
--- what is due after the last command of a callback
-pub due_found : (h : History) (o : Option KeptCell) → FindsNextCell h o → option_map_or (λ c. take_cell c.registration) o (due_end (snapshot h)) ≡ due_after h (next_taken h)
-due_found h None none = sym (ap (due_after h) none)
-due_found h (Some c) found = sym (ap (due_after h) found.number)
-
--- a taking that is due is of the next cell
-end_takes_none : (o : Option History) (n : ℕ) → due_end o ≡ take_cell n → ⊥
-end_takes_none None n e = cc
-end_takes_none (Some p) n e = cc
-
-takes_after : (h : History) (o : Option ℕ) (n : ℕ) → due_after h o ≡ take_cell n → o ≡ Some n
-takes_after h None n e = absurd (end_takes_none (snapshot h) n e)
-takes_after h (Some m) n e = let same : m ≡ n = cc in ap Some same
-
-takes_inside : (h : History) (cs : List Command) (n : ℕ) → due_inside h cs ≡ take_cell n → next_taken h ≡ Some n
-takes_inside h [] n e = takes_after h (next_taken h) n e
-takes_inside h (c ∷ cs) n e = cc
-
-waits_none : (m n : ℕ) (on : Option (ℕ × List ℕ)) → due_job m (Some on) ≡ take_cell n → ⊥
-waits_none m n None e = cc
-waits_none m n (Some on) e = cc
-
-takes_no_job : (m n : ℕ) (o : Option (Option (ℕ × List ℕ))) → due_job m o ≡ take_cell n → ⊥
-takes_no_job m n None e = cc
-takes_no_job m n (Some on) e = waits_none m n on e
-
-takes_between : (plan : AgentPlan) (h : History) (q : List ℕ) (n : ℕ) → due_between plan h q ≡ take_cell n → ⊥
-takes_between plan h [] n e = takes_no_job (job h) n _ e
-takes_between plan h (r ∷ rs) n e = cc
-
-pub takes_next : (plan : AgentPlan) (h : History) (p : Phase) (n : ℕ) → due_at plan h p ≡ take_cell n → next_taken h ≡ Some n
-takes_next plan h between n e = absurd (takes_between plan h (queue h) n e)
-takes_next plan h handed n e = cc
-takes_next plan h inside n e = takes_inside h (left plan h) n e
-takes_next plan h stopped n e = absurd (end_takes_none (snapshot h) n e)
-takes_next plan h ended n e = cc
-
-number_is : (h : History) (c : KeptCell) (n : ℕ) → next_taken h ≡ Some n → IsNextCell h c → n ≡ c.registration
-number_is h c n is found = let f : Some n ≡ Some c.registration = sym is ∙ found.number in cc
-
-pub taking_next : (b : AgentView) (c : KeptCell) (n : ℕ) (e : Event) → due b.plan b.history ≡ take_cell n → IsNextCell b.history c → e ≡ Taken c.registration c.held → IsNext b e
-taking_next b c n e is found event =
-    subst (IsNext b) (sym event) (record {
-      lawful = (found.held, found.awaits);
-      permitted = subst (λ d. Permits b.over (receivers b.plan.jobs) b.history d (Taken c.registration c.held)) (sym is) (sym (number_is b.history c n (takes_next b.plan b.history (phase b.history) n is) found));
-    })
-
-pub some_found : (b : AgentView) (n : ℕ) → due b.plan b.history ≡ take_cell n → FindsNextCell b.history None → ⊥
-some_found b n is none = let f : ◌≡◌ {A = Option ℕ} None (Some n) = sym none ∙ takes_next b.plan b.history (phase b.history) n is in cc
-
 -- a cleanup job that is due is of the first registry of the queue
-
-job_cleans_not : (m r : ℕ) (on : Option (ℕ × List ℕ)) → due_job m (Some on) ≡ clean r → ⊥
-job_cleans_not m r None e = cc
-job_cleans_not m r (Some on) e = cc
-
-no_job_cleans : (m r : ℕ) (o : Option (Option (ℕ × List ℕ))) → due_job m o ≡ clean r → ⊥
-no_job_cleans m r None e = cc
-no_job_cleans m r (Some on) e = job_cleans_not m r on e
-
-cleans_between : (plan : AgentPlan) (h : History) (q : List ℕ) (r : ℕ) → due_between plan h q ≡ clean r → slice_get q 0 ≡ Some r
-cleans_between plan h [] r e = absurd (no_job_cleans (job h) r _ e)
-cleans_between plan h (x ∷ xs) r e = let same : x ≡ r = cc in ap Some same
-
-end_cleans_none : (o : Option History) (r : ℕ) → due_end o ≡ clean r → ⊥
-end_cleans_none None r e = cc
-end_cleans_none (Some p) r e = cc
-
-cleans_after : (h : History) (o : Option ℕ) (r : ℕ) → due_after h o ≡ clean r → ⊥
-cleans_after h None r e = end_cleans_none (snapshot h) r e
-cleans_after h (Some n) r e = cc
-
-cleans_inside : (h : History) (cs : List Command) (r : ℕ) → due_inside h cs ≡ clean r → ⊥
-cleans_inside h [] r e = cleans_after h (next_taken h) r e
-cleans_inside h (c ∷ cs) r e = cc
-
-cleans_next : (plan : AgentPlan) (h : History) (p : Phase) (r : ℕ) → due_at plan h p ≡ clean r → slice_get (queue h) 0 ≡ Some r
-cleans_next plan h between r e = cleans_between plan h (queue h) r e
-cleans_next plan h handed r e = cc
-cleans_next plan h inside r e = absurd (cleans_inside h (left plan h) r e)
-cleans_next plan h stopped r e = absurd (end_cleans_none (snapshot h) r e)
-cleans_next plan h ended r e = cc
-
-pub cleaning_next : (b : AgentView) (q r : ℕ) (kept : List ℕ) → due b.plan b.history ≡ clean r → kept ≡ queue b.history → Some q ≡ slice_get kept 0 → IsNext b (CleanupBegun q)
-cleaning_next b q r kept is says first =
-    let f : Some q ≡ Some r = first ∙ (ap (λ k. slice_get k 0) says ∙ cleans_next b.plan b.history (phase b.history) r is) in
-    let same : q ≡ r = cc in
-    record { lawful = tt; permitted = subst (λ d. Permits b.over (receivers b.plan.jobs) b.history d (CleanupBegun q)) (sym is) same }
-
-pub some_queued : (b : AgentView) (r : ℕ) (kept : List ℕ) → due b.plan b.history ≡ clean r → kept ≡ queue b.history → None ≡ slice_get kept 0 → ⊥
-some_queued b r kept is says none =
-    let f : ◌≡◌ {A = Option ℕ} None (Some r) = none ∙ (ap (λ k. slice_get k 0) says ∙ cleans_next b.plan b.history (phase b.history) r is) in cc
 
 -- Totals
 

@@ -30,7 +30,7 @@ use Rattle.es_event.proofs.Safe.{there_from}
 use Rattle.es_event.proofs.Staying.{made_more}
 use Rattle.es_event.proofs.Targets.{target_from}
 use Rattle.es_mark.specs.Marks.{is_marked, IsLeast}
-use Rattle.es_cursor.specs.declared.cursor.Cursor.{Cursor}
+use Rattle.es_event.specs.declared.cursor.Cursor.{Cursor}
 use Rattle.es_tables.specs.declared.tags.Tag.{Tag}
 use Rattle.es_tables.specs.Tables.{TablesView}
 use Rattle.es_tables.specs.Tags.{tag_at, tag_said}

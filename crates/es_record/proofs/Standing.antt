@@ -1,52 +1,26 @@
 -- What is due where an agent stands between two jobs, and at its closing.
-use Rattle.std.proofs.Common.{◌≡◌, ℕ, ◌+◌, ◌&&◌, not, nat_lt, nat_le, sym, ◌∙◌, ap, refl, subst, arith, List, [], ◌∷◌, Some, None, if◌then◌else◌}
-use Rattle.std.specs.Prelude.{slice_get}
+use Rattle.std.proofs.Common.{◌≡◌, ℕ, ◌+◌, ◌&&◌, not, nat_lt, nat_le, sym, ◌∙◌, ap, refl, subst, arith, [], ◌∷◌, Some, None, if◌then◌else◌}
 use Rattle.std.specs.Option.{option_and_then}
-use Rattle.es_event.specs.declared.command.Command.{Command}
 use Rattle.es_event.specs.declared.event.Event.TheVariants.{Closed}
 use Rattle.es_event.specs.declared.plan.AgentPlan.{AgentPlan}
 use Rattle.es_event.specs.History.{History}
 use Rattle.es_event.specs.Identities.{made, is_gone, kind}
 use Rattle.es_event.specs.Jobs.{Receivers, receivers, cleaning}
-use Rattle.es_event.specs.Order.{Due, clean, close, due, due_at, due_between, due_inside, due_after, queue, Phase, phase}
+use Rattle.es_event.specs.Order.{close, due, due_inside, due_after, queue, phase}
 use Rattle.es_event.specs.Sharing.{Buffers}
 use Rattle.es_event.specs.Follows.{Permits}
 use Rattle.es_event.specs.Registrations.{first_awaiting}
 use Rattle.es_event.proofs.Alive.{there_after}
 use Rattle.es_event.proofs.Coming.{comes}
 use Rattle.es_tables.proofs.Slots.{slots_same}
-use Rattle.es_cursor.proofs.Steps.{after_closed}
-use Rattle.es_cursor.specs.Due.{due_of}
-use Rattle.es_event.specs.Later.{snapshot}
-use Rattle.es_cursor.specs.declared.cursor.Cursor.{Cursor}
-use Rattle.es_cursor.specs.declared.cursor.Position.TheVariants.{Ended as EndPosition}
+use Rattle.es_event.proofs.Steps.{after_closed}
+use Rattle.es_event.specs.declared.cursor.Cursor.{Cursor}
+use Rattle.es_event.specs.declared.cursor.Position.TheVariants.{Ended as EndPosition}
 use Rattle.es_tables.specs.Tags.{tag_of, tag_said}
 use Rattle.es_tables.specs.Tables.{TablesView, Says}
 use Rattle.es_record.specs.Ties.{RecordTies}
 
 -- what is due by the phase
-
-pub due_where : (plan : AgentPlan) (h : History) (p : Phase) (d : Due) → phase h ≡ p → d ≡ due_at plan h p → d ≡ due plan h
-due_where plan h p d at is = is ∙ ap (due_at plan h) (sym at)
-
-none_queued : (q : List ℕ) → slice_get q 0 ≡ None → q ≡ []
-none_queued [] e = refl
-none_queued (r ∷ rs) e = cc
-
-pub no_cleanup_due : (plan : AgentPlan) (h : History) (q : List ℕ) → q ≡ queue h → slice_get q 0 ≡ None → due_between plan h [] ≡ due_between plan h (queue h)
-no_cleanup_due plan h q is none = ap (due_between plan h) (sym (none_queued q none) ∙ is)
-
-cleans_first : (plan : AgentPlan) (h : History) (q : List ℕ) (r : ℕ) → slice_get q 0 ≡ Some r → clean r ≡ due_between plan h q
-cleans_first plan h [] r e = cc
-cleans_first plan h (x ∷ xs) r e = cc
-
-pub cleanup_due : (plan : AgentPlan) (h : History) (q : List ℕ) (r : ℕ) → q ≡ queue h → slice_get q 0 ≡ Some r → clean r ≡ due_between plan h (queue h)
-cleanup_due plan h q r is first = cleans_first plan h q r first ∙ ap (due_between plan h) is
-
--- in a job of the plan nothing is taken
-pub due_plain : (h : History) (cs : List Command) → cleaning h ≡ None → due_of (snapshot h) cs ≡ due_inside h cs
-due_plain h [] none = sym (ap (λ o. due_after h (option_and_then (first_awaiting h) o)) none)
-due_plain h (c ∷ cs) none = refl
 
 -- in a cleanup job, where no command is left
 pub due_cell : (h : History) (r : ℕ) → cleaning h ≡ Some r → due_after h (first_awaiting h r) ≡ due_inside h []

@@ -17,9 +17,9 @@ use Rattle.es_event.proofs.Alive.{Alive, stays_along, there_after, honest_along}
 use Rattle.es_event.proofs.Coming.{Comes, receives, comes}
 use Rattle.es_event.proofs.Extending.{agrees_longer, still_legal, still_follows}
 use Rattle.es_event.proofs.Small.{made_small}
-use Rattle.es_cursor.specs.declared.cursor.Cursor.{Cursor}
+use Rattle.es_event.specs.declared.cursor.Cursor.{Cursor}
 use Rattle.es_record.specs.AgentView.{AgentView, IsNext, with_row}
-use Rattle.es_cursor.specs.Cursor.{IsCursorOf}
+use Rattle.es_event.specs.Cursor.{IsCursorOf}
 use Rattle.es_tables.specs.Effects.{AssignsTo, Advances}
 use Rattle.es_tables.specs.Changes.{table_change}
 use Rattle.es_tables.specs.Ready.{CanApply}

@@ -15,7 +15,7 @@ use Rattle.es_mark.specs.Marks.{is_marked}
 use Rattle.es_tables.specs.declared.tags.Tag.{Tag}
 use Rattle.es_record.specs.AgentView.{AgentView}
 use Rattle.es_record.specs.Graph.{AreMarksOf}
-use Rattle.es_cursor.specs.declared.cursor.Cursor.{Cursor}
+use Rattle.es_event.specs.declared.cursor.Cursor.{Cursor}
 use Rattle.es_tables.specs.Tables.{TablesView}
 use Rattle.es_record.specs.Ties.{RecordTies}
 use Rattle.es_tables.specs.Tags.{tag_at, tag_of, tag_said}

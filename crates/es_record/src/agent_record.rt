@@ -13,8 +13,8 @@ ghost use Rattle.es_event.specs.Order.{due, close, run};
 ghost use Rattle.es_event.specs.Runs.{IsRunOver};
 ghost use Rattle.es_record.specs.AgentView.{AgentView, IsNext, Records, with_buffer, with_row, emptied_last};
 ghost use Rattle.es_record.specs.Newest.{newest};
-ghost use Rattle.es_cursor.specs.Cursor.{IsAt};
-ghost use Rattle.es_cursor.specs.Due.{shown};
+ghost use Rattle.es_event.specs.Cursor.{IsAt};
+ghost use Rattle.es_event.specs.Due.{shown};
 ghost use Rattle.es_event.specs.Later.{snapshot};
 ghost use Rattle.es_tables.specs.Plain.{IsPlain};
 ghost use Rattle.es_tables.specs.Effects.{Advances, IsQuiet};
@@ -29,11 +29,10 @@ mod reach;
 
 use crate::buffers::BufferTable;
 use crate::counts::{blocks_in, open_after, posts_in};
-use es_cursor::{
-    Cleanup, Cursor, Due, Position, callback_command, callback_commands, commands, due_command,
-    job_command,
+use es_event::{
+    AgentPlan, Cleanup, Cursor, Done, Due, Event, Log, PlanCommand, Position, Row, Sequence,
+    callback_command, callback_commands, commands, due_command, job_command,
 };
-use es_event::{AgentPlan, Done, Event, Log, PlanCommand, Row, Sequence};
 use es_tables::{Tables, is_plain};
 use es_value::{Id, Name, NameFault, NoMemory, Value};
 use std::alloc::Global;

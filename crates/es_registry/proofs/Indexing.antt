@@ -15,7 +15,7 @@ use Rattle.std.proofs.lemmas.Bool.{eqb-true}
 use Rattle.std.proofs.lemmas.Option.{slice_get-map}
 use Rattle.es_registry.specs.Places.{Tokens, Waiting, listed, waits, IsIndexed}
 use Rattle.es_value.specs.Ids.{is_in}
-use Rattle.es_registry.specs.Slots.{is_this, is_present, is_live, is_awaiting, passes_at, awaits, has_token, is_losing, emptied, unless_among, holds, unregistered_by, changed_if, is_of, registry_of}
+use Rattle.es_registry.specs.Slots.{is_this, is_present, is_live, is_awaiting, passes_at, awaits, has_token, is_losing, emptied, unless_among, holds, unregistered_by, changed_if, is_of}
 use Rattle.es_registry.specs.Cells.{ListsPresent}
 
 -- what passes one test passes another
@@ -58,16 +58,6 @@ at_set test (x ∷ xs) (suc i) y (suc k) fails h =
     let rest = at_set test xs i y k fails h in
     let apart : nat_eq i k ≡ false = rest.1 in
     (rest.0, grind (arith, nat_tests))
-
-pub slice_get_set : (xs : List Slot) (i : ℕ) (y : Slot) (k : ℕ) → i < length xs → slice_get (set xs i y) k ≡ (if i == k then Some y else slice_get xs k)
-slice_get_set [] i y k lt = absurd (omega arith)
-slice_get_set (x ∷ xs) zero y zero lt = grind (arith, nat_tests)
-slice_get_set (x ∷ xs) zero y (suc k) lt = grind (arith, nat_tests)
-slice_get_set (x ∷ xs) (suc i) y zero lt = grind (arith, nat_tests)
-slice_get_set (x ∷ xs) (suc i) y (suc k) lt =
-    let less : i < length xs = omega arith in
-    let rest : slice_get (set xs i y) k ≡ (if i == k then Some y else slice_get xs k) = slice_get_set xs i y k less in
-    grind (arith, nat_tests, rest)
 
 pub same_slots : (xs ys : List Slot) → ((k : ℕ) → slice_get xs k ≡ slice_get ys k) → xs ≡ ys
 same_slots [] [] same = refl
@@ -121,64 +111,6 @@ taken_stays_indexed xs tokens old new i indexed after = record {
       let here = indexed.there q k still.0 in
       beside_set (is_of q) xs i Taken k (other_of (passes_at (is_of q) xs k) (nat_eq i k) here still.1) ∙ here;
 }
-
--- a place without a cell is listed for no registry
-pub no_cell_there : (xs : List Slot) (i q j : ℕ) (o : Bool) → None ≡ option_and_then registry_of (slice_get xs i) → o ≡ (if passes_at (is_of q) xs j && nat_eq i j then false else o)
-no_cell_there xs i q j o none = by_test (nat_eq i j) refl
-  where
-    either : (b : Bool) → (b && false) ≡ false
-    either true = refl
-    either false = refl
-
-    of_none : (s : Option Slot) → None ≡ option_and_then registry_of s → option_map_or (is_of q) s false ≡ false
-    of_none None e = refl
-    of_none (Some s) e = ap (is_this q) (sym e)
-
-    by_test : (b : Bool) → nat_eq i j ≡ b → o ≡ (if passes_at (is_of q) xs j && nat_eq i j then false else o)
-    by_test true e =
-        let same : i ≡ j = grind (arith, nat_tests) in
-        let gone : passes_at (is_of q) xs j ≡ false = ap (passes_at (is_of q) xs) (sym same) ∙ of_none (slice_get xs i) none in
-        rw gone refl
-    by_test false e = rw (e, either (passes_at (is_of q) xs j)) refl
-
--- the cell at a place is in one registry
-pub of_this_registry : (xs : List Slot) (i r q j : ℕ) (o : Bool) → Some r ≡ option_and_then registry_of (slice_get xs i) → (if nat_eq r q && nat_eq i j then false else o) ≡ (if passes_at (is_of q) xs j && nat_eq i j then false else o)
-of_this_registry xs i r q j o some = by_test (nat_eq i j) refl
-  where
-    either : (b : Bool) → (b && false) ≡ false
-    either true = refl
-    either false = refl
-
-    of_some : (s : Option Slot) → Some r ≡ option_and_then registry_of s → option_map_or (is_of q) s false ≡ nat_eq r q
-    of_some None e = cc
-    of_some (Some s) e = ap (is_this q) (sym e) ∙ grind (arith, nat_tests)
-
-    by_test : (b : Bool) → nat_eq i j ≡ b → (if nat_eq r q && nat_eq i j then false else o) ≡ (if passes_at (is_of q) xs j && nat_eq i j then false else o)
-    by_test true e =
-        let same : i ≡ j = grind (arith, nat_tests) in
-        let is : passes_at (is_of q) xs j ≡ nat_eq r q = ap (passes_at (is_of q) xs) (sym same) ∙ of_some (slice_get xs i) some in
-        rw is refl
-    by_test false e = rw (e, either (passes_at (is_of q) xs j), either (nat_eq r q)) refl
-
--- more places are listed, each of a cell that loses its target
-pub expected_stays_indexed : (ids : List ℕ) (xs : List Slot) (tokens : Tokens) (old new : Waiting) → IsIndexed xs tokens old
-    → ((r k : ℕ) → waits old r k ≡ true → waits new r k ≡ true)
-    → ((r k : ℕ) → waits new r k ≡ true → (waits old r k ≡ true) ⊎ (passes_at (is_losing ids r) xs k ≡ true))
-    → IsIndexed xs tokens new
-expected_stays_indexed ids xs tokens old new indexed kept only = record {
-  by_token = indexed.by_token;
-  by_registry = λ r k h. kept r k (indexed.by_registry r k h);
-  there = λ r k h. elim (only r k h) [ inl before ↦ indexed.there r k before | inr loses ↦ weaker (is_losing ids r) (is_of r) (of_slot r) xs k loses ];
-}
-  where
-    of_option : (b : Bool) (q r : ℕ) → is_this r (if b then Some q else None) ≡ true → (q == r) ≡ true
-    of_option true q r e = e
-    of_option false q r e = cc
-
-    of_slot : (r : ℕ) (s : Slot) → is_losing ids r s ≡ true → is_of r s ≡ true
-    of_slot r (Present c) e = of_option (option_map_or (is_in ids) c.target false) c.registry r e
-    of_slot r Unregistered e = cc
-    of_slot r Taken e = cc
 
 -- Cells with a token
 
@@ -306,39 +238,6 @@ waits_more r t xs ys old now new ks i d lt slots so_far step q k =
     ∙ ap (λ b. if (passes_at (has_token r t) xs k && not (is_in (take i ks) k)) && (nat_eq r q && get_or ks i d == k) then false else b) (so_far q k)
     ∙ one_more (passes_at (has_token r t) xs k) (is_in (take i ks) k) (nat_eq r q) (get_or ks i d == k) (waits old q k)
     ∙ ap (λ b. if passes_at (has_token r t) xs k && (nat_eq r q && b) then false else waits old q k) (sym (list_any_more (λ j. j == k) ks i d lt))
-
--- a place at which nothing is taken out stays listed
-pub stays_at : (h : ℕ → Bool) (place k : ℕ) (e o : Bool) → h place ≡ false → o ≡ (if h k && (e && place == k) then false else o)
-stays_at h place k e o fails = by_test (place == k) refl
-  where
-    none : (a b : Bool) → (a && (b && false)) ≡ false
-    none true true = refl
-    none true false = refl
-    none false b = refl
-
-    by_test : (b : Bool) → (place == k) ≡ b → o ≡ (if h k && (e && place == k) then false else o)
-    by_test true f = let same : place ≡ k = eqb-true place k f in let gone : h k ≡ false = ap h (sym same) ∙ fails in rw gone refl
-    by_test false f = rw (f, none (h k) e) refl
-
--- a place whose cell is taken out is listed no longer
-pub leaves_at : (h : ℕ → Bool) (place k : ℕ) (e o : Bool) → h place ≡ true → (if e && nat_eq place k then false else o) ≡ (if h k && (e && place == k) then false else o)
-leaves_at h place k e o passes = by_test (place == k) refl
-  where
-    none : (a b : Bool) → (a && (b && false)) ≡ false
-    none true true = refl
-    none true false = refl
-    none false b = refl
-
-    none_here : (b : Bool) → (b && false) ≡ false
-    none_here true = refl
-    none_here false = refl
-
-    by_test : (b : Bool) → (place == k) ≡ b → (if e && nat_eq place k then false else o) ≡ (if h k && (e && place == k) then false else o)
-    by_test true f =
-        let same : place ≡ k = eqb-true place k f in
-        let here : h k ≡ true = ap h (sym same) ∙ passes in
-        rw (here, f) refl
-    by_test false f = rw (f, none (h k) e, none_here e) refl
 
 one_registry : (r t q : ℕ) (xs : List Slot) (k : ℕ) → passes_at (has_token r t) xs k ≡ true → passes_at (is_of q) xs k ≡ true → nat_eq r q ≡ true
 one_registry r t q [] k h g = cc
@@ -470,12 +369,6 @@ any_losing ids r xs ks listed = any_at_listed (is_losing ids r) xs ks (losing_li
 
 pub any_holds : (i : ℕ) (xs : List Slot) (ks : List ℕ) → ListsPresent ks xs → list_any (passes_at (holds i) xs) ks ≡ list_any (holds i) xs
 any_holds i xs ks listed = any_at_listed (holds i) xs ks (of_present (holds i) (holds_present i) xs ks listed)
-
--- Places with a cell stay listed
-live_present : (s : Slot) → is_live s ≡ true → is_present s ≡ true
-live_present (Present c) h = refl
-live_present Unregistered h = cc
-live_present Taken h = cc
 
 pub pushed_listed : (xs : List Slot) (s : Slot) (ks : List ℕ) → ListsPresent ks xs → ListsPresent (ks ++ length xs ∷ []) (xs ++ s ∷ [])
 pushed_listed xs s ks listed k h = among_pushed ks (length xs) k ∙ elim (at_push is_present xs s k h) [

@@ -1,4 +1,3 @@
-pub mod CallerLemmas
 pub mod Counting
 pub mod Found
 pub mod Indexing

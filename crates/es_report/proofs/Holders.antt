@@ -1,23 +1,23 @@
 -- What one more event leaves of the tickets of one serial and one block, and which blocks one is left of.
-use Rattle.std.proofs.Common.{◌≡◌, ℕ, ◌==◌, ◌&&◌, ◌||◌, not, Bool, true, false, cond, sym, ◌∙◌, ap, refl, arith, List, [], ◌∷◌, ◌++◌, map, Option, Some, None, eqb-true, append-nil}
+use Rattle.std.proofs.Common.{◌≡◌, ℕ, ◌+◌, ◌<◌, ◌≤◌, ◌==◌, ◌&&◌, ◌||◌, not, Bool, true, false, cond, sym, ◌∙◌, ap, refl, arith, List, [], ◌∷◌, ◌++◌, Option, Some, None, eqb-true, append-nil}
 use Rattle.std.specs.List.{count_by, range_with_len, list_any}
 use Rattle.std.specs.Option.{option_map_or, option_and_then}
 use Rattle.std.proofs.lemmas.Bool.{and_parts}
 use Rattle.std.proofs.lemmas.Bool.Decides.{nat_tests}
 use Rattle.std.proofs.lemmas.List.Folds.{list_any-append}
+use Rattle.std.proofs.lemmas.List.Sums.{sum_by-cons}
 use Rattle.es_event.specs.declared.ledger_event.Body.{Body}
 use Rattle.es_event.specs.declared.ledger_event.Body.TheVariants.{Plain, Block}
 use Rattle.es_event.specs.declared.ledger_event.LedgerEvent.{LedgerEvent}
 use Rattle.es_event.specs.declared.ledger_event.LedgerEvent.TheVariants.{Opened, Posted, Taken, Spent, Accessed, Waiting, Passed, Ended, Drained}
+use Rattle.es_event.specs.declared.row.Row.{Row}
 use Rattle.es_event.specs.declared.row.Entry.{Entry}
 use Rattle.es_event.specs.declared.row.Holder.{Holder}
 use Rattle.es_event.specs.declared.row.Holder.TheVariants.{Agent, Port, Nobody}
-use Rattle.es_event.specs.Rows.{row, held_by, is_somebody, moved}
-use Rattle.es_event.specs.Ledger.{Ledger, front, serial_in, table, opened, size, moved_if as moved_if_said, is_released}
+use Rattle.es_event.specs.Rows.{row, held_by, is_somebody, unspent, count_of, moved}
+use Rattle.es_event.specs.Ledger.{Ledger, front, serial_in, table, opened, size, moved_if as moved_if_said, count, is_opened, is_released}
 use Rattle.es_event.specs.Totals.{released}
-use Rattle.es_report.specs.Tickets.{is_left, line_of_entry}
 use Rattle.es_report.proofs.Lists.{count_alike}
-use Rattle.es_report.proofs.Lines.{released_at}
 use Rattle.es_report.specs.declared.holding.Trace.{Trace}
 use Rattle.es_report.specs.Holding.{Traced, any_of, held_of, is_of, left, makes, makes_it, makes_left, moved_by, moved_if, moved_to, with_ticket}
 
@@ -234,11 +234,36 @@ left_is l b = same_truth (list_any (makes_left (table l) b) l) (left (table l) b
         let made = some_of (makes_it s b) l (sym (any_made l s b) ∙ any) in
         made.2 (makes_left (table l) b) (made_it (table l) s b (makes made.0) held made.1)
 
-same_left : (es : List Entry) (b : ℕ) → is_left (map line_of_entry es) b ≡ left es b
-same_left [] b = refl
-same_left (e ∷ es) b = ap (λ o. (is_somebody e.holder && (e.row.block == b)) || o) (same_left es b)
+-- What is left
 
+one_counted : (p : Row → Bool) (r : Row) (rs : List Row) → count_by p (r ∷ rs) ≡ cond (p r) 1 0 + count_by p rs
+one_counted p r rs = sum_by-cons (λ r. cond (p r) 1 0) r rs
+
+none_counted : (es : List Entry) (b : ℕ) → (count_of (unspent es) b == 0) ≡ not (left es b)
+none_counted [] b = refl
+none_counted (e ∷ es) b = by_tests (is_somebody e.holder) (e.row.block == b) refl (none_counted es b)
+  where
+    by_tests : (h t : Bool) → (e.row.block == b) ≡ t → (count_of (unspent es) b == 0) ≡ not (left es b)
+        → (count_of (cond h (e.row ∷ unspent es) (unspent es)) b == 0) ≡ not ((h && t) || left es b)
+    by_tests false t at rest = rest
+    by_tests true true at rest =
+        let more : count_of (e.row ∷ unspent es) b ≡ cond (e.row.block == b) 1 0 + count_of (unspent es) b = one_counted (λ r. r.block == b) e.row (unspent es) in
+        let one : ◌≡◌ {A = ℕ} (cond (e.row.block == b) 1 0) 1 = ap (λ t. cond t 1 0) at in
+        let some : 0 < count_of (e.row ∷ unspent es) b = omega (arith, more, one) in
+        grind (arith, nat_tests, some)
+    by_tests true false at rest =
+        let more : count_of (e.row ∷ unspent es) b ≡ cond (e.row.block == b) 1 0 + count_of (unspent es) b = one_counted (λ r. r.block == b) e.row (unspent es) in
+        let none : ◌≡◌ {A = ℕ} (cond (e.row.block == b) 1 0) 0 = ap (λ t. cond t 1 0) at in
+        let same : count_of (e.row ∷ unspent es) b ≡ count_of (unspent es) b = omega (arith, more, none) in
+        ap (λ n. n == 0) same ∙ rest
+
+released_at : (l : Ledger) (b : ℕ) → 1 ≤ b → b < 1 + opened l → is_released l b ≡ not (left (table l) b)
+released_at l b low high =
+    let made : is_opened l b ≡ true = grind (arith, nat_tests) in
+    ap (λ t. t && (count l b == 0)) made ∙ none_counted (table l) b
+
+-- the blocks that no ticket is left of are the released ones
 pub all_released : (l : Ledger) (n : ℕ) → n ≡ opened l → count_by (λ b. not (left (table l) b)) (range_with_len 1 n) ≡ released l
 all_released l n all =
     ap (λ n. count_by (λ b. not (left (table l) b)) (range_with_len 1 n)) all
-    ∙ count_alike (λ b. not (left (table l) b)) (is_released l) 1 (opened l) (λ b low high. ap not (sym (same_left (table l) b)) ∙ sym (released_at l b low high))
+    ∙ count_alike (λ b. not (left (table l) b)) (is_released l) 1 (opened l) (λ b low high. sym (released_at l b low high))

@@ -10,20 +10,18 @@ use Rattle.es_event.specs.declared.event.Event.{Event}
 use Rattle.es_event.specs.declared.event.Event.TheVariants.{Did}
 use Rattle.es_event.specs.History.{History, earliest, at_key}
 use Rattle.es_event.specs.Identities.{is_gone}
-use Rattle.es_event.specs.Registrations.{Cell, registers, registers_by, registered, cell, Fate, live, awaiting, unregistered, taken, same_fate, is_under as is_under_said, removes, fate, present_fate}
+use Rattle.es_event.specs.Registrations.{Cell, registers, registers_by, registered, cell, Fate, live, awaiting, unregistered, taken, same_fate, removes, fate, present_fate}
 use Rattle.es_event.proofs.Cells.{registered_next, registered_same}
 use Rattle.es_event.proofs.Entries.{mapped}
 use Rattle.es_registry.specs.declared.slot.Tally.{Tally}
 use Rattle.es_report.specs.declared.fates.Fate.{Fate as Settled}
-use Rattle.es_report.specs.declared.fates.Fate.TheVariants.{Unregistered}
 use Rattle.es_report.specs.declared.registered.Made.{Made}
-use Rattle.es_report.specs.Fates.{made_of}
-use Rattle.es_report.specs.Registered.{fate_of, made_by, named_by, one_more, IsBelow}
+use Rattle.es_report.specs.Registered.{made_of, fate_of, made_by, one_more, IsBelow}
 use Rattle.es_report.specs.Tallies.{end_tally}
 use Rattle.es_report.proofs.Lists.{count_few, count_last}
-use Rattle.es_report.proofs.Noted.{either_cell, makes_alone, made_is, named_is, none_made, or_none, under_is, unmoved_by}
+use Rattle.es_report.proofs.Noted.{either_cell, makes_alone, made_is, or_none, unmoved_by}
 use Rattle.es_report.specs.declared.looking.Look.{Look}
-use Rattle.es_report.specs.Looking.{Looks, first_of, is_under, present, removed_by, with_made}
+use Rattle.es_report.specs.Looking.{Looks, first_of, present, removed_by, with_made}
 
 -- an event that makes no registration
 pub unmade : (e : Event) (n : ℕ) (h : History) (k : Look) (r : Option Settled) → registers e ≡ None → option_or (earliest (removes n) h) (removes n h e) ≡ option_map fate_of r
@@ -44,9 +42,6 @@ pub removed : (e : Event) (n : ℕ) (h : History) (k : Look) (b : Bool) (f : Set
 removed e n h k b f none out says =
     unmade e n h k (first_of k.removal b f) none (ap (option_or (earliest (removes n) h)) out ∙ ap (λ o. option_or o (cond b (Some (fate_of f)) None)) says.removal ∙ first_said k.removal b f) says
 
-pub same_after : (e : Event) (n : ℕ) (h : History) (k : Look) → registers e ≡ None → removes n h e ≡ None → Looks n h k → Looks n (e ∷ h) k
-same_after e n h k none out says = unmade e n h k k.removal none (ap (option_or (earliest (removes n) h)) out ∙ or_none (earliest (removes n) h) ∙ says.removal) says
-
 registered_after : (e : Event) (n : ℕ) (h : History) (k : Look) (q : Cell) → registers e ≡ Some q → removes n h e ≡ None → Looks n h k → Looks n (e ∷ h) (with_made k (made_of q) n)
 registered_after e n h k q is out says = record {
   made = let next : registered (e ∷ h) ≡ registered h + 1 = registered_next e h q is in let before : k.made ≡ registered h = says.made in omega (arith, next, before);
@@ -62,19 +57,6 @@ pub made_after : (c : Command) (vs : List Value) (a : Answer) (n : ℕ) (h : His
 made_after c vs a n h k m is says =
     let at = mapped made_of (registers_by c vs) m (sym (made_is c vs) ∙ is) in
     subst (λ m. Looks n (Did (c, vs, a) ∷ h) (with_made k m n)) at.2 (registered_after (Did (c, vs, a)) n h k at.0 at.1 (unmoved_by c vs a h (makes_alone c vs at.0 at.1) n) says)
-
--- a command that takes registrations out
-pub named_after : (c : Command) (vs : List Value) (a : Answer) (n : ℕ) (h : History) (k : Look) (r t : ℕ) → made_by c vs ≡ None → named_by c vs ≡ Some (r, t) → Looks n h k
-    → Looks n (Did (c, vs, a) ∷ h) (removed_by k (is_under k.cell r t) Unregistered)
-named_after c vs a n h k r t none is says =
-    let out : removes n h (Did (c, vs, a)) ≡ cond (is_under_said h r t n) (Some unregistered) None
-    = ap (λ b. cond b (Some unregistered) None) (named_is c vs h n) ∙ ap (λ o. cond (option_map_or (λ (k : ℕ × ℕ). is_under_said h k.0 k.1 n) o false) (Some unregistered) None) is in
-    removed (Did (c, vs, a)) n h k (is_under k.cell r t) Unregistered (none_made c vs (registers_by c vs) refl none)
-    (out ∙ ap (λ b. cond b (Some unregistered) None) (under_is r t (cell h n) k.cell says.cell)) says
-
--- any other command
-pub idle_after : (c : Command) (vs : List Value) (a : Answer) (n : ℕ) (h : History) (k : Look) → made_by c vs ≡ None → named_by c vs ≡ None → Looks n h k → Looks n (Did (c, vs, a) ∷ h) k
-idle_after c vs a n h k none quiet says = same_after (Did (c, vs, a)) n h k (none_made c vs (registers_by c vs) refl none) (unmoved_by c vs a h quiet n) says
 
 -- What became of it
 

@@ -11,16 +11,6 @@ use Rattle.es_report.specs.declared.ports.Counts.{Counts}
 use Rattle.es_report.specs.declared.ports.Search.{Search}
 use Rattle.es_report.specs.Ports.{AreCounts, Finds, posted_at, posts, put_in, seen_in, taken_out}
 
--- an event that leaves the port alone
-pub counts_same : (s r : ℕ) (e : LedgerEvent) (l : Ledger) (c : Counts) → posted_at e s r ≡ [] → ((b : List Body) → queued e s r b ≡ b) → AreCounts s r l c → AreCounts s r (e ∷ l) c
-counts_same s r e l c none still says =
-    let same : posts (e ∷ l) s r ≡ posts l s r = ap (λ m. posts l s r ++ m) none ∙ append-nil (posts l s r) in
-    record {
-      posted = says.posted ∙ ap length (sym same);
-      few = says.few;
-      port = still (port_of l s r) ∙ says.port ∙ ap (drop c.gone) (sym same);
-    }
-
 drop_push : (n : ℕ) (ms : List Body) (m : Body) → n ≤ length ms → drop n (ms ++ m ∷ []) ≡ drop n ms ++ m ∷ []
 drop_push zero ms m le = refl
 drop_push (suc n) [] m le = absurd (omega arith)
@@ -83,11 +73,6 @@ counts_out s r a u e l c b at none out says =
     }
 
 -- A search
-
-pub finds_same : (s r n : ℕ) (e : LedgerEvent) (l : Ledger) (k : Search) → posted_at e s r ≡ [] → Finds s r n l k → Finds s r n (e ∷ l) k
-finds_same s r n e l k none says =
-    let same : posts (e ∷ l) s r ≡ posts l s r = ap (λ m. posts l s r ++ m) none ∙ append-nil (posts l s r) in
-    record { seen = says.seen ∙ ap length (sym same); found = says.found ∙ ap (λ ms. option_and_then serial_in (slice_get ms n)) (sym same) }
 
 push_at : (ms : List Body) (m : Body) (k : ℕ) → slice_get (ms ++ m ∷ []) k ≡ cond (length ms == k) (Some m) (slice_get ms k)
 push_at [] m zero = refl

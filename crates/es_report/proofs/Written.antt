@@ -12,7 +12,7 @@ use Rattle.es_event.specs.Report.{agent_text, agents_text, cluster_text, report}
 use Rattle.es_registry.specs.declared.slot.Tally.{Tally}
 use Rattle.es_report.specs.Counts.{IsCountsOf, CountsView}
 use Rattle.es_report.specs.Tallies.{AreTallies, end_tally}
-use Rattle.es_report.specs.Totals.{totals_text}
+use Rattle.es_report.specs.Totals.{counts_text}
 
 -- the tally at a place is that of the history there
 pub tally_there : (hs : List (List Event)) (ts : List Tally) (i : ℕ) (d : Tally) (h : List Event) → i < length hs → AreTallies hs ts → h ≡ slice_index_or hs i h → slice_index_or ts i d ≡ end_tally (reverse h)
@@ -36,8 +36,8 @@ place_written a b last ns hs i inside size here rest =
     (Appends-trans a b last (agent_text (slice_index_or ns i []) (slice_index_or hs i [])) (agents_text (drop (suc i) ns) (drop (suc i) hs)) here others)
 
 -- the lines of the agents and then the totals are the report, where the totals are the outcome's
-pub whole_written : {X E : Type 0} (o : Outcome) (s : CountsView) (r : Result X E) (a b c : Option (List ℕ)) → IsCountsOf o s → Appends a b (agents_text o.names o.histories) → OnOk r (Appends b c (totals_text s)) → OnOk r (Appends a c (report o))
+pub whole_written : {X E : Type 0} (o : Outcome) (s : CountsView) (r : Result X E) (a b c : Option (List ℕ)) → IsCountsOf o s → Appends a b (agents_text o.names o.histories) → OnOk r (Appends b c (counts_text s)) → OnOk r (Appends a c (report o))
 whole_written o s r a b c counted agents totals =
-    let same : totals_text s ≡ cluster_text (reverse o.ledger) = ap totals_text counted in
+    let same : counts_text s ≡ cluster_text (reverse o.ledger) = ap counts_text counted in
     let told : OnOk r (Appends b c (cluster_text (reverse o.ledger))) = subst (λ t. OnOk r (Appends b c t)) same totals in
     on_ok_weaker r (Appends-trans a b c (agents_text o.names o.histories) (cluster_text (reverse o.ledger)) agents) told

@@ -3,8 +3,6 @@ pub mod Looking
 pub mod Ports
 pub mod Totals
 pub mod Counts
-pub mod Fates
 pub mod Registered
 pub mod Tallies
-pub mod Tickets
 pub mod LedgerTotals

@@ -7,8 +7,7 @@ use Rattle.es_event.specs.Identities.{is_gone}
 use Rattle.es_event.specs.Registrations.{cell, registered, removes, Fate, live, awaiting}
 use Rattle.es_report.specs.declared.fates.Fate.{Fate as Settled}
 use Rattle.es_report.specs.declared.registered.Made.{Made}
-use Rattle.es_report.specs.Fates.{made_of}
-use Rattle.es_report.specs.Registered.{fate_of}
+use Rattle.es_report.specs.Registered.{made_of, fate_of}
 use Rattle.es_report.specs.declared.looking.Look.{Look}
 
 -- what is kept says what the history says of registration n

@@ -1,11 +1,11 @@
--- To believe: what commands say of registrations, and totals of their fates.
+-- Internal: what commands say of registrations, and totals of their fates.
 use Rattle.std.specs.Prelude.{ℕ, ◌+◌, ◌<◌, List, Option, None, is_some, is_none, slice_get, if◌then◌else◌}
 use Rattle.std.specs.Option.{option_map, option_and_then}
 use Rattle.es_value.specs.declared.value.Value.{Value}
 use Rattle.es_event.specs.declared.command.Command.{Command}
 use Rattle.es_event.specs.declared.command.Command.TheVariants.{Register, Unregister}
 use Rattle.es_event.specs.Identities.{identity, object_of}
-use Rattle.es_event.specs.Registrations.{Fate, live, awaiting, unregistered, taken, same_fate}
+use Rattle.es_event.specs.Registrations.{Cell, Fate, live, awaiting, unregistered, taken, same_fate}
 use Rattle.es_registry.specs.declared.slot.Tally.{Tally}
 use Rattle.es_report.specs.declared.registered.Made.{Made}
 use Rattle.es_report.specs.declared.fates.Fate.{Fate as Settled}
@@ -20,6 +20,10 @@ identity_at vs k = option_and_then identity (slice_get vs k)
 -- the object at a place
 abbrev pub object_at : List Value → ℕ → Option ℕ
 object_at vs k = option_and_then object_of (slice_get vs k)
+
+-- what a registration was made with, but for its held value
+abbrev pub made_of : Cell → Made
+made_of c = record { registry = c.registry; target = c.target; token = c.token }
 
 abbrev pub made_with : List Value → ℕ → ℕ → Made
 made_with vs r i = record { registry = r; target = i; token = identity_at vs 3 }

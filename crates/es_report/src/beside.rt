@@ -7,7 +7,7 @@ ghost use Rattle.es_report.specs.Counts.{IsCountsOf};
 ghost use Rattle.es_report.specs.Tallies.{AreTallies};
 
 use crate::agent::write_agent;
-use crate::cluster::write_totals;
+use crate::cluster::write_counts;
 use crate::counts::Counts;
 use crate::report::write_report_counted;
 use es_event::{Event, Outcome, Sequence};
@@ -39,7 +39,7 @@ pub fn write_report_beside<R: Threads + Sync, W: Write>(
     if names.len() == histories.len() && are_long(histories) {
         if let Ok(texts) = texts_of(rt, alloc, names, histories, counts.tallies()) {
             write_texts(names, histories, counts.tallies(), &texts, writer)?;
-            return write_totals(counts, writer);
+            return write_counts(counts, writer);
         }
     }
     write_report_counted(outcome, counts, writer)

@@ -2,13 +2,12 @@
 
 ghost use Rattle.std.specs.Prelude.{◌≡◌, ℕ, map, reverse, IfOk};
 ghost use Rattle.es_event.specs.Ledger.{count};
-ghost use Rattle.es_event.specs.Totals.{released as released_said};
 ghost use Rattle.es_report.specs.Counts.{IsCountsOf};
-ghost use Rattle.es_report.specs.Tallies.{AreTallies, end_tally};
+ghost use Rattle.es_report.specs.Tallies.{AreTallies};
 ghost use Rattle.es_report.specs.LedgerTotals.{told};
 
-use crate::fates::Fates;
-use crate::tickets::Tickets;
+use crate::holding::released_back;
+use crate::looking::tally_back;
 use crate::totals::Totals;
 use es_event::{Event, LedgerEvent, Outcome, Sequence};
 use es_registry::Tally;
@@ -41,12 +40,16 @@ impl Model for Counts {
 }
 
 impl Counts {
-    /// Counts what the histories of an outcome say, each of which it goes through once.
+    /// Counts what the histories of an outcome say, by looking back as `write_report` does: its time grows with
+    /// the square of an agent's history, and with the cube of the ledger's. A run that ends has its totals
+    /// without that.
     pub fn of(alloc: Global, outcome: &Outcome) -> Result<Counts, NoMemory>
         ensures { IfOk result (λ c. IsCountsOf outcome.now c) }
     {
         let tallies = tallies_of(alloc, outcome.histories.as_slice())?;
-        let (totals, released) = cluster_totals(alloc, outcome.ledger.as_slice())?;
+        let events = outcome.ledger.as_slice();
+        let totals = totals_of(events);
+        let released = released_back(events, totals.opened);
         Ok(Counts {
             tallies,
             released,
@@ -117,36 +120,13 @@ fn tallies_of(alloc: Global, histories: &[Sequence<Event>]) -> Result<Vec<Tally>
 {
     let mut tallies = Vec::new(alloc);
     for history in histories {
-        tallies.push(tally_of(alloc, history.as_slice())?)?;
+        tallies.push(tally_back(history.as_slice()))?;
     }
     Ok(tallies)
 }
 
-fn tally_of(alloc: Global, events: &[Event]) -> Result<Tally, NoMemory>
-    ensures { IfOk result (λ t. t ≡ end_tally (reverse events.now)) }
-{
-    let mut fates = Fates::new(alloc);
-    for event in events {
-        fates.note(event)?;
-    }
-    Ok(fates.tally())
-}
-
-fn cluster_totals(alloc: Global, events: &[LedgerEvent]) -> Result<(Totals, usize), NoMemory>
-    ensures { IfOk result (λ p. (p.0 ≡ told (reverse events.now)) × (p.1 ≡ released_said (reverse events.now))) }
-{
-    let mut totals = Totals::zero();
-    let mut tickets = Tickets::new(alloc);
-    for event in events {
-        totals = totals.with(event);
-        tickets.note(event)?;
-    }
-    let released = tickets.released(totals.opened)?;
-    Ok((totals, released))
-}
-
 /// The totals of a ledger's events, but for how many blocks were released.
-fn totals_of(events: &[LedgerEvent]) -> Totals
+pub(crate) fn totals_of(events: &[LedgerEvent]) -> Totals
     ensures { result ≡ told (reverse events.now) }
 {
     let mut totals = Totals::zero();

@@ -7,7 +7,7 @@ ghost use Rattle.es_report.specs.Counts.{IsCountsOf};
 ghost use Rattle.es_report.specs.Tallies.{AreTallies};
 
 use crate::agent::write_agent;
-use crate::cluster::{write_cluster, write_totals};
+use crate::cluster::{write_cluster, write_counts};
 use crate::counts::Counts;
 use crate::looking::tally_back;
 use es_event::{Event, Outcome, Sequence};
@@ -24,8 +24,8 @@ use std::io::Write;
 ///
 /// The totals are counted by looking back: for each registration at all events of its agent, and for each
 /// block, each ticket and each message with a ticket at all events of the ledger. So its time grows with
-/// the square of a history, and with the cube of the ledger's. Where there is memory, `Counts::of` and
-/// `write_report_counted` write the same in a time that grows with the histories.
+/// the square of a history, and with the cube of the ledger's. `write_report_counted` writes the same in a
+/// time that grows with the histories, from the counts that a run ends with.
 pub fn write_report<W: Write>(outcome: &Outcome, writer: &mut W) -> Result<(), io::Error>
     ensures { OnOk result (Appends (W.contents writer.old) (W.contents writer.new) (report outcome.now)) }
 {
@@ -70,7 +70,7 @@ pub fn write_report_counted<W: Write>(
         counts.tallies(),
         writer,
     )?;
-    write_totals(counts, writer)
+    write_counts(counts, writer)
 }
 
 fn write_agents<W: Write>(

@@ -14,11 +14,11 @@ use Rattle.es_event.specs.declared.event.Event.TheVariants.{Received, Did, Refus
 use Rattle.es_event.specs.declared.event.Refusal.{Refusal}
 use Rattle.es_event.specs.declared.event.Refusal.TheVariants.{TooManyValues, CollectionOpen}
 use Rattle.es_event.specs.declared.row.Row.{Row}
-use Rattle.es_event.specs.Access.{access_of}
 use Rattle.es_event.specs.Commands.{reads, first, makes, collects, opens_words}
 use Rattle.es_event.specs.History.{History}
 use Rattle.es_event.specs.Identities.{identity, object_of, made}
 use Rattle.es_event.specs.Jobs.{receivers}
+use Rattle.es_event.specs.Numbers.{access_of, index_of}
 use Rattle.es_event.specs.Sharing.{Buffers, row_at}
 use Rattle.es_event.specs.Later.{snapshot, collects_now}
 use Rattle.es_event.specs.Rules.{refusal, first_refusal, result, refuse_or, completion, word_if}
@@ -91,13 +91,9 @@ posts_no_word : (a : ℕ) (v : Value) → is_word (posts_to a v) ≡ false
 posts_no_word a (Object o) = refl
 posts_no_word a _ = refl
 
-posts_done : (a : ℕ) (v : Value) → is_done (posts_to a v) ≡ true
-posts_done a (Object o) = refl
-posts_done a _ = refl
-
 -- what is asked for by a command on a word
-access_is : (test : Request → Bool) (a : AtomicParts) (vs : List Value) (r : Request) (t : Bool) → ((o : ℕ) → test (for_access o (unsigned_abs a.index) (access_of a.operation)) ≡ t) → asked (Atomic a) vs ≡ Some r → test r ≡ t
-access_is test a vs r t each is = mapped_is test (λ o. for_access o (unsigned_abs a.index) (access_of a.operation)) (object_of (first vs)) r t each is
+access_is : (test : Request → Bool) (a : AtomicParts) (vs : List Value) (r : Request) (t : Bool) → ((o : ℕ) → test (for_access o (unsigned_abs (index_of a vs)) (access_of a vs)) ≡ t) → asked (Atomic a) vs ≡ Some r → test r ≡ t
+access_is test a vs r t each is = mapped_is test (λ o. for_access o (unsigned_abs (index_of a vs)) (access_of a vs)) (object_of (first vs)) r t each is
 
 is_not : (b : Bool) → not b ≡ true → b ≡ false
 is_not true e = cc
@@ -109,8 +105,8 @@ both_ways b t f = let e : true ≡ false = sym t ∙ f in cc
 word_gives : (over : Buffers) (h : History) (c : Command) (vs : List Value) (r : Request) (w : ℕ) → asked c vs ≡ Some r → is_word r ≡ true → refusal over h c vs ≡ None → w < 2 ^ 32
     → (completion over h c vs (word_in (Gives (Number (pos w)))) ≡ Ok (Gives (Number (pos w)))) × (opens_words c ≡ None)
 word_gives over h (Atomic a) vs r w is word none small =
-    let gives : (access_of a.operation).gives_word ≡ true = sym (access_is is_word a vs r (access_of a.operation).gives_word (λ o. refl) is) ∙ word in
-    (ap (λ f. refuse_or f (word_if (access_of a.operation).gives_word w)) none ∙ ap (λ g. Ok (word_if g w)) gives ∙ ap (λ n. Ok (Gives (Number (pos n)))) (omega (arith, small)), refl)
+    let gives : (access_of a vs).gives_word ≡ true = sym (access_is is_word a vs r (access_of a vs).gives_word (λ o. refl) is) ∙ word in
+    (ap (λ f. refuse_or f (word_if (access_of a vs).gives_word w)) none ∙ ap (λ g. Ok (word_if g w)) gives ∙ ap (λ n. Ok (Gives (Number (pos n)))) (omega (arith, small)), refl)
 word_gives over h (SharedArrayBuffer to n) vs r w is word none small = absurd (both_ways (is_word r) word (some_is is_word (for_block n) r false refl is))
 word_gives over h (Post a y) vs r w is word none small = absurd (both_ways (is_word r) word (some_is is_word (posts_to a (first vs)) r false (posts_no_word a (first vs)) is))
 word_gives over h _ vs r w is word none small = cc
@@ -118,8 +114,8 @@ word_gives over h _ vs r w is word none small = cc
 done_gives : (over : Buffers) (h : History) (c : Command) (vs : List Value) (r : Request) → asked c vs ≡ Some r → is_done r ≡ true → refusal over h c vs ≡ None
     → (completion over h c vs (word_in Nothing) ≡ Ok Nothing) × (opens_words c ≡ None)
 done_gives over h (Atomic a) vs r is done none =
-    let silent : not (access_of a.operation).gives_word ≡ true = sym (access_is is_done a vs r (not (access_of a.operation).gives_word) (λ o. refl) is) ∙ done in
-    (ap (λ f. refuse_or f (word_if (access_of a.operation).gives_word 0)) none ∙ ap (λ g. Ok (word_if g 0)) (is_not (access_of a.operation).gives_word silent), refl)
+    let silent : not (access_of a vs).gives_word ≡ true = sym (access_is is_done a vs r (not (access_of a vs).gives_word) (λ o. refl) is) ∙ done in
+    (ap (λ f. refuse_or f (word_if (access_of a vs).gives_word 0)) none ∙ ap (λ g. Ok (word_if g 0)) (is_not (access_of a vs).gives_word silent), refl)
 done_gives over h (Post a y) vs r is done none = (ap (λ f. refuse_or f Nothing) none, refl)
 done_gives over h (SharedArrayBuffer to n) vs r is done none = absurd (both_ways (is_done r) done (some_is is_done (for_block n) r false refl is))
 done_gives over h _ vs r is done none = cc

@@ -1,5 +1,5 @@
 -- What is due where an agent asks for something.
-use Rattle.std.proofs.Common.{◌≡◌, ℕ, Bool, true, false, ◌&&◌, sym, ◌∙◌, ap, refl, subst, List, Option, Some, None, cond}
+use Rattle.std.proofs.Common.{◌≡◌, ℕ, Bool, true, false, ◌&&◌, sym, ap, refl, subst, List, Option, Some, None, cond}
 use Rattle.std.specs.Prelude.{is_none}
 use Rattle.es_value.specs.declared.value.Value.{Value}
 use Rattle.es_event.specs.declared.command.Command.{Command}
@@ -14,7 +14,7 @@ use Rattle.es_event.specs.Later.{is_later, snapshot, collects_now}
 use Rattle.es_event.specs.Legal.{values_of}
 use Rattle.es_event.specs.Rules.{refusal}
 use Rattle.es_event.specs.Sharing.{Buffers}
-use Rattle.es_event.specs.Order.{Due, begin, receive, run, clean, take_cell, finish, end_job, due_end, close, nothing, due}
+use Rattle.es_event.specs.Order.{Due, begin, receive, run, clean, take_cell, finish, end_job, close, nothing, due}
 use Rattle.es_event.specs.Follows.{Permits}
 use Rattle.es_tables.specs.Effects.{IsQuiet}
 use Rattle.es_record.specs.AgentView.{AgentView, IsNext}
@@ -173,14 +173,6 @@ message_due b (clean q) s e = cc
 message_due b (take_cell n) s e = cc
 message_due b close s e = cc
 message_due b nothing s e = cc
-
--- where the job is to end, a step that asks nobody ends it: no later collection is open
-end_local : (b : AgentView) (o : Option History) → need_of b (due_end o) ≡ asks_nobody → due_end o ≡ end_job
-end_local b None e = refl
-end_local b (Some p) e = cc
-
-pub ends_local : (b : AgentView) (o : Option History) → due_end o ≡ due b.plan b.history → need b ≡ asks_nobody → due b.plan b.history ≡ end_job
-ends_local b o is e = sym is ∙ end_local b o (ap (need_of b) is ∙ e)
 
 -- what is asked for was not refused
 pub not_refused : (f : Option Refusal) (q : Option Request) (r : Request) → unless_refused f q ≡ Some r → (f ≡ None) × (q ≡ Some r)

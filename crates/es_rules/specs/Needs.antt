@@ -12,7 +12,7 @@ use Rattle.es_event.specs.declared.event.Event.{Event}
 use Rattle.es_event.specs.declared.event.Event.TheVariants.{Received, Did}
 use Rattle.es_event.specs.declared.event.Refusal.{Refusal}
 use Rattle.es_event.specs.declared.row.Row.{Row}
-use Rattle.es_event.specs.Access.{access_of}
+use Rattle.es_event.specs.Numbers.{access_of, index_of}
 use Rattle.es_event.specs.Commands.{reads, first}
 use Rattle.es_event.specs.History.{History}
 use Rattle.es_event.specs.Identities.{object_of}
@@ -43,7 +43,7 @@ access_at v i a = option_map (λ o. for_access o (unsigned_abs i) a) (object_of 
 -- store and add)
 abbrev pub asked : Command → List Value → Option Request
 asked (SharedArrayBuffer to n) vs = Some (for_block n)
-asked (Atomic a) vs = access_at (first vs) a.index (access_of a.operation)
+asked (Atomic a) vs = access_at (first vs) (index_of a vs) (access_of a vs)
 asked (Post a y) vs = Some (posts_to a (first vs))
 asked _ vs = None
 

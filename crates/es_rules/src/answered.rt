@@ -12,8 +12,7 @@ ghost use Rattle.es_record.specs.AgentView.{IsNext, AreThere, with_buffer};
 ghost use Rattle.es_rules.specs.Needs.{need, asks_message, asks_copy, TakesTicket, TakesWord, TakesDone, IsDone, Brings};
 ghost use Rattle.es_rules.specs.Giving.{MayGive};
 
-use es_cursor::Due;
-use es_event::{Answer, Command, Done, Event, PlanCommand, Refusal, Row};
+use es_event::{Answer, Command, Done, Due, Event, PlanCommand, Refusal, Row};
 use es_record::AgentRecord;
 use es_value::{NoMemory, Value};
 

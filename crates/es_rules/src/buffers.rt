@@ -1,17 +1,21 @@
 //! What the commands on shared buffers and on messages come to.
 
-ghost use Rattle.std.specs.Prelude.{◌≡◌, ◌+◌, ◌∷◌, [], false, true, Some, None, pos, IfOk, IfErr, unsigned_abs, nat_lt, ◌==◌, if◌then◌else◌};
+ghost use Rattle.std.specs.Prelude.{◌≡◌, is_some, map, ◌+◌, ◌∷◌, [], false, true, Some, None, pos, IfOk, IfErr, unsigned_abs, nat_lt, ◌==◌, if◌then◌else◌};
 ghost use Rattle.std.specs.Option.{option_map_or};
 ghost use Rattle.es_value.specs.Limits.{most_blocks, most_posts};
-ghost use Rattle.es_event.specs.Access.{access_of};
+ghost use Rattle.es_event.specs.Jobs.{receivers};
+ghost use Rattle.es_event.specs.Access.{given_to};
+ghost use Rattle.es_event.specs.Numbers.{number_or_0, word_at as word_of_number};
+ghost use Rattle.es_event.specs.Variables.{var};
+ghost use Rattle.es_rules.specs.Numbers.{access_by, number_at, numbers_at, refusal_at};
 ghost use Rattle.es_event.specs.Identities.{gone, has_identity_in, object_of, made};
 ghost use Rattle.es_event.specs.Sharing.{blocks_opened, messages_posted, row_at, words_of, block_of, is_index};
-ghost use Rattle.es_event.specs.Rules.{refuse_or, first_refusal, room, room_for_block, room_for_post, of_buffer, of_index, of_postable, is_postable, word_if};
+ghost use Rattle.es_event.specs.Rules.{refuse_or, first_refusal, room, room_for_block, room_for_post, of_buffer, of_number, of_postable, is_postable, word_if};
 ghost use Rattle.es_rules.specs.Completion.{Completes};
 
 use crate::decide::fresh;
 use crate::stop::Stop;
-use es_event::{Answer, Atomic, Refusal};
+use es_event::{Access, Answer, Atomic, Operand, Operation, Refusal, number_of, to_uint32};
 use es_record::AgentRecord;
 use es_tables::Tag;
 use es_value::{Id, MOST_BLOCKS, MOST_POSTS, Value};
@@ -64,16 +68,50 @@ fn index_below(index: i64, words: u32) -> Option<usize>
     }
 }
 
-/// The buffer object and the index of a word (ValidateAtomicAccess).
-pub(crate) fn place(agent: &AgentRecord, value: &Value, index: i64) -> Result<(Id, usize), Refusal>
-    requires there { has_identity_in (gone agent.now.history) value.now ≡ false }
-    ensures ok { IfOk result (λ p. (first_refusal (of_buffer agent.now.history value.now ∷ of_index agent.now.over value.now index ∷ []) ≡ None) × (object_of value.now ≡ Some p.0) × (p.1 ≡ unsigned_abs index)) }
-    ensures err { IfErr result (λ code. first_refusal (of_buffer agent.now.history value.now ∷ of_index agent.now.over value.now index ∷ []) ≡ Some code) }
+/// The buffer object and the index of a word, and what is done to it (ValidateIntegerTypedArray,
+/// ValidateAtomicAccess), or the first refusal that applies.
+pub(crate) fn word_at(agent: &AgentRecord, atomic: &Atomic) -> Result<(Id, usize, Access), Refusal>
+    ensures ok { IfOk result (λ p. (refusal_at agent.now atomic.now ≡ None) × (object_of (var (receivers agent.now.plan.jobs) agent.now.history atomic.now.buffer) ≡ Some p.0) × (p.1 ≡ unsigned_abs (number_or_0 (number_at agent.now atomic.now.index))) × (p.2 ≡ access_by atomic.now (numbers_at agent.now atomic.now.operation))) }
+    ensures err { IfErr result (λ code. refusal_at agent.now atomic.now ≡ Some code) }
 {
-    let buffer = buffer_in(agent, value)?;
-    match index_below(index, words(agent, buffer)) {
-        Some(index) => Ok((buffer, index)),
-        None => Err(Refusal::IndexOutOfRange),
+    let buffer = buffer_in(agent, agent.value(atomic.buffer()))?;
+    let index = number_at(agent, atomic.index())?;
+    let Some(index) = index_below(index, words(agent, buffer)) else {
+        return Err(Refusal::IndexOutOfRange);
+    };
+    let (first, second) = words_at(agent, atomic.operation())?;
+    Ok((buffer, index, atomic.access_by(first, second)))
+}
+
+/// The words of an operation's operands, or the first refusal among them.
+fn words_at(agent: &AgentRecord, operation: &Operation) -> Result<(u32, u32), Refusal>
+    ensures ok { IfOk result (λ p. (first_refusal (map of_number (numbers_at agent.now operation.now)) ≡ None) × (p.0 ≡ word_of_number 0 (numbers_at agent.now operation.now)) × (p.1 ≡ word_of_number 1 (numbers_at agent.now operation.now))) }
+    ensures err { IfErr result (λ code. first_refusal (map of_number (numbers_at agent.now operation.now)) ≡ Some code) }
+{
+    match operation {
+        Operation::Load { .. } => Ok((0, 0)),
+        Operation::Store { number } | Operation::Modify { number, .. } => {
+            Ok((to_uint32(number_at(agent, number)?), 0))
+        }
+        Operation::CompareExchange {
+            expected,
+            replacement,
+            ..
+        } => {
+            let expected = number_at(agent, expected)?;
+            let replacement = number_at(agent, replacement)?;
+            Ok((to_uint32(expected), to_uint32(replacement)))
+        }
+    }
+}
+
+/// The number of an operand, or why it has none.
+fn number_at(agent: &AgentRecord, operand: &Operand) -> Result<i64, Refusal>
+    ensures { result ≡ number_at agent.now operand.now }
+{
+    match operand {
+        Operand::Number(number) => Ok(*number),
+        Operand::Variable(name) => number_of(agent.value(name)),
     }
 }
 
@@ -141,12 +179,11 @@ pub(crate) fn same_block(agent: &AgentRecord, left: &Value, right: &Value) -> Re
 }
 
 /// What a command on a word comes to, were the word 0.
-pub(crate) fn access(agent: &AgentRecord, buffer: &Value, atomic: &Atomic) -> Result<Answer, Stop>
-    requires there { has_identity_in (gone agent.now.history) buffer.now ≡ false }
-    ensures { Completes (refuse_or (first_refusal (of_buffer agent.now.history buffer.now ∷ of_index agent.now.over buffer.now atomic.now.index ∷ [])) (word_if (access_of atomic.now.operation).gives_word 0)) result }
+pub(crate) fn access(agent: &AgentRecord, atomic: &Atomic) -> Result<Answer, Stop>
+    ensures { Completes (refuse_or (refusal_at agent.now atomic.now) (word_if (is_some (given_to atomic.now.operation)) 0)) result }
 {
-    place(agent, buffer, atomic.index())?;
-    if atomic.access().gives_word {
+    let (_, _, access) = word_at(agent, atomic)?;
+    if access.gives_word {
         Ok(Answer::Gives(Value::Number(0)))
     } else {
         Ok(Answer::Nothing)

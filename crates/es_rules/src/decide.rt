@@ -19,8 +19,7 @@ use crate::need::asks_somebody;
 use crate::operand::{four, held_weakly, object_in, one, three, two};
 use crate::stop::Stop;
 use crate::{buffers, ephemerons, registries};
-use es_cursor::Due;
-use es_event::{Answer, Command, Done, Event, Refusal, Sequence, SharedList};
+use es_event::{Answer, Command, Done, Due, Event, Refusal, Sequence, SharedList};
 use es_record::AgentRecord;
 use es_tables::Tag;
 use es_value::{Id, MOST_IDENTITIES, Name, NoMemory, Value, same_value};
@@ -146,7 +145,7 @@ fn completion(agent: &AgentRecord, command: &Command, values: &[Value]) -> Resul
             let (left, right) = two(values);
             buffers::same_block(agent, left, right)
         }
-        Command::Atomic(atomic) => buffers::access(agent, one(values), atomic),
+        Command::Atomic(atomic) => buffers::access(agent, atomic),
         Command::Post { .. } => buffers::post(agent, one(values)),
     }
 }

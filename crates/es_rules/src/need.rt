@@ -8,8 +8,7 @@ ghost use Rattle.es_rules.specs.Needs.{asks_nobody, need, need_of, request};
 ghost use Rattle.es_rules.specs.Shown.{requested, shown};
 
 use crate::requests::{access_request, block_request, post_request};
-use es_cursor::Due;
-use es_event::{Access, Command};
+use es_event::{Access, Command, Due};
 use es_record::AgentRecord;
 use es_value::{Id, Value};
 

@@ -6,6 +6,7 @@ use Rattle.serde_json.specs.Find.{as_i64}
 use Rattle.serde_json.specs.Events.{items_len}
 use Rattle.es_value.specs.Limits.{most_commands, most_words}
 use Rattle.es_value.specs.Spelling.{is_name, is_text}
+use Rattle.es_event.specs.declared.operand.Operand.{Operand}
 use Rattle.es_event.specs.declared.literal.Literal.TheVariants.{Number, Text}
 use Rattle.es_event.specs.declared.command.Command.{Command}
 use Rattle.es_reading.specs.declared.fault.FaultCode.TheVariants.{Name, Operands, Profile, Collection, Limit}
@@ -13,7 +14,7 @@ use Rattle.es_reading.specs.declared.fault.Place.{Place}
 use Rattle.es_reading.specs.declared.fault.Spot.{Spot}
 use Rattle.es_reading.specs.declared.fault.ScriptFault.{ScriptFault}
 use Rattle.es_reading.specs.Scope.{Numbers, Scope}
-use Rattle.es_reading.specs.Forms.{OperandType, name, literal, text, callback, agent, whole, words, Form, form, is_allowed, is_whole, fit}
+use Rattle.es_reading.specs.Forms.{OperandType, name, literal, text, callback, agent, whole, amount, words, Form, form, is_allowed, is_whole, fit}
 use Rattle.es_reading.specs.Places.{at, is_in_callback}
 use Rattle.es_reading.specs.Reading.{then_read, unless_fault, fault_at, name_read, text_read, whole_read, size_found, words_read, literal_read, number_found, reference_read, operand_read, made, meanings_read, form_read, command_read, commands_read, body_read}
 
@@ -79,6 +80,8 @@ module _ (scope : Scope) (s t : Spot) where
   operand_alike callback (string u) = reference_alike scope.callbacks u
   operand_alike agent (string u) = reference_alike scope.agents u
   operand_alike whole (number n) = whole_alike (as_i64 n)
+  operand_alike amount (number n) = alike_then (whole_read s (as_i64 n)) (whole_read t (as_i64 n)) (λ z. Ok (Operand.Number z)) (λ z. Ok (Operand.Number z)) (whole_alike (as_i64 n)) (λ z. refl)
+  operand_alike amount (string u) = alike_then (name_read s u) (name_read t u) (λ x. Ok (Operand.Variable x)) (λ x. Ok (Operand.Variable x)) (name_alike u) (λ x. refl)
   operand_alike words (number n) = words_alike (as_i64 n)
   operand_alike name null = tt
   operand_alike name (boolean b) = tt
@@ -105,6 +108,10 @@ module _ (scope : Scope) (s t : Spot) where
   operand_alike whole (string u) = tt
   operand_alike whole (array ds) = tt
   operand_alike whole (object ms) = tt
+  operand_alike amount null = tt
+  operand_alike amount (boolean b) = tt
+  operand_alike amount (array ds) = tt
+  operand_alike amount (object ms) = tt
   operand_alike words null = tt
   operand_alike words (boolean b) = tt
   operand_alike words (string u) = tt

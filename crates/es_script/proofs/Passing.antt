@@ -4,17 +4,18 @@ use Rattle.std.specs.Prelude.{if◌then◌else◌}
 use Rattle.std.specs.List.{list_all}
 use Rattle.serde_json.specs.Data.{Data, string, array, object, Items, no_items, item, Members, no_members, member}
 use Rattle.serde_json.specs.Events.{items_len}
+use Rattle.es_event.specs.declared.access.Modification.{Modification}
 use Rattle.es_event.specs.declared.command.Command.{Command}
 use Rattle.es_event.specs.declared.plan.Callback.{Callback}
 use Rattle.es_event.specs.Commands.{opens_or_collects}
 use Rattle.es_event.specs.Others.{posts_where}
 use Rattle.es_reading.specs.Scope.{Numbers, Scope}
-use Rattle.es_reading.specs.Forms.{OperandType, name, literal, text, callback, agent, whole, words, Meaning, Makes, Form, form, later_form, weak_form, shared_form, registry_form, is_allowed, takes, takes_in_jobs}
+use Rattle.es_reading.specs.Forms.{OperandType, name, literal, text, callback, agent, whole, amount, words, Meaning, Makes, Form, form, later_form, load_form, store_form, modify_form, compare_form, modify_or, weak_form, shared_form, registry_form, is_allowed, takes, takes_in_jobs}
 use Rattle.es_script.specs.Grammar.{IsReference, Means, AreOperands, IsCommand, AreCommands, IsBody, AreCallbacks, HasCallbacks}
 use Rattle.es_reading.specs.Reading.{Meanings, made}
 use Rattle.es_script.proofs.Sound.{both_true}
 use Rattle.es_reading.specs.declared.version.Version.{Version}
-use Rattle.es_reading.specs.declared.version.Version.TheVariants.{One, Two}
+use Rattle.es_reading.specs.declared.version.Version.TheVariants.{One, Two, Three}
 
 -- Agents that are named
 
@@ -42,6 +43,7 @@ operand_passes test scope pass literal d x h = refl
 operand_passes test scope pass text d x h = refl
 operand_passes test scope pass callback d x h = refl
 operand_passes test scope pass whole d x h = refl
+operand_passes test scope pass amount d x h = refl
 operand_passes test scope pass words d x h = refl
 
 -- The table of commands
@@ -65,18 +67,46 @@ collect_harmless = λ xs. (λ a. sym a, λ t p. refl)
 later_harmless : (v : Version) → Harmless (later_form v)
 later_harmless One = tt
 later_harmless Two = λ xs. (λ a. sym a, λ t p. refl)
+later_harmless Three = λ xs. (λ a. sym a, λ t p. refl)
 
 post_harmless : Harmless (takes (agent ∷ name ∷ []) Command.Post)
 post_harmless = λ xs. (λ a. refl, λ t p. p.0)
 
+-- of words of shared memory, in each version
+load_harmless : (v : Version) → Harmless (load_form v)
+load_harmless One = λ xs. (λ a. refl, λ t p. refl)
+load_harmless Two = λ xs. (λ a. refl, λ t p. refl)
+load_harmless Three = λ xs. (λ a. refl, λ t p. refl)
+
+store_harmless : (v : Version) → Harmless (store_form v)
+store_harmless One = λ xs. (λ a. refl, λ t p. refl)
+store_harmless Two = λ xs. (λ a. refl, λ t p. refl)
+store_harmless Three = λ xs. (λ a. refl, λ t p. refl)
+
+compare_harmless : (v : Version) → Harmless (compare_form v)
+compare_harmless One = tt
+compare_harmless Two = tt
+compare_harmless Three = λ xs. (λ a. refl, λ t p. refl)
+
+modify_harmless : (v : Version) (how : Modification) → Harmless (modify_form v how)
+modify_harmless Three how = λ xs. (λ a. refl, λ t p. refl)
+modify_harmless One Modification.Add = λ xs. (λ a. refl, λ t p. refl)
+modify_harmless One _ = tt
+modify_harmless Two Modification.Add = λ xs. (λ a. refl, λ t p. refl)
+modify_harmless Two _ = tt
+
+modify_or_harmless : (v : Version) (o : Option Modification) (f : Option Form) → Harmless f → Harmless (modify_or v o f)
+modify_or_harmless v None f h = h
+modify_or_harmless v (Some how) f h = modify_harmless v how
+
 registry_harmless : (w : List ℕ) (n : ℕ) → Harmless (registry_form w n)
 registry_harmless w n = search harmless_if depth 40
 
-shared_harmless : (w : List ℕ) (n : ℕ) → Harmless (shared_form w n)
-shared_harmless w n = search (harmless_if, post_harmless, registry_harmless) depth 40
+shared_harmless : (v : Version) (w : List ℕ) (n : ℕ) → Harmless (shared_form v w n)
+shared_harmless v w n = search (harmless_if, post_harmless, load_harmless, store_harmless, compare_harmless, modify_or_harmless, registry_harmless) depth 40
 
-weak_harmless : (w : List ℕ) (n : ℕ) → Harmless (weak_form w n)
-weak_harmless w n = search (harmless_if, shared_harmless) depth 40
+weak_harmless : (v : Version) (w : List ℕ) (n : ℕ) → Harmless (weak_form v w n)
+weak_harmless v w n = search (harmless_if, shared_harmless) depth 40
 
 form_harmless : (v : Version) (w : List ℕ) (n : ℕ) → Harmless (form v w n)
 form_harmless v w n = search (harmless_if, collect_harmless, later_harmless, weak_harmless) depth 40

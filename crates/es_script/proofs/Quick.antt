@@ -12,7 +12,7 @@ use Rattle.es_reading.specs.Parts.{items_in}
 use Rattle.es_reading.specs.Scope.{agent_from}
 use Rattle.es_reading.specs.Reading.{then_read, names_read, agent_read, agents_read}
 use Rattle.es_reading.specs.declared.version.Version.{Version}
-use Rattle.es_reading.specs.declared.version.Version.TheVariants.{One, Two}
+use Rattle.es_reading.specs.declared.version.Version.TheVariants.{One, Two, Three}
 use Rattle.es_reading.specs.Versions.{number_of_version, version_of}
 use Rattle.es_script.specs.Quick.{IsPlanValue}
 use Rattle.es_script.proofs.Counted.{items_count}
@@ -26,6 +26,7 @@ then_all (Err f) s y e = cc
 version_read : (v : Version) → version_of (option_and_then as_i64 (option_and_then as_number (Some (number (unsigned (number_of_version v)))))) ≡ Some v
 version_read One = refl
 version_read Two = refl
+version_read Three = refl
 
 pub plan_of_value : (d : Data) (ps : List AgentPlan) → IsPlanValue d ps → plan_read d ≡ Ok (record { agents = ps })
 plan_of_value d ps is =

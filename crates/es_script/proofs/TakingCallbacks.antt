@@ -6,7 +6,7 @@ use Rattle.std.specs.Ordering.{match_ordering}
 use Rattle.std.specs.Cmp.Lexicographic.{slice_cmp}
 use Rattle.std.specs.BTreeMap.{insert_entry}
 use Rattle.std.specs.Str.{bytes_eq}
-use Rattle.std.proofs.lemmas.List.{at_drop_more, drop_all}
+use Rattle.std.proofs.lemmas.List.{at_drop_more}
 use Rattle.std.proofs.lemmas.Map.Lookups.{exact_bytes}
 use Rattle.std.proofs.lemmas.Slice.Eq.{bytes_eq-Decides}
 use mathlib.Core.Path.{fun_ext}
@@ -116,9 +116,6 @@ pub same_step : {A : Type 0} (f : A → List ℕ) (xs : List A) (ys : List (List
 same_step f xs ys i x y lx ly ex ey same h =
     at_drop_more (map f) xs i x lx ∙ ap (λ z. f z ∷ map f (drop (i + 1) xs)) (sym ex) ∙ ap (λ z. z ∷ map f (drop (i + 1) xs)) same ∙ ap (λ zs. y ∷ zs) h
     ∙ ap (λ z. z ∷ drop (i + 1) ys) ey ∙ sym (at_drop_more (λ zs. zs) ys i y ly)
-
-pub same_end : {A : Type 0} (f : A → List ℕ) (xs : List A) (ys : List (List ℕ)) (n : ℕ) → length xs ≤ n → length ys ≤ n → map f (drop n xs) ≡ drop n ys
-same_end f xs ys n lx ly = ap (map f) (drop_all n xs lx) ∙ sym (drop_all n ys ly)
 
 pub equal_bytes : (xs ys : List ℕ) → bytes_eq xs ys ≡ true → xs ≡ ys
 equal_bytes xs ys h = (bytes_eq-Decides xs ys).0 h

@@ -9,7 +9,7 @@ use Rattle.serde_json.specs.Read.{number_of, of_json, read}
 use Rattle.serde_json.proofs.OnLiterals.{serde_json_on_literals}
 use Rattle.es_event.specs.declared.plan.AgentPlan.{AgentPlan}
 use Rattle.es_reading.specs.declared.version.Version.{Version}
-use Rattle.es_reading.specs.declared.version.Version.TheVariants.{One, Two}
+use Rattle.es_reading.specs.declared.version.Version.TheVariants.{One, Two, Three}
 use Rattle.es_reading.specs.Versions.{number_of_version}
 use Rattle.es_script.specs.declared.by_tokens.PlanDraft.{PlanDraft}
 use Rattle.es_script.specs.Taking.{TakesValue, Took, TookMembers}
@@ -40,6 +40,10 @@ two : number_of (codes "2") ≡ Some (unsigned 2)
 unfolding serde_json_on_literals
 two = refl
 
+three : number_of (codes "3") ≡ Some (unsigned 3)
+unfolding serde_json_on_literals
+three = refl
+
 took_version : (v : Version) (text : List ℕ) (s t : List Token) → s ≡ Token.number text ∷ t → number_of text ≡ Some (unsigned (number_of_version v)) → Took 0 IsVersion s v t
 took_version v text s t first is =
     record {
@@ -54,6 +58,9 @@ took_one text s t first is = took_version One text s t first (ap number_of is �
 
 pub took_two : (text : List ℕ) (s t : List Token) → s ≡ Token.number text ∷ t → text ≡ codes "2" → Took 0 IsVersion s Two t
 took_two text s t first is = took_version Two text s t first (ap number_of is ∙ two)
+
+pub took_three : (text : List ℕ) (s t : List Token) → s ≡ Token.number text ∷ t → text ≡ codes "3" → Took 0 IsVersion s Three t
+took_three text s t first is = took_version Three text s t first (ap number_of is ∙ three)
 
 -- Drafts
 

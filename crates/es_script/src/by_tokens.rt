@@ -53,6 +53,7 @@ fn is_version(read: Option<Version>, version: Version) -> bool
     match read {
         Some(Version::One) => matches!(version, Version::One),
         Some(Version::Two) => matches!(version, Version::Two),
+        Some(Version::Three) => matches!(version, Version::Three),
         None => false,
     }
 }
@@ -155,6 +156,9 @@ fn version_in(reader: &mut Reader<'_>) -> Result<Version, Quit>
     }
     if number == "2" {
         return Ok(Version::Two);
+    }
+    if number == "3" {
+        return Ok(Version::Three);
     }
     Err(Quit::Unusual)
 }

@@ -66,6 +66,9 @@ fn version_in(text: &str) -> Version {
         if value_of(text, place, "\"version\"", b'2').is_some() {
             return Version::Two;
         }
+        if value_of(text, place, "\"version\"", b'3').is_some() {
+            return Version::Three;
+        }
     }
     Version::One
 }

@@ -96,6 +96,9 @@ fn version_numbered(number: i64) -> Option<Version>
     if number == 2 {
         return Some(Version::Two);
     }
+    if number == 3 {
+        return Some(Version::Three);
+    }
     None
 }
 

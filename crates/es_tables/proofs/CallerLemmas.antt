@@ -1,48 +1,21 @@
 -- What a caller cites: that the tables say what a history says, at first, after growths, and after each event.
-use Rattle.std.proofs.Common.{◌≡◌, ℕ, ◌<◌, ap, ◌∙◌, length, reverse, arith, List, [], ◌∷◌, Option, None}
-use Rattle.std.proofs.lemmas.Bool.Decides.{nat_tests}
-use Rattle.std.specs.Prelude.{unwrap_or, is_some}
-use Rattle.std.specs.Map.{lookup}
-use Rattle.std.specs.Str.{bytes_eq}
-use Rattle.es_value.specs.declared.value.Value.TheVariants.{Undefined}
+use Rattle.std.proofs.Common.{ℕ, ap, ◌∙◌, length, reverse, List, [], ◌∷◌}
+use Rattle.std.specs.Prelude.{is_some}
 use Rattle.es_event.specs.declared.event.Event.{Event}
 use Rattle.es_event.specs.Sharing.{Buffers}
 use Rattle.es_event.specs.Legal.{Lawful, LegalBy}
 use Rattle.es_event.specs.History.{History}
 use Rattle.es_event.specs.Jobs.{Receivers}
-use Rattle.es_props.specs.Heap.{has, property, keys}
-use Rattle.es_weakref.specs.WeakRefs.{found}
+use Rattle.es_props.specs.Heap.{keys}
 use Rattle.es_event.proofs.Alive.{Stays}
 use Rattle.es_tables.specs.Effects.{Advances, AssignsTo}
 use Rattle.es_tables.specs.Registries.{again_at}
-use Rattle.es_tables.specs.Tables.{TablesView, IsNew, SameState, Says}
-use Rattle.es_tables.specs.Tags.{tag_at, tag_said}
-use Rattle.es_tables.specs.declared.tags.Tag.{Tag}
+use Rattle.es_tables.specs.Tables.{TablesView, SameState, Says}
+use Rattle.es_tables.specs.Tags.{tag_at}
 pub use Rattle.es_tables.proofs.Applying.{can_apply}
 pub use Rattle.es_tables.proofs.Emptied.{says_emptied}
 pub use Rattle.es_tables.proofs.Recorded.{says_after}
 pub use Rattle.es_tables.proofs.Registering.{IsQuiet}
-
-none_made : (i : ℕ) → 0 < i → ◌≡◌ {A = Option Tag} None (tag_said [] i)
-none_made i positive = grind (arith, nat_tests, positive)
-
--- new tables say what a history without events says
-pub says_new : (into : Receivers) (s : TablesView) → IsNew s → Says into [] s
-says_new into s new = record {
-  variables = λ x. ap (λ es. unwrap_or (lookup (bytes_eq x) es) Undefined) new.variables;
-  objects = λ o. ap (λ t. has t o) new.heap;
-  properties = λ o k here. ap (λ t. property t o k) new.heap;
-  keys = λ o here. ap (λ t. keys t o) new.heap;
-  targets = λ w here. ap (λ ts. found ts w) new.targets;
-  kept = ap (λ k. reverse k) new.kept;
-  entries = λ m k. new.entries m k;
-  members = λ m k. ap is_some (new.members m k);
-  callbacks = new.callbacks;
-  cells = new.cells;
-  queue = new.queue;
-  tags = λ i positive. ap (λ ts. tag_at ts i) new.tags ∙ none_made i positive;
-  made = ap (λ ts. length ts) new.tags;
-}
 
 -- tables that say the same say what a history says
 pub says_same : (into : Receivers) (h : History) (s t : TablesView) → SameState s t → Says into h s → Says into h t

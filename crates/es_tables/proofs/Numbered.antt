@@ -1,9 +1,8 @@
 -- Lists of what stands at each number from the first on.
-use Rattle.std.proofs.Common.{◌≡◌, ℕ, zero, suc, ◌+◌, ◌<◌, ◌≤◌, ◌||◌, Bool, true, false, cond, sym, ◌∙◌, ap, refl, arith, List, [], ◌∷◌, ◌++◌, map, Option, Some}
+use Rattle.std.proofs.Common.{◌≡◌, ℕ, zero, suc, ◌+◌, ◌<◌, ◌≤◌, ◌||◌, Bool, true, false, cond, ◌∙◌, ap, refl, arith, List, [], ◌∷◌, ◌++◌, map, Option, Some}
 use Rattle.std.specs.Prelude.{slice_get, slice_set}
-use Rattle.std.specs.List.{list_any, find, count_by, range_with_len}
+use Rattle.std.specs.List.{list_any, find, range_with_len}
 use Rattle.std.specs.Option.{option_map}
-use Rattle.std.proofs.lemmas.List.Sums.{sum_by-cons}
 
 -- By number
 
@@ -56,11 +55,3 @@ first_or f x s r rest false = rest
 pub find_map : {A B : Type 0} (p : B → Bool) (f : A → B) (q : A → Bool) → ((x : A) → p (f x) ≡ q x) → (xs : List A) → find p (map f xs) ≡ option_map f (find q xs)
 find_map p f q same [] = refl
 find_map p f q same (x ∷ xs) = ap (λ b. cond b (Some (f x)) (find p (map f xs))) (same x) ∙ first_or f x (find p (map f xs)) (find q xs) (find_map p f q same xs) (q x)
-
-pub count_map : {A B : Type 0} (p : B → Bool) (f : A → B) (q : A → Bool) → ((x : A) → p (f x) ≡ q x) → (xs : List A) → count_by p (map f xs) ≡ count_by q xs
-count_map p f q same [] = refl
-count_map p f q same (x ∷ xs) =
-    sum_by-cons (λ y. cond (p y) 1 0) (f x) (map f xs)
-    ∙ (ap (λ b. cond b 1 0 + count_by p (map f xs)) (same x)
-    ∙ (ap (λ n. cond (q x) 1 0 + n) (count_map p f q same xs)
-    ∙ sym (sum_by-cons (λ y. cond (q y) 1 0) x xs)))

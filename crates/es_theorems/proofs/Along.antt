@@ -3,15 +3,12 @@ use Rattle.std.proofs.Common.{◌≡◌, ℕ, zero, suc, ◌+◌, ◌≤◌, ◌
 use Rattle.std.specs.Prelude.{slice_get}
 use Rattle.es_event.specs.declared.event.Event.{Event}
 use Rattle.es_event.specs.declared.ledger_event.LedgerEvent.{LedgerEvent}
-use Rattle.es_event.specs.declared.ledger_event.LedgerEvent.TheVariants.{Opened, Posted, Taken, Spent, Accessed, Waiting as WaitingEvent, Passed, Ended as EndedEvent, Drained}
 use Rattle.es_event.specs.declared.plan.AgentPlan.{AgentPlan}
 use Rattle.es_event.specs.declared.plan.Plan.{Plan}
 use Rattle.es_event.specs.declared.row.Row.{Row}
 use Rattle.es_event.specs.Identities.{made}
 use Rattle.es_event.specs.Ledger.{Ledger}
 use Rattle.es_event.specs.LegalLedger.{LegalSoFar}
-use Rattle.es_event.specs.Totals.{is_drained}
-use Rattle.es_match.specs.Deeds.{Deed, deed}
 use Rattle.es_match.specs.Patience.{has_drained}
 use Rattle.es_ticket.specs.Stakes.{is_rising_from}
 use Rattle.es_record.specs.AgentView.{AgentView, with_row}
@@ -29,23 +26,13 @@ use Rattle.es_theorems.specs.Renamed.{HasWords}
 use Rattle.es_theorems.specs.Steps.{Along, HasCome, Keeps}
 use Rattle.es_theorems.proofs.Opened.{over_later}
 use Rattle.es_theorems.proofs.TurningAlike.{over_on, step}
+use Rattle.es_theorems.proofs.Framing.{drains_nothing}
 
 -- Nothing is drained
 
-no_drain : (l : Ledger) (e : LedgerEvent) (n : ℕ) (d : Deed) → deed l e ≡ Some (n, d) → is_drained e ≡ false
-no_drain l (Drained s r) n d is = cc
-no_drain l (Opened b w s a) n d is = refl
-no_drain l (Posted a r m) n d is = refl
-no_drain l (Taken s r) n d is = refl
-no_drain l (Spent s) n d is = refl
-no_drain l (Accessed s i m old) n d is = refl
-no_drain l (WaitingEvent a s) n d is = refl
-no_drain l (Passed a s) n d is = refl
-no_drain l (EndedEvent a) n d is = refl
-
 still_dry : (n : ℕ) (l : Ledger) (es : List LedgerEvent) → AreDeedsOf n es l → has_drained l ≡ false → has_drained (es ++ l) ≡ false
 still_dry n l [] are dry = dry
-still_dry n l (e ∷ es) are dry = ap (λ t. t || has_drained (es ++ l)) (no_drain (es ++ l) e n are.0.0 are.0.1) ∙ still_dry n l es are.1 dry
+still_dry n l (e ∷ es) are dry = ap (λ t. t || has_drained (es ++ l)) (drains_nothing (es ++ l) e n are.0.0 are.0.1) ∙ still_dry n l es are.1 dry
 
 -- An agent
 

@@ -35,6 +35,7 @@ use Rattle.es_theorems.proofs.Cluster.{Well, ask, inside_turned, quiet_all, quie
 use Rattle.es_theorems.specs.TurnsLaws.{SomeAgentMoves}
 use Rattle.es_theorems.proofs.Going.{Only}
 use Rattle.es_theorems.proofs.Only.{none_held, only_after}
+use Rattle.es_theorems.proofs.Stepping.{turns_append}
 
 -- The cleanup queue of an agent is worked off
 
@@ -119,10 +120,6 @@ finished n c w quiet known =
 asked_nobody : (c : ClusterView) → c.failed ≡ false → AskedUpTo 0 c c
 asked_nobody c whole = record { asked = record { agents = refl; whole = whole; waits = λ end runs. runs }; number = refl; settled = refl; again = λ all. (refl, refl) }
 
-turned_then : (ms ns : List ℕ) (a b c : ClusterView) → AllTurned ms a b → AllTurned ns b c → AllTurned (ms ++ ns) a c
-turned_then [] ns a b c is rest = subst (λ x. AllTurned ns x c) is rest
-turned_then (m ∷ ms) ns a b c is rest = (is.0, is.1, is.2, turned_then ms ns is.1 b c is.3 rest)
-
 -- one moves, after turns of others that don't; or none does
 data Round (old : ClusterView) : Type 0 where
   one_moves : (ns : List ℕ) (n : ℕ) (mid new : ClusterView) → AllTurned ns old mid → mid.agents ≡ old.agents → n < length mid.agents → Turned Moved n mid new → Hears Moved n mid new → AskedUpTo n old mid → Well mid → Well new → Round old
@@ -131,8 +128,8 @@ data Round (old : ClusterView) : Type 0 where
 step_round : (p : Progress) (i : ℕ) (old mid new : ClusterView) (ns : List ℕ) → AllTurned ns old mid → AskedUpTo i old mid → Well mid → i < length mid.agents → Turned p i mid new → Hears p i mid new → Well new
     → (AllTurned (ns ++ i ∷ []) old new → AskedUpTo (i + 1) old new → Well new → Round old) → Round old
 step_round Moved i old mid new ns taken before w known t heard v again = one_moves ns i mid new taken before.asked.agents known t heard before w v
-step_round Waiting i old mid new ns taken before w known t heard v again = again (turned_then ns (i ∷ []) old mid new taken (Waiting, new, t, refl)) (asked_next Waiting i old mid new before (inl refl) t heard) v
-step_round Ended i old mid new ns taken before w known t heard v again = again (turned_then ns (i ∷ []) old mid new taken (Ended, new, t, refl)) (asked_next Ended i old mid new before (inr refl) t heard) v
+step_round Waiting i old mid new ns taken before w known t heard v again = again (turns_append ns (i ∷ []) old mid new taken (Waiting, new, t, refl)) (asked_next Waiting i old mid new before (inl refl) t heard) v
+step_round Ended i old mid new ns taken before w known t heard v again = again (turns_append ns (i ∷ []) old mid new taken (Ended, new, t, refl)) (asked_next Ended i old mid new before (inr refl) t heard) v
 
 round_from : (k i : ℕ) (old mid : ClusterView) (ns : List ℕ) → i + k ≡ old.ledger.agents → AllTurned ns old mid → AskedUpTo i old mid → Well mid → Round old
 round_from zero i old mid ns size taken before w =
@@ -291,7 +288,7 @@ same_end c d w v same (suc m) less =
 
 second_goes : (c mid : ClusterView) (ns : List ℕ) → Well c → Well mid → all_over c ≡ false → AllTurned ns c mid → mid.agents ≡ c.agents → mid.ledger.agents ≡ c.ledger.agents → AskedEach None c mid → Round mid → SomeAgentMoves c
 second_goes c mid ns w v going taken same number first (one_moves ms n last new more again known t heard before x y) =
-    record { waits = ns ++ ms; mid = last; waited = turned_then ns ms c mid last taken more; agents = again ∙ same; mover = n; after = new; moves = t }
+    record { waits = ns ++ ms; mid = last; waited = turns_append ns ms c mid last taken more; agents = again ∙ same; mover = n; after = new; moves = t }
 second_goes c mid ns w v going taken same number first (none_moves ms last more again upto x) =
     let all : all_over last ≡ true = (asked_all mid.ledger.agents mid last refl upto).2 first.1 in
     let size : last.ledger.agents ≡ c.ledger.agents = upto.number ∙ number in

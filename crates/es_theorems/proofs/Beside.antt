@@ -21,6 +21,7 @@ use Rattle.es_theorems.specs.Ready.{Goes, Ready}
 use Rattle.es_theorems.proofs.Choosing.{Skips, chosen_one, skips_is, stuck_here, stuck_is}
 use Rattle.es_cluster.proofs.Growing.{doer, ended_other, waits_other}
 use Rattle.es_theorems.proofs.Framing.{holder_agent, holder_other, spender}
+use Rattle.es_theorems.proofs.Doing.{reaches_so}
 use Rattle.es_ledger.proofs.Numbered.{numbered, only_by}
 
 pub record Beside (k : ℕ) (l : Ledger) (f : LedgerEvent) (b : ℕ) : Type 0 where
@@ -168,25 +169,16 @@ message_beside : (k : ℕ) (l : Ledger) (f : LedgerEvent) (b s r : ℕ) → Besi
 message_beside k l f b s r is = ap is_some (front_beside k l f b s r is)
 
 pub deed_beside : (k : ℕ) (l : Ledger) (f x : LedgerEvent) (b : ℕ) (d : Deed) → Beside k l f b → deed l x ≡ Some (b, d) → deed (f ∷ l) x ≡ deed l x
-deed_beside k l f (Opened c w q u) b d is mine = refl
-deed_beside k l f (Posted u r m) b d is mine = refl
 deed_beside k l f (Taken t u) b d is mine =
     ap (λ m. Some (u, taking (f ∷ l) t m)) (front_beside k l f b t u is)
     ∙ ap (λ w. Some (u, Takes t (front l t u) w)) (same_words l (f ∷ l) (front l t u) is.sizes)
 deed_beside k l f (Spent q) b d is mine = let by = spender l q b d _ mine in ap (option_map (λ p. (p.0, Spends q))) (is.holders q by.0 by.1 ∙ sym by.1)
 deed_beside k l f (Accessed q i m old) b d is mine = let by = spender l q b d _ mine in ap (option_map (λ p. (p.0, Accesses q i m old))) (is.holders q by.0 by.1 ∙ sym by.1)
-deed_beside k l f (Waiting u t) b d is mine = refl
-deed_beside k l f (Passed u t) b d is mine = refl
-deed_beside k l f (Ended u) b d is mine = refl
-deed_beside k l f (Drained t u) b d is mine = refl
+deed_beside k l f _ b d is mine = refl
 
 postable_beside : (k : ℕ) (l : Ledger) (f : LedgerEvent) (b : ℕ) (m : Body) → Beside k l f b → IsPostable l b m → IsPostable (f ∷ l) b m
 postable_beside k l f b (Plain v) is may = may
 postable_beside k l f b (Block c q) is may = (may.0 ∙ ap (λ n. n + 1) (sym is.serials), ap (λ rs. nat_lt 0 (count_of rs c)) is.held ∙ may.1)
-
-reaches_so : (o : Option (ℕ × Row)) (i : ℕ) (f g : Row → Type 0) → ((r : Row) → f r → g r) → Reaches o i f → Reaches o i g
-reaches_so None i f g so is = is
-reaches_so (Some p) i f g so is = (is.0, so p.1 is.1)
 
 comes_beside : (k : ℕ) (l : Ledger) (f x : LedgerEvent) (b : ℕ) (d : Deed) → Beside k l f b → deed l x ≡ Some (b, d) → MayCome k l x → MayCome k (f ∷ l) x
 comes_beside k l f (Opened c w q u) b d is mine may = (may.0 ∙ ap (λ n. n + 1) (sym is.opened), may.1 ∙ ap (λ n. n + 1) (sym is.serials), may.2)

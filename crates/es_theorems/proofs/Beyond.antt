@@ -9,12 +9,12 @@ use Rattle.es_event.specs.declared.row.Row.{Row}
 use Rattle.es_event.specs.Follows.{Permits}
 use Rattle.es_event.specs.History.{History}
 use Rattle.es_event.specs.Jobs.{receivers}
-use Rattle.es_event.specs.Order.{Due, Phase, between, handed, inside, stopped, ended, begin, receive, run, clean, take_cell, finish, end_job, close, nothing, due, due_at, phase}
+use Rattle.es_event.specs.Order.{Due, Phase, between, handed, inside, stopped, ended, receive, run, due, due_at, phase}
 use Rattle.es_event.specs.Sharing.{Buffers}
 use Rattle.es_agent.specs.Tickets.{is_ended}
 use Rattle.es_cluster.proofs.Standing.{set_here, set_there, within}
 use Rattle.es_theorems.specs.Alone.{Finds, Goes, Hears, IsLowest, IsSane, Letter, Local, Locals, MaySkip, Rests, Touch, World, addressed, after_event, hears_at, is_done, is_done_at, learned, letters, lore_after, new_lore, over_block, plain, posted_by, sent_by, times, touch_by, with_new, words_after, world_after}
-use Rattle.es_theorems.proofs.Touching.{clashes, clashes_turned, hears_same, learned_still, lore_either, lore_of_step, lore_other, took, words_either}
+use Rattle.es_theorems.proofs.Touching.{clashes, clashes_turned, hears_same, learned_still, lore_either, lore_of_step, lore_other, took, words_either, lore_still}
 
 -- An agent that goes on has not ended
 
@@ -135,14 +135,7 @@ hears_still n w i j t b other x at here s e r g (m ∷ ms) is h =
 finds_still : (n : ℕ) (w : World) (i j : ℕ) (t : World) (b : Local) → (i ≡ j → ⊥) → Goes n w i t → slice_get w.locals j ≡ Some b → is_done b ≡ false → (d : Due) (e : Event) (r : Option Row) (g : List ℕ) → hears_at t.words (touch_by b.over e) ≡ hears_at w.words (touch_by b.over e)
     → Finds n w.locals w.words j b d e r g → Finds n t.locals t.words j b d e r g
 finds_still n w i j t b other x at here (receive k s) e r g same f = hears_still n w i j t b other x at here s e r g (letters w.locals s j b) refl f
-finds_still n w i j t b other x at here (begin k) e r g same f = (f.0, f.1, f.2 ∙ sym same)
-finds_still n w i j t b other x at here (run c) e r g same f = (f.0, f.1, f.2 ∙ sym same)
-finds_still n w i j t b other x at here (clean q) e r g same f = (f.0, f.1, f.2 ∙ sym same)
-finds_still n w i j t b other x at here (take_cell m) e r g same f = (f.0, f.1, f.2 ∙ sym same)
-finds_still n w i j t b other x at here (finish p) e r g same f = (f.0, f.1, f.2 ∙ sym same)
-finds_still n w i j t b other x at here end_job e r g same f = (f.0, f.1, f.2 ∙ sym same)
-finds_still n w i j t b other x at here close e r g same f = (f.0, f.1, f.2 ∙ sym same)
-finds_still n w i j t b other x at here nothing e r g same f = (f.0, f.1, f.2 ∙ sym same)
+finds_still n w i j t b other x at here _ e r g same f = (f.0, f.1, f.2 ∙ sym same)
 
 -- Two agents that may go on may do so in either order
 
@@ -161,7 +154,7 @@ touch_of n w i t x = touch_by x.before.over x.event
 abbrev after_both : (n : ℕ) (w : World) (j : ℕ) (t u : World) → Goes n w j u → World
 after_both n w j t u y = world_after t j y.before y.event y.row y.got
 
-behind : (n : ℕ) (w : World) (i j : ℕ) (t u : World) → (i ≡ j → ⊥) → (x : Goes n w i t) → (y : Goes n w j u) → clashes (touch_of n w i t x) (touch_of n w j u y) ≡ false → Goes n t j (after_both n w j t u y)
+behind : (n : ℕ) (w : World) (i j : ℕ) (t u : World) → (i ≡ j → ⊥) → (x : Goes n w i t) → (y : Goes n w j u) → clashes w.words (touch_of n w i t x) (touch_of n w j u y) ≡ false → Goes n t j (after_both n w j t u y)
 behind n w i j t u other x y off = record {
   before = y.before;
   at = others n w i t x j other ∙ y.at;
@@ -176,14 +169,17 @@ behind n w i j t u other x y off = record {
 }
 
 -- what agent j knows after both is what it knows after its own
-lore_behind : (n : ℕ) (w : World) (i j : ℕ) (t u : World) → (i ≡ j → ⊥) → IsSane w → (x : Goes n w i t) → (y : Goes n w j u)
+lore_behind : (n : ℕ) (w : World) (i j : ℕ) (t u : World) → (i ≡ j → ⊥) → IsSane w → (x : Goes n w i t) → (y : Goes n w j u) → clashes w.words (touch_of n w i t x) (touch_of n w j u y) ≡ false
     → (after_both n w j t u y).lore ≡ lore_after (lore_after w.lore i (lore_of_step n w i t x)) j (lore_of_step n w j u y)
-lore_behind n w i j t u other sane x y =
-    ap (λ o. lore_after t.lore j (new_lore o j (learned t.lore j y.before y.got) y.before y.event)) (lore_other n w i t x j other)
-    ∙ ap (λ k. lore_after t.lore j (new_lore (w.lore j) j k y.before y.event)) (learned_still n w i t sane x j y.before y.got (took n w.locals w.words j y.before (due y.before.plan y.before.history) y.event y.row y.got y.finds))
+lore_behind n w i j t u other sane x y off =
+    ap (λ o. lore_after t.lore j (new_lore o j (learned t.lore j y.before y.got) t.words y.before y.event)) (lore_other n w i t x j other)
+    ∙ ap (λ k. lore_after t.lore j (new_lore (w.lore j) j k t.words y.before y.event)) (learned_still n w i t sane x j y.before y.got (took n w.locals w.words j y.before (due y.before.plan y.before.history) y.event y.row y.got y.finds))
+    ∙ ap (lore_after t.lore j)
+    (ap (λ (v : World). new_lore (w.lore j) j (learned w.lore j y.before y.got) v.words y.before y.event) x.is
+    ∙ lore_still (w.lore j) j (learned w.lore j y.before y.got) w.words (touch_of n w i t x) (touch_of n w j u y) (posted_by y.before.over y.event) off)
     ∙ ap (λ f. lore_after f j (lore_of_step n w j u y)) (ap (λ v. v.lore) x.is)
 
-both_after : (n : ℕ) (w : World) (i j : ℕ) (t u : World) → (i ≡ j → ⊥) → IsSane w → (x : Goes n w i t) → (y : Goes n w j u) → clashes (touch_of n w i t x) (touch_of n w j u y) ≡ false → after_both n w i u t x ≡ after_both n w j t u y
+both_after : (n : ℕ) (w : World) (i j : ℕ) (t u : World) → (i ≡ j → ⊥) → IsSane w → (x : Goes n w i t) → (y : Goes n w j u) → clashes w.words (touch_of n w i t x) (touch_of n w j u y) ≡ false → after_both n w i u t x ≡ after_both n w j t u y
 both_after n w i j t u other sane x y off = λ k. record { locals = agents k; lore = lore k; words = words k }
   where
     new : Local
@@ -196,7 +192,7 @@ both_after n w i j t u other sane x y off = λ k. record { locals = agents k; lo
     agents = sym (ap (λ t. slice_set t j now) (locals_is n w i t x) ∙ set_either w.locals i j new now other ∙ sym (ap (λ u. slice_set u i new) (locals_is n w j u y)))
 
     lore : (after_both n w i u t x).lore ≡ (after_both n w j t u y).lore
-    lore = lore_behind n w j i u t (λ same. other (sym same)) sane y x ∙ lore_either w.lore j i (lore_of_step n w j u y) (lore_of_step n w i t x) (λ same. other (sym same)) ∙ sym (lore_behind n w i j t u other sane x y)
+    lore = lore_behind n w j i u t (λ same. other (sym same)) sane y x (clashes_turned w.words (touch_of n w j u y) (touch_of n w i t x) ∙ off) ∙ lore_either w.lore j i (lore_of_step n w j u y) (lore_of_step n w i t x) (λ same. other (sym same)) ∙ sym (lore_behind n w i j t u other sane x y off)
 
     words : words_after u.words (touch_of n w i t x) ≡ words_after t.words (touch_of n w j u y)
     words =
@@ -204,9 +200,9 @@ both_after n w i j t u other sane x y off = λ k. record { locals = agents k; lo
         ∙ sym (words_either w.words (touch_of n w i t x) (touch_of n w j u y) off)
         ∙ sym (ap (λ (v : World). words_after v.words (touch_of n w j u y)) x.is)
 
-pub both_go : (n : ℕ) (w : World) (i j : ℕ) (t u : World) → (i ≡ j → ⊥) → IsSane w → (x : Goes n w i t) → (y : Goes n w j u) → clashes (touch_of n w i t x) (touch_of n w j u y) ≡ false → (v : World) × Goes n t j v × Goes n u i v
+pub both_go : (n : ℕ) (w : World) (i j : ℕ) (t u : World) → (i ≡ j → ⊥) → IsSane w → (x : Goes n w i t) → (y : Goes n w j u) → clashes w.words (touch_of n w i t x) (touch_of n w j u y) ≡ false → (v : World) × Goes n t j v × Goes n u i v
 both_go n w i j t u other sane x y off = (
   after_both n w j t u y,
   behind n w i j t u other x y off,
-  subst (λ v. Goes n u i v) (both_after n w i j t u other sane x y off) (behind n w j i u t (λ same. other (sym same)) y x (clashes_turned (touch_of n w j u y) (touch_of n w i t x) ∙ off)),
+  subst (λ v. Goes n u i v) (both_after n w i j t u other sane x y off) (behind n w j i u t (λ same. other (sym same)) y x (clashes_turned w.words (touch_of n w j u y) (touch_of n w i t x) ∙ off)),
 )

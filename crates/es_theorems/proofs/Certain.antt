@@ -1,5 +1,5 @@
 -- By the agents' own names: an agent's next step is settled, and so is what all their steps come to, where no two of their accesses race.
-use Rattle.std.proofs.Common.{◌≡◌, ℕ, zero, suc, ◌+◌, ◌==◌, true, sym, ◌∙◌, ap, refl, subst, arith, List, [], ◌∷◌, length, Option, Some, None, inl, inr}
+use Rattle.std.proofs.Common.{◌≡◌, ℕ, zero, suc, ◌+◌, ◌==◌, true, sym, ◌∙◌, ap, refl, subst, arith, List, [], ◌∷◌, length, Option, Some, None, inl, inr, Bool, false, ◌&&◌, ◌||◌}
 use Rattle.std.specs.Prelude.{slice_get}
 use Rattle.std.proofs.lemmas.Bool.{cases_Bool, false≢true, eqb-true, eqb-false}
 use Rattle.es_value.specs.declared.value.Value.{Value}
@@ -8,27 +8,29 @@ use Rattle.es_event.specs.declared.command.Command.{Command}
 use Rattle.es_event.specs.declared.command.Command.TheVariants.{SharedArrayBuffer}
 use Rattle.es_event.specs.declared.event.Answer.{Answer}
 use Rattle.es_event.specs.declared.event.Event.{Event}
-use Rattle.es_event.specs.declared.event.Event.TheVariants.{JobBegun, CleanupBegun, Received, Did, Refused, Emptied, Taken, JobEnded, Skipped, Closed}
+use Rattle.es_event.specs.declared.event.Event.TheVariants.{Received, Did, Refused}
 use Rattle.es_event.specs.declared.event.Refusal.TheVariants.{TooManyValues}
 use Rattle.es_event.specs.declared.plan.AgentPlan.{AgentPlan}
 use Rattle.es_event.specs.declared.row.Row.{Row}
+use Rattle.es_event.specs.Access.{change_by}
 use Rattle.es_event.specs.Commands.{opens_words}
 use Rattle.es_event.specs.Follows.{Permits}
 use Rattle.es_event.specs.History.{History}
 use Rattle.es_event.specs.Identities.{made}
 use Rattle.es_event.specs.Jobs.{Receivers, receivers}
 use Rattle.es_event.specs.Legal.{HasWords, Lawful, LegalBy, word_in}
-use Rattle.es_event.specs.Order.{Due, begin, receive, run, clean, take_cell, finish, end_job, close, nothing, due}
+use Rattle.es_event.specs.Order.{Due, receive, run, due}
 use Rattle.es_event.specs.Rows.{row}
 use Rattle.es_event.specs.Runs.{ComesNext, IsRunOver, heard}
 use Rattle.es_event.specs.Sharing.{Buffers, blocks_opened}
 use Rattle.es_event.proofs.Extending.{agrees_longer, same_completion, still_permitted}
 use Rattle.es_event.proofs.Next.{one_next}
-use Rattle.es_theorems.specs.Alone.{AreDone, Finds, GoFar, Goes, Hears, IsFree, IsSane, Letter, Local, Locals, Touch, Words, World, hears_at, is_known, letters, named, opened_row, over_block, plain, touch_by, touched_by, with_new, world_after}
+use Rattle.es_laws.specs.Races.{Mark}
+use Rattle.es_theorems.specs.Alone.{AreDone, Finds, GoFar, Goes, Hears, IsFree, IsSane, Letter, Local, Locals, Touch, Words, World, hears_at, is_known, letters, named, opened_row, over_block, plain, touch_by, touched_by, with_new, world_after, Lore, Touched, change_at, changes, clash, is_over, words_after}
 use Rattle.es_theorems.proofs.Beyond.{both_go, going, others, touch_of}
-use Rattle.es_theorems.proofs.Pending.{stands_there, touch_due, will_stand}
+use Rattle.es_theorems.proofs.Pending.{stands_there, touch_due, will_stand, stands_later}
 use Rattle.es_theorems.proofs.Sane.{sane_after}
-use Rattle.es_theorems.proofs.Touching.{clashes, either, lore_other, touched_far}
+use Rattle.es_theorems.proofs.Touching.{clashes, either, lore_other, touched_far, word_kept}
 
 -- An event with which no block comes may come over a table with one more buffer
 
@@ -40,14 +42,7 @@ lawful_longer : (n i : ℕ) (m : Words) (over : Buffers) (q : Row) (into : Recei
 lawful_longer n i m over q into h legal (Did (c, vs, r)) none still l =
     (l.0, same_completion over ((made h + 1, q) ∷ over) into h legal (agrees_longer h over q) c vs (word_in r) ∙ l.1, l.2, needs_no_words ((made h + 1, q) ∷ over) (made h + 1) n i h c vs r none)
 lawful_longer n i m over q into h legal (Received t v) none still l = cc
-lawful_longer n i m over q into h legal (JobBegun j) none still l = l
-lawful_longer n i m over q into h legal (CleanupBegun r) none still l = l
-lawful_longer n i m over q into h legal (Refused code) none still l = l
-lawful_longer n i m over q into h legal (Emptied ids) none still l = l
-lawful_longer n i m over q into h legal (Taken k held) none still l = l
-lawful_longer n i m over q into h legal JobEnded none still l = l
-lawful_longer n i m over q into h legal (Skipped j t) none still l = l
-lawful_longer n i m over q into h legal Closed none still l = l
+lawful_longer n i m over q into h legal _ none still l = l
 
 longer : (n i : ℕ) (m : Words) (over : Buffers) (q : Row) (plan : AgentPlan) (h : History) → IsRunOver over plan h → (e : Event) → opened_row n i h e ≡ None → heard e ≡ hears_at m (touch_by over e) → ComesNext over plan h e → ComesNext ((made h + 1, q) ∷ over) plan h e
 longer n i m over q plan h ran e none still next =
@@ -69,15 +64,7 @@ opens_did n i h _ vs r q is = cc
 
 opens_this : (n i : ℕ) (h : History) (e : Event) (q : Row) → opened_row n i h e ≡ Some q → OpensThis n i h e q
 opens_this n i h (Did (c, vs, r)) q is = opens_did n i h c vs r q is
-opens_this n i h (JobBegun j) q is = cc
-opens_this n i h (CleanupBegun r) q is = cc
-opens_this n i h (Received t v) q is = cc
-opens_this n i h (Refused code) q is = cc
-opens_this n i h (Emptied ids) q is = cc
-opens_this n i h (Taken m held) q is = cc
-opens_this n i h JobEnded q is = cc
-opens_this n i h (Skipped j t) q is = cc
-opens_this n i h Closed q is = cc
+opens_this n i h _ q is = cc
 
 is_due : (over : Buffers) (into : Receivers) (h : History) (d : Due) (c : Command) (vs : List Value) (r : Answer) → Permits over into h d (Did (c, vs, r)) → d ≡ run c
 is_due over into h (run k) c vs r p = ap run (sym p)
@@ -147,14 +134,7 @@ silent_one n i m a ran e f r q g h touch x y u v =
 one_found : (n : ℕ) (all : Locals) (m : Words) (i : ℕ) (a : Local) → IsRunOver a.over a.plan a.history → (d : Due) → due a.plan a.history ≡ d → (e f : Event) (r q : Option Row) (g h : List ℕ) → touch_by a.over e ≡ touch_by a.over f → ComesNext (with_new r a.history a.over) a.plan a.history e
     → ComesNext (with_new q a.history a.over) a.plan a.history f → Finds n all m i a d e r g → Finds n all m i a d f q h → Agree e f r q g h
 one_found n all m i a ran (receive k s) at e f r q g h touch x y u v = one_heard all i k s a (letters all s i a) at e f r q g h x y u v
-one_found n all m i a ran (begin k) at e f r q g h touch x y u v = silent_one n i m a ran e f r q g h touch x y u v
-one_found n all m i a ran (run c) at e f r q g h touch x y u v = silent_one n i m a ran e f r q g h touch x y u v
-one_found n all m i a ran (clean p) at e f r q g h touch x y u v = silent_one n i m a ran e f r q g h touch x y u v
-one_found n all m i a ran (take_cell k) at e f r q g h touch x y u v = silent_one n i m a ran e f r q g h touch x y u v
-one_found n all m i a ran (finish p) at e f r q g h touch x y u v = silent_one n i m a ran e f r q g h touch x y u v
-one_found n all m i a ran end_job at e f r q g h touch x y u v = silent_one n i m a ran e f r q g h touch x y u v
-one_found n all m i a ran close at e f r q g h touch x y u v = silent_one n i m a ran e f r q g h touch x y u v
-one_found n all m i a ran nothing at e f r q g h touch x y u v = silent_one n i m a ran e f r q g h touch x y u v
+one_found n all m i a ran _ at e f r q g h touch x y u v = silent_one n i m a ran e f r q g h touch x y u v
 
 -- an agent goes on in one way
 pub one_goes : (n : ℕ) (w : World) (i : ℕ) (t u : World) → Goes n w i t → Goes n w i u → t ≡ u
@@ -176,20 +156,69 @@ one_goes n w i t u x y = at y.before y.at y.run y.event y.row y.got y.next y.fin
 
 -- Where the end has no race, two agents' steps on the way do not clash
 
-ordered : (n k : ℕ) (w next end : World) (i j : ℕ) (mid : World) → (i ≡ j → ⊥) → IsSane w → (x : Goes n w i mid) → (y : Goes n w j next) → GoFar n k next end → AreDone end → IsFree end → (p q : Option Touch) → touch_of n w i mid x ≡ p → touch_of n w j next y ≡ q → clashes p q ≡ true → ⊥
+-- two next accesses of two agents, each not known to the other, that stand at the end
+apart_at_end : (w end : World) (i j : ℕ) (x y : Touched) → (i ≡ j → ⊥) → IsSane w → IsFree end → slice_get (end.lore i).touched (length (w.lore i).touched) ≡ Some x → slice_get (end.lore j).touched (length (w.lore j).touched) ≡ Some y
+    → x.knew ≡ (w.lore i).knows → y.knew ≡ (w.lore j).knows → clash x y ≡ true → ⊥
+apart_at_end w end i j x y other sane free mine yours knew known clash =
+    elim (either (is_known (i, length (w.lore i).touched) y.knew) (is_known (j, length (w.lore j).touched) x.knew) (free i j (length (w.lore i).touched) (length (w.lore j).touched) x y other mine yours clash)) [
+      | inl a ↦ (let less = sane.knows j (i, length (w.lore i).touched) (subst (λ k. is_known (i, length (w.lore i).touched) k ≡ true) known a) in omega (arith, less))
+      | inr b ↦ (let less = sane.knows i (j, length (w.lore j).touched) (subst (λ k. is_known (j, length (w.lore j).touched) k ≡ true) knew b) in omega (arith, less))
+    ]
+
+one_writes : (p a b : Bool) → (p && a) ≡ true → (p && (a || b)) ≡ true
+one_writes true true b e = refl
+one_writes true false b e = cc
+one_writes false a b e = cc
+
+-- nobody else writes the word that an agent's next access is to
+word_stays : (n k : ℕ) (v mid end w : World) (i j : ℕ) (t : World) → (j ≡ i → ⊥) → IsSane v → Goes n v j mid → GoFar n k mid end → AreDone end → IsFree end → (x : Goes n w i t) → slice_get v.locals i ≡ slice_get w.locals i → v.lore i ≡ w.lore i
+    → (u : Touch) → touch_of n w i t x ≡ Some u → mid.words u.block u.index ≡ v.words u.block u.index
+word_stays n k v mid end w i j t other sane y far done free x same lore u is = ap (λ (a : World). a.words u.block u.index) y.is ∙ at (touch_of n v j mid y) refl
+  where
+    at_end : (m : Words) × (slice_get (end.lore i).touched (length (w.lore i).touched) ≡ Some (touched_by (w.lore i).knows m u))
+    at_end = will_stand n k mid end far done w i t x (others n v j mid y i other ∙ same) (lore_other n v j mid y i other ∙ lore) u is
+
+    never : (z : Touch) → touch_of n v j mid y ≡ Some z → (is_over u.block u.index z && changes (change_at v.words z)) ≡ true → ⊥
+    never z there both =
+        apart_at_end v end j i (touched_by (v.lore j).knows v.words z) (touched_by (w.lore i).knows at_end.0 u) other sane free
+        (touched_far n k mid end far j (length (v.lore j).touched) (touched_by (v.lore j).knows v.words z) (stands_there n v j mid y z there))
+        (ap (λ (o : Lore). slice_get (end.lore i).touched (length o.touched)) lore ∙ at_end.1) refl (sym (ap (λ (o : Lore). o.knows) lore))
+        (one_writes (is_over u.block u.index z) (changes (change_at v.words z)) (changes (change_at at_end.0 u)) both)
+
+    at : (q : Option Touch) → touch_of n v j mid y ≡ q → words_after v.words (touch_of n v j mid y) u.block u.index ≡ v.words u.block u.index
+    at None there = ap (λ q. words_after v.words q u.block u.index) there
+    at (Some z) there = ap (λ q. words_after v.words q u.block u.index) there ∙ elim (cases_Bool (is_over u.block u.index z && changes (change_at v.words z))) [
+      | inl both ↦ absurd (never z there both)
+      | inr off ↦ word_kept v.words z u.block u.index off
+    ]
+
+abbrev written_over : List Mark → Touch → ℕ → Option Touched
+written_over knew t old = Some (record { block = t.block; index = t.index; writes = changes (change_by t.access.edit old); knew = knew })
+
+-- so it stands at the end as it would be made now
+stands_so : (n k : ℕ) (v end : World) → GoFar n k v end → AreDone end → IsFree end → IsSane v → (w : World) (i : ℕ) (t : World) (x : Goes n w i t) → slice_get v.locals i ≡ slice_get w.locals i → v.lore i ≡ w.lore i
+    → (u : Touch) → touch_of n w i t x ≡ Some u → v.words u.block u.index ≡ w.words u.block u.index → slice_get (end.lore i).touched (length (w.lore i).touched) ≡ Some (touched_by (w.lore i).knows w.words u)
+stands_so n zero v end far done free sane w i t x same lore u is word =
+    absurd (false≢true (sym (going n w i t x) ∙ done i x.before (ap (λ (v : World). slice_get v.locals i) far ∙ same ∙ x.at)))
+stands_so n (suc k) v end (j, mid, y, far) done free sane w i t x same lore u is word = elim (cases_Bool (j == i)) [
+  | inl here ↦ stands_later n k v mid end i (subst (λ j. Goes n v j mid) (eqb-true j i here) y) far w t x same lore u is ∙ ap (written_over (w.lore i).knows u) word
+  | inr off ↦ (
+      let other = eqb-false j i off in
+      stands_so n k mid end far done free (sane_after n v j mid sane y) w i t x (others n v j mid y i other ∙ same) (lore_other n v j mid y i other ∙ lore) u is
+      (word_stays n k v mid end w i j t other sane y far done free x same lore u is ∙ word))
+]
+
+ordered : (n k : ℕ) (w next end : World) (i j : ℕ) (mid : World) → (i ≡ j → ⊥) → IsSane w → (x : Goes n w i mid) → (y : Goes n w j next) → GoFar n k next end → AreDone end → IsFree end → (p q : Option Touch) → touch_of n w i mid x ≡ p → touch_of n w j next y ≡ q
+    → clashes w.words p q ≡ true → ⊥
 ordered n k w next end i j mid other sane x y far done free None q here there clash = false≢true clash
 ordered n k w next end i j mid other sane x y far done free (Some t) None here there clash = false≢true clash
 ordered n k w next end i j mid other sane x y far done free (Some t) (Some u) here there clash =
-    let off = λ (same : j ≡ i). other (sym same) in
-    let mine = will_stand n k next end far done w i mid x (others n w j next y i off) (lore_other n w j next y i off) t here in
-    let yours = touched_far n k next end far j (length (w.lore j).touched) (touched_by (w.lore j).knows u) (stands_there n w j next y u there) in
-    elim (either (is_known (i, length (w.lore i).touched) (w.lore j).knows) (is_known (j, length (w.lore j).touched) (w.lore i).knows) (free i j (length (w.lore i).touched) (length (w.lore j).touched) (touched_by (w.lore i).knows t) (touched_by (w.lore j).knows u) other mine yours clash)) [
-      | inl a ↦ (let less = sane.knows j (i, length (w.lore i).touched) a in omega (arith, less))
-      | inr b ↦ (let less = sane.knows i (j, length (w.lore j).touched) b in omega (arith, less))
-    ]
+    apart_at_end w end i j (touched_by (w.lore i).knows w.words t) (touched_by (w.lore j).knows w.words u) other sane free
+    (stands_so n (suc k) w end (j, next, y, far) done free sane w i mid x refl refl t here refl)
+    (touched_far n k next end far j (length (w.lore j).touched) (touched_by (w.lore j).knows w.words u) (stands_there n w j next y u there)) refl refl clash
 
 both_free : (n k : ℕ) (w next end : World) (i j : ℕ) (mid : World) → (i ≡ j → ⊥) → IsSane w → (x : Goes n w i mid) → (y : Goes n w j next) → GoFar n k next end → AreDone end → IsFree end → (v : World) × Goes n mid j v × Goes n next i v
-both_free n k w next end i j mid other sane x y far done free = elim (cases_Bool (clashes (touch_of n w i mid x) (touch_of n w j next y))) [
+both_free n k w next end i j mid other sane x y far done free = elim (cases_Bool (clashes w.words (touch_of n w i mid x) (touch_of n w j next y))) [
   | inl on ↦ absurd (ordered n k w next end i j mid other sane x y far done free (touch_of n w i mid x) (touch_of n w j next y) refl refl on)
   | inr off ↦ both_go n w i j mid next other sane x y off
 ]

@@ -1,7 +1,7 @@
 -- Where all agents wait in vain, one alone may skip its job, and nobody else does anything before it.
 use Rattle.std.proofs.Common.{◌≡◌, ℕ, zero, suc, ◌<◌, ◌==◌, ◌&&◌, ◌||◌, not, Bool, true, false, sym, ◌∙◌, ap, refl, subst, arith, Option, Some, None, inl, inr, eqb-true}
 use Rattle.std.specs.Option.{option_map, option_map_or}
-use Rattle.std.proofs.lemmas.Bool.{and_parts, cases_Bool, false≢true, eqb-false}
+use Rattle.std.proofs.lemmas.Bool.{and_parts, cases_Bool, false≢true, eqb-false, not-true}
 use Rattle.es_event.specs.declared.ledger_event.LedgerEvent.{LedgerEvent}
 use Rattle.es_event.specs.declared.ledger_event.LedgerEvent.TheVariants.{Opened, Posted, Taken, Spent, Accessed, Waiting, Passed, Ended, Drained}
 use Rattle.es_event.specs.declared.row.Row.{Row}
@@ -32,16 +32,12 @@ pub record Stuck (l : Ledger) (i : ℕ) : Type 0 where
   pub none : has_message l sender i ≡ false
   pub going : ended l sender ≡ false
 
-pub not_true : (b : Bool) → not b ≡ true → b ≡ false
-not_true true e = cc
-not_true false e = refl
-
 pub stuck_is : (l : Ledger) (i : ℕ) → is_stuck l i ≡ true → Stuck l i
 stuck_is l i is = at (waits l i) refl is
   where
     at : (w : Option ℕ) → waits l i ≡ w → option_map_or (λ s. not (has_message l s i) && not (ended l s)) w false ≡ true → Stuck l i
     at None w is = cc
-    at (Some s) w is = let parts = and_parts (not (has_message l s i)) (not (ended l s)) is in record { sender = s; waiting = w; none = not_true _ parts.0; going = not_true _ parts.1 }
+    at (Some s) w is = let parts = and_parts (not (has_message l s i)) (not (ended l s)) is in record { sender = s; waiting = w; none = not-true _ parts.0; going = not-true _ parts.1 }
 
 pub record Chosen (l : Ledger) (n i : ℕ) : Type 0 where
   pub stuck : all_stuck l n ≡ true
@@ -52,7 +48,7 @@ pub chosen_is : (l : Ledger) (n i : ℕ) → is_chosen l n i ≡ true → Chosen
 chosen_is l n i is =
     let parts = and_parts (all_stuck l n) (all_ended l i && not (ended l i)) is in
     let rest = and_parts (all_ended l i) (not (ended l i)) parts.1 in
-    record { stuck = parts.0; lower = rest.0; going = not_true _ rest.1 }
+    record { stuck = parts.0; lower = rest.0; going = not-true _ rest.1 }
 
 not_less : (l : Ledger) (n i j : ℕ) → Chosen l n i → Chosen l n j → i < j → ⊥
 not_less l n i j a b less = false≢true (sym a.going ∙ ended_below l j i b.lower less)
@@ -73,7 +69,7 @@ pub record Skips (l : Ledger) (n a s : ℕ) (over : Bool) : Type 0 where
 pub skips_is : (l : Ledger) (n a s : ℕ) → skips l n a s ≡ true → (over : Bool) × Skips l n a s over
 skips_is l n a s is =
     let parts = and_parts (not (has_message l s a)) (ended l s || is_chosen l n a) is in
-    at (ended l s) refl (not_true _ parts.0) parts.1
+    at (ended l s) refl (not-true _ parts.0) parts.1
   where
     at : (b : Bool) → ended l s ≡ b → has_message l s a ≡ false → (b || is_chosen l n a) ≡ true → (over : Bool) × Skips l n a s over
     at true e none is = (true, record { none = none; ends = e; chosen = λ f. cc })
@@ -83,9 +79,6 @@ skips_is l n a s is =
 
 none_taken : (l : Ledger) (b t s : ℕ) → has_message l s b ≡ false → (t == s) ≡ true → has_message l t b ≡ true → ⊥
 none_taken l b t s none same may = false≢true (sym none ∙ ap (λ t. has_message l t b) (sym (eqb-true t s same)) ∙ may)
-
-same_number : (o p : Option (ℕ × Deed)) (a n : ℕ) (d : Deed) → o ≡ p → a ≡ n → a ≡ n
-same_number o p a n d is e = e
 
 pub alone_goes : (n : ℕ) (l : Ledger) (a b : ℕ) (x : LedgerEvent) (d : Deed) → Chosen l n a → MayCome n l x → deed l x ≡ Some (b, d) → b < n → ended l b ≡ false → may_do (waits l b) d ≡ true → b ≡ a
 alone_goes n l a b x d chosen may is known going patient = at x is may (ap (λ w. may_do w d) (sym stuck.waiting) ∙ patient)

@@ -2,15 +2,13 @@
 use Rattle.std.proofs.Common.{◌≡◌, ℕ, zero, suc, ◌+◌, ◌<◌, true, false, sym, ◌∙◌, ap, refl, subst, arith, List, [], ◌∷◌, length, reverse, Some, Ok}
 use Rattle.std.specs.Prelude.{slice_get, slice_set}
 use Rattle.std.specs.List.{list_all}
-use Rattle.std.specs.Option.{option_and_then}
 use Rattle.es_event.specs.declared.plan.AgentPlan.{AgentPlan}
 use Rattle.es_event.specs.declared.plan.Plan.{Plan}
 use Rattle.es_event.specs.Jobs.{callbacks_collect_nothing}
-use Rattle.es_event.specs.Ledger.{Ledger, by_agent, holder_of}
+use Rattle.es_event.specs.Ledger.{Ledger}
 use Rattle.es_event.specs.LegalLedger.{LegalLedger, LegalSoFar}
 use Rattle.es_event.specs.Order.{phase}
 use Rattle.es_event.specs.Others.{all_name_others}
-use Rattle.es_event.specs.Rows.{line_of}
 use Rattle.es_event.proofs.Entries.{inner}
 use Rattle.es_match.specs.Meets.{Tickets}
 use Rattle.es_ticket.specs.Stakes.{is_rising_from}
@@ -39,7 +37,7 @@ use Rattle.es_cluster.proofs.Turning.{stepped}
 use Rattle.es_theorems.specs.Alike.{Alike}
 use Rattle.es_theorems.specs.Together.{Stands}
 use Rattle.es_theorems.proofs.Running.{turn_together}
-use Rattle.es_theorems.proofs.Telling.{same, turned}
+use Rattle.es_theorems.proofs.Telling.{same, turned, same_holder}
 use Rattle.es_theorems.proofs.Going.{AllHeld, Going, Standing, Turn}
 use Rattle.es_theorems.proofs.Only.{only_beside}
 use Rattle.es_theorems.proofs.Rack.{held_beside}
@@ -164,9 +162,6 @@ well_first p others =
     }
 
 -- After any turn
-
-same_holder : (l m : Ledger) (k : ℕ) → Alike l m → holder_of l k ≡ holder_of m k
-same_holder l m k alike = ap (λ t. option_and_then by_agent (line_of k t)) alike.tables
 
 held_alike : (l m : Ledger) (n : ℕ) (ts : Tickets) → Alike l m → AllHeld n l ts → AllHeld n m ts
 held_alike l m n [] alike held = tt

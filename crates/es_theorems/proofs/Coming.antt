@@ -11,7 +11,7 @@ use Rattle.es_event.specs.declared.command.Command.TheVariants.{SharedArrayBuffe
 use Rattle.es_event.specs.declared.event.Answer.{Answer}
 use Rattle.es_event.specs.declared.event.Answer.TheVariants.{Gives}
 use Rattle.es_event.specs.declared.event.Event.{Event}
-use Rattle.es_event.specs.declared.event.Event.TheVariants.{JobBegun, CleanupBegun, Received, Did, Refused, Emptied, Taken, JobEnded, Skipped, Closed}
+use Rattle.es_event.specs.declared.event.Event.TheVariants.{Received, Did, Refused, Emptied, Skipped, Closed}
 use Rattle.es_event.specs.declared.event.Refusal.{Refusal}
 use Rattle.es_event.specs.declared.ledger_event.Body.{Body}
 use Rattle.es_event.specs.declared.ledger_event.Body.TheVariants.{Plain, Block}
@@ -26,7 +26,7 @@ use Rattle.es_event.specs.Runs.{IsRunOver}
 use Rattle.es_event.specs.Sharing.{Buffers}
 use Rattle.es_event.proofs.Alive.{next_alive}
 use Rattle.es_match.specs.Asks.{Asking, nothing, to_open, to_measure, to_compare, to_access, to_post, to_receive, to_refuse, to_pass, to_empty, to_close, asks, asks_did, given, wants_room}
-use Rattle.es_match.specs.Meets.{Tickets, add_ticket, after, gives, opening, receiving, sole, some_if, ticket_in, ticket_under}
+use Rattle.es_match.specs.Meets.{Tickets, add_ticket, after, gives, opening, receiving, some_if, ticket_in, ticket_under}
 use Rattle.es_match.specs.Deeds.{Deed, Opens, Takes}
 use Rattle.es_tables.specs.Effects.{IsQuiet}
 use Rattle.es_record.specs.AgentView.{AgentView, IsNext, with_row}
@@ -34,6 +34,7 @@ use Rattle.es_agent.specs.Tickets.{tickets}
 use Rattle.es_agent.proofs.Racks.{kept_tickets, open_before, opened, still}
 use Rattle.es_theorems.specs.Settled.{came_row}
 use Rattle.es_theorems.specs.Grown.{grown}
+use Rattle.es_theorems.proofs.Commands.{sole_of}
 
 -- a ticket came under the next identity, or none did, and the others stay
 pub record Brought (m : ℕ) (t left ticket : Tickets) : Type 0 where
@@ -44,14 +45,9 @@ pub record Brought (m : ℕ) (t left ticket : Tickets) : Type 0 where
 pub brought_none : (m : ℕ) (t left ticket : Tickets) → left ≡ t → ticket ≡ [] → Brought m t left ticket
 brought_none m t left ticket same none = record { row = None; comes = none; stays = same ∙ sym (append-nil t) }
 
-some_if_is : {A : Type 0} (b : Bool) (x y : A) → some_if b x ≡ Some y → y ≡ x
+pub some_if_is : {A : Type 0} (b : Bool) (x y : A) → some_if b x ≡ Some y → y ≡ x
 some_if_is true x y e = cc
 some_if_is false x y e = cc
-
-pub sole_of : {A : Type 0} (f : Deed → Option A) (ds : List Deed) (x : A) → option_and_then f (sole ds) ≡ Some x → (d : Deed) × (ds ≡ d ∷ []) × (f d ≡ Some x)
-sole_of f (d ∷ []) x e = (d, refl, e)
-sole_of f [] x e = cc
-sole_of f (c ∷ d ∷ ds) x e = cc
 
 -- What brings nothing
 
@@ -125,10 +121,6 @@ received_brings m t left s v now new met =
 
 did_plain : (c : Command) (vs : List Value) (a : Answer) → ((to : List ℕ) (n : ℕ) → c ≡ SharedArrayBuffer to n → ⊥) → IsPlain (asks_did c vs a)
 did_plain (SharedArrayBuffer to n) vs a other = absurd (other to n refl)
-did_plain (Command.Length to b) vs a other = tt
-did_plain (Command.SameBlock to b c) vs a other = tt
-did_plain (Command.Atomic c) vs a other = tt
-did_plain (Command.Post q y) vs a other = tt
 did_plain _ vs a other = tt
 
 refused_plain : (b : Bool) → IsPlain (cond b to_refuse nothing)
@@ -155,13 +147,10 @@ quiet_brings over into h (Did (SharedArrayBuffer to n, vs, a)) between t left no
     met
 quiet_brings over into h (Did (c, vs, a)) between t left now law quiet other met = plain_brings (made h) t left (asks_did c vs a) now (did_plain c vs a (λ to n is. cc)) met
 quiet_brings over into h (Refused code) between t left now law quiet other met = plain_brings (made h) t left (asks between (Refused code)) now (refused_plain (between && wants_room code)) met
-quiet_brings over into h (JobBegun j) between t left now law quiet other met = plain_brings (made h) t left nothing now tt met
-quiet_brings over into h (CleanupBegun q) between t left now law quiet other met = plain_brings (made h) t left nothing now tt met
-quiet_brings over into h (Taken n held) between t left now law quiet other met = plain_brings (made h) t left nothing now tt met
-quiet_brings over into h JobEnded between t left now law quiet other met = plain_brings (made h) t left nothing now tt met
 quiet_brings over into h (Skipped j s) between t left now law quiet other met = plain_brings (made h) t left (to_pass s) now tt met
 quiet_brings over into h (Emptied ids) between t left now law quiet other met = absurd quiet
 quiet_brings over into h Closed between t left now law quiet other met = absurd (other refl)
+quiet_brings over into h _ between t left now law quiet other met = plain_brings (made h) t left nothing now tt met
 
 -- The agent's tickets after it
 

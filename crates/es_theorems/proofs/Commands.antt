@@ -15,16 +15,17 @@ use Rattle.es_event.specs.declared.atomic.AtomicParts.{AtomicParts}
 use Rattle.es_event.specs.declared.command.Command.{Command}
 use Rattle.es_event.specs.declared.command.Command.TheVariants.{SharedArrayBuffer, Length, SameBlock, Atomic, Post}
 use Rattle.es_event.specs.declared.event.Answer.{Answer}
-use Rattle.es_event.specs.declared.event.Answer.TheVariants.{Nothing, Gives, Listed}
+use Rattle.es_event.specs.declared.event.Answer.TheVariants.{Gives}
 use Rattle.es_event.specs.declared.ledger_event.Body.{Body}
 use Rattle.es_event.specs.declared.ledger_event.Body.TheVariants.{Plain, Block}
 use Rattle.es_event.specs.declared.row.Row.{Row}
-use Rattle.es_event.specs.Access.{access_of, is_same_change}
+use Rattle.es_event.specs.Access.{is_same_change, change_by}
 use Rattle.es_event.specs.Commands.{first}
 use Rattle.es_event.specs.Identities.{object_of}
 use Rattle.es_event.specs.Legal.{word_in}
 use Rattle.es_event.specs.Ledger.{Ledger, opened, serials, holder_of, word}
 use Rattle.es_event.specs.LegalLedger.{Reaches}
+use Rattle.es_event.specs.Numbers.{access_of, index_of}
 use Rattle.es_event.specs.Rows.{row}
 use Rattle.es_event.specs.Runs.{heard_by, silence, a_word}
 use Rattle.es_event.specs.Sharing.{row_of}
@@ -86,9 +87,7 @@ its_answer (Gives (Number i)) w e = by_sign i ((Decides-int_eq i (pos w)).0 e)
   where
     by_sign : (i : ℤ) → i ≡ pos w → word_in (Gives (Number i)) ≡ w
     by_sign i same = ap (λ i. word_in (Gives (Number i))) same
-its_answer (Gives v) w e = cc
-its_answer Nothing w e = cc
-its_answer (Listed ks) w e = cc
+its_answer _ w e = cc
 
 -- Two values that are the same
 
@@ -174,16 +173,16 @@ accessed n l t i m vs a ds met fit =
   where
     at : (d : Deed) → is_access t (first vs) i m (given a) d ≡ true → Fits l n d → ds ≡ d ∷ [] → IsAccessBy l t vs i m a ds
     at (Accesses s j done old) met fit is =
-        let parts = and_parts (is_ticket t (first vs) s) (same_index i j && (is_same_change m.change done && answers m (given a) old)) met in
-        let rest = and_parts (same_index i j) (is_same_change m.change done && answers m (given a) old) parts.1 in
-        let last = and_parts (is_same_change m.change done) (answers m (given a) old) rest.1 in
+        let parts = and_parts (is_ticket t (first vs) s) (same_index i j && (is_same_change (change_by m.edit old) done && answers m (given a) old)) met in
+        let rest = and_parts (same_index i j) (is_same_change (change_by m.edit old) done && answers m (given a) old) parts.1 in
+        let last = and_parts (is_same_change (change_by m.edit old) done) (answers m (given a) old) rest.1 in
         let serial = its_serial t (first vs) s parts.0 in
         let index = its_index i j rest.0 in
         let word_is = its_word l s j old fit ∙ ap (λ s. word_at l s j) serial ∙ ap (word_at l (serial_at t (first vs))) index in
         record {
           deeds = is ∙ ap (λ s. Accesses s j done old ∷ []) serial ∙ ap (λ j. Accesses (serial_at t (first vs)) j done old ∷ []) index
-              ∙ ap (λ done. Accesses (serial_at t (first vs)) (unsigned_abs i) done old ∷ []) (same_change m.change done last.0)
-              ∙ ap (λ old. Accesses (serial_at t (first vs)) (unsigned_abs i) m.change old ∷ []) word_is;
+              ∙ ap (λ done. Accesses (serial_at t (first vs)) (unsigned_abs i) done old ∷ []) (same_change (change_by m.edit old) done last.0)
+              ∙ ap (λ old. Accesses (serial_at t (first vs)) (unsigned_abs i) (change_by m.edit old) old ∷ []) word_is;
           word = λ gives. its_answer a old (answered m.gives_word (is_number (given a) old) gives last.1) ∙ word_is;
         }
     at _ met fit is = cc
@@ -194,12 +193,12 @@ hears_if true v w is = ap a_word (is refl)
 hears_if false v w is = refl
 
 settles_access : (n : ℕ) (l : Ledger) (t : Tickets) (m : ℕ) (c : AtomicParts) (vs : List Value) (a : Answer) (r : Option Row) (ds : List Deed)
-    → is_one (is_access t (first vs) c.index (access_of c.operation) (given a)) ds ≡ true → [] ≡ came_row m r → AllFit n ds l → Settles l t m (Atomic c) vs a r ds
+    → is_one (is_access t (first vs) (index_of c vs) (access_of c vs) (given a)) ds ≡ true → [] ≡ came_row m r → AllFit n ds l → Settles l t m (Atomic c) vs a r ds
 settles_access n l t m c vs a r ds met came fit =
-    let is = accessed n l t c.index (access_of c.operation) vs a ds met fit in
+    let is = accessed n l t (index_of c vs) (access_of c vs) vs a ds met fit in
     record {
       deeds = is.deeds;
-      hears = hears_if (access_of c.operation).gives_word (word_in a) (word_at l (serial_at t (first vs)) (unsigned_abs c.index)) is.word;
+      hears = hears_if (access_of c vs).gives_word (word_in a) (word_at l (serial_at t (first vs)) (unsigned_abs (index_of c vs))) is.word;
       row = no_row m r came;
     }
 

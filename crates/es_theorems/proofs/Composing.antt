@@ -3,8 +3,6 @@
 use Rattle.std.proofs.Common.{◌≡◌, ℕ, zero, suc, true, sym, ◌∙◌, ap, refl, subst, List, [], ◌∷◌, length, map, reverse, Some}
 use Rattle.std.specs.Prelude.{slice_get}
 use Rattle.std.specs.List.{AllByRecursion}
-use Rattle.std.proofs.lemmas.List.{reverse-reverse}
-use Rattle.es_event.specs.declared.event.Event.{Event}
 use Rattle.es_event.specs.declared.outcome.Outcome.{Outcome}
 use Rattle.es_event.specs.declared.plan.Plan.{Plan}
 use Rattle.es_event.specs.Ledger.{Ledger}
@@ -26,6 +24,7 @@ use Rattle.es_theorems.proofs.Certain.{one_end}
 use Rattle.es_theorems.proofs.Racing.{free_by_names, no_race_by_names}
 use Rattle.es_theorems.proofs.Still.{ends_still, ends_words, waits_still, waits_words}
 use Rattle.es_theorems.proofs.TurningAlike.{turn_goes}
+use Rattle.es_theorems.proofs.Ends.{reversed_twice}
 
 -- All turns
 
@@ -68,10 +67,6 @@ histories_of n l (b ∷ bs) = ap (λ hs. b.history ∷ hs) (histories_of n l bs)
 names_in : (n : ℕ) (l : Ledger) (bs : List AgentView) → map (λ a. a.plan.name) (map (local_of n l) bs) ≡ names_of bs
 names_in n l [] = refl
 names_in n l (b ∷ bs) = ap (λ hs. b.plan.name ∷ hs) (names_in n l bs)
-
-reversed_twice : (hs : List (List Event)) → map reverse (map reverse hs) ≡ hs
-reversed_twice [] = refl
-reversed_twice (h ∷ hs) = ap (λ k. k ∷ map reverse (map reverse hs)) (reverse-reverse h) ∙ ap (λ ks. h ∷ ks) (reversed_twice hs)
 
 -- Before the first event
 

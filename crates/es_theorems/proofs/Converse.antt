@@ -15,7 +15,8 @@ use Rattle.es_theorems.proofs.Plans.{SamePlans, plans_all, plans_to_end}
 use Rattle.es_theorems.proofs.Arriving.{plan_comes_to_an_end}
 use Rattle.es_outcome.specs.Outcomes.{IsClusterOutcome}
 use Rattle.es_outcome.proofs.Ended.{told_plans}
-use Rattle.es_theorems.proofs.Ending.{histories_are, names_are}
+use Rattle.es_outcome.proofs.Telling.{told_histories}
+use Rattle.es_theorems.proofs.Ending.{names_are}
 
 -- a cluster that has the plans of the plan still
 outcome_of : (p : Plan) (c : ClusterView) (q : Outcome) → SamePlans (first_state p) c → EndsIn c q → IsClusterOutcome p q
@@ -24,7 +25,7 @@ outcome_of p c q same ends =
     record {
       names = ends.names ∙ names_are c.agents ∙ ap (map (λ a. a.name)) all;
       agents = accounts c.agents;
-      runs = record { plans_are = all; histories_are = histories_are c.agents ∙ sym ends.agents.are; whole = ends.agents.runs };
+      runs = record { plans_are = all; histories_are = told_histories c.agents ∙ sym ends.agents.are; whole = ends.agents.runs };
       legal = subst (λ n. LegalLedger n (reverse q.ledger)) same.number ends.legal;
       cluster = ends.cluster;
       tickets = ends.tickets;

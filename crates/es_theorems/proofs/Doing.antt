@@ -17,7 +17,7 @@ use Rattle.es_theorems.proofs.Telling.{same_front, same_message, same_holder, af
 
 -- In a ledger that tells the same
 
-reaches_so : (o : Option (ℕ × Row)) (i : ℕ) (f g : Row → Type 0) → ((r : Row) → f r → g r) → Reaches o i f → Reaches o i g
+pub reaches_so : (o : Option (ℕ × Row)) (i : ℕ) (f g : Row → Type 0) → ((r : Row) → f r → g r) → Reaches o i f → Reaches o i g
 reaches_so None i f g so is = is
 reaches_so (Some p) i f g so is = (is.0, so p.1 is.1)
 
@@ -30,7 +30,7 @@ new_same : (l m : Ledger) (b : Body) → Alike l m → IsNew l b → IsNew m b
 new_same l m (Plain v) a is = is
 new_same l m (Block b s) a is = is ∙ ap (λ n. n + 1) a.serials
 
-same_words_in : (l m : Ledger) (b : Option Body) → Alike l m → option_map_or (words_in l) b 0 ≡ option_map_or (words_in m) b 0
+pub same_words_in : (l m : Ledger) (b : Option Body) → Alike l m → option_map_or (words_in l) b 0 ≡ option_map_or (words_in m) b 0
 same_words_in l m None a = refl
 same_words_in l m (Some (Plain v)) a = refl
 same_words_in l m (Some (Block b s)) a = a.sizes b
@@ -39,11 +39,9 @@ pub fits_same : (l m : Ledger) (n : ℕ) (d : Deed) → Alike l m → Fits l n d
 fits_same l m n (Opens b w s) a is = (is.0 ∙ ap (λ n. n + 1) a.opened, is.1 ∙ ap (λ n. n + 1) a.serials)
 fits_same l m n (Posts r b) a is = new_same l m b a is
 fits_same l m n (Takes s b w) a is = (is.0 ∙ same_front l m s n a, is.1 ∙ same_words_in l m b a, sym (same_message l m s n a) ∙ is.2)
-fits_same l m n (Spends s) a is = is
 fits_same l m n (Accesses s i done old) a is = reaches_same l m s i old a is
-fits_same l m n (Waits s) a is = is
 fits_same l m n (Passes s) a is = sym (same_message l m s n a) ∙ is
-fits_same l m n Ends a is = is
+fits_same l m n _ a is = is
 
 pub all_fit_same : (l m : Ledger) (n : ℕ) (ds : List Deed) → Alike l m → AllFit n ds l → AllFit n ds m
 all_fit_same l m n [] a fit = fit

@@ -4,7 +4,8 @@ use Rattle.std.specs.Prelude.{unsigned_abs}
 use Rattle.std.specs.Option.{option_map, option_map_or}
 use Rattle.std.proofs.lemmas.Bool.{and_parts}
 use Rattle.es_value.specs.declared.value.Value.{Value}
-use Rattle.es_value.specs.declared.value.Value.TheVariants.{Undefined, Boolean, Number, Text, Registered, Object, Symbol}
+use Rattle.es_value.specs.declared.value.Value.TheVariants.{Object}
+use Rattle.es_event.specs.declared.access.Change.{Change}
 use Rattle.es_event.specs.declared.atomic.AtomicParts.{AtomicParts}
 use Rattle.es_event.specs.declared.command.Command.{Command}
 use Rattle.es_event.specs.declared.command.Command.TheVariants.{SharedArrayBuffer, Atomic, Post}
@@ -16,14 +17,15 @@ use Rattle.es_event.specs.declared.ledger_event.Body.{Body}
 use Rattle.es_event.specs.declared.ledger_event.LedgerEvent.TheVariants.{Opened}
 use Rattle.es_event.specs.declared.row.Entry.{Entry}
 use Rattle.es_event.specs.declared.row.Row.{Row}
-use Rattle.es_event.specs.Access.{access_of}
+use Rattle.es_event.specs.Access.{change_by}
 use Rattle.es_event.specs.Commands.{first}
+use Rattle.es_event.specs.Numbers.{access_of, index_of}
 use Rattle.es_event.specs.Follows.{Permits}
 use Rattle.es_event.specs.Identities.{made}
 use Rattle.es_event.specs.Jobs.{receivers}
 use Rattle.es_event.specs.Ledger.{Ledger, holder_of, opened, serials, size, table, word}
 use Rattle.es_event.specs.LegalLedger.{LegalSoFar}
-use Rattle.es_event.specs.Order.{Due, begin, receive, run, clean, take_cell, finish, end_job, close, nothing, due}
+use Rattle.es_event.specs.Order.{Due, receive, run, due}
 use Rattle.es_event.specs.Rows.{line_of, row}
 use Rattle.es_event.specs.Runs.{a_word, heard, silence}
 use Rattle.es_event.specs.Sharing.{Buffers, block_of, blocks_opened, row_at, row_of}
@@ -32,13 +34,13 @@ use Rattle.es_match.specs.Deeds.{Accesses, Deed, Posts, Ends, Spends, part}
 use Rattle.es_ledger.proofs.Made.{IsMade}
 use Rattle.es_match.specs.Asks.{given, nothing as asks_nothing, to_refuse, wants_room}
 use Rattle.es_match.specs.Cluster.{DeedsMeet}
-use Rattle.es_match.specs.Meets.{Tickets, after, has_ticket, is_access, is_one, is_post, is_ticket, serials_of, ticket_in, within}
+use Rattle.es_match.specs.Meets.{after, has_ticket, is_access, is_one, is_post, is_ticket, serials_of, ticket_in, within}
 use Rattle.es_ticket.specs.Stakes.{at}
 use Rattle.es_record.specs.AgentView.{AgentView, with_row}
 use Rattle.es_agent.specs.Tickets.{tickets}
 use Rattle.es_agent.proofs.Racks.{ticket_named}
 use Rattle.es_cluster.specs.Tied.{came_to}
-use Rattle.es_cluster.proofs.Asking.{at_command}
+use Rattle.es_cluster.proofs.Asking.{at_command, at_row}
 use Rattle.es_cluster.specs.State.{ClusterView}
 use Rattle.es_theorems.specs.Alike.{Alike}
 use Rattle.es_theorems.specs.Doing.{did}
@@ -47,7 +49,7 @@ use Rattle.es_theorems.specs.Settled.{block_at, body_for, deeds_of, serial_at, w
 use Rattle.es_theorems.proofs.Commands.{Settles, no_row, none_more, settles, some_if_true}
 use Rattle.es_theorems.proofs.Holding.{held_line, held_new}
 use Rattle.es_theorems.specs.Found.{AreSpends}
-use Rattle.es_theorems.proofs.Playing.{spends_are}
+use Rattle.es_theorems.proofs.Playing.{spends_so}
 use Rattle.es_theorems.specs.Alone.{Finds, Letter, Local, Locals, Words, hears_at, letter, named, opened_row, over_block, plain, posted_by, touch_by}
 use Rattle.es_theorems.specs.Renamed.{HasWords, got_in, letter_of, local_of, locals_of, name, opens_in, renamed, renamed_row, sent_in}
 use Rattle.es_theorems.specs.Steps.{AreSilent, AtTurn, Does, HasCome, HasLine, IsOver, Keeps, Means, is_quiet, posts, touches}
@@ -146,10 +148,6 @@ record Posted (b : AgentView) (o : ℕ) : Type 0 where
   block : block_at (tickets b) (Object o) ≡ row.block
   serial : serial_at (tickets b) (Object o) ≡ row.serial
 
-row_is : (ts : Tickets) (o : ℕ) → row_at ts o ≡ at o ts
-row_is [] o = refl
-row_is (t ∷ ts) o = ap (cond (t.0 == o) (Some t.1)) (row_is ts o)
-
 posted_row : (b : AgentView) (l : Ledger) (o : ℕ) (test : Row → Bool) → Keeps l b → has_ticket (tickets b) (Object o) test ≡ true → Posted b o
 posted_row b l o test keeps has = by_row (row_at (tickets b) o) refl has
   where
@@ -157,7 +155,7 @@ posted_row b l o test keeps has = by_row (row_at (tickets b) o) refl has
     by_row None is has = cc
     by_row (Some r) is has = record {
       row = r;
-      at = sym (ticket_named b o r keeps.rising (sym is ∙ row_is (tickets b) o));
+      at = sym (ticket_named b o r keeps.rising (sym is ∙ at_row (tickets b) o));
       block = ap (λ o. option_map_or (λ r. r.block) o 0) is;
       serial = ap (λ o. option_map_or (λ r. r.serial) o 0) is;
     }
@@ -171,12 +169,7 @@ carried n m l b q (Object o) keeps names sizes met =
     ∙ ap (λ k. over_block (row 0 k (size m its.row.block))) (names its.row.block over.0)
     ∙ ap (λ w. over_block (row 0 (name n l its.row.block) w)) (sizes its.row.block over.0 ∙ sym over.1)
     ∙ sym (ap (λ q. option_map_or over_block q (plain (Object o))) (row_renamed (name n l) b.over o ∙ ap (option_map (renamed_row (name n l))) its.at))
-carried n m l b q Undefined keeps names sizes met = refl
-carried n m l b q (Boolean t) keeps names sizes met = refl
-carried n m l b q (Number i) keeps names sizes met = refl
-carried n m l b q (Text t) keeps names sizes met = refl
-carried n m l b q (Registered t) keeps names sizes met = refl
-carried n m l b q (Symbol s) keeps names sizes met = refl
+carried n m l b q _ keeps names sizes met = refl
 
 says_posts : (n : ℕ) (c : ClusterView) (words : Words) (i : ℕ) (m : Ledger) (b : AgentView) (q : ℕ) (y : List ℕ) (vs : List Value) (a : Answer) (r : Option Row) (ds : List Deed) → AtTurn n c i m b (Did (Post q y, vs, a)) r ds
     → Settles c.ledger.history (tickets b) (made b.history) (Post q y) vs a r ds → Says n c words i m b (Did (Post q y, vs, a)) r ds
@@ -224,8 +217,8 @@ says_touches n c words i m b k vs a r ds holds x s = record {
   got = ap got_in s.deeds;
   sends = ap (sent_in (letter_of n m)) s.deeds;
   comes = subst (HasCome m b.history (Did (Atomic k, vs, a))) (sym s.row) tt;
-  hears = s.hears ∙ ap (λ w. cond (access_of k.operation).gives_word (a_word w) silence) (its_word ∙ sym (holds.named_so owner.0.block index its_made.0 its_made.1) ∙ ap (λ d. words d index) its_name);
-  does = touches serial index (access_of k.operation).change (word_at l serial index) (record { block = block_of (renamed (name n l) b.over) (first vs); index = index; access = access_of k.operation }) s.deeds refl refl
+  hears = s.hears ∙ ap (λ w. cond (access_of k vs).gives_word (a_word w) silence) (its_word ∙ sym (holds.named_so owner.0.block index its_made.0 its_made.1) ∙ ap (λ d. words d index) its_name);
+  does = touches serial index change (word_at l serial index) (record { block = block_of (renamed (name n l) b.over) (first vs); index = index; access = access_of k vs }) s.deeds refl refl
       (record { row = owner.0; holder = owner.1; block = its_name; index = refl; change = refl; old_is = its_word });
 }
   where
@@ -236,10 +229,13 @@ says_touches n c words i m b k vs a r ds holds x s = record {
     serial = serial_at (tickets b) (first vs)
 
     index : ℕ
-    index = unsigned_abs k.index
+    index = unsigned_abs (index_of k vs)
 
-    met : is_access (tickets b) (first vs) k.index (access_of k.operation) (given a) (Accesses serial index (access_of k.operation).change (word_at l serial index)) ≡ true
-    met = subst (λ ds. is_one (is_access (tickets b) (first vs) k.index (access_of k.operation) (given a)) ds ≡ true) s.deeds (some_if_true _ _ x.moved.left x.moved.met)
+    change : Change
+    change = change_by (access_of k vs).edit (word_at l serial index)
+
+    met : is_access (tickets b) (first vs) (index_of k vs) (access_of k vs) (given a) (Accesses serial index change (word_at l serial index)) ≡ true
+    met = subst (λ ds. is_one (is_access (tickets b) (first vs) (index_of k vs) (access_of k vs) (given a)) ds ≡ true) s.deeds (some_if_true _ _ x.moved.left x.moved.met)
 
     its : Buffer l b (first vs)
     its = buffer_of b l (first vs) _ (x.along.each i b x.here) (and_parts (is_ticket (tickets b) (first vs) serial) _ met).0
@@ -301,8 +297,8 @@ says n c words i m b (Did (k, vs, a)) r ds holds x none =
     says_did n c words i m b k vs a r ds holds x (settles i c.ledger.history (tickets b) x.moved.left (made b.history) k vs a r ds x.moved.met x.moved.came x.moved.fit)
 says n c words i m b (Refused code) r ds holds x none = quiet n c words i m b (Refused code) r ds x (refused_at b (with_row r b).over (due b.plan b.history) code refl none x.moved.next.permitted) refl refl refl refl
 says n c words i m b (Emptied ids) r ds holds x none =
-    says_nothing n c words i m b (Emptied ids) r ds (no_row (made b.history) r x.moved.came) (spends_none ds (spends_are false (serials_of (within ids (tickets b))) ds (some_if_true _ _ x.moved.left x.moved.met))) refl refl refl refl
-says n c words i m b Closed r ds holds x none = says_nothing n c words i m b Closed r ds (no_row (made b.history) r x.moved.came) (spends_none ds (spends_are true (serials_of (tickets b)) ds (some_if_true _ _ x.moved.left x.moved.met))) refl refl refl refl
+    says_nothing n c words i m b (Emptied ids) r ds (no_row (made b.history) r x.moved.came) (spends_none ds (spends_so false (serials_of (within ids (tickets b))) ds (some_if_true _ _ x.moved.left x.moved.met)).1) refl refl refl refl
+says n c words i m b Closed r ds holds x none = says_nothing n c words i m b Closed r ds (no_row (made b.history) r x.moved.came) (spends_none ds (spends_so true (serials_of (tickets b)) ds (some_if_true _ _ x.moved.left x.moved.met)).1) refl refl refl refl
 says n c words i m b (JobBegun j) r ds holds x none = quiet n c words i m b (JobBegun j) r ds x refl refl refl refl refl
 says n c words i m b (CleanupBegun q) r ds holds x none = quiet n c words i m b (CleanupBegun q) r ds x refl refl refl refl refl
 says n c words i m b (Taken q v) r ds holds x none = quiet n c words i m b (Taken q v) r ds x refl refl refl refl refl
@@ -312,14 +308,7 @@ says n c words i m b (Skipped j t) r ds holds x none = absurd (never_skips (with
 
 silent : (n : ℕ) (all : Locals) (words : Words) (i : ℕ) (a : Local) (d : Due) (e : Event) (r : Option Row) (got : List ℕ) → ((k s : ℕ) → d ≡ receive k s → ⊥) → (r ≡ opened_row n i a.history e) × (got ≡ []) × (heard e ≡ hears_at words (touch_by a.over e)) → Finds n all words i a d e r got
 silent n all words i a (receive k s) e r got none x = absurd (none k s refl)
-silent n all words i a (begin k) e r got none x = x
-silent n all words i a (run c) e r got none x = x
-silent n all words i a (clean q) e r got none x = x
-silent n all words i a (take_cell m) e r got none x = x
-silent n all words i a (finish p) e r got none x = x
-silent n all words i a end_job e r got none x = x
-silent n all words i a close e r got none x = x
-silent n all words i a nothing e r got none x = x
+silent n all words i a _ e r got none x = x
 
 pub means_alone : (n : ℕ) (c : ClusterView) (words : Words) (i : ℕ) (m : Ledger) (b : AgentView) (e : Event) (r : Option Row) (ds : List Deed) → HasWords n c.ledger.history words → AtTurn n c i m b e r ds → ((k s : ℕ) → due b.plan b.history ≡ receive k s → ⊥) → Means n c words i m b e r ds
 means_alone n c words i m b e r ds holds x none =

@@ -2,7 +2,7 @@
 use Rattle.std.proofs.Common.{◌≡◌, ℕ, ◌+◌, ◌<◌, ◌≤◌, ◌==◌, ◌&&◌, ◌||◌, not, Bool, true, false, cond, sym, ◌∙◌, ap, refl, subst, arith, List, [], ◌∷◌, ◌++◌, append-nil, drop, length, map, Option, Some, None, ◌⊎◌, inl, inr, eq-eqb, eqb-true, length-append}
 use Rattle.std.specs.Prelude.{count_by, is_some, slice_get}
 use Rattle.std.specs.Option.{option_and_then, option_map}
-use Rattle.std.proofs.lemmas.Bool.{eqb-false, false≢true, or_right}
+use Rattle.std.proofs.lemmas.Bool.{false≢true, or_right}
 use Rattle.std.proofs.lemmas.List.Sums.{sum_by-cons}
 use Rattle.es_event.specs.declared.ledger_event.Body.{Body}
 use Rattle.es_event.specs.declared.ledger_event.LedgerEvent.{LedgerEvent}
@@ -28,6 +28,7 @@ use Rattle.es_theorems.specs.Ahead.{Acts, Steps, ahead, played}
 use Rattle.es_theorems.specs.Through.{IsIdle}
 use Rattle.es_theorems.specs.Unmoved.{Kept, NoneHeld, Ownerless, Unmoved, letters}
 use Rattle.es_theorems.proofs.Starting.{less_or}
+use Rattle.es_theorems.proofs.Spending.{uncounted}
 use Rattle.es_ledger.proofs.Numbered.{none_only, numbered, only_by}
 
 -- What follows is nobody's
@@ -67,9 +68,6 @@ ownerless_ahead (e ∷ es) l a none = ap (λ o. part_of a o ++ ahead es (e ∷ l
 
 pub unmoved_same : (l : Ledger) → Unmoved l l
 unmoved_same l = record { opened = refl; serials = refl; sizes = λ b. refl; rows = refl; words = λ b i. refl; ends = λ a. refl; posted = refl; taken = refl; parts = λ a. refl }
-
-uncounted : (p : LedgerEvent → Bool) (l : Ledger) (e : LedgerEvent) → p e ≡ false → count_by p (e ∷ l) ≡ count_by p l
-uncounted p l e is = sum_by-cons (λ e. cond {A = ℕ} (p e) 1 0) e l ∙ ap (λ b. cond {A = ℕ} b 1 0 + count_by p l) is ∙ (let none : 0 + count_by p l ≡ count_by p l = omega arith in none)
 
 none_more : (n : ℕ) → 0 + n ≡ n
 none_more n = omega arith
@@ -253,15 +251,6 @@ posted_length q m true true = length-append q (m ∷ [])
 posted_length q m true false = omega arith
 posted_length q m false true = omega arith
 posted_length q m false false = omega arith
-
-pub turned : (a b : ℕ) → (a == b) ≡ (b == a)
-turned a b = by_test (a == b) (b == a) refl refl
-  where
-    by_test : (p q : Bool) → (a == b) ≡ p → (b == a) ≡ q → p ≡ q
-    by_test true true e f = refl
-    by_test true false e f = absurd (eqb-false b a f (sym (eqb-true a b e)))
-    by_test false true e f = absurd (eqb-false a b e (sym (eqb-true b a f)))
-    by_test false false e f = refl
 
 letters_posted : (n : ℕ) (l : Ledger) (s r : ℕ) (m : Body) → s < n → r < n → letters n (Posted s r m ∷ l) ≡ letters n l + 1
 letters_posted n l s r m sender receiver =

@@ -1,5 +1,5 @@
 -- What a run in threads ends in, some turns end in.
-use Rattle.std.proofs.Common.{◌≡◌, ℕ, zero, suc, ◌<◌, ◌&&◌, Bool, true, false, sym, ◌∙◌, ap, refl, subst, arith, List, [], ◌∷◌, ◌++◌, length, map, reverse, Some, inl, inr}
+use Rattle.std.proofs.Common.{◌≡◌, ℕ, zero, suc, ◌<◌, ◌&&◌, true, sym, ◌∙◌, ap, refl, subst, arith, List, [], ◌∷◌, ◌++◌, length, map, reverse, Some, inl, inr}
 use Rattle.std.specs.Prelude.{slice_get}
 use Rattle.std.specs.List.{AllByRecursion}
 use Rattle.std.proofs.lemmas.Bool.{false≢true}
@@ -17,7 +17,7 @@ use Rattle.es_match.specs.Deeds.{Deed, part}
 use Rattle.es_match.specs.Asks.{between_jobs}
 use Rattle.es_match.specs.Cluster.{Account, DeedsMeet, IsClusterOf, IsSaid, account_of}
 use Rattle.es_match.specs.Goes.{goes}
-use Rattle.es_match.specs.Meets.{Came, no_more, nothing_came, some_if}
+use Rattle.es_match.specs.Meets.{Came, no_more, nothing_came}
 use Rattle.es_ledger.specs.Draining.{after_drain}
 use Rattle.es_ledger.proofs.Emptying.{all_drained}
 use Rattle.es_ledger.proofs.Mailed.{none_counted}
@@ -32,6 +32,7 @@ use Rattle.es_cluster.proofs.Ended.{there}
 use Rattle.es_theorems.specs.Alike.{Alike, SameEnd}
 use Rattle.es_theorems.proofs.Telling.{same_report, through as through_ledgers, turned as turned_ledgers}
 use Rattle.es_outcome.specs.Outcomes.{IsClusterOutcome}
+use Rattle.es_outcome.proofs.Telling.{told_histories}
 use Rattle.es_theorems.specs.Ahead.{ahead, played}
 use Rattle.es_theorems.specs.ThreadsLaws.{ComesByTurns, TurnsEndAlike, TurnsReportAlike}
 use Rattle.es_theorems.specs.Through.{Through}
@@ -43,12 +44,9 @@ use Rattle.es_theorems.proofs.Settling.{finished}
 use Rattle.es_theorems.proofs.Starting.{less_or, nobody_at, played_all, size_of, starts, wholes_of}
 use Rattle.es_theorems.proofs.Through.{through}
 use Rattle.es_theorems.proofs.TurningThreads.{next_of}
+use Rattle.es_theorems.proofs.Coming.{some_if_is}
 
 -- An agent without deeds left has its account
-
-some_if_is : {A : Type 0} (b : Bool) (x y : A) → some_if b x ≡ Some y → y ≡ x
-some_if_is true x y e = cc
-some_if_is false x y e = cc
 
 no_rest : (a : Account) (b : AgentView) (ds : List Deed) (events : List Event) → IsRunOver b.over b.plan b.history → IsWhole a → (left : Left a b ds) → ds ≡ [] → left.rest ≡ events → events ≡ []
 no_rest a b ds [] history whole left none is = refl
@@ -74,10 +72,6 @@ pub names_are : (bs : List AgentView) → names_of bs ≡ map (λ q. q.name) (ma
 names_are [] = refl
 names_are (b ∷ bs) = ap (λ ns. b.plan.name ∷ ns) (names_are bs)
 
-pub histories_are : (bs : List AgentView) → map (λ a. a.history) (accounts bs) ≡ map (λ b. b.history) bs
-histories_are [] = refl
-histories_are (b ∷ bs) = ap (λ hs. b.history ∷ hs) (histories_are bs)
-
 all_ended_of : (l : Ledger) (n : ℕ) → ((i : ℕ) → i < n → has_ended l i ≡ true) → all_ended l n ≡ true
 all_ended_of l zero each = refl
 all_ended_of l (suc n) each = ap (λ b. b && all_ended l n) (each n (omega arith)) ∙ all_ended_of l n (λ i less. each i (omega (arith, less)))
@@ -92,7 +86,7 @@ refines p o r = record {
   ends = record {
     names = r.names ∙ ap (map (λ q. q.name)) (sym r.runs.plans_are ∙ ap (map (λ a. a.plan)) (sym accounts_are)) ∙ sym (names_are e.agents);
     agents = record {
-      are = sym r.runs.histories_are ∙ ap (map (λ a. a.history)) (sym accounts_are) ∙ histories_are e.agents;
+      are = sym r.runs.histories_are ∙ ap (map (λ a. a.history)) (sym accounts_are) ∙ told_histories e.agents;
       runs = subst (AllByRecursion IsWhole) (sym accounts_are) r.runs.whole;
     };
     ledger = reverse-reverse drain_twice;

@@ -67,7 +67,7 @@ legal_before from c o run end =
 
 -- The outcomes
 
-reversed_twice : (hs : List (List Event)) → map reverse (map reverse hs) ≡ hs
+pub reversed_twice : (hs : List (List Event)) → map reverse (map reverse hs) ≡ hs
 reversed_twice [] = refl
 reversed_twice (h ∷ hs) = ap (λ k. k ∷ map reverse (map reverse hs)) (reverse-reverse h) ∙ ap (λ ks. h ∷ ks) (reversed_twice hs)
 

@@ -11,6 +11,7 @@ use Rattle.es_event.specs.declared.event.Event.TheVariants.{JobBegun, Did, Skipp
 use Rattle.es_event.specs.declared.ledger_event.Body.TheVariants.{Plain}
 use Rattle.es_event.specs.declared.ledger_event.LedgerEvent.TheVariants.{Opened, Posted, Accessed, Passed, Ended as EndedEvent}
 use Rattle.es_event.specs.declared.literal.Literal.{Literal}
+use Rattle.es_event.specs.declared.operand.Operand.{Operand}
 use Rattle.es_event.specs.declared.plan.AgentPlan.{AgentPlan}
 use Rattle.es_event.specs.Commands.{atomic}
 use Rattle.es_event.specs.Ledger.{Ledger}
@@ -74,7 +75,7 @@ no_made_up_numbers t = let legal : LegalLedger 1 nine = t.legal in let block : �
 -- A word that nobody wrote
 
 abbrev load : Command
-load = atomic (codes "b") (pos 0) (Operation.Load (codes "x"))
+load = atomic (codes "b") (Operand.Number (pos 0)) (Operation.Load (codes "x"))
 
 abbrev loads : AgentPlan
 loads = record { name = codes "a"; callbacks = []; jobs = record { on = None; run = SharedArrayBuffer (codes "b") 1 ∷ load ∷ [] } ∷ [] }

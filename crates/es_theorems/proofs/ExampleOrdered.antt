@@ -1,6 +1,7 @@
 -- A plan whose agents share a word that a message orders: one list of its steps has no race, so it has one report, whichever way it runs.
 use Rattle.std.proofs.Common.{◌≡◌, ℕ, zero, suc, ◌||◌, Bool, true, false, refl, sym, ◌∙◌, ap, List, [], ◌∷◌, Option, Some, None, codes, rules, inl}
 use Rattle.std.specs.Prelude.{pos, slice_get}
+use Rattle.std.proofs.Math.Bool.{or_comm}
 use Rattle.es_value.specs.declared.value.Value.TheVariants.{Number, Object}
 use Rattle.es_event.specs.declared.command.Command.TheVariants.{Post, Say, SharedArrayBuffer}
 use Rattle.es_event.specs.declared.event.Answer.TheVariants.{Gives, Nothing}
@@ -30,7 +31,7 @@ use Rattle.es_theorems.specs.Renamed.{world_of}
 use Rattle.es_theorems.proofs.Beyond.{others}
 use Rattle.es_theorems.proofs.Composing.{free_by_steps}
 use Rattle.es_theorems.proofs.Reports.{says_as_by_turns, turned_reports}
-use Rattle.es_theorems.proofs.Touching.{lore_other, or_turned}
+use Rattle.es_theorems.proofs.Touching.{lore_other}
 use Rattle.es_theorems.proofs.Wordless.{messages_alone}
 
 -- it stores a word, and posts its block
@@ -53,10 +54,10 @@ its_outcome = some_outcome ordered refl refl
 
 -- One list of its steps, by the agents' own names: first all of the one agent, and then all of the other
 
--- an agent of which this much is known takes this step
-go : (w : World) (i : ℕ) (a : Local) (e : Event) (r : Option Row) (got : List ℕ) → slice_get w.locals i ≡ Some a → IsRunOver a.over a.plan a.history → ComesNext (with_new r a.history a.over) a.plan a.history e → Finds 2 w.locals w.words i a (due a.plan a.history) e r got
-    → Goes 2 w i (world_after w i a e r got)
-go w i a e r got at run next finds = record { before = a; at = at; run = run; event = e; row = r; got = got; next = next; finds = finds; is = refl }
+-- an agent of which this much is known takes this step, and the rest is taken from there
+go : {Rest : World → Type 0} (w : World) (i : ℕ) (a : Local) (e : Event) (r : Option Row) (got : List ℕ) → slice_get w.locals i ≡ Some a → IsRunOver a.over a.plan a.history → ComesNext (with_new r a.history a.over) a.plan a.history e → Finds 2 w.locals w.words i a (due a.plan a.history) e r got
+    → Rest (world_after w i a e r got) → (i : ℕ) × (mid : World) × Goes 2 w i mid × Rest mid
+go w i a e r got at run next finds rest = (i, world_after w i a e r got, record { before = a; at = at; run = run; event = e; row = r; got = got; next = next; finds = finds; is = refl }, rest)
 
 abbrev before_all : World
 before_all = world_of (first_state ordered) (λ b x. 0)
@@ -65,22 +66,22 @@ abbrev s0 : Local
 s0 = record { plan = storing; over = []; history = []; sent = []; got = [] }
 
 abbrev s1 : Local
-s1 = after_event s0 (JobBegun 1) (None) ([])
+s1 = after_event s0 (JobBegun 1) None []
 
 abbrev s2 : Local
-s2 = after_event s1 (Did (SharedArrayBuffer (codes "b") 1, [], Gives (Object 1))) (Some (row 0 1 1)) ([])
+s2 = after_event s1 (Did (SharedArrayBuffer (codes "b") 1, [], Gives (Object 1))) (Some (row 0 1 1)) []
 
 abbrev s3 : Local
-s3 = after_event s2 (Did (store (codes "b") (pos 0) (pos 7), Object 1 ∷ [], Nothing)) (None) ([])
+s3 = after_event s2 (Did (store (codes "b") (pos 0) (pos 7), Object 1 ∷ [], Nothing)) None []
 
 abbrev s4 : Local
-s4 = after_event s3 (Did (Post 1 (codes "b"), Object 1 ∷ [], Nothing)) (None) ([])
+s4 = after_event s3 (Did (Post 1 (codes "b"), Object 1 ∷ [], Nothing)) None []
 
 abbrev s5 : Local
-s5 = after_event s4 (JobEnded) (None) ([])
+s5 = after_event s4 JobEnded None []
 
 abbrev s6 : Local
-s6 = after_event s5 (Closed) (None) ([])
+s6 = after_event s5 Closed None []
 
 abbrev l0 : Local
 l0 = record { plan = loading; over = []; history = []; sent = []; got = [] }
@@ -89,94 +90,71 @@ abbrev l1 : Local
 l1 = after_event l0 (Received 0 (Object 1)) (Some (row 0 1 1)) (0 ∷ [])
 
 abbrev l2 : Local
-l2 = after_event l1 (JobBegun 1) (None) ([])
+l2 = after_event l1 (JobBegun 1) None []
 
 abbrev l3 : Local
-l3 = after_event l2 (Did (load (codes "x") (codes "m") (pos 0), Object 1 ∷ [], Gives (Number (pos 7)))) (None) ([])
+l3 = after_event l2 (Did (load (codes "x") (codes "m") (pos 0), Object 1 ∷ [], Gives (Number (pos 7)))) None []
 
 abbrev l4 : Local
-l4 = after_event l3 (Did (Say (codes "x"), Number (pos 7) ∷ [], Nothing)) (None) ([])
+l4 = after_event l3 (Did (Say (codes "x"), Number (pos 7) ∷ [], Nothing)) None []
 
 abbrev l5 : Local
-l5 = after_event l4 (JobEnded) (None) ([])
+l5 = after_event l4 JobEnded None []
 
 abbrev l6 : Local
-l6 = after_event l5 (Closed) (None) ([])
+l6 = after_event l5 Closed None []
 
 abbrev w1 : World
-w1 = world_after before_all 0 s0 (JobBegun 1) (None) ([])
-
-g1 : Goes 2 before_all 0 w1
-g1 = go before_all 0 s0 (JobBegun 1) (None) ([]) refl (search rules) (search rules) (refl, refl, refl)
+w1 = world_after before_all 0 s0 (JobBegun 1) None []
 
 abbrev w2 : World
-w2 = world_after w1 0 s1 (Did (SharedArrayBuffer (codes "b") 1, [], Gives (Object 1))) (Some (row 0 1 1)) ([])
-
-g2 : Goes 2 w1 0 w2
-g2 = go w1 0 s1 (Did (SharedArrayBuffer (codes "b") 1, [], Gives (Object 1))) (Some (row 0 1 1)) ([]) refl (search rules) (search rules) (refl, refl, refl)
+w2 = world_after w1 0 s1 (Did (SharedArrayBuffer (codes "b") 1, [], Gives (Object 1))) (Some (row 0 1 1)) []
 
 abbrev w3 : World
-w3 = world_after w2 0 s2 (Did (store (codes "b") (pos 0) (pos 7), Object 1 ∷ [], Nothing)) (None) ([])
-
-g3 : Goes 2 w2 0 w3
-g3 = go w2 0 s2 (Did (store (codes "b") (pos 0) (pos 7), Object 1 ∷ [], Nothing)) (None) ([]) refl (search rules) (search rules) (refl, refl, refl)
+w3 = world_after w2 0 s2 (Did (store (codes "b") (pos 0) (pos 7), Object 1 ∷ [], Nothing)) None []
 
 abbrev w4 : World
-w4 = world_after w3 0 s3 (Did (Post 1 (codes "b"), Object 1 ∷ [], Nothing)) (None) ([])
-
-g4 : Goes 2 w3 0 w4
-g4 = go w3 0 s3 (Did (Post 1 (codes "b"), Object 1 ∷ [], Nothing)) (None) ([]) refl (search rules) (search rules) (refl, refl, refl)
+w4 = world_after w3 0 s3 (Did (Post 1 (codes "b"), Object 1 ∷ [], Nothing)) None []
 
 abbrev w5 : World
-w5 = world_after w4 0 s4 (JobEnded) (None) ([])
-
-g5 : Goes 2 w4 0 w5
-g5 = go w4 0 s4 (JobEnded) (None) ([]) refl (search rules) (search rules) (refl, refl, refl)
+w5 = world_after w4 0 s4 JobEnded None []
 
 abbrev w6 : World
-w6 = world_after w5 0 s5 (Closed) (None) ([])
-
-g6 : Goes 2 w5 0 w6
-g6 = go w5 0 s5 (Closed) (None) ([]) refl (search rules) (search rules) (refl, refl, refl)
+w6 = world_after w5 0 s5 Closed None []
 
 abbrev w7 : World
 w7 = world_after w6 1 l0 (Received 0 (Object 1)) (Some (row 0 1 1)) (0 ∷ [])
 
-g7 : Goes 2 w6 1 w7
-g7 = go w6 1 l0 (Received 0 (Object 1)) (Some (row 0 1 1)) (0 ∷ []) refl (search rules) (search rules) (inl (refl, refl), refl)
-
 abbrev w8 : World
-w8 = world_after w7 1 l1 (JobBegun 1) (None) ([])
-
-g8 : Goes 2 w7 1 w8
-g8 = go w7 1 l1 (JobBegun 1) (None) ([]) refl (search rules) (search rules) (refl, refl, refl)
+w8 = world_after w7 1 l1 (JobBegun 1) None []
 
 abbrev w9 : World
-w9 = world_after w8 1 l2 (Did (load (codes "x") (codes "m") (pos 0), Object 1 ∷ [], Gives (Number (pos 7)))) (None) ([])
-
-g9 : Goes 2 w8 1 w9
-g9 = go w8 1 l2 (Did (load (codes "x") (codes "m") (pos 0), Object 1 ∷ [], Gives (Number (pos 7)))) (None) ([]) refl (search rules) (search rules) (refl, refl, refl)
+w9 = world_after w8 1 l2 (Did (load (codes "x") (codes "m") (pos 0), Object 1 ∷ [], Gives (Number (pos 7)))) None []
 
 abbrev w10 : World
-w10 = world_after w9 1 l3 (Did (Say (codes "x"), Number (pos 7) ∷ [], Nothing)) (None) ([])
-
-g10 : Goes 2 w9 1 w10
-g10 = go w9 1 l3 (Did (Say (codes "x"), Number (pos 7) ∷ [], Nothing)) (None) ([]) refl (search rules) (search rules) (refl, refl, refl)
+w10 = world_after w9 1 l3 (Did (Say (codes "x"), Number (pos 7) ∷ [], Nothing)) None []
 
 abbrev w11 : World
-w11 = world_after w10 1 l4 (JobEnded) (None) ([])
-
-g11 : Goes 2 w10 1 w11
-g11 = go w10 1 l4 (JobEnded) (None) ([]) refl (search rules) (search rules) (refl, refl, refl)
+w11 = world_after w10 1 l4 JobEnded None []
 
 abbrev w12 : World
-w12 = world_after w11 1 l5 (Closed) (None) ([])
-
-g12 : Goes 2 w11 1 w12
-g12 = go w11 1 l5 (Closed) (None) ([]) refl (search rules) (search rules) (refl, refl, refl)
+w12 = world_after w11 1 l5 Closed None []
 
 they_go : GoFar 2 12 before_all w12
-they_go = (0, w1, g1, (0, w2, g2, (0, w3, g3, (0, w4, g4, (0, w5, g5, (0, w6, g6, (1, w7, g7, (1, w8, g8, (1, w9, g9, (1, w10, g10, (1, w11, g11, (1, w12, g12, refl))))))))))))
+they_go =
+    go before_all 0 s0 (JobBegun 1) None [] refl (search rules) (search rules) (refl, refl, refl)
+    (go w1 0 s1 (Did (SharedArrayBuffer (codes "b") 1, [], Gives (Object 1))) (Some (row 0 1 1)) [] refl (search rules) (search rules) (refl, refl, refl)
+    (go w2 0 s2 (Did (store (codes "b") (pos 0) (pos 7), Object 1 ∷ [], Nothing)) None [] refl (search rules) (search rules) (refl, refl, refl)
+    (go w3 0 s3 (Did (Post 1 (codes "b"), Object 1 ∷ [], Nothing)) None [] refl (search rules) (search rules) (refl, refl, refl)
+    (go w4 0 s4 JobEnded None [] refl (search rules) (search rules) (refl, refl, refl)
+    (go w5 0 s5 Closed None [] refl (search rules) (search rules) (refl, refl, refl)
+    (go w6 1 l0 (Received 0 (Object 1)) (Some (row 0 1 1)) (0 ∷ []) refl (search rules) (search rules) (inl (refl, refl), refl)
+    (go w7 1 l1 (JobBegun 1) None [] refl (search rules) (search rules) (refl, refl, refl)
+    (go w8 1 l2 (Did (load (codes "x") (codes "m") (pos 0), Object 1 ∷ [], Gives (Number (pos 7)))) None [] refl (search rules) (search rules) (refl, refl, refl)
+    (go w9 1 l3 (Did (Say (codes "x"), Number (pos 7) ∷ [], Nothing)) None [] refl (search rules) (search rules) (refl, refl, refl)
+    (go w10 1 l4 JobEnded None [] refl (search rules) (search rules) (refl, refl, refl)
+    (go w11 1 l5 Closed None [] refl (search rules) (search rules) (refl, refl, refl)
+    refl)))))))))))
 
 they_are_done : AreDone w12
 they_are_done zero a at = let same : s6 ≡ a = cc in ap is_done (sym same)
@@ -219,7 +197,7 @@ they_do_not_race (suc zero) (suc zero) p q x y other at_x at_y clash = absurd (o
 they_do_not_race zero (suc zero) zero zero x y other at_x at_y clash = knew_it x y at_y
 they_do_not_race zero (suc zero) (suc p) q x y other at_x at_y clash = cc
 they_do_not_race zero (suc zero) zero (suc q) x y other at_x at_y clash = cc
-they_do_not_race (suc zero) zero zero zero x y other at_x at_y clash = or_turned (is_known (1, 0) y.knew) (is_known (0, 0) x.knew) ∙ knew_it y x at_x
+they_do_not_race (suc zero) zero zero zero x y other at_x at_y clash = or_comm (is_known (1, 0) y.knew) (is_known (0, 0) x.knew) ∙ knew_it y x at_x
 they_do_not_race (suc zero) zero (suc p) q x y other at_x at_y clash = cc
 they_do_not_race (suc zero) zero zero (suc q) x y other at_x at_y clash = cc
 they_do_not_race (suc (suc i)) j p q x y other at_x at_y clash = absurd (no_other i p x at_x)

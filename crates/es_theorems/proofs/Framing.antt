@@ -2,7 +2,7 @@
 use Rattle.std.proofs.Common.{◌≡◌, ℕ, ◌==◌, Bool, true, false, cond, sym, ◌∙◌, ap, refl, List, [], ◌∷◌, ◌++◌, Some, eqb-true}
 use Rattle.std.specs.Option.{option_and_then, option_map, option_map_or}
 use Rattle.es_event.specs.declared.ledger_event.LedgerEvent.{LedgerEvent}
-use Rattle.es_event.specs.declared.ledger_event.LedgerEvent.TheVariants.{Opened, Posted, Taken, Spent, Accessed, Waiting, Passed, Ended, Drained}
+use Rattle.es_event.specs.declared.ledger_event.LedgerEvent.TheVariants.{Spent, Drained}
 use Rattle.es_event.specs.declared.row.Row.{Row}
 use Rattle.es_event.specs.declared.row.Entry.{Entry}
 use Rattle.es_event.specs.declared.row.Holder.{Holder}
@@ -19,14 +19,7 @@ use Rattle.es_theorems.proofs.Holding.{held_line, held_on}
 
 pub drains_nothing : (l : Ledger) (e : LedgerEvent) (n : ℕ) (d : Deed) → deed l e ≡ Some (n, d) → is_drained e ≡ false
 drains_nothing l (Drained s r) n d is = cc
-drains_nothing l (Opened b w s a) n d is = refl
-drains_nothing l (Posted a r m) n d is = refl
-drains_nothing l (Taken s r) n d is = refl
-drains_nothing l (Spent s) n d is = refl
-drains_nothing l (Accessed s i m old) n d is = refl
-drains_nothing l (Waiting a s) n d is = refl
-drains_nothing l (Passed a s) n d is = refl
-drains_nothing l (Ended a) n d is = refl
+drains_nothing l _ n d is = refl
 
 -- Lines
 

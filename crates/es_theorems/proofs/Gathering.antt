@@ -1,7 +1,7 @@
 -- The deeds of one turn are gathered before what others do.
 use Rattle.std.proofs.Common.{◌≡◌, ℕ, suc, ◌==◌, ◌&&◌, not, Bool, true, false, cond, sym, ◌∙◌, ap, refl, subst, List, [], ◌∷◌, ◌++◌, append-nil, Option, Some, None, inl, inr, ne_eqb, eq-eqb, eqb-true}
 use Rattle.std.specs.Prelude.{is_some}
-use Rattle.std.specs.Option.{option_and_then, option_map, option_map_or}
+use Rattle.std.specs.Option.{option_and_then, option_map}
 use Rattle.std.proofs.lemmas.Bool.{and_right, cases_Bool, eqb-false, false≢true}
 use Rattle.es_event.specs.declared.ledger_event.Body.TheVariants.{Plain, Block}
 use Rattle.es_event.specs.declared.ledger_event.LedgerEvent.{LedgerEvent}
@@ -22,10 +22,11 @@ use Rattle.es_theorems.specs.Ready.{Goes, Ready}
 use Rattle.es_theorems.proofs.Bringing.{bring, rearranged_not}
 use Rattle.es_theorems.proofs.Choosing.{ended_below}
 use Rattle.es_cluster.proofs.Growing.{doer, waits_other}
-use Rattle.es_theorems.proofs.Holding.{line_first, line_other}
+use Rattle.es_theorems.proofs.Holding.{line_first, line_other, line_last}
 use Rattle.es_theorems.proofs.Framing.{spender}
 use Rattle.es_theorems.proofs.Liking.{like_through}
 use Rattle.es_theorems.proofs.Swapping.{goes_after}
+use Rattle.es_theorems.proofs.Only.{first_is}
 
 -- While an agent goes on, each event is somebody's
 
@@ -105,14 +106,6 @@ legal_far k (x ∷ xs) l legal steps = legal_far k xs (x ∷ l) (steps.0.legal, 
 
 -- What it holds it held before
 
-line_after_none : (s : ℕ) (t us : List Entry) → line_of s t ≡ None → line_of s (t ++ us) ≡ line_of s us
-line_after_none s [] us is = refl
-line_after_none s (x ∷ t) us is = at (x.row.serial == s) is (line_after_none s t us)
-  where
-    at : (b : Bool) → cond b (Some x) (line_of s t) ≡ None → (line_of s t ≡ None → line_of s (t ++ us) ≡ line_of s us) → cond b (Some x) (line_of s (t ++ us)) ≡ line_of s us
-    at true is more = cc
-    at false is more = more is
-
 line_its : (s : ℕ) (who : Holder) (t : List Entry) → line_of s (moved s who t) ≡ option_map (λ e. held_by who e.row) (line_of s t)
 line_its s who [] = refl
 line_its s who (x ∷ t) = at (x.row.serial == s) refl (line_its s who t)
@@ -120,9 +113,6 @@ line_its s who (x ∷ t) = at (x.row.serial == s) refl (line_its s who t)
     at : (b : Bool) → (x.row.serial == s) ≡ b → line_of s (moved s who t) ≡ option_map (λ e. held_by who e.row) (line_of s t) → line_of s (cond b (held_by who x.row) x ∷ moved s who t) ≡ option_map (λ e. held_by who e.row) (cond b (Some x) (line_of s t))
     at true is more = ap (λ b. cond b (Some (held_by who x.row)) (line_of s (moved s who t))) is
     at false is more = ap (λ b. cond b (Some x) (line_of s (moved s who t))) is ∙ more
-
-first_of : (a b : ℕ) (r q : Row) → ◌≡◌ {A = Option (ℕ × Row)} (Some (a, r)) (Some (b, q)) → a ≡ b
-first_of a b r q is = ap (λ o. option_map_or (λ p. p.0) o a) is
 
 -- a new line is held by another
 held_before_more : (l : Ledger) (s a : ℕ) (r : Row) (e : Entry) → ((r q : Row) → by_agent e ≡ Some (a, q) → ⊥) → option_and_then by_agent (line_of s (table l ++ e ∷ [])) ≡ Some (a, r) → holder_of l s ≡ Some (a, r)
@@ -134,7 +124,7 @@ held_before_more l s a r e other is = at (line_of s (table l)) refl
 
     at : (o : Option Entry) → line_of s (table l) ≡ o → holder_of l s ≡ Some (a, r)
     at (Some x) here = ap (option_and_then by_agent) here ∙ sym (ap (option_and_then by_agent) (line_first s (table l) (e ∷ []) x here)) ∙ is
-    at None here = at_new (e.row.serial == s) (sym (ap (option_and_then by_agent) (line_after_none s (table l) (e ∷ []) here)) ∙ is)
+    at None here = at_new (e.row.serial == s) (sym (ap (option_and_then by_agent) (line_last s (table l) (e ∷ []) here)) ∙ is)
 
 moved_before : (l : Ledger) (s q a : ℕ) (who : Holder) (r : Row) → ((x p : Row) → by_agent (held_by who x) ≡ Some (a, p) → ⊥) → option_and_then by_agent (line_of s (moved q who (table l))) ≡ Some (a, r) → holder_of l s ≡ Some (a, r)
 moved_before l s q a who r other is = elim (cases_Bool (s == q)) [
@@ -148,20 +138,16 @@ moved_before l s q a who r other is = elim (cases_Bool (s == q)) [
 
 holder_before : (l : Ledger) (x : LedgerEvent) (b a : ℕ) (d : Deed) (s : ℕ) (r : Row) → deed l x ≡ Some (b, d) → (a ≡ b → ⊥) → holder_of (x ∷ l) s ≡ Some (a, r) → holder_of l s ≡ Some (a, r)
 holder_before l (Opened c w q u) b a d s r is other held =
-    held_before_more l s a r (held_by (Agent u) (row q c w)) (λ x p got. other (sym (first_of u a (row q c w) p got) ∙ doer (deed l (Opened c w q u)) b u d is)) held
+    held_before_more l s a r (held_by (Agent u) (row q c w)) (λ x p got. other (sym (first_is u a (row q c w) p got) ∙ doer (deed l (Opened c w q u)) b u d is)) held
 holder_before l (Posted t u (Plain v)) b a d s r is other held = ap (λ t. option_and_then by_agent (line_of s t)) (sym (append-nil (table l))) ∙ held
 holder_before l (Posted t u (Block c q)) b a d s r is other held = held_before_more l s a r (held_by (Port t u) (row q c (size l c))) (λ x p got. cc) held
 holder_before l (Taken t u) b a d s r is other held = at (option_and_then serial_in (front l t u)) held
   where
     at : (o : Option ℕ) → option_and_then by_agent (line_of s (moved_if o (Agent u) (table l))) ≡ Some (a, r) → holder_of l s ≡ Some (a, r)
     at None got = got
-    at (Some q) got = moved_before l s q a (Agent u) r (λ x p same. other (sym (first_of u a x p same) ∙ doer (deed l (Taken t u)) b u d is)) got
+    at (Some q) got = moved_before l s q a (Agent u) r (λ x p same. other (sym (first_is u a x p same) ∙ doer (deed l (Taken t u)) b u d is)) got
 holder_before l (Spent q) b a d s r is other held = moved_before l s q a Nobody r (λ x p same. cc) held
-holder_before l (Accessed q i m old) b a d s r is other held = held
-holder_before l (Waiting u t) b a d s r is other held = held
-holder_before l (Passed u t) b a d s r is other held = held
-holder_before l (Ended u) b a d s r is other held = held
-holder_before l (Drained t u) b a d s r is other held = held
+holder_before l _ b a d s r is other held = held
 
 pub held_far : (a : ℕ) (xs : List LedgerEvent) (l : Ledger) (s : ℕ) (r : Row) → Elsewhere a xs l → holder_of (played xs l) s ≡ Some (a, r) → holder_of l s ≡ Some (a, r)
 held_far a [] l s r away held = held
@@ -177,7 +163,7 @@ pub a_wait : (d : Deed) → is_wait d ≡ true → (s : ℕ) × (d ≡ Waits s)
 a_wait (Waits s) is = (s, refl)
 a_wait _ is = cc
 
-same_head : (d e : Deed) (ds es : List Deed) → d ∷ ds ≡ e ∷ es → d ≡ e
+pub same_head : (d e : Deed) (ds es : List Deed) → d ∷ ds ≡ e ∷ es → d ≡ e
 same_head d e ds es is = cc
 
 same_tail : (d e : Deed) (ds es : List Deed) → d ∷ ds ≡ e ∷ es → ds ≡ es

@@ -38,7 +38,7 @@ use Rattle.es_theorems.specs.Grown.{Unfolded, asked_by, deeds_asked, grown}
 use Rattle.es_theorems.specs.Ready.{Goes, Ready}
 use Rattle.es_theorems.specs.Underway.{Left, Settled, Stepped, Turn, Underway, has_end}
 use Rattle.es_theorems.proofs.Choosing.{skips_is}
-use Rattle.es_theorems.proofs.Gathering.{brought, find, found_acts, found_ahead, found_may, goes_far, next_ends, not_wait, part_mine, part_none, part_wait, rearranged_cons, waits_far, waits_now}
+use Rattle.es_theorems.proofs.Gathering.{brought, find, found_acts, found_ahead, found_may, goes_far, next_ends, not_wait, part_mine, part_none, part_wait, rearranged_cons, waits_far, waits_now, steps_first, same_head}
 use Rattle.es_theorems.proofs.Liking.{like}
 use Rattle.es_theorems.proofs.Needing.{closes_is, first_message}
 use Rattle.es_theorems.proofs.Playing.{alone_asked, end_asked}
@@ -135,17 +135,10 @@ ready_far k a f [] l away legal steps goes ready = ready
 ready_far k a f (x ∷ xs) l away legal steps goes ready =
     ready_far k a f xs (x ∷ l) away.1 (steps.0.legal, legal) steps.1 (goes_far k a (x ∷ []) l (away.0, tt) goes) (ready_after k l a away.0.0 f x away.0.1 legal away.0.2 away.0.3 goes.paid steps.0 ready)
 
-steps_before : (k : ℕ) (xs ys : List LedgerEvent) (l : Ledger) → Steps k (xs ++ ys) l → Steps k xs l
-steps_before k [] ys l steps = tt
-steps_before k (x ∷ xs) ys l steps = (steps.0, steps_before k xs ys (x ∷ l) steps.1)
-
 ends_which : (s : ℕ) (d : Deed) → ends_wait s d ≡ true → (P : Deed → Type 0) → ((m : _) (w : ℕ) → P (Takes s m w)) → P (Passes s) → P d
 ends_which s (Takes t m w) is P takes passes = subst (λ s. P (Takes s m w)) (sym (eqb-true t s is)) (takes m w)
 ends_which s (Passes t) is P takes passes = subst (λ s. P (Passes s)) (sym (eqb-true t s is)) passes
 ends_which s _ is P takes passes = cc
-
-head_same : (d e : Deed) (ds es : List Deed) → d ∷ ds ≡ e ∷ es → d ≡ e
-head_same d e ds es is = cc
 
 -- where it may be skipped at once, it is
 passes_next : (n i s : ℕ) (es : List LedgerEvent) (l : Ledger) (d : Deed) (ds : List Deed) → LegalSoFar n l → Goes n l i → Steps n es l → waits l i ≡ Some s → skips l n i s ≡ true → ahead es l i ≡ d ∷ ds → (d ≡ Passes s) × First n i (Passes s) ds es l
@@ -170,7 +163,7 @@ passes_next n i s es l d ds legal goes steps waiting skip is = at (ends_which s 
     quick = not_wait s f.does ends
 
     same : f.does ≡ d
-    same = head_same f.does d (ahead f.behind (f.event ∷ far) i) ds (sym (found_ahead i es l f ∙ ap (λ p. p ++ ahead f.behind (f.event ∷ far) i) (part_mine i f.does (deed far f.event) f.mine quick)) ∙ is)
+    same = same_head f.does d (ahead f.behind (f.event ∷ far) i) ds (sym (found_ahead i es l f ∙ ap (λ p. p ++ ahead f.behind (f.event ∷ far) i) (part_mine i f.does (deed far f.event) f.mine quick)) ∙ is)
 
     may : MayCome n far f.event
     may = subst (ComesNext n far f.event) goes_there.paid (found_may n i es l f steps).0.legal
@@ -182,7 +175,7 @@ passes_next n i s es l d ds legal goes steps waiting skip is = at (ends_which s 
     ready = (refl, waiting, skip)
 
     there : Ready n far i (Passed i s)
-    there = ready_far n i (Passed i s) f.before l f.away legal (steps_before n f.before (f.event ∷ f.behind) l (subst (λ es. Steps n es l) f.split steps)) goes ready
+    there = ready_far n i (Passed i s) f.before l f.away legal (steps_first n f.before (f.event ∷ f.behind) l (subst (λ es. Steps n es l) f.split steps)) goes ready
 
     at : {A : Type 0} → (f.does ≡ f.does → A) → f.does ≡ f.does → A
     at go same = go same

@@ -158,7 +158,7 @@ not_mine n l s u k b a r legal at is =
 
 -- What a ticket names
 
-each_line : (P : Row → Type 0) (k : ℕ) (t : List Entry) (e : Entry) → Each P t → line_of k t ≡ Some e → P e.row
+pub each_line : (P : Row → Type 0) (k : ℕ) (t : List Entry) (e : Entry) → Each P t → line_of k t ≡ Some e → P e.row
 each_line P k [] e each is = cc
 each_line P k (x ∷ xs) e each is = step (x.row.serial == k) is (each_line P k xs e each.1)
   where

@@ -1,7 +1,7 @@
 -- Whom an agent waits for is another agent that is there.
 use Rattle.std.proofs.Common.{◌≡◌, ◌≢◌, ℕ, ◌<◌, ◌==◌, Bool, true, false, cond, refl, subst, [], ◌∷◌, Option, Some, None}
 use Rattle.std.proofs.lemmas.Bool.{eqb-true}
-use Rattle.es_event.specs.declared.ledger_event.LedgerEvent.TheVariants.{Opened, Posted, Taken, Spent, Accessed, Waiting, Passed, Ended, Drained}
+use Rattle.es_event.specs.declared.ledger_event.LedgerEvent.TheVariants.{Taken, Waiting, Passed}
 use Rattle.es_event.specs.Ledger.{Ledger, waits}
 use Rattle.es_event.specs.LegalLedger.{ComesNext, LegalSoFar, owed}
 
@@ -24,9 +24,4 @@ waits_known n [] legal a s is = cc
 waits_known n (Waiting b u ∷ l) legal a s is = by_wait n a s b u (b == a) (waits l a) refl (may_wait n l b u (owed l) legal.0) (waits_known n l legal.1 a s) is
 waits_known n (Taken t r ∷ l) legal a s is = by_end n a s (r == a) (waits l a) (waits_known n l legal.1 a s) is
 waits_known n (Passed b u ∷ l) legal a s is = by_end n a s (b == a) (waits l a) (waits_known n l legal.1 a s) is
-waits_known n (Opened b w k c ∷ l) legal a s is = waits_known n l legal.1 a s is
-waits_known n (Posted c r m ∷ l) legal a s is = waits_known n l legal.1 a s is
-waits_known n (Spent k ∷ l) legal a s is = waits_known n l legal.1 a s is
-waits_known n (Accessed k i m old ∷ l) legal a s is = waits_known n l legal.1 a s is
-waits_known n (Ended b ∷ l) legal a s is = waits_known n l legal.1 a s is
-waits_known n (Drained t r ∷ l) legal a s is = waits_known n l legal.1 a s is
+waits_known n (_ ∷ l) legal a s is = waits_known n l legal.1 a s is

@@ -8,28 +8,27 @@ use Rattle.es_event.specs.declared.event.Event.{Event}
 use Rattle.es_event.specs.declared.ledger_event.Body.{Body}
 use Rattle.es_event.specs.declared.ledger_event.LedgerEvent.{LedgerEvent}
 use Rattle.es_event.specs.declared.ledger_event.LedgerEvent.TheVariants.{Opened, Posted, Taken, Spent, Accessed, Waiting, Passed, Ended, Drained}
-use Rattle.es_event.specs.declared.row.Entry.{Entry}
 use Rattle.es_event.specs.declared.row.Holder.TheVariants.{Agent}
 use Rattle.es_event.specs.declared.row.Row.{Row}
-use Rattle.es_event.specs.Access.{written}
+use Rattle.es_event.specs.Access.{written, change_by}
 use Rattle.es_event.specs.Ledger.{Ledger, holder_of, opened, table}
 use Rattle.es_event.specs.LegalLedger.{LegalSoFar}
 use Rattle.es_event.specs.Rows.{held_by, line_of}
 use Rattle.es_match.specs.Deeds.{Deed, Opens, Posts, Takes, Spends, Accesses, Waits, Passes, Ends, part}
 use Rattle.es_laws.specs.Memory.{WordAccess, access_by, accessed, accesses, is_write}
 use Rattle.es_laws.specs.Races.{Mark, MarkedAccess, first_of, known, mark_of, marked, marked_after, marks_of}
-use Rattle.es_ledger.proofs.Made.{Each, IsMade, all_made}
+use Rattle.es_ledger.proofs.Made.{IsMade, all_made}
 use Rattle.es_record.specs.AgentView.{AgentView}
 use Rattle.es_cluster.specs.State.{ClusterView}
 use Rattle.es_theorems.specs.Doing.{did}
-use Rattle.es_theorems.proofs.Holding.{held_line}
-use Rattle.es_theorems.proofs.Draining.{turned}
-use Rattle.es_theorems.specs.Alone.{Letter, Local, Lore, Touch, Touched, changes, learned, lore_after, lore_with, new_lore, posted_by, times, touch_by, touched_by}
-use Rattle.es_theorems.specs.Renamed.{got_in, letter_of, local_of, lore_of, name, renamed, told_of, touched_as, touched_in}
+use Rattle.es_theorems.proofs.Holding.{held_line, each_line}
+use Rattle.es_theorems.specs.Alone.{Letter, Local, Lore, Touch, Touched, changes, learned, lore_after, lore_with, new_lore, posted_by, times, touch_by, touched_by, Words, change_at}
+use Rattle.es_theorems.specs.Renamed.{got_in, letter_of, local_of, lore_of, name, renamed, told_of, touched_as, touched_in, HasWords}
 use Rattle.es_theorems.specs.Steps.{AreSilent, AtTurn, Does, IsTouch, is_quiet, posts, takes, touches, is_silent}
 use Rattle.es_theorems.proofs.Names.{name_stays}
 use Rattle.es_theorems.proofs.PlayingAlike.{Plays, SameLore, onward, plays, silent_leave}
 use Rattle.es_theorems.proofs.Ports.{is_port}
+use Rattle.es_theorems.proofs.Spending.{test_turned}
 
 -- Accesses are of blocks that were opened
 
@@ -41,17 +40,15 @@ marked_later : (l : Ledger) (e : LedgerEvent) (xs : List MarkedAccess) → AllMa
 marked_later l e [] all = tt
 marked_later l e (x ∷ xs) all = ((all.0.0, (let less = all.0.1 in omega (arith, less))), marked_later l e xs all.1)
 
-each_line : (P : Row → Type 0) (s : ℕ) (t : List Entry) (e : Entry) → Each P t → line_of s t ≡ Some e → P e.row
-each_line P s [] e each is = cc
-each_line P s (x ∷ t) e each is = at (x.row.serial == s) is (each_line P s t e each.1)
-  where
-    at : (b : Bool) → cond b (Some x) (line_of s t) ≡ Some e → (line_of s t ≡ Some e → P e.row) → P e.row
-    at true is rest = subst (λ (e : Entry). P e.row) (let same : x ≡ e = cc in same) each.0
-    at false is rest = rest is
-
 -- the block of what an agent holds
 pub held_opened : (n : ℕ) (l : Ledger) (s a : ℕ) (r : Row) → LegalSoFar n l → holder_of l s ≡ Some (a, r) → IsMade l r
 held_opened n l s a r legal is = each_line (IsMade l) s (table l) (held_by (Agent a) r) (all_made n l legal) (held_line (line_of s (table l)) a r is)
+
+-- the word that an access finds, by the agents' own names
+pub word_found : (n : ℕ) (l : Ledger) (words : Words) (i s j : ℕ) (h : Change) (old : ℕ) (t : Touch) → LegalSoFar n l → HasWords n l words → IsTouch n l i t s j h old → words t.block t.index ≡ old
+word_found n l words i s j h old t legal holds its =
+    let made : IsMade l its.row = held_opened n l s i its.row legal its.holder in
+    ap (λ k. words k t.index) (sym its.block) ∙ ap (words (name n l its.row.block)) (sym its.index) ∙ holds.named_so its.row.block j made.0 made.1 ∙ sym its.old_is
 
 marked_next : (n : ℕ) (l : Ledger) (s j old : ℕ) (c : Change) (o : Option (ℕ × Row)) → LegalSoFar n l → holder_of l s ≡ o → AllMarked (Accessed s j c old ∷ l) (marked l) → AllMarked (Accessed s j c old ∷ l) (map (marked_after l) (access_by o j c old) ++ marked l)
 marked_next n l s j old c None legal is all = all
@@ -135,9 +132,9 @@ silent_none (d ∷ ds) are = one d are.0 (silent_none ds are.1)
     one Ends is rest = rest
     one _ is rest = cc
 
-pub learns : (n : ℕ) (c : ClusterView) (i : ℕ) (m : Ledger) (b : AgentView) (e : Event) (r : Option Row) (ds : List Deed) → AtTurn n c i m b e r ds → Does n c.ledger.history i (renamed (name n c.ledger.history) b.over) e ds
-    → lore_of n m ≡ lore_after (lore_of n c.ledger.history) i (new_lore (lore_of n c.ledger.history i) i (learned (lore_of n c.ledger.history) i (local_of n c.ledger.history b) (got_in ds)) (local_of n c.ledger.history b) e)
-learns n c i m b e r ds x does = λ k. λ j. at j k
+pub learns : (n : ℕ) (c : ClusterView) (words : Words) (i : ℕ) (m : Ledger) (b : AgentView) (e : Event) (r : Option Row) (ds : List Deed) → HasWords n c.ledger.history words → AtTurn n c i m b e r ds → Does n c.ledger.history i (renamed (name n c.ledger.history) b.over) e ds
+    → lore_of n m ≡ lore_after (lore_of n c.ledger.history) i (new_lore (lore_of n c.ledger.history i) i (learned (lore_of n c.ledger.history) i (local_of n c.ledger.history b) (got_in ds)) words (local_of n c.ledger.history b) e)
+learns n c words i m b e r ds holds x does = λ k. λ j. at j k
   where
     l : Ledger
     l = c.ledger.history
@@ -152,7 +149,7 @@ learns n c i m b e r ds x does = λ k. λ j. at j k
     legal = subst (LegalSoFar n) x.grows.1 x.legal
 
     new : Lore
-    new = new_lore (lore i) i (learned lore i a (got_in ds)) a e
+    new = new_lore (lore i) i (learned lore i a (got_in ds)) words a e
 
     number : b.number ≡ i
     number = (x.along.stands.each i b x.here).number
@@ -165,13 +162,13 @@ learns n c i m b e r ds x does = λ k. λ j. at j k
 
     -- no access, and nothing posted
     quiet_lore : (j : ℕ) (k : Ledger) → SameLore m k → (p : Option Touch) (ps : List (ℕ × Letter)) (marks : List Mark) → touch_by a.over e ≡ p → posted_by a.over e ≡ ps → learned lore i a (got_in ds) ≡ marks
-        → (known k).knows j ≡ cond (i == j) (lore_with (lore i) i marks p ps).knows ((known l).knows j)
-        → ((r : ℕ) → told_of k j r ≡ cond (i == j) ((lore_with (lore i) i marks p ps).told r) (told_of l j r))
-        → touched_in (name n m) (marked k) j ≡ cond (i == j) (lore_with (lore i) i marks p ps).touched (touched_in (name n l) (marked l) j)
+        → (known k).knows j ≡ cond (i == j) (lore_with (lore i) i marks words p ps).knows ((known l).knows j)
+        → ((r : ℕ) → told_of k j r ≡ cond (i == j) ((lore_with (lore i) i marks words p ps).told r) (told_of l j r))
+        → touched_in (name n m) (marked k) j ≡ cond (i == j) (lore_with (lore i) i marks words p ps).touched (touched_in (name n l) (marked l) j)
         → LoreIs n m l i j new
     quiet_lore j k same p ps marks touch post marks_are knows told touched =
-        let is : lore_with (lore i) i marks p ps ≡ new =
-        sym (ap (λ g. lore_with (lore i) i g (touch_by a.over e) (posted_by a.over e)) marks_are ∙ ap (λ p. lore_with (lore i) i marks p (posted_by a.over e)) touch ∙ ap (lore_with (lore i) i marks p) post) in
+        let is : lore_with (lore i) i marks words p ps ≡ new =
+        sym (ap (λ g. lore_with (lore i) i g words (touch_by a.over e) (posted_by a.over e)) marks_are ∙ ap (λ p. lore_with (lore i) i marks words p (posted_by a.over e)) touch ∙ ap (lore_with (lore i) i marks words p) post) in
         record {
           knows = ap (λ K. K.knows j) same.known ∙ knows ∙ ap (λ (o : Lore). cond (i == j) o.knows ((known l).knows j)) is;
           told = λ r. ap (λ f. f j r) same.told ∙ told r ∙ ap (λ (o : Lore). cond (i == j) (o.told r) (told_of l j r)) is;
@@ -210,8 +207,8 @@ learns n c i m b e r ds x does = λ k. λ j. at j k
             ap (λ b. cond (b && (r == t)) (told_of l j r ++ (known l).knows j ∷ []) (told_of l j r)) three
             ∙ sym (ap (λ b. cond b (told_of l i r ++ map (λ m. (known l).knows i) (cond (t == r) (y ∷ []) [])) (told_of l j r)) two)
 
-        told : (r : ℕ) → told_of (Posted i t q ∷ l) j r ≡ cond (i == j) ((lore_with (lore i) i [] None ((t, y) ∷ [])).told r) (told_of l j r)
-        told r = told_here r (i == j) (t == r) refl refl (turned j i) (turned r t)
+        told : (r : ℕ) → told_of (Posted i t q ∷ l) j r ≡ cond (i == j) ((lore_with (lore i) i [] words None ((t, y) ∷ [])).told r) (told_of l j r)
+        told r = told_here r (i == j) (t == r) refl refl (test_turned j i) (test_turned r t)
 
     by_take : (j s : ℕ) (q : Option Body) (w : ℕ) (rest : List Deed) → ds ≡ Takes s q w ∷ rest → AreSilent rest → touch_by a.over e ≡ None → posted_by a.over e ≡ [] → LoreIs n m l i j new
     by_take j s q w rest is are touch post =
@@ -240,10 +237,10 @@ learns n c i m b e r ds x does = λ k. λ j. at j k
         place : ◌≡◌ {A = Mark} (mark_of (accesses l) w) (i, length (lore i).touched)
         place = ap (λ k. (i, k)) (sym (how_many_touched (name n l) l i))
 
-        same_touch : touched_as (name n m) (marked_after l w) ≡ touched_by (lore i).knows t
+        same_touch : touched_as (name n m) (marked_after l w) ≡ touched_by (lore i).knows words t
         same_touch =
             let block : name n m its.row.block ≡ t.block = ap (λ m. name n m its.row.block) x.grows.1 ∙ name_stays n x.grows.0 l legal its.row.block made.1 ∙ its.block in
-            let writes : is_some (written h old) ≡ changes t.access.change = is_writing h old ∙ ap changes its.change in
+            let writes : is_some (written h old) ≡ changes (change_at words t) = is_writing h old ∙ ap changes (its.change ∙ ap (change_by t.access.edit) (sym (word_found n l words i s d h old t x.along.legal holds its))) in
             λ k. record { block = block k; index = its.index k; writes = writes k; knew = (known l).knows i }
 
         knows : (known (Accessed s d h old ∷ l)).knows j ≡ cond (i == j) ((i, length (lore i).touched) ∷ [] ++ (known l).knows i) ((known l).knows j)
@@ -256,19 +253,19 @@ learns n c i m b e r ds x does = λ k. λ j. at j k
             by_agent false e =
                 ap (λ b. cond b (mark_of (accesses l) w ∷ []) [] ++ (known l).knows j) e ∙ sym (ap (λ b. cond b ((i, length (lore i).touched) ∷ [] ++ (known l).knows i) ((known l).knows j)) e)
 
-        touched : touched_in (name n m) (marked (Accessed s d h old ∷ l)) j ≡ cond (i == j) ((lore i).touched ++ touched_by (lore i).knows t ∷ []) (touched_in (name n l) (marked l) j)
+        touched : touched_in (name n m) (marked (Accessed s d h old ∷ l)) j ≡ cond (i == j) ((lore i).touched ++ touched_by (lore i).knows words t ∷ []) (touched_in (name n l) (marked l) j)
         touched = ap (λ o. touched_in (name n m) (map (marked_after l) (access_by o d h old) ++ marked l) j) its.holder ∙ by_agent (i == j) refl
           where
             by_agent : (p : Bool) → (i == j) ≡ p → cond (i == j) (touched_in (name n m) (marked l) j ++ touched_as (name n m) (marked_after l w) ∷ []) (touched_in (name n m) (marked l) j)
-                ≡ cond (i == j) ((lore i).touched ++ touched_by (lore i).knows t ∷ []) (touched_in (name n l) (marked l) j)
+                ≡ cond (i == j) ((lore i).touched ++ touched_by (lore i).knows words t ∷ []) (touched_in (name n l) (marked l) j)
             by_agent true e =
                 ap (λ b. cond b (touched_in (name n m) (marked l) j ++ touched_as (name n m) (marked_after l w) ∷ []) (touched_in (name n m) (marked l) j)) e
                 ∙ ap (λ ts. ts ++ touched_as (name n m) (marked_after l w) ∷ []) (names j ∙ ap (touched_in (name n l) (marked l)) (sym (eqb-true i j e)))
                 ∙ ap (λ u. (lore i).touched ++ u ∷ []) same_touch
-                ∙ sym (ap (λ b. cond b ((lore i).touched ++ touched_by (lore i).knows t ∷ []) (touched_in (name n l) (marked l) j)) e)
+                ∙ sym (ap (λ b. cond b ((lore i).touched ++ touched_by (lore i).knows words t ∷ []) (touched_in (name n l) (marked l) j)) e)
             by_agent false e =
                 ap (λ b. cond b (touched_in (name n m) (marked l) j ++ touched_as (name n m) (marked_after l w) ∷ []) (touched_in (name n m) (marked l) j)) e
-                ∙ names j ∙ sym (ap (λ b. cond b ((lore i).touched ++ touched_by (lore i).knows t ∷ []) (touched_in (name n l) (marked l) j)) e)
+                ∙ names j ∙ sym (ap (λ b. cond b ((lore i).touched ++ touched_by (lore i).knows words t ∷ []) (touched_in (name n l) (marked l) j)) e)
 
     by_does : (j : ℕ) → Does n l i a.over e ds → LoreIs n m l i j new
     by_does j (is_quiet are touch post) = by_quiet j are touch post

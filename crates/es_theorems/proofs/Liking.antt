@@ -6,23 +6,20 @@ use Rattle.es_event.specs.declared.ledger_event.Body.{Body}
 use Rattle.es_event.specs.declared.ledger_event.Body.TheVariants.{Plain, Block}
 use Rattle.es_event.specs.declared.ledger_event.LedgerEvent.{LedgerEvent}
 use Rattle.es_event.specs.declared.ledger_event.LedgerEvent.TheVariants.{Opened, Posted, Taken, Spent, Accessed, Waiting, Passed, Ended, Drained}
-use Rattle.es_event.specs.declared.row.Row.{Row}
 use Rattle.es_event.specs.Access.{IsStorable}
 use Rattle.es_event.specs.Rows.{count_of, held}
 use Rattle.es_event.specs.Ledger.{Ledger, awaited, ended, front, holder_of, serial_in, waits, word}
 use Rattle.es_event.specs.LegalLedger.{ComesNext, IsPostable, MayCome, Reaches, all_ended, all_stuck, has_message, is_chosen, is_stuck, owed, skips}
 use Rattle.es_event.specs.Totals.{is_drained}
-use Rattle.es_match.specs.Deeds.{Owned, Accesses, Spends, Takes, deed, part_of, taking, words_in}
+use Rattle.es_match.specs.Deeds.{Owned, Accesses, Spends, Takes, deed, part_of, taking}
 use Rattle.es_match.specs.Patience.{may_do}
 use Rattle.es_theorems.specs.Alike.{Alike}
 use Rattle.es_theorems.specs.Ahead.{Acts, Like, May, Steps, ahead, played}
-use Rattle.es_theorems.proofs.Telling.{after_one, same, same_front, same_holder, same_message, through, turned}
+use Rattle.es_theorems.proofs.Telling.{after_one, same, same_front, same_holder, same_message, through}
+use Rattle.es_theorems.proofs.Doing.{reaches_so, same_words_in}
 
 pub like : (l : Ledger) → Like l l
 like l = record { alike = same l; waits = λ a. refl; owes = refl; drained = refl }
-
-pub like_back : (l m : Ledger) → Like l m → Like m l
-like_back l m k = record { alike = turned l m k.alike; waits = λ a. sym (k.waits a); owes = sym k.owes; drained = sym k.drained }
 
 pub like_through : (l m k : Ledger) → Like l m → Like m k → Like l k
 like_through l m k a b = record { alike = through l m k a.alike b.alike; waits = λ n. a.waits n ∙ b.waits n; owes = a.owes ∙ b.owes; drained = a.drained ∙ b.drained }
@@ -31,14 +28,7 @@ like_through l m k a b = record { alike = through l m k a.alike b.alike; waits =
 
 owed_after : (l m : Ledger) (e : LedgerEvent) → Alike l m → owed (e ∷ l) ≡ owed (e ∷ m)
 owed_after l m (Drained s r) a = ap (option_and_then serial_in) (same_front l m s r a)
-owed_after l m (Opened b w s r) a = refl
-owed_after l m (Posted t r b) a = refl
-owed_after l m (Taken s r) a = refl
-owed_after l m (Spent s) a = refl
-owed_after l m (Accessed s i d old) a = refl
-owed_after l m (Waiting r s) a = refl
-owed_after l m (Passed r s) a = refl
-owed_after l m (Ended r) a = refl
+owed_after l m _ a = refl
 
 pub like_after : (l m : Ledger) (e : LedgerEvent) → Like l m → Like (e ∷ l) (e ∷ m)
 like_after l m e k = record {
@@ -54,24 +44,14 @@ like_played (e ∷ es) l m k = like_played es (e ∷ l) (e ∷ m) (like_after l 
 
 -- What it means
 
-same_words : (l m : Ledger) (b : Option Body) → Alike l m → option_map_or (words_in l) b 0 ≡ option_map_or (words_in m) b 0
-same_words l m None a = refl
-same_words l m (Some (Plain v)) a = refl
-same_words l m (Some (Block b s)) a = a.sizes b
-
 same_taking : (l m : Ledger) (s r : ℕ) → Alike l m → taking l s (front l s r) ≡ taking m s (front m s r)
-same_taking l m s r a = ap (λ b. taking l s b) (same_front l m s r a) ∙ ap (λ w. Takes s (front m s r) w) (same_words l m (front m s r) a)
+same_taking l m s r a = ap (λ b. taking l s b) (same_front l m s r a) ∙ ap (λ w. Takes s (front m s r) w) (same_words_in l m (front m s r) a)
 
 pub same_deed : (l m : Ledger) (e : LedgerEvent) → Alike l m → deed l e ≡ deed m e
-same_deed l m (Opened b w s r) a = refl
-same_deed l m (Posted t r b) a = refl
 same_deed l m (Taken s r) a = ap (λ d. Some (r, d)) (same_taking l m s r a)
 same_deed l m (Spent s) a = ap (λ o. option_map (λ p. (p.0, Spends s)) o) (same_holder l m s a)
 same_deed l m (Accessed s i d old) a = ap (λ o. option_map (λ p. (p.0, Accesses s i d old)) o) (same_holder l m s a)
-same_deed l m (Waiting r s) a = refl
-same_deed l m (Passed r s) a = refl
-same_deed l m (Ended r) a = refl
-same_deed l m (Drained s r) a = refl
+same_deed l m _ a = refl
 
 pub same_ahead : (es : List LedgerEvent) (l m : Ledger) (a : ℕ) → Alike l m → ahead es l a ≡ ahead es m a
 same_ahead [] l m a k = refl
@@ -113,10 +93,6 @@ same_skips l m n a s k =
 same_postable : (l m : Ledger) (a : ℕ) (b : Body) → Alike l m → IsPostable l a b → IsPostable m a b
 same_postable l m a (Plain v) k is = is
 same_postable l m a (Block b s) k is = (is.0 ∙ ap (λ n. n + 1) k.serials, ap (λ t. nat_lt 0 (count_of (held a t) b)) (sym k.tables) ∙ is.1)
-
-reaches_so : (o : Option (ℕ × Row)) (i : ℕ) (f g : Row → Type 0) → ((r : Row) → f r → g r) → Reaches o i f → Reaches o i g
-reaches_so None i f g so is = is
-reaches_so (Some p) i f g so is = (is.0, so p.1 is.1)
 
 may_come : (n : ℕ) (l m : Ledger) (e : LedgerEvent) → Like l m → MayCome n l e → MayCome n m e
 may_come n l m (Opened b w s a) k is = (is.0 ∙ ap (λ n. n + 1) k.alike.opened, is.1 ∙ ap (λ n. n + 1) k.alike.serials, is.2)

@@ -108,7 +108,7 @@ pub record Refuses (l : Ledger) (n s : ℕ) (ds : List Deed) : Type 0 where
   pub there : has_message l s n ≡ true
   pub deeds : ds ≡ taking_next l s n ∷ Spends serial ∷ []
 
-two_of : (test : Deed × Deed → Bool) (ds : List Deed) → option_map_or test (pair ds) false ≡ true → (c d : Deed) × (ds ≡ c ∷ d ∷ []) × (test (c, d) ≡ true)
+pub two_of : (test : Deed × Deed → Bool) (ds : List Deed) → option_map_or test (pair ds) false ≡ true → (c d : Deed) × (ds ≡ c ∷ d ∷ []) × (test (c, d) ≡ true)
 two_of test (c ∷ d ∷ []) e = (c, d, refl, e)
 two_of test [] e = cc
 two_of test (d ∷ []) e = cc

@@ -105,14 +105,7 @@ opened_apart n l d w s a b c legal rest some less any more same = at (d == b) (d
 pub apart : (n : ℕ) (l : Ledger) → LegalSoFar n l → (b c : ℕ) → 0 < b → b ≤ opened l → 0 < c → c ≤ opened l → name n l b ≡ name n l c → b ≡ c
 apart n [] legal b c some less any more same = absurd (omega (arith, some, less))
 apart n (Opened d w s a ∷ l) legal b c some less any more same = opened_apart n l d w s a b c legal (λ e x y. apart n l legal.1 b c some x any y e) some less any more same
-apart n (Posted t u m ∷ l) legal b c some less any more same = apart n l legal.1 b c some (omega (arith, less)) any (omega (arith, more)) same
-apart n (Taken t u ∷ l) legal b c some less any more same = apart n l legal.1 b c some (omega (arith, less)) any (omega (arith, more)) same
-apart n (Spent k ∷ l) legal b c some less any more same = apart n l legal.1 b c some (omega (arith, less)) any (omega (arith, more)) same
-apart n (Accessed k i m old ∷ l) legal b c some less any more same = apart n l legal.1 b c some (omega (arith, less)) any (omega (arith, more)) same
-apart n (Waiting a t ∷ l) legal b c some less any more same = apart n l legal.1 b c some (omega (arith, less)) any (omega (arith, more)) same
-apart n (Passed a t ∷ l) legal b c some less any more same = apart n l legal.1 b c some (omega (arith, less)) any (omega (arith, more)) same
-apart n (Ended a ∷ l) legal b c some less any more same = apart n l legal.1 b c some (omega (arith, less)) any (omega (arith, more)) same
-apart n (Drained t u ∷ l) legal b c some less any more same = apart n l legal.1 b c some (omega (arith, less)) any (omega (arith, more)) same
+apart n (_ ∷ l) legal b c some less any more same = apart n l legal.1 b c some (omega (arith, less)) any (omega (arith, more)) same
 
 pub no_name : (n : ℕ) (l : Ledger) → LegalSoFar n l → name n l 0 ≡ 0
 no_name n [] legal = refl
@@ -120,14 +113,7 @@ no_name n (Opened d w s a ∷ l) legal = elim (cases_Bool (d == 0)) [
   | inl e ↦ (let zero = eqb-true d 0 e in let may = (may_open n l d w s a (owed l) legal.0).0 in absurd (omega (arith, zero, may)))
   | inr e ↦ ap (λ t. cond t (named n a (opens_in (part l a))) (name n l 0)) e ∙ no_name n l legal.1
 ]
-no_name n (Posted t u m ∷ l) legal = no_name n l legal.1
-no_name n (Taken t u ∷ l) legal = no_name n l legal.1
-no_name n (Spent k ∷ l) legal = no_name n l legal.1
-no_name n (Accessed k i m old ∷ l) legal = no_name n l legal.1
-no_name n (Waiting a t ∷ l) legal = no_name n l legal.1
-no_name n (Passed a t ∷ l) legal = no_name n l legal.1
-no_name n (Ended a ∷ l) legal = no_name n l legal.1
-no_name n (Drained t u ∷ l) legal = no_name n l legal.1
+no_name n (_ ∷ l) legal = no_name n l legal.1
 
 -- A block's name stays
 
@@ -141,14 +127,7 @@ name_stays n (Opened d w s a ∷ es) l legal b less = elim (cases_Bool (d == b))
   | inl e ↦ (let here = eqb-true d b e in let may = (may_open n (es ++ l) d w s a (owed (es ++ l)) legal.0).0 in let more = grown es l in absurd (omega (arith, here, may, more, less)))
   | inr e ↦ ap (λ t. cond t (named n a (opens_in (part (es ++ l) a))) (name n (es ++ l) b)) e ∙ name_stays n es l legal.1 b less
 ]
-name_stays n (Posted t u m ∷ es) l legal b less = name_stays n es l legal.1 b less
-name_stays n (Taken t u ∷ es) l legal b less = name_stays n es l legal.1 b less
-name_stays n (Spent k ∷ es) l legal b less = name_stays n es l legal.1 b less
-name_stays n (Accessed k i m old ∷ es) l legal b less = name_stays n es l legal.1 b less
-name_stays n (Waiting a t ∷ es) l legal b less = name_stays n es l legal.1 b less
-name_stays n (Passed a t ∷ es) l legal b less = name_stays n es l legal.1 b less
-name_stays n (Ended a ∷ es) l legal b less = name_stays n es l legal.1 b less
-name_stays n (Drained t u ∷ es) l legal b less = name_stays n es l legal.1 b less
+name_stays n (_ ∷ es) l legal b less = name_stays n es l legal.1 b less
 
 -- So names tell buffers apart
 

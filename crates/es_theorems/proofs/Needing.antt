@@ -10,13 +10,11 @@ use Rattle.es_event.specs.declared.command.Command.TheVariants.{SharedArrayBuffe
 use Rattle.es_event.specs.declared.event.Answer.{Answer}
 use Rattle.es_event.specs.declared.event.Event.{Event}
 use Rattle.es_event.specs.declared.event.Event.TheVariants.{Received, Did, Refused, Emptied, Skipped, Closed}
-use Rattle.es_event.specs.declared.event.Refusal.{Refusal}
 use Rattle.es_event.specs.declared.ledger_event.LedgerEvent.{LedgerEvent}
 use Rattle.es_event.specs.declared.ledger_event.LedgerEvent.TheVariants.{Opened, Posted, Taken, Spent, Accessed, Waiting, Passed, Ended, Drained}
-use Rattle.es_event.specs.declared.plan.AgentPlan.{AgentPlan}
 use Rattle.es_event.specs.declared.row.Row.{Row}
-use Rattle.es_event.specs.Access.{access_of}
 use Rattle.es_event.specs.Commands.{first}
+use Rattle.es_event.specs.Numbers.{access_of, index_of}
 use Rattle.es_event.specs.Follows.{Permits}
 use Rattle.es_event.specs.History.{History}
 use Rattle.es_event.specs.Jobs.{Receivers, job, receivers}
@@ -29,7 +27,7 @@ use Rattle.es_match.specs.Deeds.{Deed, Owned, Opens, Posts, Takes, Spends, Acces
 use Rattle.es_match.specs.Patience.{ends_wait}
 use Rattle.es_match.specs.Asks.{nothing, to_receive, to_refuse, to_pass, asks_did, between_jobs, given, wants_room}
 use Rattle.es_match.specs.Cluster.{awaited, is_refusal_asked}
-use Rattle.es_match.specs.Meets.{Tickets, after, gives, is_access, is_one, is_post, opening, refused_in, serials_of, sole, some_if, spends, within}
+use Rattle.es_match.specs.Meets.{Tickets, after, gives, is_access, is_one, is_post, opening, refused_in, serials_of, sole, spends, within}
 use Rattle.es_ledger.specs.Turns.{asked, judged, told}
 use Rattle.es_ledger.specs.declared.turn.Turn.{Turn}
 use Rattle.es_ledger.specs.declared.turn.Turn.TheVariants.{Ready, Stay, Skip}
@@ -38,14 +36,12 @@ use Rattle.es_rules.specs.Needs.{asks_message, need, need_of}
 use Rattle.es_rules.proofs.Needs.{message_due}
 use Rattle.es_agent.specs.Tickets.{is_ended, tickets}
 use Rattle.es_agent.proofs.Racks.{open_after, open_before}
-use Rattle.es_cluster.proofs.Asking.{at_command, at_message, awaited_at}
+use Rattle.es_cluster.proofs.Asking.{at_message, awaited_at}
 use Rattle.es_theorems.specs.Grown.{asked_by}
 use Rattle.es_theorems.specs.Underway.{closes}
+use Rattle.es_theorems.proofs.Commands.{some_if_true}
+use Rattle.es_theorems.proofs.Unfolding.{refused_between}
 use Rattle.es_cluster.proofs.Growing.{doer}
-
-some_if_true : {A : Type 0} (b : Bool) (x y : A) → some_if b x ≡ Some y → b ≡ true
-some_if_true true x y e = refl
-some_if_true false x y e = cc
 
 -- The first deed of a message
 
@@ -137,10 +133,8 @@ post_none t q v s _ is = refl
 
 did_none : (c : Command) (vs : List Value) (a : Answer) (t left : Tickets) (d : Deed) (ds : List Deed) (s : ℕ) → after t (asks_did c vs a) (d ∷ ds) ≡ Some left → ends_wait s d ≡ false
 did_none (SharedArrayBuffer to n) vs a t left d ds s e = sole_none (opening t n (given a)) d ds left s (opening_none t n (given a) s) e
-did_none (Command.Length to b) vs a t left d ds s e = cc
-did_none (Command.SameBlock to b c) vs a t left d ds s e = cc
 did_none (Command.Atomic c) vs a t left d ds s e =
-    is_one_none (is_access t (first vs) c.index (access_of c.operation) (given a)) d ds s (access_none t (first vs) c.index (access_of c.operation) (given a) s) (some_if_true _ t left e)
+    is_one_none (is_access t (first vs) (index_of c vs) (access_of c vs) (given a)) d ds s (access_none t (first vs) (index_of c vs) (access_of c vs) (given a) s) (some_if_true _ t left e)
 did_none (Command.Post q y) vs a t left d ds s e = is_one_none (is_post t q (first vs)) d ds s (post_none t q (first vs) s) (some_if_true _ t left e)
 did_none _ vs a t left d ds s e = cc
 
@@ -154,11 +148,6 @@ skipped_due : (over : Buffers) (into : Receivers) (h : History) (d : Due) (j t :
 skipped_due over into h (receive n s) j t may = (n, ap (receive n) (sym may.1))
 skipped_due over into h (run_due c) j t may = absurd may
 skipped_due over into h _ j t may = absurd may
-
-refused_due : (over : Buffers) (into : Receivers) (plan : AgentPlan) (h : History) (code : Refusal) (d : Due) → due plan h ≡ d → Permits over into h d (Refused code) → between_jobs h ≡ true → (n s : ℕ) × (due plan h ≡ receive n s)
-refused_due over into plan h code (run_due c) is may between = absurd (false≢true (sym (at_command plan h c is) ∙ between))
-refused_due over into plan h code (receive n s) is may between = (n, s, is)
-refused_due over into plan h code _ is may between = absurd may
 
 two_same : (s t : ℕ) (d : Deed) → ends_wait s d ≡ true → ends_wait t d ≡ true → s ≡ t
 two_same s t (Takes u m w) a b = sym (eqb-true u s a) ∙ eqb-true u t b
@@ -184,7 +173,7 @@ first_message b r (Refused code) s d ds left next met named ends = at (between_j
         → refused_in (cond t to_refuse nothing) (d ∷ ds) ≡ cond (is_refusal_asked (cond t to_refuse nothing)) (awaited b.plan (job b.history)) [] → need b ≡ asks_message s
     at false is met named = cc
     at true is met named =
-        let it = refused_due (with_row r b).over (receivers b.plan.jobs) b.plan b.history code (due b.plan b.history) refl next.permitted (and_parts (between_jobs b.history) (wants_room code) is).0 in
+        let it = refused_between (with_row r b).over (receivers b.plan.jobs) b.plan b.history code (due b.plan b.history) refl next.permitted (and_parts (between_jobs b.history) (wants_room code) is).0 in
         let same = the_first s it.1 d ds ends (refused_first (tickets b) left it.1 (d ∷ ds) met (named ∙ awaited_at b.plan b.history it.0 it.1 it.2)) in
         ap (need_of b) it.2 ∙ ap asks_message same
 first_message b r (Did (c, vs, a)) s d ds left next met named ends = absurd (false≢true (sym (did_none c vs a (tickets b) left d ds s met) ∙ ends))
@@ -196,10 +185,6 @@ first_message b r _ s d ds left next met named ends = cc
 
 pub did_not_close : (c : Command) (vs : List Value) (a : Answer) → closes (asks_did c vs a) ≡ false
 did_not_close (SharedArrayBuffer to n) vs a = refl
-did_not_close (Command.Length to b) vs a = refl
-did_not_close (Command.SameBlock to b c) vs a = refl
-did_not_close (Command.Atomic c) vs a = refl
-did_not_close (Command.Post q y) vs a = refl
 did_not_close _ vs a = refl
 
 pub refused_not : (t : Bool) → closes (cond t to_refuse nothing) ≡ false

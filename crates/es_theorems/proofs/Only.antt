@@ -3,6 +3,7 @@ use Rattle.std.proofs.Common.{◌≡◌, ◌⊎◌, inl, inr, ℕ, ◌==◌, Boo
 use Rattle.std.specs.List.{filter}
 use Rattle.std.specs.Option.{option_and_then}
 use Rattle.std.proofs.lemmas.Bool.{cases_Bool, eqb-true, eqb-false}
+use Rattle.std.proofs.lemmas.List.{append-nil}
 use Rattle.es_event.specs.declared.ledger_event.Body.{Body}
 use Rattle.es_event.specs.declared.ledger_event.Body.TheVariants.{Plain, Block}
 use Rattle.es_event.specs.declared.ledger_event.LedgerEvent.{LedgerEvent}
@@ -36,7 +37,7 @@ Gives l (Passed c s) k a = ⊥
 Gives l (Ended c) k a = ⊥
 Gives l (Drained s r) k a = ⊥
 
-first_is : (c a : ℕ) (q r : Row) → ◌≡◌ {A = Option (ℕ × Row)} (Some (c, q)) (Some (a, r)) → c ≡ a
+pub first_is : (c a : ℕ) (q r : Row) → ◌≡◌ {A = Option (ℕ × Row)} (Some (c, q)) (Some (a, r)) → c ≡ a
 first_is c a q r is = let both : ◌≡◌ {A = ℕ × Row} (c, q) (a, r) = inner is in ap (λ p. p.0) both
 
 grown_back : (k a : ℕ) (r : Row) (t us : List Entry) → option_and_then by_agent (line_of k (t ++ us)) ≡ Some (a, r) → (option_and_then by_agent (line_of k t) ≡ Some (a, r)) ⊎ (option_and_then by_agent (line_of k us) ≡ Some (a, r))
@@ -101,11 +102,7 @@ back l (Spent j) k a r is = elim (moved_back j k a r Nobody (table l) is) [
     | inr s ↦ inl (sym (ap (option_and_then by_agent) (line_other k j Nobody (table l) (λ same. eqb-false j k s (sym same)))) ∙ is)
   ]
 ]
-back l (Accessed s i m old) k a r is = inl is
-back l (Waiting c s) k a r is = inl is
-back l (Passed c s) k a r is = inl is
-back l (Ended c) k a r is = inl is
-back l (Drained s u) k a r is = inl is
+back l _ k a r is = inl is
 
 -- what is spent nobody holds
 pub spent_off : (l : Ledger) (k a : ℕ) (r : Row) → holder_of (Spent k ∷ l) k ≡ Some (a, r) → ⊥
@@ -203,14 +200,10 @@ distinct_moved_if : (o : Option ℕ) (who : Holder) (t : List Entry) → Distinc
 distinct_moved_if None who t distinct = distinct
 distinct_moved_if (Some k) who t distinct = distinct_moved k who t distinct
 
-append_none : (t : List Entry) → t ++ [] ≡ t
-append_none [] = refl
-append_none (e ∷ es) = ap (λ l. e ∷ l) (append_none es)
-
 distinct_next : (n : ℕ) (l : Ledger) (e : LedgerEvent) (o : Option ℕ) → ComesNext n l e o → LegalSoFar n l → Distinct (table l) → Distinct (table (e ∷ l))
 distinct_next n l e (Some j) c legal distinct = subst (λ e. Distinct (table (e ∷ l))) (sym c) (distinct_moved j Nobody (table l) distinct)
 distinct_next n l (Opened b w s a) None c legal distinct = distinct_more (table l) _ distinct (fresh n l legal s (let next = c.1 in omega (arith, next)))
-distinct_next n l (Posted a r (Plain v)) None c legal distinct = subst Distinct (sym (append_none (table l))) distinct
+distinct_next n l (Posted a r (Plain v)) None c legal distinct = subst Distinct (sym (append-nil (table l))) distinct
 distinct_next n l (Posted a r (Block b s)) None c legal distinct = distinct_more (table l) _ distinct (fresh n l legal s (let next = c.3.0 in omega (arith, next)))
 distinct_next n l (Taken s r) None c legal distinct = distinct_moved_if (option_and_then serial_in (front l s r)) (Agent r) (table l) distinct
 distinct_next n l (Spent j) None c legal distinct = distinct_moved j Nobody (table l) distinct

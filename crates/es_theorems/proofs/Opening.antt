@@ -1,7 +1,7 @@
 -- The name of a block that an agent opens in its turn: as which of its own it opens it, its history says.
 use Rattle.std.proofs.Common.{◌≡◌, ℕ, ◌+◌, cond, ◌∙◌, ap, arith, List, [], ◌∷◌, ◌++◌, eq-eqb}
 use Rattle.es_event.specs.declared.ledger_event.LedgerEvent.{LedgerEvent}
-use Rattle.es_event.specs.declared.ledger_event.LedgerEvent.TheVariants.{Opened, Posted, Taken, Spent, Accessed, Waiting, Passed, Ended, Drained}
+use Rattle.es_event.specs.declared.ledger_event.LedgerEvent.TheVariants.{Opened}
 use Rattle.es_event.specs.Ledger.{Ledger, opened}
 use Rattle.es_event.specs.LegalLedger.{LegalSoFar, owed}
 use Rattle.es_event.proofs.Entries.{inner}
@@ -30,11 +30,4 @@ opened_name k n (Opened b w s a ∷ es) l are legal one =
     let who : a ≡ n = ap (λ p. p.0) (inner are.0.1) in
     ap (λ t. cond t (named k a (opens_in (part (es ++ l) a))) (name k (es ++ l) (opened l + 1))) (eq-eqb b (opened l + 1) new)
     ∙ ap (λ a. named k a (opens_in (part (es ++ l) a))) who ∙ ap (named k n) (none_opened n es l are.1 before)
-opened_name k n (Posted t u m ∷ es) l are legal one = opened_name k n es l are.1 legal.1 (omega (arith, one))
-opened_name k n (Taken t u ∷ es) l are legal one = opened_name k n es l are.1 legal.1 (omega (arith, one))
-opened_name k n (Spent s ∷ es) l are legal one = opened_name k n es l are.1 legal.1 (omega (arith, one))
-opened_name k n (Accessed s i m old ∷ es) l are legal one = opened_name k n es l are.1 legal.1 (omega (arith, one))
-opened_name k n (Waiting a s ∷ es) l are legal one = opened_name k n es l are.1 legal.1 (omega (arith, one))
-opened_name k n (Passed a s ∷ es) l are legal one = opened_name k n es l are.1 legal.1 (omega (arith, one))
-opened_name k n (Ended a ∷ es) l are legal one = opened_name k n es l are.1 legal.1 (omega (arith, one))
-opened_name k n (Drained t u ∷ es) l are legal one = opened_name k n es l are.1 legal.1 (omega (arith, one))
+opened_name k n (_ ∷ es) l are legal one = opened_name k n es l are.1 legal.1 (omega (arith, one))

@@ -5,7 +5,7 @@ use Rattle.std.proofs.lemmas.Bool.{cases_Bool, eqb-true}
 use Rattle.es_event.specs.declared.ledger_event.Body.{Body}
 use Rattle.es_event.specs.declared.ledger_event.Body.TheVariants.{Plain, Block}
 use Rattle.es_event.specs.declared.ledger_event.LedgerEvent.{LedgerEvent}
-use Rattle.es_event.specs.declared.ledger_event.LedgerEvent.TheVariants.{Opened, Posted, Taken, Spent, Accessed, Waiting, Passed, Ended, Drained}
+use Rattle.es_event.specs.declared.ledger_event.LedgerEvent.TheVariants.{Opened}
 use Rattle.es_event.specs.Ledger.{Ledger, opened, size}
 use Rattle.es_event.specs.LegalLedger.{LegalSoFar, owed}
 use Rattle.es_event.specs.Rows.{row}
@@ -24,14 +24,7 @@ size_stays n (Opened d w s a ∷ es) l legal b less = elim (cases_Bool (d == b))
   | inl e ↦ (let here = eqb-true d b e in let may = (may_open n (es ++ l) d w s a (owed (es ++ l)) legal.0).0 in let more = grown es l in absurd (omega (arith, here, may, more, less)))
   | inr e ↦ ap (λ t. cond t w (size (es ++ l) b)) e ∙ size_stays n es l legal.1 b less
 ]
-size_stays n (Posted t u m ∷ es) l legal b less = size_stays n es l legal.1 b less
-size_stays n (Taken t u ∷ es) l legal b less = size_stays n es l legal.1 b less
-size_stays n (Spent k ∷ es) l legal b less = size_stays n es l legal.1 b less
-size_stays n (Accessed k i m old ∷ es) l legal b less = size_stays n es l legal.1 b less
-size_stays n (Waiting a t ∷ es) l legal b less = size_stays n es l legal.1 b less
-size_stays n (Passed a t ∷ es) l legal b less = size_stays n es l legal.1 b less
-size_stays n (Ended a ∷ es) l legal b less = size_stays n es l legal.1 b less
-size_stays n (Drained t u ∷ es) l legal b less = size_stays n es l legal.1 b less
+size_stays n (_ ∷ es) l legal b less = size_stays n es l legal.1 b less
 
 pub renamed_stays : (n : ℕ) (es : List LedgerEvent) (l : Ledger) → LegalSoFar n (es ++ l) → (over : Buffers) → AreOpened l over → renamed (name n (es ++ l)) over ≡ renamed (name n l) over
 renamed_stays n es l legal [] all = refl

@@ -95,22 +95,26 @@ same_touch n w i t x v u y same =
     ∙ sym (touch_due n w.locals w.words i x.before x.event x.row x.got x.next x.finds)
 
 -- a step's access stands where it is made
-pub stands_there : (n : ℕ) (w : World) (i : ℕ) (t : World) (x : Goes n w i t) (u : Touch) → touch_of n w i t x ≡ Some u → slice_get (t.lore i).touched (length (w.lore i).touched) ≡ Some (touched_by (w.lore i).knows u)
+pub stands_there : (n : ℕ) (w : World) (i : ℕ) (t : World) (x : Goes n w i t) (u : Touch) → touch_of n w i t x ≡ Some u → slice_get (t.lore i).touched (length (w.lore i).touched) ≡ Some (touched_by (w.lore i).knows w.words u)
 stands_there n w i t x u is =
     ap (λ (o : Lore). slice_get o.touched (length (w.lore i).touched)) (lore_mine n w i t x)
-    ∙ ap (λ q. slice_get ((w.lore i).touched ++ touched_now (w.lore i).knows q) (length (w.lore i).touched)) is
-    ∙ get_last (w.lore i).touched (touched_by (w.lore i).knows u)
+    ∙ ap (λ q. slice_get ((w.lore i).touched ++ touched_now (w.lore i).knows w.words q) (length (w.lore i).touched)) is
+    ∙ get_last (w.lore i).touched (touched_by (w.lore i).knows w.words u)
 
--- the access that an agent may make next it makes on the way to the end, knowing what it knows now
+-- and so does that of a later step, where the agent has not changed between them
+pub stands_later : (n k : ℕ) (v mid end : World) (i : ℕ) → Goes n v i mid → GoFar n k mid end → (w t : World) (x : Goes n w i t) → slice_get v.locals i ≡ slice_get w.locals i → v.lore i ≡ w.lore i → (u : Touch) → touch_of n w i t x ≡ Some u
+    → slice_get (end.lore i).touched (length (w.lore i).touched) ≡ Some (touched_by (w.lore i).knows v.words u)
+stands_later n k v mid end i z far w t x same lore u is =
+    touched_far n k mid end far i (length (w.lore i).touched) (touched_by (w.lore i).knows v.words u)
+    (subst (λ (o : Lore). slice_get (mid.lore i).touched (length o.touched) ≡ Some (touched_by o.knows v.words u)) lore (stands_there n v i mid z u (same_touch n w i t x v mid z same ∙ is)))
+
+-- the access that an agent may make next it makes on the way to the end, over some word, knowing what it knows now
 pub will_stand : (n k : ℕ) (v end : World) → GoFar n k v end → AreDone end → (w : World) (i : ℕ) (t : World) (x : Goes n w i t) → slice_get v.locals i ≡ slice_get w.locals i → v.lore i ≡ w.lore i → (u : Touch) → touch_of n w i t x ≡ Some u
-    → slice_get (end.lore i).touched (length (w.lore i).touched) ≡ Some (touched_by (w.lore i).knows u)
+    → (m : Words) × (slice_get (end.lore i).touched (length (w.lore i).touched) ≡ Some (touched_by (w.lore i).knows m u))
 will_stand n zero v end far done w i t x same lore u is =
     absurd (false≢true (sym (going n w i t x) ∙ done i x.before (ap (λ (v : World). slice_get v.locals i) far ∙ same ∙ x.at)))
 will_stand n (suc k) v end (j, mid, y, far) done w i t x same lore u is = elim (cases_Bool (j == i)) [
-  | inl here ↦ (
-      let z : Goes n v i mid = subst (λ j. Goes n v j mid) (eqb-true j i here) y in
-      touched_far n k mid end far i (length (w.lore i).touched) (touched_by (w.lore i).knows u)
-      (subst (λ (o : Lore). slice_get (mid.lore i).touched (length o.touched) ≡ Some (touched_by o.knows u)) lore (stands_there n v i mid z u (same_touch n w i t x v mid z same ∙ is))))
+  | inl here ↦ (v.words, stands_later n k v mid end i (subst (λ j. Goes n v j mid) (eqb-true j i here) y) far w t x same lore u is)
   | inr off ↦ (
       let other = eqb-false j i off in
       will_stand n k mid end far done w i t x (others n v j mid y i other ∙ same) (lore_other n v j mid y i other ∙ lore) u is)

@@ -55,7 +55,7 @@ well_run c d w (over is) = w
 well_run c d w (waits n {mid = mid} t more) = well_run mid d (well_turned Waiting n c mid w t) more
 well_run c d w (moves n {mid = mid} is move more) = well_run mid d (well_rest n move.0 mid (well_turned Moved n c move.0 w move.1) move.2) more
 
-over_run : (c d : ClusterView) → RunsOut c d → all_over d ≡ true
+pub over_run : (c d : ClusterView) → RunsOut c d → all_over d ≡ true
 over_run c d (over is) = is
 over_run c d (waits n {mid = mid} t more) = over_run mid d more
 over_run c d (moves n {mid = mid} is move more) = over_run mid d more

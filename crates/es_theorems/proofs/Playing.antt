@@ -1,5 +1,5 @@
 -- What events leave that follow one after the other.
-use Rattle.std.proofs.Common.{◌≡◌, ℕ, ◌&&◌, ◌||◌, not, Bool, true, false, cond, sym, ◌∙◌, ap, refl, subst, List, [], ◌∷◌, ◌++◌, append-nil, append_assoc, Option, Some, None, ne_eqb, eq-eqb}
+use Rattle.std.proofs.Common.{◌≡◌, ℕ, ◌&&◌, ◌||◌, not, Bool, true, false, cond, sym, ◌∙◌, ap, refl, subst, List, [], ◌∷◌, ◌++◌, append-nil, append_assoc, Option, Some, None, ◌⊎◌, inl, inr, ne_eqb, eq-eqb}
 use Rattle.std.specs.Option.{option_and_then, option_map, option_map_or}
 use Rattle.std.proofs.lemmas.Bool.{and_parts, false≢true}
 use Rattle.es_event.specs.declared.ledger_event.Body.{Body}
@@ -11,7 +11,7 @@ use Rattle.es_event.specs.Ledger.{Ledger, ended, front, holder_of, is_end_of, wa
 use Rattle.es_match.specs.Deeds.{Deed, Owned, Opens, Posts, Takes, Spends, Accesses, Waits, Passes, Ends, deed, is_wait, part, part_of, taking}
 use Rattle.es_match.specs.Patience.{drained_last, ends_wait, has_drained, is_nobodys, is_patient, may_do, patient}
 use Rattle.es_match.specs.Asks.{Asking, nothing, to_open, to_measure, to_compare, to_access, to_post, to_receive, to_refuse, to_pass, to_empty, to_close}
-use Rattle.es_match.specs.Meets.{Tickets, after, is_access, is_one, is_pass, is_post, is_refusal, no_more, opening, pair, receiving, serials_of, sole, some_if, spends, strike, within}
+use Rattle.es_match.specs.Meets.{Tickets, after, is_access, is_one, is_pass, is_post, is_refusal, no_more, opening, pair, receiving, serials_of, sole, spends, strike, within}
 use Rattle.es_cluster.specs.Tied.{GrowsBy}
 use Rattle.es_cluster.proofs.Growing.{grows_none, grows_on, grows_one}
 use Rattle.es_theorems.specs.Ahead.{Acts, Steps, ahead, played}
@@ -19,6 +19,7 @@ use Rattle.es_theorems.specs.Found.{AllMine, AreSpends}
 use Rattle.es_theorems.specs.Underway.{closes, has_end, is_end}
 use Rattle.es_cluster.proofs.Growing.{doer}
 use Rattle.es_theorems.proofs.Gathering.{part_mine}
+use Rattle.es_theorems.proofs.Commands.{some_if_true, sole_of, one_of}
 
 -- Parts
 
@@ -72,7 +73,7 @@ free_unless (Some s) d may none = absurd (false≢true (sym (none s) ∙ may))
 its_deed : (a b : ℕ) (d e : Deed) → ◌≡◌ {A = Owned} (Some (a, d)) (Some (b, e)) → d ≡ e
 its_deed a b d e is = ap (λ o. option_map_or (λ p. p.1) o e) is
 
-held_deed : (o : Option (ℕ × Row)) (a : ℕ) (e d : Deed) → option_map {U = ℕ × Deed} (λ p. (p.0, e)) o ≡ Some (a, d) → e ≡ d
+pub held_deed : (o : Option (ℕ × Row)) (a : ℕ) (e d : Deed) → option_map {U = ℕ × Deed} (λ p. (p.0, e)) o ≡ Some (a, d) → e ≡ d
 held_deed None a e d is = cc
 held_deed (Some p) a e d is = its_deed p.0 a e d is
 
@@ -121,74 +122,34 @@ ended_played (e ∷ es) l a mine =
 
 -- Deeds that meet what is asked
 
-some_if_true : {A : Type 0} (b : Bool) (x y : A) → some_if b x ≡ Some y → b ≡ true
-some_if_true true x y e = refl
-some_if_true false x y e = cc
-
-spends_end : (closing : Bool) (ns : List ℕ) (ds : List Deed) → spends closing ns ds ≡ true → has_end ds ≡ closing
-spends_end false [] [] is = refl
-spends_end true [] (Ends ∷ []) is = refl
-spends_end closing [] ds is = cc
-spends_end closing (n ∷ ns) (Spends s ∷ ds) is = at (strike s (n ∷ ns)) (λ ms got. spends_end closing ms ds got) is
+pub spends_so : (closing : Bool) (ns : List ℕ) (ds : List Deed) → spends closing ns ds ≡ true → (has_end ds ≡ closing) × AreSpends ds
+spends_so false [] [] is = (refl, tt)
+spends_so true [] (Ends ∷ []) is = (refl, refl)
+spends_so closing [] ds is = absurd (cc)
+spends_so closing (n ∷ ns) (Spends s ∷ ds) is = at (strike s (n ∷ ns)) (λ ms got. spends_so closing ms ds got) is
   where
-    at : (o : Option (List ℕ)) → ((ms : List ℕ) → spends closing ms ds ≡ true → has_end ds ≡ closing) → option_map_or (λ ms. spends closing ms ds) o false ≡ true → has_end ds ≡ closing
-    at None more got = cc
+    at : (o : Option (List ℕ)) → ((ms : List ℕ) → spends closing ms ds ≡ true → (has_end ds ≡ closing) × AreSpends ds) → option_map_or (λ ms. spends closing ms ds) o false ≡ true → (has_end ds ≡ closing) × AreSpends ds
+    at None more got = absurd (cc)
     at (Some ms) more got = more ms got
-spends_end closing (n ∷ ns) _ is = cc
-
-pub spends_are : (closing : Bool) (ns : List ℕ) (ds : List Deed) → spends closing ns ds ≡ true → AreSpends ds
-spends_are false [] [] is = tt
-spends_are true [] (Ends ∷ []) is = refl
-spends_are closing [] ds is = cc
-spends_are closing (n ∷ ns) (Spends s ∷ ds) is = at (strike s (n ∷ ns)) (λ ms got. spends_are closing ms ds got) is
-  where
-    at : (o : Option (List ℕ)) → ((ms : List ℕ) → spends closing ms ds ≡ true → AreSpends ds) → option_map_or (λ ms. spends closing ms ds) o false ≡ true → AreSpends ds
-    at None more got = cc
-    at (Some ms) more got = more ms got
-spends_are closing (n ∷ ns) _ is = cc
-
-abbrev tail_of : List Deed → List Deed
-tail_of [] = []
-tail_of (d ∷ ds) = ds
-
-tail_spends : (ds : List Deed) → AreSpends ds → AreSpends (tail_of ds)
-tail_spends [] is = tt
-tail_spends (Spends s ∷ ds) is = is
-tail_spends (Ends ∷ ds) is = subst AreSpends (sym is) tt
-tail_spends (d ∷ ds) is = absurd is
-
--- what one deed meets
-sole_one : {A : Type 0} (f : Deed → Option A) (ds : List Deed) (x : A) → option_and_then f (sole ds) ≡ Some x → (d : Deed) × (ds ≡ d ∷ []) × (f d ≡ Some x)
-sole_one f (d ∷ []) x e = (d, refl, e)
-sole_one f [] x e = cc
-sole_one f (c ∷ d ∷ ds) x e = cc
-
-is_one_one : (test : Deed → Bool) (ds : List Deed) → is_one test ds ≡ true → (d : Deed) × (ds ≡ d ∷ []) × (test d ≡ true)
-is_one_one test (d ∷ []) e = (d, refl, e)
-is_one_one test [] e = cc
-is_one_one test (c ∷ d ∷ ds) e = cc
+spends_so closing (n ∷ ns) _ is = absurd (cc)
 
 none_end : (ds : List Deed) → no_more ds ≡ true → has_end ds ≡ false
 none_end [] e = refl
 none_end (d ∷ ds) e = cc
 
-sole_end : (f : Deed → Option Tickets) (ds : List Deed) (x : Tickets) → ((d : Deed) → is_end d ≡ true → f d ≡ None) → option_and_then f (sole ds) ≡ Some x → has_end ds ≡ false
-sole_end f ds x none e =
-    let one = sole_one f ds x e in
-    ap has_end one.1 ∙ at (is_end one.0) refl one.2
+sole_end : (f : Deed → Option Tickets) (ds : List Deed) (x : Tickets) → f Ends ≡ None → option_and_then f (sole ds) ≡ Some x → has_end ds ≡ false
+sole_end f ds x none e = let one = sole_of f ds x e in ap has_end one.1 ∙ at one.0 one.2
   where
-    at : {d : Deed} (b : Bool) → is_end d ≡ b → f d ≡ Some x → (is_end d || false) ≡ false
-    at false is got = ap (λ b. b || false) is
-    at {d = d} true is got = let clash : ◌≡◌ {A = Option Tickets} None (Some x) = sym (none d is) ∙ got in cc
+    at : (d : Deed) → f d ≡ Some x → (is_end d || false) ≡ false
+    at Ends got = let clash : ◌≡◌ {A = Option Tickets} None (Some x) = sym none ∙ got in cc
+    at _ got = refl
 
-is_one_end : (test : Deed → Bool) (ds : List Deed) → ((d : Deed) → is_end d ≡ true → test d ≡ false) → is_one test ds ≡ true → has_end ds ≡ false
-is_one_end test ds none e =
-    let one = is_one_one test ds e in
-    ap has_end one.1 ∙ at (is_end one.0) refl one.2
+is_one_end : (test : Deed → Bool) (ds : List Deed) → test Ends ≡ false → is_one test ds ≡ true → has_end ds ≡ false
+is_one_end test ds none e = let one = one_of test ds e in ap has_end one.1 ∙ at one.0 one.2
   where
-    at : {d : Deed} (b : Bool) → is_end d ≡ b → test d ≡ true → (is_end d || false) ≡ false
-    at false is got = ap (λ b. b || false) is
-    at {d = d} true is got = absurd (false≢true (sym (none d is) ∙ got))
+    at : (d : Deed) → test d ≡ true → (is_end d || false) ≡ false
+    at Ends got = absurd (false≢true (sym none ∙ got))
+    at _ got = refl
 
 refusal_end : (ds : List Deed) → option_map_or (λ p. is_refusal p.0 p.1) (pair ds) false ≡ true → has_end ds ≡ false
 refusal_end (Takes u m w ∷ d ∷ []) e = at m d e
@@ -205,70 +166,16 @@ refusal_end (c ∷ d ∷ []) e = cc
 
 pub end_asked : (t left : Tickets) (w : Asking) (ds : List Deed) → after t w ds ≡ Some left → has_end ds ≡ closes w
 end_asked t left nothing ds e = none_end ds (some_if_true _ t left e)
-end_asked t left (to_open n v) ds e = sole_end (opening t n v) ds left no_end e
-  where
-    no_end : (d : Deed) → is_end d ≡ true → opening t n v d ≡ None
-    no_end Ends is = refl
-    no_end _ is = cc
+end_asked t left (to_open n v) ds e = sole_end (opening t n v) ds left refl e
 end_asked t left (to_measure b v) ds e = none_end ds (and_parts (no_more ds) _ (some_if_true _ t left e)).0
 end_asked t left (to_compare b c v) ds e = none_end ds (and_parts (no_more ds) _ (some_if_true _ t left e)).0
-end_asked t left (to_access b i m v) ds e = is_one_end (is_access t b i m v) ds no_end (some_if_true _ t left e)
-  where
-    no_end : (d : Deed) → is_end d ≡ true → is_access t b i m v d ≡ false
-    no_end Ends is = refl
-    no_end _ is = cc
-end_asked t left (to_post a v) ds e = is_one_end (is_post t a v) ds no_end (some_if_true _ t left e)
-  where
-    no_end : (d : Deed) → is_end d ≡ true → is_post t a v d ≡ false
-    no_end Ends is = refl
-    no_end _ is = cc
-end_asked t left (to_receive s v) ds e = sole_end (receiving t s v) ds left no_end e
-  where
-    no_end : (d : Deed) → is_end d ≡ true → receiving t s v d ≡ None
-    no_end Ends is = refl
-    no_end _ is = cc
+end_asked t left (to_access b i m v) ds e = is_one_end (is_access t b i m v) ds refl (some_if_true _ t left e)
+end_asked t left (to_post a v) ds e = is_one_end (is_post t a v) ds refl (some_if_true _ t left e)
+end_asked t left (to_receive s v) ds e = sole_end (receiving t s v) ds left refl e
 end_asked t left to_refuse ds e = refusal_end ds (some_if_true _ t left e)
-end_asked t left (to_pass s) ds e = is_one_end (is_pass s) ds no_end (some_if_true _ t left e)
-  where
-    no_end : (d : Deed) → is_end d ≡ true → is_pass s d ≡ false
-    no_end Ends is = refl
-    no_end _ is = cc
-end_asked t left (to_empty ids) ds e = spends_end false (serials_of (within ids t)) ds (some_if_true _ _ left e)
-end_asked t left to_close ds e = spends_end true (serials_of t) ds (some_if_true _ _ left e)
-
--- all deeds of an event but the first are spendings, and the end
-sole_tail : {A : Type 0} (f : Deed → Option A) (d : Deed) (ds : List Deed) (x : A) → option_and_then f (sole (d ∷ ds)) ≡ Some x → AreSpends ds
-sole_tail f d [] x e = tt
-sole_tail f d (c ∷ ds) x e = cc
-
-is_one_tail : (test : Deed → Bool) (d : Deed) (ds : List Deed) → is_one test (d ∷ ds) ≡ true → AreSpends ds
-is_one_tail test d [] e = tt
-is_one_tail test d (c ∷ ds) e = cc
-
-refusal_tail : (d : Deed) (ds : List Deed) → option_map_or (λ p. is_refusal p.0 p.1) (pair (d ∷ ds)) false ≡ true → AreSpends ds
-refusal_tail (Takes u m w) (c ∷ []) e = at m c e
-  where
-    at : (m : Option Body) (d : Deed) → Rattle.es_match.specs.Meets.spends_ticket_in m d ≡ true → AreSpends (d ∷ [])
-    at m (Spends q) e = tt
-    at None d e = cc
-    at (Some (Plain v)) d e = cc
-    at (Some (Block b k)) d e = absurd (false≢true e)
-refusal_tail d [] e = cc
-refusal_tail d (b ∷ c ∷ ds) e = cc
-refusal_tail d (c ∷ []) e = cc
-
-pub tail_asked : (t left : Tickets) (w : Asking) (d : Deed) (ds : List Deed) → after t w (d ∷ ds) ≡ Some left → AreSpends ds
-tail_asked t left nothing d ds e = cc
-tail_asked t left (to_open n v) d ds e = sole_tail (opening t n v) d ds left e
-tail_asked t left (to_measure b v) d ds e = cc
-tail_asked t left (to_compare b c v) d ds e = cc
-tail_asked t left (to_access b i m v) d ds e = is_one_tail (is_access t b i m v) d ds (some_if_true _ t left e)
-tail_asked t left (to_post a v) d ds e = is_one_tail (is_post t a v) d ds (some_if_true _ t left e)
-tail_asked t left (to_receive s v) d ds e = sole_tail (receiving t s v) d ds left e
-tail_asked t left to_refuse d ds e = refusal_tail d ds (some_if_true _ t left e)
-tail_asked t left (to_pass s) d ds e = is_one_tail (is_pass s) d ds (some_if_true _ t left e)
-tail_asked t left (to_empty ids) d ds e = tail_spends (d ∷ ds) (spends_are false (serials_of (within ids t)) (d ∷ ds) (some_if_true _ _ left e))
-tail_asked t left to_close d ds e = tail_spends (d ∷ ds) (spends_are true (serials_of t) (d ∷ ds) (some_if_true _ _ left e))
+end_asked t left (to_pass s) ds e = is_one_end (is_pass s) ds refl (some_if_true _ t left e)
+end_asked t left (to_empty ids) ds e = (spends_so false (serials_of (within ids t)) ds (some_if_true _ _ left e)).0
+end_asked t left to_close ds e = (spends_so true (serials_of t) ds (some_if_true _ _ left e)).0
 
 -- the deed is the only one of its event
 abbrev pub is_alone : Deed → Bool
@@ -289,29 +196,49 @@ is_one_alone : (test : Deed → Bool) (d : Deed) (ds : List Deed) → is_one tes
 is_one_alone test d [] e = refl
 is_one_alone test d (c ∷ ds) e = cc
 
-refusal_alone : (d : Deed) (ds : List Deed) → option_map_or (λ p. is_refusal p.0 p.1) (pair (d ∷ ds)) false ≡ true → is_alone d ≡ true → ds ≡ []
-refusal_alone (Takes u m w) ds e alone = cc
-refusal_alone d [] e alone = cc
-refusal_alone d (b ∷ c ∷ ds) e alone = cc
-refusal_alone d (c ∷ []) e alone = cc
+refusal_more : (d : Deed) (ds : List Deed) → option_map_or (λ p. is_refusal p.0 p.1) (pair (d ∷ ds)) false ≡ true → (is_alone d ≡ false) × AreSpends ds
+refusal_more (Takes u m w) (c ∷ []) e = (refl, at m c e)
+  where
+    at : (m : Option Body) (d : Deed) → Rattle.es_match.specs.Meets.spends_ticket_in m d ≡ true → AreSpends (d ∷ [])
+    at m (Spends q) e = tt
+    at None d e = cc
+    at (Some (Plain v)) d e = cc
+    at (Some (Block b k)) d e = absurd (false≢true e)
+refusal_more d [] e = cc
+refusal_more d (b ∷ c ∷ ds) e = cc
+refusal_more d (c ∷ []) e = cc
 
-spends_alone : (d : Deed) (ds : List Deed) → AreSpends (d ∷ ds) → is_alone d ≡ true → ds ≡ []
-spends_alone (Spends s) ds is alone = cc
-spends_alone Ends ds is alone = is
-spends_alone d ds is alone = absurd is
+spends_more : (d : Deed) (ds : List Deed) → AreSpends (d ∷ ds) → (ds ≡ []) ⊎ ((is_alone d ≡ false) × AreSpends ds)
+spends_more (Spends s) ds is = inr (refl, is)
+spends_more Ends ds is = inl is
+spends_more d ds is = absurd is
+
+-- an event has one deed, or it begins with one that may have others behind it: spendings, and the end
+one_or_more : (t left : Tickets) (w : Asking) (d : Deed) (ds : List Deed) → after t w (d ∷ ds) ≡ Some left → (ds ≡ []) ⊎ ((is_alone d ≡ false) × AreSpends ds)
+one_or_more t left nothing d ds e = cc
+one_or_more t left (to_open n v) d ds e = inl (sole_alone (opening t n v) d ds left e)
+one_or_more t left (to_measure b v) d ds e = cc
+one_or_more t left (to_compare b c v) d ds e = cc
+one_or_more t left (to_access b i m v) d ds e = inl (is_one_alone (is_access t b i m v) d ds (some_if_true _ t left e))
+one_or_more t left (to_post a v) d ds e = inl (is_one_alone (is_post t a v) d ds (some_if_true _ t left e))
+one_or_more t left (to_receive s v) d ds e = inl (sole_alone (receiving t s v) d ds left e)
+one_or_more t left to_refuse d ds e = inr (refusal_more d ds (some_if_true _ t left e))
+one_or_more t left (to_pass s) d ds e = inl (is_one_alone (is_pass s) d ds (some_if_true _ t left e))
+one_or_more t left (to_empty ids) d ds e = spends_more d ds (spends_so false (serials_of (within ids t)) (d ∷ ds) (some_if_true _ _ left e)).1
+one_or_more t left to_close d ds e = spends_more d ds (spends_so true (serials_of t) (d ∷ ds) (some_if_true _ _ left e)).1
+
+-- all deeds of an event but the first are spendings, and the end
+pub tail_asked : (t left : Tickets) (w : Asking) (d : Deed) (ds : List Deed) → after t w (d ∷ ds) ≡ Some left → AreSpends ds
+tail_asked t left w d ds e = elim (one_or_more t left w d ds e) [
+  | inl none ↦ subst AreSpends (sym none) tt
+  | inr more ↦ more.1
+]
 
 pub alone_asked : (t left : Tickets) (w : Asking) (d : Deed) (ds : List Deed) → after t w (d ∷ ds) ≡ Some left → is_alone d ≡ true → ds ≡ []
-alone_asked t left nothing d ds e alone = cc
-alone_asked t left (to_open n v) d ds e alone = sole_alone (opening t n v) d ds left e
-alone_asked t left (to_measure b v) d ds e alone = cc
-alone_asked t left (to_compare b c v) d ds e alone = cc
-alone_asked t left (to_access b i m v) d ds e alone = is_one_alone (is_access t b i m v) d ds (some_if_true _ t left e)
-alone_asked t left (to_post a v) d ds e alone = is_one_alone (is_post t a v) d ds (some_if_true _ t left e)
-alone_asked t left (to_receive s v) d ds e alone = sole_alone (receiving t s v) d ds left e
-alone_asked t left to_refuse d ds e alone = refusal_alone d ds (some_if_true _ t left e) alone
-alone_asked t left (to_pass s) d ds e alone = is_one_alone (is_pass s) d ds (some_if_true _ t left e)
-alone_asked t left (to_empty ids) d ds e alone = spends_alone d ds (spends_are false (serials_of (within ids t)) (d ∷ ds) (some_if_true _ _ left e)) alone
-alone_asked t left to_close d ds e alone = spends_alone d ds (spends_are true (serials_of t) (d ∷ ds) (some_if_true _ _ left e)) alone
+alone_asked t left w d ds e alone = elim (one_or_more t left w d ds e) [
+  | inl none ↦ none
+  | inr more ↦ absurd (false≢true (sym more.0 ∙ alone))
+]
 
 pub end_alone : (d : Deed) → is_end d ≡ true → is_alone d ≡ true
 end_alone Ends is = refl

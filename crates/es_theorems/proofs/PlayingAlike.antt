@@ -1,9 +1,10 @@
 -- What an agent's deeds leave of what agents know: its waits change nothing, and what it accesses is through its own tickets.
 use Rattle.std.proofs.Common.{◌≡◌, ℕ, Bool, true, false, cond, sym, ◌∙◌, ap, refl, subst, List, [], ◌∷◌, ◌++◌, append-nil, append_assoc, map, Option, Some, None}
 use Rattle.std.specs.Option.{option_and_then, option_map, option_map_or}
+use Rattle.std.proofs.lemmas.List.{append_cancel_left}
 use Rattle.es_event.specs.declared.event.Event.{Event}
 use Rattle.es_event.specs.declared.ledger_event.LedgerEvent.{LedgerEvent}
-use Rattle.es_event.specs.declared.ledger_event.LedgerEvent.TheVariants.{Opened, Posted, Taken, Spent, Accessed, Waiting, Passed, Ended, Drained}
+use Rattle.es_event.specs.declared.ledger_event.LedgerEvent.TheVariants.{Posted, Taken, Accessed, Drained}
 use Rattle.es_event.specs.declared.row.Row.{Row}
 use Rattle.es_event.specs.Ledger.{Ledger, by_agent, holder_of, is_at, table}
 use Rattle.es_event.specs.LegalLedger.{ComesNext, LegalSoFar, MayCome, owed}
@@ -22,10 +23,6 @@ use Rattle.es_theorems.proofs.Telling.{same_holder}
 use Rattle.es_theorems.proofs.Turning.{Done, done, still_owes_nothing}
 use Rattle.es_theorems.specs.Renamed.{told_of}
 use Rattle.es_theorems.specs.Steps.{AreSilent, AtTurn, is_silent}
-
-cancelled : {A : Type 0} (xs ys zs : List A) → xs ++ ys ≡ xs ++ zs → ys ≡ zs
-cancelled [] ys zs is = is
-cancelled (x ∷ xs) ys zs is = cancelled xs ys zs (let rest : xs ++ ys ≡ xs ++ zs = cc in rest)
 
 -- Two ledgers of which agents know the same
 
@@ -60,11 +57,7 @@ one_more l m (Posted t u b) x tables = record {
 }
 one_more l m (Taken t u) x tables = record { known = ap (λ K. record { knows = knows_after l (Taken t u) K; carried = carried_after (Taken t u) K }) x.known; told = x.told; marked = x.marked; accesses = x.accesses }
 one_more l m (Drained t u) x tables = record { known = ap (λ K. record { knows = knows_after l (Drained t u) K; carried = carried_after (Drained t u) K }) x.known; told = x.told; marked = x.marked; accesses = x.accesses }
-one_more l m (Opened b w s a) x tables = record { known = x.known; told = x.told; marked = x.marked; accesses = x.accesses }
-one_more l m (Spent s) x tables = record { known = x.known; told = x.told; marked = x.marked; accesses = x.accesses }
-one_more l m (Waiting a s) x tables = record { known = x.known; told = x.told; marked = x.marked; accesses = x.accesses }
-one_more l m (Passed a s) x tables = record { known = x.known; told = x.told; marked = x.marked; accesses = x.accesses }
-one_more l m (Ended a) x tables = record { known = x.known; told = x.told; marked = x.marked; accesses = x.accesses }
+one_more l m _ x tables = record { known = x.known; told = x.told; marked = x.marked; accesses = x.accesses }
 
 -- Deeds by which nobody comes to know anything
 
@@ -133,14 +126,14 @@ plays_next k n l e es are none legal before earlier ds is = by_wait (is_wait d) 
 
     by_wait : (b : Bool) → is_wait d ≡ b → Plays n l (e ∷ m) ds
     by_wait true w =
-        let same : before.deeds ≡ ds = cancelled (part l n) before.deeds ds (sym before.part_is ∙ sym (part_waits m e n n d are.0.1 w) ∙ is) in
+        let same : before.deeds ≡ ds = append_cancel_left (part l n) before.deeds ds (sym before.part_is ∙ sym (part_waits m e n n d are.0.1 w) ∙ is) in
         subst (Plays n l (e ∷ m)) same (record {
           lore = onward (e ∷ m) m (did n before.deeds l) (subst (λ e. SameLore (e ∷ m) m) (sym means.event) (wait_leaves n m d w)) earlier.lore;
           theirs = earlier.theirs;
         })
     by_wait false w =
         let same : before.deeds ++ d ∷ [] ≡ ds =
-        cancelled (part l n) (before.deeds ++ d ∷ []) ds (sym (append_assoc (part l n) before.deeds (d ∷ [])) ∙ sym (ap (λ p. p ++ d ∷ []) before.part_is) ∙ sym (part_own m e n d are.0.1 w) ∙ is) in
+        append_cancel_left (part l n) (before.deeds ++ d ∷ []) ds (sym (append_assoc (part l n) before.deeds (d ∷ [])) ∙ sym (ap (λ p. p ++ d ∷ []) before.part_is) ∙ sym (part_own m e n d are.0.1 w) ∙ is) in
         subst (Plays n l (e ∷ m)) same (record {
           lore = subst (SameLore (e ∷ m)) (sym (did_more l n before.deeds d)) (subst (λ f. SameLore (e ∷ m) (f ∷ did n before.deeds l)) means.event (one_more m (did n before.deeds l) e earlier.lore before.alike.tables));
           theirs = theirs_more n before.deeds d l earlier.theirs (theirs_same m (did n before.deeds l) n d before.alike (theirs_of m n d e means.event are.0.1));
@@ -148,7 +141,7 @@ plays_next k n l e es are none legal before earlier ds is = by_wait (is_wait d) 
 
 plays_each : (k n : ℕ) (l : Ledger) (es : List LedgerEvent) → AreDeedsOf n es l → owed l ≡ None → LegalSoFar k (es ++ l) → (ds : List Deed) → part (es ++ l) n ≡ part l n ++ ds → Plays n l (es ++ l) ds
 plays_each k n l [] are none legal ds is =
-    let empty : ds ≡ [] = cancelled (part l n) ds [] (sym is ∙ sym (append-nil (part l n))) in
+    let empty : ds ≡ [] = append_cancel_left (part l n) ds [] (sym is ∙ sym (append-nil (part l n))) in
     subst (Plays n l l) (sym empty) (record { lore = itself l; theirs = tt })
 plays_each k n l (e ∷ es) are none legal ds is =
     let before = done k n l (es ++ l) (es, refl, are.1) none legal.1 in

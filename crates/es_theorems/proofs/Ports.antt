@@ -12,11 +12,11 @@ use Rattle.es_event.specs.LegalLedger.{ComesNext, LegalSoFar, has_message, owed}
 use Rattle.es_match.specs.Deeds.{Deed, Opens, Posts, Takes, Spends, Accesses, Waits, Passes, Ends, deed, part, part_of, taking}
 use Rattle.es_match.specs.Patience.{has_drained}
 use Rattle.es_laws.specs.Races.{Mark, known}
-use Rattle.es_theorems.proofs.Draining.{turned}
 use Rattle.es_theorems.specs.Alone.{Letter, addressed, times}
 use Rattle.es_theorems.specs.Renamed.{IsPort, got_in, posted_in, sent_in, told_of, took_in}
 use Rattle.es_theorems.proofs.Beyond.{addressed_more}
 use Rattle.es_theorems.proofs.Touching.{drop_left}
+use Rattle.es_theorems.proofs.Spending.{test_turned}
 
 pub sent_more : (f : Body → Letter) (ds es : List Deed) → sent_in f (ds ++ es) ≡ sent_in f ds ++ sent_in f es
 sent_more f [] es = refl
@@ -141,7 +141,7 @@ take_here t u s r m w true false right left = ap (λ b. times s (got_in (cond (b
 take_here t u s r m w false false right left = ap (λ b. times s (got_in (cond (b && true) (Takes t m w ∷ []) []))) right
 
 port_at : {A : Type 0} (t u s r : ℕ) (a b : Bool) (x y : A) → (t == s) ≡ a → (u == r) ≡ b → cond (is_at s r t u) x y ≡ cond (a && b) x y
-port_at t u s r a b x y left right = ap (λ a. cond (a && (r == u)) x y) (turned s t ∙ left) ∙ ap (λ b. cond (a && b) x y) (turned r u ∙ right)
+port_at t u s r a b x y left right = ap (λ a. cond (a && (r == u)) x y) (test_turned s t ∙ left) ∙ ap (λ b. cond (a && b) x y) (test_turned r u ∙ right)
 
 posted_at : (f : Body → Letter) (l : Ledger) (t u s r : ℕ) (m : Body) → IsPort f l s r → IsPort f (Posted t u m ∷ l) s r
 posted_at f l t u s r m is = at (t == s) (u == r) refl refl

@@ -1,9 +1,9 @@
 -- No two accesses race by the ledger where, by the agents' own names, of any two to one word one agent knew of the other.
-use Rattle.std.proofs.Common.{◌≡◌, ℕ, zero, suc, ◌≤◌, ◌==◌, ◌&&◌, ◌||◌, not, Bool, true, false, cond, sym, ◌∙◌, ap, refl, subst, List, [], ◌∷◌, ◌++◌, length, map, Option, Some, None, eq-eqb, ◌⊎◌, inl, inr}
+use Rattle.std.proofs.Common.{◌≡◌, ℕ, ◌≤◌, ◌==◌, ◌&&◌, ◌||◌, not, Bool, true, false, cond, sym, ◌∙◌, ap, refl, subst, List, [], ◌∷◌, ◌++◌, length, map, Option, Some, None, eq-eqb, ◌⊎◌, inl, inr}
 use Rattle.std.specs.Prelude.{slice_get}
 use Rattle.std.specs.List.{list_all}
 use Rattle.std.proofs.lemmas.Bool.{and_parts, eqb-false, eqb-true, false≢true, ne_eqb}
-use Rattle.es_event.specs.declared.ledger_event.LedgerEvent.TheVariants.{Opened, Posted, Taken, Spent, Accessed, Waiting, Passed, Ended, Drained}
+use Rattle.es_event.specs.declared.ledger_event.LedgerEvent.TheVariants.{Accessed}
 use Rattle.es_event.specs.declared.row.Row.{Row}
 use Rattle.es_event.specs.Ledger.{Ledger, holder_of, opened}
 use Rattle.es_event.specs.LegalLedger.{LegalSoFar}
@@ -15,6 +15,7 @@ use Rattle.es_theorems.specs.Renamed.{name, touched_as, touched_in, world_of}
 use Rattle.es_theorems.proofs.Learning.{AllMarked, all_marked, how_many_touched}
 use Rattle.es_theorems.proofs.Names.{name_test}
 use Rattle.es_theorems.proofs.Touching.{get_last, get_more}
+use Rattle.es_ledger.proofs.Beginning.{got_new}
 
 -- Lists
 
@@ -30,15 +31,6 @@ all_of p (y ∷ ys) x all (inr there) = all_of p ys x (and_parts (p y) (list_all
 all_from : {A : Type 0} (p : A → Bool) (xs : List A) → ((x : A) → IsIn x xs → p x ≡ true) → list_all p xs ≡ true
 all_from p [] each = refl
 all_from p (x ∷ xs) each = ap (λ b. b && list_all p xs) (each x (inl refl)) ∙ all_from p xs (λ y there. each y (inr there))
-
-get_either : {A : Type 0} (xs : List A) (x y : A) (p : ℕ) → slice_get (xs ++ x ∷ []) p ≡ Some y → (slice_get xs p ≡ Some y) ⊎ ((p ≡ length xs) × (x ≡ y))
-get_either [] x y zero e = inr (refl, (let same : x ≡ y = cc in same))
-get_either [] x y (suc p) e = cc
-get_either (z ∷ xs) x y zero e = inl e
-get_either (z ∷ xs) x y (suc p) e = elim (get_either xs x y p e) [
-  | inl old ↦ inl old
-  | inr new ↦ inr (ap suc new.0, new.1)
-]
 
 -- An access and its place
 
@@ -64,7 +56,7 @@ found_next f ms z i p y placed old at = by_agent (z.access.agent == i) refl
     by_agent false e = older (old (sym (ap (λ b. slice_get (cond b (touched_in f ms i ++ touched_as f z ∷ []) (touched_in f ms i)) p) e) ∙ at))
     by_agent true e =
         let same = eqb-true z.access.agent i e in
-        elim (get_either (touched_in f ms i) (touched_as f z) y p (sym (ap (λ b. slice_get (cond b (touched_in f ms i ++ touched_as f z ∷ []) (touched_in f ms i)) p) e) ∙ at)) [
+        elim (got_new (touched_in f ms i) (touched_as f z) y p (sym (ap (λ b. slice_get (cond b (touched_in f ms i ++ touched_as f z ∷ []) (touched_in f ms i)) p) e) ∙ at)) [
           | inl there ↦ older (old there)
           | inr new ↦ record { access = z; among = inl refl; agent = same; mark = placed ∙ ap (λ i. (i, length (touched_in f ms i))) same ∙ ap (λ k. (i, k)) (sym new.0); is = new.1 }
         ]
@@ -81,14 +73,7 @@ found f (Accessed s j c old ∷ l) i p y at = by_holder (holder_of l s) (found f
     by_holder (Some q) earlier at =
         let w : WordAccess = record { agent = q.0; block = q.1.block; index = j; change = c; old = old } in
         found_next f (marked l) (marked_after l w) i p y (placed_now f l w) earlier at
-found f (Opened b w s a ∷ l) i p y at = found f l i p y at
-found f (Posted t u m ∷ l) i p y at = found f l i p y at
-found f (Taken t u ∷ l) i p y at = found f l i p y at
-found f (Spent s ∷ l) i p y at = found f l i p y at
-found f (Waiting a s ∷ l) i p y at = found f l i p y at
-found f (Passed a s ∷ l) i p y at = found f l i p y at
-found f (Ended a ∷ l) i p y at = found f l i p y at
-found f (Drained t u ∷ l) i p y at = found f l i p y at
+found f (_ ∷ l) i p y at = found f l i p y at
 
 -- each is where its mark says
 record Stands (f : ℕ → ℕ) (ms : List MarkedAccess) (z : MarkedAccess) : Type 0 where
@@ -121,14 +106,7 @@ stands f (Accessed s j c old ∷ l) z is = by_holder (holder_of l s) (stands f l
         let w : WordAccess = record { agent = q.0; block = q.1.block; index = j; change = c; old = old } in
         subst (Stands f (marked_after l w ∷ marked l)) (sym same) (stands_now f (marked l) (marked_after l w) (placed_now f l w))
     by_holder (Some q) earlier (inr there) = stands_next f (marked l) (marked_after l (record { agent = q.0; block = q.1.block; index = j; change = c; old = old })) z (earlier there)
-stands f (Opened b w s a ∷ l) z is = stands f l z is
-stands f (Posted t u m ∷ l) z is = stands f l z is
-stands f (Taken t u ∷ l) z is = stands f l z is
-stands f (Spent s ∷ l) z is = stands f l z is
-stands f (Waiting a s ∷ l) z is = stands f l z is
-stands f (Passed a s ∷ l) z is = stands f l z is
-stands f (Ended a ∷ l) z is = stands f l z is
-stands f (Drained t u ∷ l) z is = stands f l z is
+stands f (_ ∷ l) z is = stands f l z is
 
 -- Names tell words apart
 

@@ -1,15 +1,17 @@
 -- What comes next to an agent comes next to it under other names of blocks too.
-use Rattle.std.proofs.Common.{◌≡◌, ℕ, ◌+◌, ◌==◌, cond, sym, ◌∙◌, ap, refl, List, [], ◌∷◌, Option, Some, None, inl, inr}
+use Rattle.std.proofs.Common.{◌≡◌, ℕ, ◌+◌, ◌==◌, cond, sym, ◌∙◌, ap, refl, List, [], ◌∷◌, Option, Some, None, inl, inr, map}
 use Rattle.std.specs.Prelude.{pos, is_some}
 use Rattle.std.specs.Option.{option_map, option_map_or, option_and_then}
 use Rattle.std.proofs.lemmas.Bool.{cases_Bool}
 use Rattle.es_value.specs.declared.value.Value.{Value}
 use Rattle.es_value.specs.declared.value.Value.TheVariants.{Boolean, Number, Object}
+use Rattle.es_event.specs.declared.atomic.AtomicParts.{AtomicParts}
 use Rattle.es_event.specs.declared.command.Command.{Command}
 use Rattle.es_event.specs.declared.command.Command.TheVariants.{Length, SameBlock, Atomic}
 use Rattle.es_event.specs.declared.event.Answer.TheVariants.{Gives}
 use Rattle.es_event.specs.declared.event.Event.{Event}
 use Rattle.es_event.specs.declared.event.Event.TheVariants.{Received, Did, Refused}
+use Rattle.es_event.specs.declared.event.Refusal.{Refusal}
 use Rattle.es_event.specs.declared.event.Refusal.TheVariants.{IndexOutOfRange}
 use Rattle.es_event.specs.declared.plan.AgentPlan.{AgentPlan}
 use Rattle.es_event.specs.declared.row.Row.{Row}
@@ -19,8 +21,9 @@ use Rattle.es_event.specs.History.{History}
 use Rattle.es_event.specs.Identities.{made, object_of}
 use Rattle.es_event.specs.Jobs.{Receivers, receivers}
 use Rattle.es_event.specs.Legal.{Arrives, HasWords, Lawful, LegalBy, values_of, word_in}
+use Rattle.es_event.specs.Numbers.{index_of, index_read, words_read}
 use Rattle.es_event.specs.Order.{Due, due, run}
-use Rattle.es_event.specs.Rules.{completion, first_refusal, of_buffer, refusal, refuse_or, result}
+use Rattle.es_event.specs.Rules.{completion, first_refusal, of_buffer, refusal, refuse_or, result, of_number}
 use Rattle.es_event.specs.Runs.{ComesNext, IsRunOver}
 use Rattle.es_event.specs.Sharing.{Buffers, block_of, is_index, row_at, row_of, words_of}
 use Rattle.es_theorems.specs.Alone.{with_new}
@@ -56,6 +59,10 @@ block_renamed f over v none = ap (λ r. option_map_or (λ r. r.block) r 0) (row_
 
 -- A command
 
+-- the first refusal of a command on a word, where its block has this many words
+abbrev refused_of : History → AtomicParts → List Value → ℕ → Option Refusal
+refused_of h c vs k = first_refusal (of_buffer h (first vs) ∷ of_number (index_read c vs) ∷ (is_index (index_of c vs) k, IndexOutOfRange) ∷ map of_number (words_read c vs))
+
 completed : (f : ℕ → ℕ) (over : Buffers) (h : History) → TellsApart f over → (c : Command) (vs : List Value) (w : ℕ) → completion (renamed f over) h c vs w ≡ completion over h c vs w
 completed f over h a (Length to b) vs w = ap (λ k. refuse_or (refusal over h (Length to b) vs) (Gives (Number (pos k)))) (words_renamed f over (first vs))
 completed f over h a (SameBlock to b c) vs w =
@@ -64,11 +71,11 @@ completed f over h a (SameBlock to b c) vs w =
     ∙ ap (λ k. f (block_of over (first vs)) == k) (block_renamed f over (second vs) a.none)
     ∙ a.apart (first vs) (second vs))
 completed f over h a (Atomic c) vs w =
-    ap (λ k. refuse_or (first_refusal (of_buffer h (first vs) ∷ (is_index c.index k, IndexOutOfRange) ∷ [])) (result over h (Atomic c) vs w)) (words_renamed f over (first vs))
+    ap (λ k. refuse_or (refused_of h c vs k) (result over h (Atomic c) vs w)) (words_renamed f over (first vs))
 completed f over h a _ vs w = refl
 
 refused : (f : ℕ → ℕ) (over : Buffers) (h : History) (c : Command) (vs : List Value) → refusal (renamed f over) h c vs ≡ refusal over h c vs
-refused f over h (Atomic c) vs = ap (λ k. first_refusal (of_buffer h (first vs) ∷ (is_index c.index k, IndexOutOfRange) ∷ [])) (words_renamed f over (first vs))
+refused f over h (Atomic c) vs = ap (refused_of h c vs) (words_renamed f over (first vs))
 refused f over h _ vs = refl
 
 -- One more event

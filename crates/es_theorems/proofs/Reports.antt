@@ -12,7 +12,7 @@ use Rattle.es_laws.specs.Races.{has_no_race, marked, race}
 use Rattle.es_ledger.specs.Draining.{after_drain, drained_below, drained_each, drained_one, drained_to}
 use Rattle.es_cluster.specs.declared.member.Progress.TheVariants.{Moved, Waiting}
 use Rattle.es_cluster.specs.Ends.{EndsIn}
-use Rattle.es_cluster.specs.Moves.{Rest, RunsOut, RunsToEnd, all_over, moves, over, rested, turned, waits, with_drained}
+use Rattle.es_cluster.specs.Moves.{Rest, RunsOut, RunsToEnd, moves, over, rested, turned, waits, with_drained}
 use Rattle.es_cluster.specs.State.{ClusterView, first_state}
 use Rattle.es_cluster.specs.Turns.{AllTurned}
 use Rattle.es_outcome.specs.Outcomes.{IsClusterOutcome}
@@ -24,6 +24,7 @@ use Rattle.es_theorems.specs.WithoutRaces.{HasNoRaceByTurns}
 use Rattle.es_theorems.proofs.Composing.{none_race, number_far, says_alike}
 use Rattle.es_theorems.proofs.Reporting.{reports_same}
 use Rattle.es_theorems.proofs.Wordless.{messages_alone}
+use Rattle.es_theorems.proofs.Plans.{over_run}
 
 -- What is drained races with nothing
 
@@ -91,18 +92,13 @@ reports_as_by_turns plan c o q a (end, run, is) free ends =
 
 -- One run by moves tells of each
 
-run_over : (c d : ClusterView) → RunsOut c d → all_over d ≡ true
-run_over c d (over is) = is
-run_over c d (waits n {mid = mid} turn rest) = run_over mid d rest
-run_over c d (moves n {mid = mid} is move rest) = run_over mid d rest
-
 -- where no two accesses race in what one came to, none do by turns
 pub free_by_turns : (plan : Plan) (o : Outcome) (c : ClusterView) → all_name_others plan ≡ true → RunsToEnd (first_state plan) c → EndsIn c o → has_no_race (reverse o.ledger) ≡ true → HasNoRaceByTurns plan
 free_by_turns plan o c others (end, run, is) ends free d (last, way, same) =
     let left = run_turns (first_state plan) end run in
     let right = run_turns (first_state plan) last way in
     let left_free = undrained c.ledger.history c.ledger.agents (subst (λ l. has_no_race l ≡ true) ends.ledger free) in
-    let q = comes_to last (well_all right.0 (first_state plan) last (well_first plan others) right.1) (run_over (first_state plan) last way) in
+    let q = comes_to last (well_all right.0 (first_state plan) last (well_first plan others) right.1) (over_run (first_state plan) last way) in
     let right_free =
     none_race plan left.0 right.0 end last o q.0 left.1 (subst (λ c. EndsIn c o) is ends)
     (undrained end.ledger.history end.ledger.agents (subst (λ c. has_no_race c.ledger.history ≡ true) is left_free)) right.1 q.1 in

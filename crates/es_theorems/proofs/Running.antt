@@ -1,5 +1,5 @@
 -- Two runs by turns of one plan come to clusters that tell the same.
-use Rattle.std.proofs.Common.{◌≡◌, ℕ, zero, suc, ◌+◌, ◌<◌, ◌&&◌, ◌||◌, not, Bool, true, cond, sym, ◌∙◌, ap, refl, subst, arith, List, [], ◌∷◌, ◌++◌, length, Option, Some, None}
+use Rattle.std.proofs.Common.{◌≡◌, ℕ, zero, suc, ◌+◌, ◌<◌, ◌||◌, not, Bool, true, cond, sym, ◌∙◌, ap, refl, subst, arith, List, [], ◌∷◌, ◌++◌, length, Option, Some, None}
 use Rattle.std.specs.Prelude.{slice_get, slice_set}
 use Rattle.std.specs.List.{position_from}
 use Rattle.std.specs.Option.{option_map_or}
@@ -19,7 +19,7 @@ use Rattle.es_event.proofs.Extending.{agrees_longer, still_follows, still_legal}
 use Rattle.es_match.specs.Cluster.{DeedsMeet}
 use Rattle.es_match.specs.Deeds.{Deed, part}
 use Rattle.es_record.specs.AgentView.{AgentView, IsNext, with_row}
-use Rattle.es_rules.specs.Needs.{Need, asks_nobody, asks_marks, asks_copy, asks_late_marks, asks_ledger, asks_message, asks_closing, asks_nothing, need}
+use Rattle.es_rules.specs.Needs.{Need, asks_message, need}
 use Rattle.es_agent.specs.Tickets.{is_ended}
 use Rattle.es_cluster.specs.Tied.{IsTied, came_to}
 use Rattle.es_cluster.specs.Turned.{GrowsByOne}
@@ -40,6 +40,7 @@ use Rattle.es_theorems.proofs.Deciding.{Agree, one_way}
 use Rattle.es_theorems.proofs.Doing.{all_fit_same, did_same}
 use Rattle.es_theorems.proofs.Telling.{after_wait, same, same_message, through, turned}
 use Rattle.es_theorems.proofs.Turning.{Done, after_event, done, move, still_owes_nothing}
+use Rattle.es_theorems.proofs.Liking.{same_all_ended}
 
 -- A cluster before its first event
 
@@ -73,7 +74,7 @@ stands_first p = record {
 -- A cluster after a turn
 
 -- whatever ticket comes with the event, its history is a run still
-run_on : (b new : AgentView) → IsRunOver b.over b.plan b.history → GrowsByOne b new → IsRunOver new.over new.plan new.history
+pub run_on : (b new : AgentView) → IsRunOver b.over b.plan b.history → GrowsByOne b new → IsRunOver new.over new.plan new.history
 run_on b new run turn = subst (λ x. IsRunOver x.over x.plan x.history) (sym turn.3) (by_row turn.1 turn.2)
   where
     by_row : (r : Option Row) → IsNext (with_row r b) turn.0 → IsRunOver (with_row r b).over b.plan (turn.0 ∷ b.history)
@@ -252,14 +253,8 @@ same_goes : (l m : Ledger) (b : AgentView) → Alike l m → goes_on l b ≡ goe
 same_goes l m b alike = by_need (need b)
   where
     by_need : (q : Need) → goes_on_by l b.number q ≡ goes_on_by m b.number q
-    by_need asks_nobody = refl
-    by_need asks_marks = refl
-    by_need asks_copy = refl
-    by_need asks_late_marks = refl
-    by_need (asks_ledger r) = refl
     by_need (asks_message s) = ap (λ x. x || has_ended l s) (same_message l m s b.number alike) ∙ ap (λ x. has_message m s b.number || x) (alike.ends s)
-    by_need asks_closing = refl
-    by_need asks_nothing = refl
+    by_need _ = refl
 
 same_position : {X : Type 0} (f g : X → Bool) (k : ℕ) (xs : List X) → ((x : X) → f x ≡ g x) → position_from f k xs ≡ position_from g k xs
 same_position f g k [] same = refl
@@ -271,12 +266,8 @@ same_mover c d both =
     (same_position (goes_on c.ledger.history) (goes_on d.ledger.history) 0 c.agents (λ b. same_goes c.ledger.history d.ledger.history b both.ledgers))
     ∙ ap (λ bs. or_else (position_from (goes_on d.ledger.history) 0 bs) (position_from (λ b. not (is_over b)) 0 bs)) both.agents
 
-same_ended : (l m : Ledger) (n : ℕ) → Alike l m → all_ended l n ≡ all_ended m n
-same_ended l m zero alike = refl
-same_ended l m (suc n) alike = ap (λ b. b && all_ended l n) (alike.ends n) ∙ ap (λ b. has_ended m n && b) (same_ended l m n alike)
-
 pub same_over : (c d : ClusterView) → Same c d → all_over c ≡ all_over d
-same_over c d both = same_ended c.ledger.history d.ledger.history c.ledger.agents both.ledgers ∙ ap (all_ended d.ledger.history) both.number
+same_over c d both = same_all_ended c.ledger.history d.ledger.history c.ledger.agents both.ledgers ∙ ap (all_ended d.ledger.history) both.number
 
 nothing_due : (b : AgentView) (p : Phase) → is_ended p ≡ true → due_at b.plan b.history p ≡ nothing
 nothing_due b between is = cc

@@ -3,10 +3,11 @@ use Rattle.std.proofs.Common.{◌≡◌, ℕ, ◌+◌, ◌<◌, ◌==◌, true, 
 use Rattle.std.specs.Prelude.{slice_get}
 use Rattle.std.specs.List.{list_any}
 use Rattle.std.proofs.lemmas.Bool.{and_parts, cases_Bool, eqb-false, eqb-true}
+use Rattle.std.proofs.lemmas.List.{length-map}
 use Rattle.es_laws.specs.Races.{Mark, is_mark}
 use Rattle.es_theorems.specs.Alone.{Goes, IsSane, Letter, Local, Lore, Touch, World, addressed, after_event, is_known, learned, own_mark, posted_by, times, touched_by, touched_now}
 use Rattle.es_theorems.proofs.Beyond.{addressed_more, mine, others, touch_of}
-use Rattle.es_theorems.proofs.Touching.{any_first, any_mapped, any_parts, either, length_mapped, lore_mine, lore_of_step, lore_other, touched_grow}
+use Rattle.es_theorems.proofs.Touching.{any_first, any_mapped, any_parts, either, lore_mine, lore_of_step, lore_other, touched_grow}
 
 pub sane_after : (n : ℕ) (w : World) (i : ℕ) (t : World) → IsSane w → Goes n w i t → IsSane t
 sane_after n w i t sane x = record { knows = knows; told = told; parallel = parallel }
@@ -33,7 +34,7 @@ sane_after n w i t sane x = record { knows = knows; told = told; parallel = para
           let place = eqb-true y.1 (length old.touched) both.1 in
           let who : length (t.lore y.0).touched ≡ length (t.lore i).touched = ap (λ k. length (t.lore k).touched) (eqb-true y.0 i both.0) in
           let size : length (t.lore i).touched ≡ length old.touched + 1 =
-          ap (λ (o : Lore). length o.touched) (lore_mine n w i t x) ∙ ap (λ q. length (old.touched ++ touched_now old.knows q)) is ∙ length-append old.touched (touched_by old.knows u ∷ []) in
+          ap (λ (o : Lore). length o.touched) (lore_mine n w i t x) ∙ ap (λ q. length (old.touched ++ touched_now old.knows w.words q)) is ∙ length-append old.touched (touched_by old.knows w.words u ∷ []) in
           omega (arith, place, size, who))
     ]
 
@@ -72,7 +73,7 @@ sane_after n w i t sane x = record { knows = knows; told = told; parallel = para
     parallel_here r =
         let before : length (old.told r) ≡ length (addressed r x.before.sent) = sane.parallel i r x.before x.at in
         let left = length-append (old.told r) (map (λ (m : Letter). old.knows) (letters_to r)) in
-        let now = length_mapped (λ (m : Letter). old.knows) (letters_to r) in
+        let now = length-map (letters_to r) (λ (m : Letter). old.knows) in
         let right : length (addressed r (x.before.sent ++ posted_by x.before.over x.event)) ≡ length (addressed r x.before.sent) + length (letters_to r) =
         ap length (addressed_more r x.before.sent (posted_by x.before.over x.event)) ∙ length-append (addressed r x.before.sent) (letters_to r) in
         omega (arith, before, left, now, right)

@@ -18,7 +18,7 @@ use Rattle.es_theorems.specs.Doing.{did}
 
 -- Serials that are struck off
 
-test_turned : (a b : ℕ) → (a == b) ≡ (b == a)
+pub test_turned : (a b : ℕ) → (a == b) ≡ (b == a)
 test_turned a b = by_test (a == b) (b == a) refl refl
   where
     by_test : (p q : Bool) → (a == b) ≡ p → (b == a) ≡ q → p ≡ q
@@ -31,7 +31,7 @@ abbrev pub listed : ℕ → List ℕ → Bool
 listed q [] = false
 listed q (n ∷ ns) = (n == q) || listed q ns
 
-or_swapped : (a b c : Bool) → (a || (b || c)) ≡ (b || (a || c))
+pub or_swapped : (a b c : Bool) → (a || (b || c)) ≡ (b || (a || c))
 or_swapped true true c = refl
 or_swapped true false c = refl
 or_swapped false b c = refl
@@ -97,7 +97,7 @@ record Still (closing : Bool) (n : ℕ) (ns : List ℕ) (l m : Ledger) : Type 0 
   taken : taken m ≡ taken l
   drained : drained m ≡ drained l
 
-uncounted : (p : LedgerEvent → Bool) (l : Ledger) (e : LedgerEvent) → p e ≡ false → count_by p (e ∷ l) ≡ count_by p l
+pub uncounted : (p : LedgerEvent → Bool) (l : Ledger) (e : LedgerEvent) → p e ≡ false → count_by p (e ∷ l) ≡ count_by p l
 uncounted p l e is = sum_by-cons (λ e. cond {A = ℕ} (p e) 1 0) e l ∙ ap (λ b. cond {A = ℕ} b 1 0 + count_by p l) is ∙ (let none : 0 + count_by p l ≡ count_by p l = omega arith in none)
 
 still_at_end : (closing : Bool) (n : ℕ) (l : Ledger) (ds : List Deed) → ends closing ds ≡ true → Still closing n [] l (did n ds l)

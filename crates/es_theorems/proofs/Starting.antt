@@ -3,8 +3,8 @@ use Rattle.std.proofs.Common.{◌≡◌, ℕ, zero, suc, ◌+◌, ◌<◌, ◌�
 use Rattle.std.specs.Prelude.{slice_get}
 use Rattle.std.specs.List.{AllByRecursion}
 use Rattle.std.specs.Option.{option_map, option_map_or}
-use Rattle.std.proofs.lemmas.Bool.{and_parts, false≢true, or_right}
-use Rattle.std.proofs.lemmas.List.{reverse-append, reverse-reverse}
+use Rattle.std.proofs.lemmas.Bool.{and_parts, false≢true, or_right, not-true}
+use Rattle.std.proofs.lemmas.List.{reverse-append, reverse-reverse, length-map}
 use Rattle.es_event.specs.declared.event.Event.{Event}
 use Rattle.es_event.specs.declared.event.Event.TheVariants.{Did, Refused, Closed}
 use Rattle.es_event.specs.declared.ledger_event.LedgerEvent.{LedgerEvent}
@@ -25,7 +25,7 @@ use Rattle.es_match.specs.Patience.{drained_last, has_drained, is_nobodys, is_pa
 use Rattle.es_match.specs.Asks.{Asking, to_close, asks, between_jobs}
 use Rattle.es_match.specs.Cluster.{Account, DeedsMeet, account_of, nobody}
 use Rattle.es_match.specs.Goes.{goes}
-use Rattle.es_match.specs.Meets.{Came, Tickets, after, nothing_came, serials_of, some_if}
+use Rattle.es_match.specs.Meets.{Came, Tickets, after, nothing_came, serials_of}
 use Rattle.es_match.proofs.Bridge.{mapped, ties_mean_goes}
 use Rattle.es_record.specs.AgentView.{AgentView}
 use Rattle.es_agent.specs.Tickets.{is_ended}
@@ -41,7 +41,8 @@ use Rattle.es_theorems.specs.Found.{AreSpends}
 use Rattle.es_theorems.specs.Underway.{Left, Underway, closes, has_end, is_end}
 use Rattle.es_theorems.proofs.Gathering.{a_wait, part_mine}
 use Rattle.es_theorems.proofs.Needing.{did_not_close, refused_not}
-use Rattle.es_theorems.proofs.Playing.{end_asked, part_played, spends_are}
+use Rattle.es_theorems.proofs.Playing.{end_asked, part_played, spends_so}
+use Rattle.es_theorems.proofs.Commands.{some_if_true}
 
 pub less_or : (a n : ℕ) → (a < n) ⊎ (n ≤ a)
 less_or a zero = inr (omega arith)
@@ -109,12 +110,8 @@ none_behind (Ends ∷ q) qs are is = no_rest q qs are
     no_rest (x ∷ q) qs is = cc
 none_behind (d ∷ q) qs are is = absurd are
 
-some_if_true : {A : Type 0} (b : Bool) (x y : A) → some_if b x ≡ Some y → b ≡ true
-some_if_true true x y e = refl
-some_if_true false x y e = cc
-
 closing_spends : (t left : Tickets) (w : Asking) (ds : List Deed) → closes w ≡ true → after t w ds ≡ Some left → AreSpends ds
-closing_spends t left to_close ds is met = spends_are true (serials_of t) ds (some_if_true _ _ left met)
+closing_spends t left to_close ds is met = (spends_so true (serials_of t) ds (some_if_true _ _ left met)).1
 closing_spends t left _ ds is met = cc
 
 after_end : (over : Buffers) (plan : AgentPlan) (h : History) (ds ps qs : List Deed) (c : Came) → Follows over plan h → DeedsMeet h ds c → ds ≡ ps ++ qs → has_end ps ≡ true → qs ≡ []
@@ -172,10 +169,6 @@ no_wait l k a s is = at (holder_of l k) is
     at None is = cc
     at (Some p) is = let clash : is_wait (Spends k) ≡ true = ap (λ o. option_map_or (λ p. is_wait p.1) o true) is in cc
 
-not_true : (b : Bool) → not b ≡ true → b ≡ false
-not_true true e = cc
-not_true false e = refl
-
 acts_of : (n : ℕ) (x : LedgerEvent) (es : List LedgerEvent) (l : Ledger) (o : Owned) → Parted n (played (x ∷ es) l) → ComesNext n l x (owed l) → deed l x ≡ o → patient (x ∷ l) ≡ true → drained_last (x ∷ l) ≡ true → Acts n l o
 acts_of n x es l None parted comes is patience last = tt
 acts_of n x es l (Some p) parted comes is patience last = at (is_wait p.1) refl
@@ -184,7 +177,7 @@ acts_of n x es l (Some p) parted comes is patience last = at (is_wait p.1) refl
     may = ap (is_patient l) (sym is) ∙ (and_parts (is_patient l (deed l x)) (patient l) patience).0
 
     undrained : has_drained l ≡ false
-    undrained = not_true _ (ap (λ o. is_nobodys o || not (has_drained l)) (sym is) ∙ (and_parts (is_nobodys (deed l x) || not (has_drained l)) (drained_last l) last).0)
+    undrained = not-true _ (ap (λ o. is_nobodys o || not (has_drained l)) (sym is) ∙ (and_parts (is_nobodys (deed l x) || not (has_drained l)) (drained_last l) last).0)
 
     waits_so : (s : ℕ) (o : Option ℕ) → owed l ≡ o → ComesNext n l x o → p.1 ≡ Waits s → (p.0 < n) × (has_ended l p.0 ≡ false)
     waits_so s None none comes wait =
@@ -227,10 +220,6 @@ steps_of n (x ∷ es) l parted legal patience last =
 
 -- The accounts
 
-mapped_length : {A B : Type 0} (f : A → B) (xs : List A) → length (map f xs) ≡ length xs
-mapped_length f [] = refl
-mapped_length f (x ∷ xs) = ap suc (mapped_length f xs)
-
 whole_at : (all : List Account) (i : ℕ) → AllByRecursion IsWhole all → i < length all → IsWhole (account_of all i)
 whole_at [] i whole less = absurd (omega (arith, less))
 whole_at (a ∷ all) zero whole less = whole.0
@@ -247,7 +236,7 @@ account_plan (a ∷ all) zero q is = cc
 account_plan (a ∷ all) (suc i) q is = account_plan all i q is
 
 pub size_of : (p : Plan) (o : Outcome) (r : IsClusterOutcome p o) → length r.agents ≡ length p.agents
-size_of p o r = sym (mapped_length (λ a. a.plan) r.agents) ∙ ap length r.runs.plans_are
+size_of p o r = sym (length-map r.agents (λ a. a.plan)) ∙ ap length r.runs.plans_are
 
 pub wholes_of : (p : Plan) (o : Outcome) (r : IsClusterOutcome p o) → (i : ℕ) → i < length p.agents → IsWhole (account_of r.agents i)
 wholes_of p o r i less = whole_at r.agents i r.runs.whole (let size = size_of p o r in omega (arith, size, less))

@@ -7,7 +7,7 @@ use Rattle.std.proofs.lemmas.List.Sums.{sum_by-cons}
 use Rattle.es_event.specs.declared.ledger_event.Body.{Body}
 use Rattle.es_event.specs.declared.ledger_event.Body.TheVariants.{Plain, Block}
 use Rattle.es_event.specs.declared.ledger_event.LedgerEvent.{LedgerEvent}
-use Rattle.es_event.specs.declared.ledger_event.LedgerEvent.TheVariants.{Opened, Posted, Taken, Spent, Accessed, Waiting, Passed, Ended, Drained}
+use Rattle.es_event.specs.declared.ledger_event.LedgerEvent.TheVariants.{Opened, Posted, Taken, Spent, Accessed, Passed, Ended, Drained}
 use Rattle.es_event.specs.declared.row.Row.{Row}
 use Rattle.es_event.specs.declared.row.Entry.{Entry}
 use Rattle.es_event.specs.declared.row.Holder.TheVariants.{Agent, Port, Nobody}
@@ -27,6 +27,7 @@ use Rattle.es_theorems.proofs.Choosing.{Skips, alone_goes, skips_is}
 use Rattle.es_cluster.proofs.Growing.{doer, ended_other, waits_other}
 use Rattle.es_theorems.proofs.Turning.{owes_nothing}
 use Rattle.es_theorems.proofs.Framing.{drains_nothing, holder_agent, holder_other, moved_append, moved_twice, not_in_port, spender}
+use Rattle.es_theorems.proofs.Spending.{or_swapped}
 use Rattle.es_ledger.proofs.Numbered.{none_next, numbered}
 
 -- It stays ready
@@ -49,13 +50,8 @@ port_other l (Taken t u) b s a d is not_a not_s =
     let same : u ≡ b = doer (deed l (Taken t u)) b u d is in
     let none : (a == u) ≡ false = ne_eqb a u (λ it. not_a (it ∙ same)) in
     ap (λ v. cond ((s == t) && v) (drop 1 (port_of l s a)) (port_of l s a)) none ∙ ap (λ v. cond v (drop 1 (port_of l s a)) (port_of l s a)) (and_right (s == t) false refl)
-port_other l (Opened c w q u) b s a d is not_a not_s = refl
-port_other l (Spent q) b s a d is not_a not_s = refl
-port_other l (Accessed q i m old) b s a d is not_a not_s = refl
-port_other l (Waiting u t) b s a d is not_a not_s = refl
-port_other l (Passed u t) b s a d is not_a not_s = refl
-port_other l (Ended u) b s a d is not_a not_s = refl
 port_other l (Drained t u) b s a d is not_a not_s = cc
+port_other l _ b s a d is not_a not_s = refl
 
 skips_still : (k : ℕ) (l : Ledger) (a b s : ℕ) (x : LedgerEvent) (d : Deed) → deed l x ≡ Some (b, d) → (a ≡ b → ⊥) → owed l ≡ None → May k l x → skips l k a s ≡ true → skips (x ∷ l) k a s ≡ true
 skips_still k l a b s x d is other paid may skip = let how = skips_is l k a s skip in at how.0 how.1
@@ -81,11 +77,6 @@ ready_after k l a b (Ended c) x d legal is other paid may ready = (ready.0, wait
 ready_after k l a b _ x d legal is other paid may ready = absurd ready
 
 -- Both orders tell the same
-
-or_swapped : (a b c : Bool) → (a || (b || c)) ≡ (b || (a || c))
-or_swapped true true c = refl
-or_swapped true false c = refl
-or_swapped false b c = refl
 
 counted_twice : (p : LedgerEvent → Bool) (f x : LedgerEvent) (l : Ledger) → count_by p (f ∷ x ∷ l) ≡ count_by p (x ∷ f ∷ l)
 counted_twice p f x l =
@@ -121,23 +112,12 @@ tables_spent k l s a b (Taken t u) d r legal held is other may = at (option_and_
 tables_spent k l s a b (Spent q) d r legal held is other may =
     let by = spender l q b d _ is in
     moved_twice s q Nobody Nobody (table l) (λ same. other (let clash : Some (a, r) ≡ Some (b, by.0) = sym held ∙ ap (holder_of l) same ∙ by.1 in ap (λ o. option_map_or (λ p. p.0) o a) clash))
-tables_spent k l s a b (Accessed q i m old) d r legal held is other may = refl
-tables_spent k l s a b (Waiting u t) d r legal held is other may = refl
-tables_spent k l s a b (Passed u t) d r legal held is other may = refl
-tables_spent k l s a b (Ended u) d r legal held is other may = refl
-tables_spent k l s a b (Drained t u) d r legal held is other may = refl
+tables_spent k l s a b _ d r legal held is other may = refl
 
 tables_quiet : (l : Ledger) (f x : LedgerEvent) → ((s r : ℕ) → front (f ∷ l) s r ≡ front l s r) → ((c : ℕ) → size (f ∷ l) c ≡ size l c) → table_after l x (table l) ≡ table_after (f ∷ l) x (table l)
-tables_quiet l f (Opened c w q u) fronts sizes = refl
-tables_quiet l f (Posted t u (Plain v)) fronts sizes = refl
 tables_quiet l f (Posted t u (Block c q)) fronts sizes = ap (λ n. table l ++ held_by (Port t u) (row q c n) ∷ []) (sym (sizes c))
 tables_quiet l f (Taken t u) fronts sizes = ap (λ o. moved_if (option_and_then serial_in o) (Agent u) (table l)) (sym (fronts t u))
-tables_quiet l f (Spent q) fronts sizes = refl
-tables_quiet l f (Accessed q i m old) fronts sizes = refl
-tables_quiet l f (Waiting u t) fronts sizes = refl
-tables_quiet l f (Passed u t) fronts sizes = refl
-tables_quiet l f (Ended u) fronts sizes = refl
-tables_quiet l f (Drained t u) fronts sizes = refl
+tables_quiet l f _ fronts sizes = refl
 
 tables_swap : (k : ℕ) (l : Ledger) (f x : LedgerEvent) (a b : ℕ) (d : Deed) → LegalSoFar k l → Ready k l a f → deed l x ≡ Some (b, d) → (a ≡ b → ⊥) → MayCome k l x → table (f ∷ x ∷ l) ≡ table (x ∷ f ∷ l)
 tables_swap k l (Spent s) x a b d legal ready is other may = tables_spent k l s a b x d ready.0.0 legal ready.0.1 is other may
@@ -155,14 +135,7 @@ writes_beside k l f (Accessed q i m old) b d is mine = at (written m old)
     at : (o : Option ℕ) → option_and_then (written_by (f ∷ l) q i) o ≡ option_and_then (written_by l q i) o
     at None = refl
     at (Some w) = ap (option_map (λ p. (p.1.block, i, w))) (is.holders q by.0 by.1 ∙ sym by.1)
-writes_beside k l f (Opened c w q u) b d is mine = refl
-writes_beside k l f (Posted t u m) b d is mine = refl
-writes_beside k l f (Taken t u) b d is mine = refl
-writes_beside k l f (Spent q) b d is mine = refl
-writes_beside k l f (Waiting u t) b d is mine = refl
-writes_beside k l f (Passed u t) b d is mine = refl
-writes_beside k l f (Ended u) b d is mine = refl
-writes_beside k l f (Drained t u) b d is mine = refl
+writes_beside k l f _ b d is mine = refl
 
 -- the events that are ready leave words, blocks, serials and ports alone
 record Plainly (f : LedgerEvent) : Type 0 where

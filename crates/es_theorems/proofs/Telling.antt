@@ -8,7 +8,7 @@ use Rattle.std.specs.Option.{option_and_then, option_map, option_map_or}
 use Rattle.es_event.specs.declared.ledger_event.Body.{Body}
 use Rattle.es_event.specs.declared.ledger_event.Body.TheVariants.{Plain, Block}
 use Rattle.es_event.specs.declared.ledger_event.LedgerEvent.{LedgerEvent}
-use Rattle.es_event.specs.declared.ledger_event.LedgerEvent.TheVariants.{Opened, Posted, Taken, Spent, Accessed, Waiting, Passed, Ended, Drained}
+use Rattle.es_event.specs.declared.ledger_event.LedgerEvent.TheVariants.{Posted, Taken, Accessed, Waiting}
 use Rattle.es_event.specs.declared.row.Entry.{Entry}
 use Rattle.es_event.specs.declared.row.Holder.TheVariants.{Agent, Port}
 use Rattle.es_event.specs.Access.{written}
@@ -73,13 +73,7 @@ same_line l m a r (Block b s) alike = ap (λ n. held_by (Port a r) (row s b n) �
 same_table : (l m : Ledger) (e : LedgerEvent) (t : List Entry) → Alike l m → table_after l e t ≡ table_after m e t
 same_table l m (Posted a r b) t alike = ap (λ x. t ++ x) (same_line l m a r b alike)
 same_table l m (Taken s r) t alike = ap (λ o. moved_if (option_and_then serial_in o) (Agent r) t) (same_front l m s r alike)
-same_table l m (Opened b w s a) t alike = refl
-same_table l m (Spent s) t alike = refl
-same_table l m (Accessed s i done old) t alike = refl
-same_table l m (Waiting a s) t alike = refl
-same_table l m (Passed a s) t alike = refl
-same_table l m (Ended a) t alike = refl
-same_table l m (Drained s r) t alike = refl
+same_table l m _ t alike = refl
 
 same_written : (l m : Ledger) (s i w : ℕ) → Alike l m → written_by l s i w ≡ written_by m s i w
 same_written l m s i w alike = ap (λ o. option_map (λ p. (p.1.block, i, w)) o) (same_holder l m s alike)
@@ -90,14 +84,7 @@ same_writes l m (Accessed s i done old) alike = by_written (written done old)
     by_written : (o : Option ℕ) → option_and_then (written_by l s i) o ≡ option_and_then (written_by m s i) o
     by_written None = refl
     by_written (Some w) = same_written l m s i w alike
-same_writes l m (Opened b w s a) alike = refl
-same_writes l m (Posted a r b) alike = refl
-same_writes l m (Taken s r) alike = refl
-same_writes l m (Spent s) alike = refl
-same_writes l m (Waiting a s) alike = refl
-same_writes l m (Passed a s) alike = refl
-same_writes l m (Ended a) alike = refl
-same_writes l m (Drained s r) alike = refl
+same_writes l m _ alike = refl
 
 counted : (p : LedgerEvent → Bool) (l m : Ledger) (e : LedgerEvent) → count_by p l ≡ count_by p m → count_by p (e ∷ l) ≡ count_by p (e ∷ m)
 counted p l m e is = sum_by-cons (λ e. cond {A = ℕ} (p e) 1 0) e l ∙ ap (λ n. cond {A = ℕ} (p e) 1 0 + n) is ∙ sym (sum_by-cons (λ e. cond {A = ℕ} (p e) 1 0) e m)

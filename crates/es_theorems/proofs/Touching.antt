@@ -3,41 +3,37 @@
 use Rattle.std.proofs.Common.{◌≡◌, ℕ, zero, suc, ◌+◌, ◌<◌, ◌≤◌, ◌==◌, ◌&&◌, ◌||◌, Bool, true, false, cond, sym, ◌∙◌, ap, refl, subst, arith, List, [], ◌∷◌, ◌++◌, drop, length, map, Option, Some, None, eq-eqb, length-append, ◌⊎◌, inl, inr}
 use Rattle.std.specs.Prelude.{slice_get}
 use Rattle.std.specs.List.{list_any}
-use Rattle.std.proofs.lemmas.Bool.{and_parts, cases_Bool, eqb-false, eqb-true, false≢true}
+use Rattle.std.proofs.lemmas.Bool.{and_parts, cases_Bool, eqb-false, eqb-true, false≢true, or_left, or_right}
+use Rattle.std.proofs.Math.Bool.{or_comm}
 use Rattle.es_event.specs.declared.access.Change.{Change}
 use Rattle.es_event.specs.declared.event.Event.{Event}
 use Rattle.es_event.specs.declared.row.Row.{Row}
-use Rattle.es_event.specs.Order.{Due, begin, receive, run, clean, take_cell, finish, end_job, close, nothing}
+use Rattle.es_event.specs.Access.{change_by}
+use Rattle.es_event.specs.Order.{Due, receive}
 use Rattle.es_event.specs.Runs.{a_word, silence}
 use Rattle.es_laws.specs.Races.{Mark, first_of}
-use Rattle.es_theorems.proofs.Draining.{turned}
-use Rattle.es_theorems.specs.Alone.{Finds, GoFar, Goes, Hears, IsSane, Letter, Local, Locals, Lore, Touch, Touched, Words, World, addressed, changes, clash, hears_at, is_known, is_over, learned, left_over, letters, lore_after, new_lore, over_block, plain, posted_by, sent_by, times, touch_by, touched_by, touched_now, words_after}
+use Rattle.es_theorems.specs.Alone.{Finds, GoFar, Goes, Hears, IsSane, Letter, Local, Locals, Lore, Touch, Touched, Words, World, addressed, changes, clash, hears_at, is_known, is_over, learned, left_over, letters, lore_after, new_lore, over_block, plain, posted_by, sent_by, times, touch_by, touched_by, touched_now, words_after, change_at, lore_with, own_mark}
+use Rattle.es_theorems.proofs.Spending.{test_turned}
 
 -- Words
 
--- two accesses to one word, one of them a write
-abbrev pub clashes : Option Touch → Option Touch → Bool
-clashes None q = false
-clashes (Some t) None = false
-clashes (Some t) (Some u) = clash (touched_by [] t) (touched_by [] u)
-
-pub or_turned : (a b : Bool) → (a || b) ≡ (b || a)
-or_turned true true = refl
-or_turned true false = refl
-or_turned false true = refl
-or_turned false false = refl
+-- two accesses to one word, one of them a write where these are the words
+abbrev pub clashes : Words → Option Touch → Option Touch → Bool
+clashes m None q = false
+clashes m (Some t) None = false
+clashes m (Some t) (Some u) = clash (touched_by [] m t) (touched_by [] m u)
 
 pub clash_turned : (x y : Touched) → clash x y ≡ clash y x
 clash_turned x y =
-    ap (λ b. (b && (x.index == y.index)) && (x.writes || y.writes)) (turned x.block y.block)
-    ∙ ap (λ b. ((y.block == x.block) && b) && (x.writes || y.writes)) (turned x.index y.index)
-    ∙ ap (λ b. ((y.block == x.block) && (y.index == x.index)) && b) (or_turned x.writes y.writes)
+    ap (λ b. (b && (x.index == y.index)) && (x.writes || y.writes)) (test_turned x.block y.block)
+    ∙ ap (λ b. ((y.block == x.block) && b) && (x.writes || y.writes)) (test_turned x.index y.index)
+    ∙ ap (λ b. ((y.block == x.block) && (y.index == x.index)) && b) (or_comm x.writes y.writes)
 
-pub clashes_turned : (p q : Option Touch) → clashes p q ≡ clashes q p
-clashes_turned None None = refl
-clashes_turned None (Some u) = refl
-clashes_turned (Some t) None = refl
-clashes_turned (Some t) (Some u) = clash_turned (touched_by [] t) (touched_by [] u)
+pub clashes_turned : (m : Words) (p q : Option Touch) → clashes m p q ≡ clashes m q p
+clashes_turned m None None = refl
+clashes_turned m None (Some u) = refl
+clashes_turned m (Some t) None = refl
+clashes_turned m (Some t) (Some u) = clash_turned (touched_by [] m t) (touched_by [] m u)
 
 no_change : (c : Change) (old : ℕ) → changes c ≡ false → left_over c old ≡ old
 no_change Change.Keep old e = refl
@@ -45,35 +41,44 @@ no_change (Change.Write w) old e = cc
 no_change (Change.Add n) old e = cc
 
 -- where both are to one word, neither writes
-record NeitherWrites (t u : Touch) : Type 0 where
-  first : changes t.access.change ≡ false
-  second : changes u.access.change ≡ false
+record NeitherWrites (m : Words) (t u : Touch) : Type 0 where
+  first : changes (change_at m t) ≡ false
+  second : changes (change_at m u) ≡ false
 
-neither : (t u : Touch) → clash (touched_by [] t) (touched_by [] u) ≡ false → is_over u.block u.index t ≡ true → NeitherWrites t u
-neither t u off here = at (changes t.access.change) (changes u.access.change) refl refl
+neither : (m : Words) (t u : Touch) → clash (touched_by [] m t) (touched_by [] m u) ≡ false → is_over u.block u.index t ≡ true → NeitherWrites m t u
+neither m t u off here = at (changes (change_at m t)) (changes (change_at m u)) refl refl
   where
-    none : (changes t.access.change || changes u.access.change) ≡ false
-    none = sym (ap (λ b. b && (changes t.access.change || changes u.access.change)) here) ∙ off
+    none : (changes (change_at m t) || changes (change_at m u)) ≡ false
+    none = sym (ap (λ b. b && (changes (change_at m t) || changes (change_at m u))) here) ∙ off
 
-    at : (a b : Bool) → changes t.access.change ≡ a → changes u.access.change ≡ b → NeitherWrites t u
+    at : (a b : Bool) → changes (change_at m t) ≡ a → changes (change_at m u) ≡ b → NeitherWrites m t u
     at false false x y = record { first = x; second = y }
-    at true b x y = absurd (false≢true (sym none ∙ ap (λ a. a || changes u.access.change) x))
-    at false true x y = absurd (false≢true (sym none ∙ (ap (λ a. a || changes u.access.change) x ∙ y)))
+    at true b x y = absurd (false≢true (sym none ∙ ap (λ a. a || changes (change_at m u)) x))
+    at false true x y = absurd (false≢true (sym none ∙ (ap (λ a. a || changes (change_at m u)) x ∙ y)))
 
 one_word : (m : Words) (t : Touch) (b x : ℕ) → is_over b x t ≡ true → m t.block t.index ≡ m b x
 one_word m t b x here =
     let both = and_parts (t.block == b) (t.index == x) here in
     ap (λ b. m b t.index) (eqb-true t.block b both.0) ∙ ap (m b) (eqb-true t.index x both.1)
 
--- the one finds what it would find without the other
-word_still : (m : Words) (t u : Touch) → clash (touched_by [] t) (touched_by [] u) ≡ false → words_after m (Some t) u.block u.index ≡ m u.block u.index
-word_still m t u off = at (is_over u.block u.index t) refl
+-- a word that an access does not write stays
+pub word_kept : (m : Words) (t : Touch) (b x : ℕ) → (is_over b x t && changes (change_at m t)) ≡ false → words_after m (Some t) b x ≡ m b x
+word_kept m t b x off = at (is_over b x t) refl
   where
-    at : (b : Bool) → is_over u.block u.index t ≡ b → words_after m (Some t) u.block u.index ≡ m u.block u.index
+    at : (p : Bool) → is_over b x t ≡ p → words_after m (Some t) b x ≡ m b x
     at true here =
-        ap (λ b. cond b (left_over t.access.change (m t.block t.index)) (m u.block u.index)) here
-        ∙ no_change t.access.change (m t.block t.index) (neither t u off here).first ∙ one_word m t u.block u.index here
-    at false here = ap (λ b. cond b (left_over t.access.change (m t.block t.index)) (m u.block u.index)) here
+        ap (λ p. cond p (left_over (change_at m t) (m t.block t.index)) (m b x)) here
+        ∙ no_change (change_at m t) (m t.block t.index) (sym (ap (λ p. p && changes (change_at m t)) here) ∙ off) ∙ one_word m t b x here
+    at false here = ap (λ p. cond p (left_over (change_at m t) (m t.block t.index)) (m b x)) here
+
+first_off : (p a b : Bool) → (p && (a || b)) ≡ false → (p && a) ≡ false
+first_off true true b e = cc
+first_off true false b e = refl
+first_off false a b e = refl
+
+-- the one finds what it would find without the other
+word_still : (m : Words) (t u : Touch) → clash (touched_by [] m t) (touched_by [] m u) ≡ false → words_after m (Some t) u.block u.index ≡ m u.block u.index
+word_still m t u off = word_kept m t u.block u.index (first_off (is_over u.block u.index t) (changes (change_at m t)) (changes (change_at m u)) off)
 
 swapped : {A : Type 0} (p q : Bool) (x y z : A) → (p ≡ true → q ≡ true → x ≡ y) → cond q x (cond p y z) ≡ cond p y (cond q x z)
 swapped true true x y z same = same refl refl
@@ -81,38 +86,54 @@ swapped true false x y z same = refl
 swapped false true x y z same = refl
 swapped false false x y z same = refl
 
-either_at : (m : Words) (t u : Touch) (b x : ℕ) → clash (touched_by [] t) (touched_by [] u) ≡ false → words_after (words_after m (Some t)) (Some u) b x ≡ words_after (words_after m (Some u)) (Some t) b x
+either_at : (m : Words) (t u : Touch) (b x : ℕ) → clash (touched_by [] m t) (touched_by [] m u) ≡ false → words_after (words_after m (Some t)) (Some u) b x ≡ words_after (words_after m (Some u)) (Some t) b x
 either_at m t u b x off =
-    ap (λ k. cond (is_over b x u) (left_over u.access.change k) (words_after m (Some t) b x)) (word_still m t u off)
-    ∙ swapped (is_over b x t) (is_over b x u) (left_over u.access.change (m u.block u.index)) (left_over t.access.change (m t.block t.index)) (m b x) same
-    ∙ sym (ap (λ k. cond (is_over b x t) (left_over t.access.change k) (words_after m (Some u) b x)) (word_still m u t (clash_turned (touched_by [] u) (touched_by [] t) ∙ off)))
+    ap (λ k. cond (is_over b x u) (left_over (change_by u.access.edit k) k) (words_after m (Some t) b x)) (word_still m t u off)
+    ∙ swapped (is_over b x t) (is_over b x u) (left_over (change_at m u) (m u.block u.index)) (left_over (change_at m t) (m t.block t.index)) (m b x) same
+    ∙ sym (ap (λ k. cond (is_over b x t) (left_over (change_by t.access.edit k) k) (words_after m (Some u) b x)) (word_still m u t (clash_turned (touched_by [] m u) (touched_by [] m t) ∙ off)))
   where
-    same : is_over b x t ≡ true → is_over b x u ≡ true → left_over u.access.change (m u.block u.index) ≡ left_over t.access.change (m t.block t.index)
+    same : is_over b x t ≡ true → is_over b x u ≡ true → left_over (change_at m u) (m u.block u.index) ≡ left_over (change_at m t) (m t.block t.index)
     same one two =
         let p = and_parts (t.block == b) (t.index == x) one in
         let q = and_parts (u.block == b) (u.index == x) two in
         let here : is_over u.block u.index t ≡ true =
         ap (λ c. c && (t.index == u.index)) (eq-eqb t.block u.block (eqb-true t.block b p.0 ∙ sym (eqb-true u.block b q.0)))
         ∙ eq-eqb t.index u.index (eqb-true t.index x p.1 ∙ sym (eqb-true u.index x q.1)) in
-        let still = neither t u off here in
-        no_change u.access.change (m u.block u.index) still.second ∙ sym (one_word m t u.block u.index here) ∙ sym (no_change t.access.change (m t.block t.index) still.first)
+        let still = neither m t u off here in
+        no_change (change_at m u) (m u.block u.index) still.second ∙ sym (one_word m t u.block u.index here) ∙ sym (no_change (change_at m t) (m t.block t.index) still.first)
 
-pub words_either : (m : Words) (p q : Option Touch) → clashes p q ≡ false → words_after (words_after m p) q ≡ words_after (words_after m q) p
+pub words_either : (m : Words) (p q : Option Touch) → clashes m p q ≡ false → words_after (words_after m p) q ≡ words_after (words_after m q) p
 words_either m None None off = refl
 words_either m None (Some u) off = refl
 words_either m (Some t) None off = refl
 words_either m (Some t) (Some u) off = λ k. λ b x. either_at m t u b x off k
 
-pub hears_same : (m : Words) (p q : Option Touch) → clashes p q ≡ false → hears_at (words_after m p) q ≡ hears_at m q
+pub hears_same : (m : Words) (p q : Option Touch) → clashes m p q ≡ false → hears_at (words_after m p) q ≡ hears_at m q
 hears_same m p None off = refl
 hears_same m None (Some u) off = refl
 hears_same m (Some t) (Some u) off = ap (λ k. cond u.access.gives_word (a_word k) silence) (word_still m t u off)
 
 -- What the agents know
 
+abbrev touched_at : List Mark → Touch → ℕ → List Touched
+touched_at knew t old = record { block = t.block; index = t.index; writes = changes (change_by t.access.edit old); knew = knew } ∷ []
+
+-- an access writes where it would write without the other
+touched_still : (m : Words) (p q : Option Touch) (knew : List Mark) → clashes m p q ≡ false → touched_now knew (words_after m p) q ≡ touched_now knew m q
+touched_still m p None knew off = refl
+touched_still m None (Some u) knew off = refl
+touched_still m (Some t) (Some u) knew off = ap (touched_at knew u) (word_still m t u off)
+
+pub lore_still : (old : Lore) (i : ℕ) (marks : List Mark) (m : Words) (p q : Option Touch) (sent : List (ℕ × Letter)) → clashes m p q ≡ false → lore_with old i marks (words_after m p) q sent ≡ lore_with old i marks m q sent
+lore_still old i marks m p q sent off = λ k. record {
+  knows = marks ++ (own_mark i old.touched q ++ old.knows);
+  told = λ r. old.told r ++ map (λ x. old.knows) (addressed r sent);
+  touched = old.touched ++ touched_still m p q old.knows off k;
+}
+
 -- what the step of agent i leaves of what it knows
 abbrev pub lore_of_step : (n : ℕ) (w : World) (i : ℕ) (t : World) → Goes n w i t → Lore
-lore_of_step n w i t x = new_lore (w.lore i) i (learned w.lore i x.before x.got) x.before x.event
+lore_of_step n w i t x = new_lore (w.lore i) i (learned w.lore i x.before x.got) w.words x.before x.event
 
 pub lore_there : (f : ℕ → Lore) (i : ℕ) (x : Lore) (j : ℕ) → (i ≡ j → ⊥) → lore_after f i x j ≡ f j
 lore_there f i x j other = elim (cases_Bool (i == j)) [
@@ -149,13 +170,6 @@ pub either : (a b : Bool) → (a || b) ≡ true → (a ≡ true) ⊎ (b ≡ true
 either true b e = inl refl
 either false b e = inr e
 
-pub or_left : (a b : Bool) → a ≡ true → (a || b) ≡ true
-or_left a b e = ap (λ a. a || b) e
-
-pub or_right : (a b : Bool) → b ≡ true → (a || b) ≡ true
-or_right true b e = refl
-or_right false b e = e
-
 pub any_parts : {A : Type 0} (p : A → Bool) (xs ys : List A) → list_any p (xs ++ ys) ≡ true → (list_any p xs ≡ true) ⊎ (list_any p ys ≡ true)
 any_parts p [] ys e = inr e
 any_parts p (x ∷ xs) ys e = elim (either (p x) (list_any p (xs ++ ys)) e) [
@@ -179,10 +193,6 @@ any_mapped x marks (l ∷ ls) e = elim (either (is_known x marks) (list_any (is_
   | inr there ↦ any_mapped x marks ls there
 ]
 
-pub length_mapped : {A B : Type 0} (f : A → B) (xs : List A) → length (map f xs) ≡ length xs
-length_mapped f [] = refl
-length_mapped f (x ∷ xs) = ap suc (length_mapped f xs)
-
 pub get_more : {A : Type 0} (xs ys : List A) (p : ℕ) (x : A) → slice_get xs p ≡ Some x → slice_get (xs ++ ys) p ≡ Some x
 get_more [] ys p x e = cc
 get_more (z ∷ xs) ys zero x e = e
@@ -205,14 +215,7 @@ took_letter all i s a e r got (over_block q ∷ ls) is h = inr (s, drop_left (ti
 
 pub took : (n : ℕ) (all : Locals) (m : Words) (i : ℕ) (a : Local) (d : Due) (e : Event) (r : Option Row) (got : List ℕ) → Finds n all m i a d e r got → Took all i a got
 took n all m i a (receive k s) e r got f = took_letter all i s a e r got (letters all s i a) refl f
-took n all m i a (begin k) e r got f = inl f.1
-took n all m i a (run c) e r got f = inl f.1
-took n all m i a (clean q) e r got f = inl f.1
-took n all m i a (take_cell q) e r got f = inl f.1
-took n all m i a (finish p) e r got f = inl f.1
-took n all m i a end_job e r got f = inl f.1
-took n all m i a close e r got f = inl f.1
-took n all m i a nothing e r got f = inl f.1
+took n all m i a _ e r got f = inl f.1
 
 pub learned_still : (n : ℕ) (w : World) (i : ℕ) (t : World) → IsSane w → Goes n w i t → (j : ℕ) (b : Local) (got : List ℕ) → Took w.locals j b got → learned t.lore j b got ≡ learned w.lore j b got
 learned_still n w i t sane x j b got (inl none) = ap (learned t.lore j b) none ∙ sym (ap (learned w.lore j b) none)
@@ -239,7 +242,7 @@ touched_stays n w i t x j p y is = elim (cases_Bool (i == j)) [
   | inl here ↦ (
       let same = eqb-true i j here in
       ap (λ k. slice_get (t.lore k).touched p) (sym same) ∙ ap (λ (o : Lore). slice_get o.touched p) (lore_mine n w i t x)
-      ∙ get_more (w.lore i).touched (touched_now (w.lore i).knows (touch_by x.before.over x.event)) p y (ap (λ k. slice_get (w.lore k).touched p) same ∙ is))
+      ∙ get_more (w.lore i).touched (touched_now (w.lore i).knows w.words (touch_by x.before.over x.event)) p y (ap (λ k. slice_get (w.lore k).touched p) same ∙ is))
 ]
 
 pub touched_far : (n k : ℕ) (w end : World) → GoFar n k w end → (j p : ℕ) (y : Touched) → slice_get (w.lore j).touched p ≡ Some y → slice_get (end.lore j).touched p ≡ Some y
@@ -252,7 +255,7 @@ touched_grow n w i t x j = elim (cases_Bool (i == j)) [
   | inr off ↦ (let same = ap (λ (o : Lore). length o.touched) (lore_other n w i t x j (eqb-false i j off)) in omega (arith, same))
   | inl here ↦ (
       let same = eqb-true i j here in
-      let now = touched_now (w.lore i).knows (touch_by x.before.over x.event) in
+      let now = touched_now (w.lore i).knows w.words (touch_by x.before.over x.event) in
       let size : length (t.lore j).touched ≡ length (w.lore i).touched + length now =
       ap (λ k. length (t.lore k).touched) (sym same) ∙ ap (λ (o : Lore). length o.touched) (lore_mine n w i t x) ∙ length-append (w.lore i).touched now in
       let old = ap (λ k. length (w.lore k).touched) same in

@@ -1,12 +1,16 @@
 -- An agent that is asked takes a turn: its next event, or it waits on, or it has ended.
 use Rattle.std.proofs.Common.{◌≡◌, ◌≢◌, ℕ, zero, suc, ◌+◌, ◌^◌, ◌<◌, ◌==◌, ◌&&◌, ◌||◌, Bool, true, false, cond, if◌then◌else◌, not, sym, ◌∙◌, ap, refl, subst, arith, eq-eqb, nat_lt, List, [], ◌∷◌, ◌++◌, map, Option, Some, None, Result, Ok, Err}
-use Rattle.std.specs.Prelude.{ℤ, pos, negsuc, unsigned_abs, is_some}
+use Rattle.std.specs.Prelude.{ℤ, pos, negsuc, unsigned_abs, is_some, slice_index_or}
 use Rattle.std.specs.List.{filter, Contains, list_all}
 use Rattle.std.specs.Option.{option_and_then}
+use Rattle.std.proofs.lemmas.Nat.{and_le_l, or_lt, xor_lt}
 use Rattle.es_value.specs.Limits.{most_identities}
 use Rattle.es_value.specs.declared.value.Value.{Value}
 use Rattle.es_value.specs.declared.value.Value.TheVariants.{Number, Object}
 use Rattle.es_event.specs.declared.access.Access.{Access}
+use Rattle.es_event.specs.declared.access.Change.{Change}
+use Rattle.es_event.specs.declared.access.Edit.{Edit}
+use Rattle.es_event.specs.declared.access.Modification.{Modification}
 use Rattle.es_event.specs.declared.atomic.Operation.{Operation}
 use Rattle.es_event.specs.declared.command.Command.{Command}
 use Rattle.es_event.specs.declared.command.Command.TheVariants.{Atomic, Post}
@@ -21,13 +25,14 @@ use Rattle.es_event.specs.declared.ledger_event.Body.TheVariants.{Plain, Block}
 use Rattle.es_event.specs.declared.ledger_event.LedgerEvent.{LedgerEvent}
 use Rattle.es_event.specs.declared.ledger_event.LedgerEvent.TheVariants.{Opened, Posted, Taken, Spent, Accessed, Waiting as WaitingEvent, Passed, Ended as EndedEvent}
 use Rattle.es_event.specs.declared.row.Row.{Row}
-use Rattle.es_event.specs.Access.{access_of, to_uint32, IsStorable}
+use Rattle.es_event.specs.Access.{to_uint32, IsStorable, change_by, edit_of}
 use Rattle.es_event.specs.Commands.{reads, first}
 use Rattle.es_event.specs.History.{History}
 use Rattle.es_event.specs.Identities.{is_in, is_there, made}
 use Rattle.es_event.specs.Jobs.{receivers}
 use Rattle.es_event.specs.Ledger.{Ledger, opened, serials, serial_in, size, front, holder_of, word, waits, ended}
-use Rattle.es_event.specs.LegalLedger.{ComesNext, LegalLedger, MayCome, Reaches, has_message, owed, skips}
+use Rattle.es_event.specs.LegalLedger.{LegalLedger, MayCome, Reaches, has_message, owed, skips}
+use Rattle.es_event.specs.Numbers.{access_of, index_of, number_or_0, word_at, words_read}
 use Rattle.es_event.specs.Late.{AreLate}
 use Rattle.es_event.specs.Later.{derefed_since}
 use Rattle.es_event.specs.Legal.{is_rising, values_of, Lawful}
@@ -35,9 +40,7 @@ use Rattle.es_event.specs.Order.{Due, begin, receive, run, clean, take_cell, fin
 use Rattle.es_event.specs.Follows.{Permits}
 use Rattle.es_event.specs.Rows.{row}
 use Rattle.es_event.specs.Rules.{completion, refusal}
-use Rattle.es_event.specs.Runs.{IsRunOver}
 use Rattle.es_event.proofs.Entries.{inner}
-use Rattle.es_event.proofs.Extending.{agrees_longer, still_follows, still_legal}
 use Rattle.es_event.proofs.Finishing.{is_open}
 use Rattle.es_event.proofs.Listing.{TheDead, the_dead, dead_there}
 use Rattle.es_event.proofs.Next.{SomeAt, some_next, takes_next}
@@ -48,17 +51,18 @@ use Rattle.es_ledger.specs.LedgerView.{LedgerView}
 use Rattle.es_ledger.specs.Turns.{asked, judged, told, waits_for}
 use Rattle.es_ledger.specs.declared.turn.Turn.{Turn as Told}
 use Rattle.es_ledger.specs.declared.turn.Turn.TheVariants.{Ready, Stay, Skip}
-use Rattle.es_record.specs.AgentView.{AgentView, IsNext, with_buffer, with_row}
+use Rattle.es_ledger.proofs.Tying.{next_legal}
+use Rattle.es_record.specs.AgentView.{AgentView, IsNext, with_buffer}
 use Rattle.es_rules.specs.Giving.{MayGive}
 use Rattle.es_rules.specs.Needs.{Need, Request, for_block, for_post, for_buffer_post, for_access, asked as asked_of, asks_nobody, asks_marks, asks_copy, asks_late_marks, asks_ledger, asks_message, asks_closing, asks_nothing, need, need_of, access_at, posts_to, Brings, TakesDone, TakesTicket, TakesWord}
 use Rattle.es_rules.proofs.Answering.{block_makes, block_next, buffer_received, done_next, job_skipped, local_done, local_refused, may_give_nothing, may_give_word, message_refused, value_received}
 use Rattle.es_rules.proofs.Needs.{finish_due, ledger_due, local_command, message_due, not_refused}
 use Rattle.es_agent.specs.Later.{opening}
-use Rattle.es_agent.specs.Tickets.{Admits, AreLateNow, Collects, DoesWith, Finishes, Receives, RefusesMessage, Skips, tickets}
+use Rattle.es_agent.specs.Tickets.{Admits, AreLateNow, Collects, DoesWith, Finishes, Receives, RefusesMessage, Skips, tickets, Empties}
 use Rattle.es_agent.proofs.Racks.{dead_next, emptied_tickets, late_next, still_rises, ticket_named}
 use Rattle.es_cluster.specs.Members.{rows_of}
 use Rattle.es_cluster.specs.Midway.{IsReady, answer_to}
-use Rattle.es_cluster.specs.Tied.{GrowsBy, IsSettled}
+use Rattle.es_cluster.specs.Tied.{GrowsBy, IsSettled, AreDeedsOf}
 use Rattle.es_cluster.specs.Turned.{GrowsByOne, IsSeated, NamesOthers, WaitsRightly, spent}
 use Rattle.es_cluster.specs.declared.member.Progress.{Progress}
 use Rattle.es_cluster.specs.declared.member.Progress.TheVariants.{Moved, Waiting, Ended}
@@ -74,6 +78,7 @@ use Rattle.es_theorems.proofs.Going.{AllHeld, Apart, Going, Only, OtherThan, Sta
 use Rattle.es_theorems.proofs.Holding.{held_new, held_taken, holds_it, front_plain, not_mine, not_yet, word_small}
 use Rattle.es_theorems.proofs.Only.{Gives as GivesTo, only_after, only_besides, only_more, only_none, only_returned}
 use Rattle.es_theorems.proofs.Rack.{AllSpent, apart_more, apart_picked, held_after, held_besides, held_but, held_more, held_picked, off_both, other_than_held, spend_all}
+use Rattle.es_theorems.proofs.Running.{run_on}
 
 -- An agent with its stake
 
@@ -111,18 +116,6 @@ named b l g o r is = ticket_named b o r g.rising is
 
 -- What a turn leaves
 
--- whatever ticket comes with the event, its history is a run still
-run_on : (b new : AgentView) → IsRunOver b.over b.plan b.history → GrowsByOne b new → IsRunOver new.over new.plan new.history
-run_on b new before turn = subst (λ x. IsRunOver x.over x.plan x.history) (sym turn.3) (by_row turn.1 turn.2)
-  where
-    by_row : (r : Option Row) → IsNext (with_row r b) turn.0 → IsRunOver (with_row r b).over b.plan (turn.0 ∷ b.history)
-    by_row None next = ((next.lawful, before.0), (next.permitted, before.1))
-    by_row (Some r) next =
-        let agrees = agrees_longer b.history b.over r in (
-          (next.lawful, still_legal b.over (with_row (Some r) b).over (receivers b.plan.jobs) b.history agrees before.0),
-          (next.permitted, still_follows b.over (with_row (Some r) b).over b.plan b.history agrees before.0 before.1),
-        )
-
 -- where no ticket comes
 going_on : (b : AgentView) (l m : Ledger) (e : Event) → Going b l → GrowsByOne b (record b { history = e ∷ b.history }) → AllHeld b.number m (tickets (record b { history = e ∷ b.history })) → Apart (tickets (record b { history = e ∷ b.history }))
     → Only b.number m (tickets (record b { history = e ∷ b.history })) → Going (record b { history = e ∷ b.history }) m
@@ -157,8 +150,21 @@ going_with b l m e r g a more held mine other only =
 seat : (b new : AgentView) (l : LedgerView) (m : Ledger) → IsSeated b l → Step b new → ended m b.number ≡ ended l.history b.number → GrowsBy b.number l.history m → IsSeated new (with_history l m)
 seat b new l m seated step over grows = (keeps b new l (with_history l m) (stake new) step (refl, λ p. refl) refl over grows).seated seated
 
-legal_more : (n : ℕ) (l : Ledger) (e : LedgerEvent) → LegalLedger n l → MayCome n l e → owed (e ∷ l) ≡ None → LegalLedger n (e ∷ l)
-legal_more n l e legal may owes = ((subst (ComesNext n l e) (sym legal.1) may, legal.0), owes)
+-- its next event is recorded, and its deeds are done
+moves_to : (b new : AgentView) (l : LedgerView) (m : Ledger) → Standing b l → Step b new → GrowsByOne b new → WaitsRightly Moved b l (with_history l m) → GrowsBy b.number l.history m → IsSettled new m → ended m b.number ≡ ended l.history b.number
+    → LegalLedger l.agents m → Going new m → Turn Moved b l
+moves_to b new l m x step takes told grows tied over legal going = record {
+  after = new;
+  ledger = with_history l m;
+  takes = takes;
+  told = told;
+  grows = grows;
+  number = refl;
+  tied = tied;
+  seated = seat b new l m x.seated step over grows;
+  legal = legal;
+  going = going;
+}
 
 -- it asks for no message, so it was not told to stay
 unasked : (b : AgentView) (l m : LedgerView) (d : Need) → need b ≡ d → ((s : ℕ) → d ≡ asks_message s → ⊥) → WaitsRightly Moved b l m
@@ -197,35 +203,17 @@ alone b l x is =
     let next = local_at b (due b.plan b.history) refl is in
     let new = record b { history = next.0 ∷ b.history } in
     let stays = local_leaves b new is (next.0, next.1, refl) in
-    record {
-      after = new;
-      ledger = l;
-      takes = stays.moves;
-      told = unasked b l l asks_nobody is (λ s e. cc);
-      grows = grows_none b.number l.history;
-      number = refl;
-      tied = local_ties b new (stake b) l (ready b l x) is x.going.run (named b l.history x.going) (next.0, next.1, refl);
-      seated = seat b new l l.history x.seated stays.step refl (grows_none b.number l.history);
-      legal = x.legal;
-      going = going_still b l.history l.history next.0 x.going stays x.going.held x.going.only;
-    }
+    moves_to b new l l.history x stays.step stays.moves (unasked b l l asks_nobody is (λ s e. cc)) (grows_none b.number l.history)
+    (local_ties b new (stake b) l (ready b l x) is x.going.run (named b l.history x.going) (next.0, next.1, refl)) refl x.legal
+    (going_still b l.history l.history next.0 x.going stays x.going.held x.going.only)
 
 copied : (b : AgentView) (l : LedgerView) → Standing b l → need b ≡ asks_copy → Turn Moved b l
 copied b l x is =
     let new = record b { history = opening ∷ b.history } in
     let stays = opened_leaves b new is refl in
-    record {
-      after = new;
-      ledger = l;
-      takes = stays.moves;
-      told = unasked b l l asks_copy is (λ s e. cc);
-      grows = grows_none b.number l.history;
-      number = refl;
-      tied = opened_ties b new (stake b) l (ready b l x) is refl;
-      seated = seat b new l l.history x.seated stays.step refl (grows_none b.number l.history);
-      legal = x.legal;
-      going = going_still b l.history l.history opening x.going stays x.going.held x.going.only;
-    }
+    moves_to b new l l.history x stays.step stays.moves (unasked b l l asks_copy is (λ s e. cc)) (grows_none b.number l.history)
+    (opened_ties b new (stake b) l (ready b l x) is refl) refl x.legal
+    (going_still b l.history l.history opening x.going stays x.going.held x.going.only)
 
 -- An emptying
 
@@ -242,28 +230,24 @@ emptying b l ids x next all =
 spending : (b : AgentView) (l : LedgerView) (p : ℕ × Row → Bool) → Standing b l → AllSpent l.agents b.number l.history (filter p (tickets b))
 spending b l p x = spend_all l.agents b.number l.history (filter p (tickets b)) x.legal.0 x.legal.1 (held_picked p b.number l.history (tickets b) x.going.held) (apart_picked p (tickets b) x.going.apart)
 
+-- these are emptied, and their tickets spent
+emptied : {chosen : List ℕ → Type 0} (b new : AgentView) (l : LedgerView) (d : Need) (ids : List ℕ) (x : Standing b l) → need b ≡ d → ((s : ℕ) → d ≡ asks_message s → ⊥) → new ≡ record b { history = Emptied ids ∷ b.history } → IsNext b (Emptied ids)
+    → Empties chosen b (among ids (tickets b)) new → (AreDeedsOf b.number (map (λ t. Spent t.1.serial) (among ids (tickets b))) l.history → IsSettled new (spent (among ids (tickets b)) l.history)) → Turn Moved b l
+emptied b new l d ids x is other same next empties ties =
+    let m = spent (among ids (tickets b)) l.history in
+    let all = spending b l (λ t. is_in ids t.0) x in
+    moves_to b new l m x (collected_step b new (among ids (tickets b)) empties) (collected_moves b new (among ids (tickets b)) empties) (unasked b l (with_history l m) d is other)
+    (map (λ t. Spent t.1.serial) (among ids (tickets b)), refl, all.deeds) (ties all.deeds) (spent_over (among ids (tickets b)) l.history b.number) (all.legal, all.owes)
+    (subst (λ b. Going b m) (sym same) (emptying b l ids x next all))
+
 collected : (b : AgentView) (l : LedgerView) → Standing b l → need b ≡ asks_marks → Turn Moved b l
 collected b l x is =
     let dead : TheDead (receivers b.plan.jobs) b.history = the_dead (receivers b.plan.jobs) b.history in
-    let ids = dead.list in
-    let next = dead_next b ids is dead.dead (dead_there (receivers b.plan.jobs) b.history ids dead.dead) dead.rising in
-    let new = record b { history = Emptied ids ∷ b.history } in
-    let out = among ids (tickets b) in
-    let all = spending b l (λ t. is_in ids t.0) x in
-    let collects : Collects b out new = (ids, dead.dead, next, refl, refl) in
-    let grows : GrowsBy b.number l.history (spent out l.history) = (map (λ t. Spent t.1.serial) out, refl, all.deeds) in
-    record {
-      after = new;
-      ledger = with_history l (spent out l.history);
-      takes = collected_moves b new out collects;
-      told = unasked b l (with_history l (spent out l.history)) asks_marks is (λ s e. cc);
-      grows = grows;
-      number = refl;
-      tied = collected_ties b new (stake b) l (spent out l.history) out (ready b l x) is collects all.deeds refl;
-      seated = seat b new l (spent out l.history) x.seated (collected_step b new out collects) (spent_over out l.history b.number) grows;
-      legal = (all.legal, all.owes);
-      going = emptying b l ids x next all;
-    }
+    let next = dead_next b dead.list is dead.dead (dead_there (receivers b.plan.jobs) b.history dead.list dead.dead) dead.rising in
+    let new = record b { history = Emptied dead.list ∷ b.history } in
+    let out = among dead.list (tickets b) in
+    let collects : Collects b out new = (dead.list, dead.dead, next, refl, refl) in
+    emptied b new l asks_marks dead.list x is (λ s e. cc) refl next collects (λ deeds. collected_ties b new (stake b) l (spent out l.history) out (ready b l x) is collects deeds refl)
 
 -- all that is late is emptied
 record LateNow (b : AgentView) : Type 0 where
@@ -295,25 +279,11 @@ late_now b is = at finished.0 finished.1 some.event some.lawful some.permitted
 finished : (b : AgentView) (l : LedgerView) → Standing b l → need b ≡ asks_late_marks → Turn Moved b l
 finished b l x is =
     let late : LateNow b = late_now b is in
-    let ids = late.ids in
-    let next = late_next b ids is late.late late.there late.rising in
-    let new = record b { history = Emptied ids ∷ b.history } in
-    let out = among ids (tickets b) in
-    let all = spending b l (λ t. is_in ids t.0) x in
-    let finishes : Finishes b out new = (ids, late.late, next, refl, refl) in
-    let grows : GrowsBy b.number l.history (spent out l.history) = (map (λ t. Spent t.1.serial) out, refl, all.deeds) in
-    record {
-      after = new;
-      ledger = with_history l (spent out l.history);
-      takes = collected_moves b new out finishes;
-      told = unasked b l (with_history l (spent out l.history)) asks_late_marks is (λ s e. cc);
-      grows = grows;
-      number = refl;
-      tied = finished_ties b new (stake b) l (spent out l.history) out (ready b l x) is finishes all.deeds refl;
-      seated = seat b new l (spent out l.history) x.seated (collected_step b new out finishes) (spent_over out l.history b.number) grows;
-      legal = (all.legal, all.owes);
-      going = emptying b l ids x next all;
-    }
+    let next = late_next b late.ids is late.late late.there late.rising in
+    let new = record b { history = Emptied late.ids ∷ b.history } in
+    let out = among late.ids (tickets b) in
+    let finishes : Finishes b out new = (late.ids, late.late, next, refl, refl) in
+    emptied b new l asks_late_marks late.ids x is (λ s e. cc) refl next finishes (λ deeds. finished_ties b new (stake b) l (spent out l.history) out (ready b l x) is finishes deeds refl)
 
 -- What it asks the ledger for
 
@@ -329,22 +299,14 @@ opened_block b l n x is =
     let grows = opening_grows b l.history m b.number (opened l.history + 1) n (serials l.history + 1) refl refl in
     let fetched = opens b (stake b) l m n r (ready b l x) is refl refl in
     let one = block_makes b at.0 r fits at.1 in
-    record {
-      after = new;
-      ledger = with_history l m;
-      takes = admitted_moves b new r admits;
-      told = unasked b l (with_history l m) (asks_ledger (for_block n)) is (λ s e. cc);
-      grows = grows;
-      number = refl;
-      tied = admitted_ties b new m r x.going.run fetched admits;
-      seated = seat b new l m x.seated (admitted_step b new r admits) refl grows;
-      legal = legal_more l.agents l.history (Opened (opened l.history + 1) n (serials l.history + 1) b.number) x.legal (refl, refl, x.seated.known) refl;
-      going = going_with b l.history m e r x.going admits (omega (arith, one))
-          (held_after l.agents l.history (Opened (opened l.history + 1) n (serials l.history + 1) b.number) b.number (tickets b) x.legal.0 (λ k f. cc) x.going.held)
-          (held_new l.agents l.history (opened l.history + 1) n (serials l.history + 1) b.number x.legal.0 refl)
-          (other_than_held b.number (serials l.history + 1) l.history (tickets b) x.going.held (λ q mine. not_yet l.agents l.history (serials l.history + 1) b.number q x.legal.0 mine refl))
-          (only_more b.number (serials l.history + 1) l.history (Opened (opened l.history + 1) n (serials l.history + 1) b.number) (tickets b) (made b.history + 1, r) refl (λ k gives. gives.0) x.going.only);
-    }
+    moves_to b new l m x (admitted_step b new r admits) (admitted_moves b new r admits) (unasked b l (with_history l m) (asks_ledger (for_block n)) is (λ s e. cc)) grows
+    (admitted_ties b new m r x.going.run fetched admits) refl
+    (next_legal l.agents l.history (Opened (opened l.history + 1) n (serials l.history + 1) b.number) x.legal (refl, refl, x.seated.known) refl)
+    (going_with b l.history m e r x.going admits (omega (arith, one))
+    (held_after l.agents l.history (Opened (opened l.history + 1) n (serials l.history + 1) b.number) b.number (tickets b) x.legal.0 (λ k f. cc) x.going.held)
+    (held_new l.agents l.history (opened l.history + 1) n (serials l.history + 1) b.number x.legal.0 refl)
+    (other_than_held b.number (serials l.history + 1) l.history (tickets b) x.going.held (λ q mine. not_yet l.agents l.history (serials l.history + 1) b.number q x.legal.0 mine refl))
+    (only_more b.number (serials l.history + 1) l.history (Opened (opened l.history + 1) n (serials l.history + 1) b.number) (tickets b) (made b.history + 1, r) refl (λ k gives. gives.0) x.going.only))
 
 -- a command that is done in the ledger, by an event that leaves who holds what
 done_there : (b : AgentView) (l : LedgerView) (r : Request) (a : Answer) (e : LedgerEvent) → Standing b l → need b ≡ asks_ledger r → (may : MayGive b a)
@@ -355,19 +317,9 @@ done_there b l r a e x is may other none over grows comes owes ties =
     let new = record b { history = told_event ∷ b.history } in
     let does : DoesWith b a new = (told_event, (may.command, may.is_due, refl), done_next b a may.command may may.is_due, refl) in
     let stays = done_stays b new a does in
-    record {
-      after = new;
-      ledger = with_history l (e ∷ l.history);
-      takes = stays.moves;
-      told = unasked b l (with_history l (e ∷ l.history)) (asks_ledger r) is (λ s f. cc);
-      grows = grows;
-      number = refl;
-      tied = ties new does;
-      seated = seat b new l (e ∷ l.history) x.seated stays.step over grows;
-      legal = legal_more l.agents l.history e x.legal comes owes;
-      going = going_still b l.history (e ∷ l.history) told_event x.going stays (held_after l.agents l.history e b.number (tickets b) x.legal.0 other x.going.held)
-          (only_after b.number l.history e (tickets b) none x.going.only);
-    }
+    moves_to b new l (e ∷ l.history) x stays.step stays.moves (unasked b l (with_history l (e ∷ l.history)) (asks_ledger r) is (λ s f. cc)) grows (ties new does) over (next_legal l.agents l.history e x.legal comes owes)
+    (going_still b l.history (e ∷ l.history) told_event x.going stays (held_after l.agents l.history e b.number (tickets b) x.legal.0 other x.going.held)
+    (only_after b.number l.history e (tickets b) none x.going.only))
 
 posted : (b : AgentView) (l : LedgerView) (a : ℕ) (v : Value) → Standing b l → need b ≡ asks_ledger (for_post a v) → Turn Moved b l
 posted b l a v x is =
@@ -402,32 +354,50 @@ small_word : (n : ℤ) → to_uint32 n < 2 ^ 32
 small_word (pos a) = omega arith
 small_word (negsuc a) = omega arith
 
-storable_of : (o : Operation) → IsStorable (access_of o).change
-storable_of (Operation.Load to) = tt
-storable_of (Operation.Store n) = small_word n
-storable_of (Operation.Add to n) = tt
+small_at : (k : ℕ) (ns : List (Result ℤ Refusal)) → word_at k ns < 2 ^ 32
+small_at k ns = small_word (number_or_0 (slice_index_or ns k (Ok (pos 0))))
 
-storable_at : (v : Value) (j : ℤ) (c : Access) (o i : ℕ) (a : Access) → access_at v j c ≡ Some (for_access o i a) → IsStorable c.change → IsStorable a.change
-storable_at (Object p) j c o i a is may =
+storable_modified : (how : Modification) (n old : ℕ) → n < 2 ^ 32 → old < 2 ^ 32 → IsStorable (change_by (Edit.Modify how n) old)
+storable_modified Modification.Add n old few small = tt
+storable_modified Modification.Sub n old few small = omega arith
+storable_modified Modification.And n old few small = (let less = and_le_l old n in omega (arith, less, small))
+storable_modified Modification.Or n old few small = or_lt 32 old n small few
+storable_modified Modification.Xor n old few small = xor_lt 32 old n small few
+storable_modified Modification.Exchange n old few small = few
+
+storable_of : (o : Operation) (v w old : ℕ) → v < 2 ^ 32 → w < 2 ^ 32 → old < 2 ^ 32 → IsStorable (change_by (edit_of o v w) old)
+storable_of (Operation.Load to) v w old few next small = tt
+storable_of (Operation.Store n) v w old few next small = few
+storable_of (Operation.Modify to how n) v w old few next small = storable_modified how v old few small
+storable_of (Operation.CompareExchange to e r) v w old few next small = if_written (old == v)
+  where
+    if_written : (b : Bool) → IsStorable (cond b (Change.Write w) Change.Keep)
+    if_written true = next
+    if_written false = tt
+
+storable_at : (v : Value) (j : ℤ) (c : Access) (o i old : ℕ) (a : Access) → access_at v j c ≡ Some (for_access o i a) → IsStorable (change_by c.edit old) → IsStorable (change_by a.edit old)
+storable_at (Object p) j c o i old a is may =
     let same : for_access p (unsigned_abs j) c ≡ for_access o i a = inner is in
     let access : c ≡ a = cc in
-    subst (λ (a : Access). IsStorable a.change) access may
-storable_at _ j c o i a is may = cc
+    subst (λ (a : Access). IsStorable (change_by a.edit old)) access may
+storable_at _ j c o i old a is may = cc
 
 post_no_access : (t : ℕ) (u : Value) (o i : ℕ) (a : Access) → Some (posts_to t u) ≡ Some (for_access o i a) → ⊥
 post_no_access t (Object p) o i a e = cc
 post_no_access t u o i a e = cc
 
-storable_asked : (c : Command) (vs : List Value) (o i : ℕ) (a : Access) → asked_of c vs ≡ Some (for_access o i a) → IsStorable a.change
-storable_asked (Atomic c) vs o i a is = storable_at (first vs) c.index (access_of c.operation) o i a is (storable_of c.operation)
-storable_asked (Post t y) vs o i a is = absurd (post_no_access t (first vs) o i a is)
-storable_asked _ vs o i a is = cc
+storable_asked : (c : Command) (vs : List Value) (o i old : ℕ) (a : Access) → asked_of c vs ≡ Some (for_access o i a) → old < 2 ^ 32 → IsStorable (change_by a.edit old)
+storable_asked (Atomic c) vs o i old a is small =
+    storable_at (first vs) (index_of c vs) (access_of c vs) o i old a is
+    (storable_of c.operation (word_at 0 (words_read c vs)) (word_at 1 (words_read c vs)) old (small_at 0 (words_read c vs)) (small_at 1 (words_read c vs)) small)
+storable_asked (Post t y) vs o i old a is small = absurd (post_no_access t (first vs) o i a is)
+storable_asked _ vs o i old a is small = cc
 
-storable : (b : AgentView) (o i : ℕ) (a : Access) → need b ≡ asks_ledger (for_access o i a) → IsStorable a.change
-storable b o i a is =
+storable : (b : AgentView) (o i old : ℕ) (a : Access) → need b ≡ asks_ledger (for_access o i a) → old < 2 ^ 32 → IsStorable (change_by a.edit old)
+storable b o i old a is small =
     let at = ledger_due b (due b.plan b.history) (for_access o i a) is in
     let vs = values_of (receivers b.plan.jobs) b.history (reads at.0) in
-    storable_asked at.0 vs o i a (not_refused (refusal b.over b.history at.0 vs) (asked_of at.0 vs) (for_access o i a) at.3).1
+    storable_asked at.0 vs o i old a (not_refused (refusal b.over b.history at.0 vs) (asked_of at.0 vs) (for_access o i a) at.3).1 small
 
 may_answer : (b : AgentView) (o i w : ℕ) (a : Access) → need b ≡ asks_ledger (for_access o i a) → w < 2 ^ 32 → MayGive b (answer_to a w)
 may_answer b o i w a is small = by_gift a.gives_word refl
@@ -441,12 +411,14 @@ accessed b l o i a x is =
     let t = ticket_of b l.history o x.going (aims_at_ticket b (for_access o i a) o x.going.run is refl) in
     let r = t.0 in
     let w = word l.history r.block i in
-    let e = Accessed r.serial i a.change w in
+    let small = word_small l.agents l.history x.legal.0 r.block i in
+    let change = change_by a.edit w in
+    let e = Accessed r.serial i change w in
     let inside = aims_inside b (for_access o i a) o i is refl refl r (ticket_named b o r x.going.rising t.1) in
     let mine : Contains (rows_of b) r = ticket_held b (stake b) o r (refl, λ p. refl) t.1 in
-    done_there b l (for_access o i a) (answer_to a w) e x is (may_answer b o i w a is (word_small l.agents l.history x.legal.0 r.block i)) (λ k f. cc) (λ k gives. gives) refl
-    (grows_one b.number l.history (e ∷ l.history) e (Accesses r.serial i a.change w) refl (owned b (stake b) l r (Accesses r.serial i a.change w) refl (ready b l x).holder mine))
-    (subst (λ h. Reaches h i (λ q. (w ≡ word l.history q.block i) × IsStorable a.change)) (sym t.2) (inside, (refl, storable b o i a is))) refl
+    done_there b l (for_access o i a) (answer_to a w) e x is (may_answer b o i w a is small) (λ k f. cc) (λ k gives. gives) refl
+    (grows_one b.number l.history (e ∷ l.history) e (Accesses r.serial i change w) refl (owned b (stake b) l r (Accesses r.serial i change w) refl (ready b l x).holder mine))
+    (subst (λ h. Reaches h i (λ q. (w ≡ word l.history q.block i) × IsStorable change)) (sym t.2) (inside, (refl, storable b o i w a is small))) refl
     (λ new does. access_ties b new (stake b) l (e ∷ l.history) o i w a r (ready b l x) is mine t.1 refl does)
 
 -- A message
@@ -459,21 +431,11 @@ received b l s v x is there is_front =
     let m = Taken s b.number ∷ l.history in
     let receives : Receives b v new = (s, is, value_received b at.0 s v at.1 plain, refl) in
     let stays = received_stays b new v receives in
-    let grows = taking_grows b l.history m b.number s refl refl in
-    record {
-      after = new;
-      ledger = with_history l m;
-      takes = stays.moves;
-      told = goes_on_ready b l (with_history l m) s is there;
-      grows = grows;
-      number = refl;
-      tied = receive_ties b new (stake b) l m s v (ready b l x) is refl is_front plain receives;
-      seated = seat b new l m x.seated stays.step refl grows;
-      legal = legal_more l.agents l.history (Taken s b.number) x.legal there refl;
-      going = going_still b l.history m (Received s v) x.going stays (held_after l.agents l.history (Taken s b.number) b.number (tickets b) x.legal.0 (λ k f. cc) x.going.held)
-          (only_after b.number l.history (Taken s b.number) (tickets b)
-          (λ k gives. (let none : ◌≡◌ {A = Option ℕ} None (Some k) = sym (ap (option_and_then serial_in) is_front) ∙ gives.0 in cc)) x.going.only);
-    }
+    moves_to b new l m x stays.step stays.moves (goes_on_ready b l (with_history l m) s is there) (taking_grows b l.history m b.number s refl refl)
+    (receive_ties b new (stake b) l m s v (ready b l x) is refl is_front plain receives) refl (next_legal l.agents l.history (Taken s b.number) x.legal there refl)
+    (going_still b l.history m (Received s v) x.going stays (held_after l.agents l.history (Taken s b.number) b.number (tickets b) x.legal.0 (λ k f. cc) x.going.held)
+    (only_after b.number l.history (Taken s b.number) (tickets b)
+    (λ k gives. (let none : ◌≡◌ {A = Option ℕ} None (Some k) = sym (ap (option_and_then serial_in) is_front) ∙ gives.0 in cc)) x.going.only))
 
 received_buffer : (b : AgentView) (l : LedgerView) (s c k : ℕ) → Standing b l → need b ≡ asks_message s → has_message l.history s b.number ≡ true → front l.history s b.number ≡ Some (Block c k) → nat_lt (made b.history) most_identities ≡ true → Turn Moved b l
 received_buffer b l s c k x is there is_front room =
@@ -483,24 +445,14 @@ received_buffer b l s c k x is there is_front room =
     let new = record (with_buffer r b) { history = e ∷ b.history } in
     let m = Taken s b.number ∷ l.history in
     let admits : Admits b r new = (e, subst (λ d. Brings d (made b.history + 1) e) (sym at.1) refl, buffer_received b at.0 s r at.1 room, refl) in
-    let grows = taking_grows b l.history m b.number s refl refl in
     let fetched = takes b (stake b) l m s r (ready b l x) is refl is_front refl in
-    record {
-      after = new;
-      ledger = with_history l m;
-      takes = admitted_moves b new r admits;
-      told = goes_on_ready b l (with_history l m) s is there;
-      grows = grows;
-      number = refl;
-      tied = admitted_ties b new m r x.going.run fetched admits;
-      seated = seat b new l m x.seated (admitted_step b new r admits) refl grows;
-      legal = legal_more l.agents l.history (Taken s b.number) x.legal there refl;
-      going = going_with b l.history m e r x.going admits (omega arith)
-          (held_after l.agents l.history (Taken s b.number) b.number (tickets b) x.legal.0 (λ k f. cc) x.going.held)
-          (held_taken l.agents l.history s b.number c k x.legal.0 is_front)
-          (other_than_held b.number k l.history (tickets b) x.going.held (λ q mine. not_mine l.agents l.history s b.number k c b.number q x.legal.0 is_front mine))
-          (only_more b.number k l.history (Taken s b.number) (tickets b) (made b.history + 1, r) refl (λ j gives. inner (sym (ap (option_and_then serial_in) is_front) ∙ gives.0)) x.going.only);
-    }
+    moves_to b new l m x (admitted_step b new r admits) (admitted_moves b new r admits) (goes_on_ready b l (with_history l m) s is there) (taking_grows b l.history m b.number s refl refl)
+    (admitted_ties b new m r x.going.run fetched admits) refl (next_legal l.agents l.history (Taken s b.number) x.legal there refl)
+    (going_with b l.history m e r x.going admits (omega arith)
+    (held_after l.agents l.history (Taken s b.number) b.number (tickets b) x.legal.0 (λ k f. cc) x.going.held)
+    (held_taken l.agents l.history s b.number c k x.legal.0 is_front)
+    (other_than_held b.number k l.history (tickets b) x.going.held (λ q mine. not_mine l.agents l.history s b.number k c b.number q x.legal.0 is_front mine))
+    (only_more b.number k l.history (Taken s b.number) (tickets b) (made b.history + 1, r) refl (λ j gives. inner (sym (ap (option_and_then serial_in) is_front) ∙ gives.0)) x.going.only))
 
 refused : (b : AgentView) (l : LedgerView) (s c k : ℕ) → Standing b l → need b ≡ asks_message s → has_message l.history s b.number ≡ true → front l.history s b.number ≡ Some (Block c k) → nat_lt (made b.history) most_identities ≡ false → Turn Moved b l
 refused b l s c k x is there is_front full =
@@ -512,25 +464,16 @@ refused b l s c k x is there is_front full =
     let refuses : RefusesMessage b new = (s, is, message_refused b at.0 s at.1 full, refl) in
     let stays = refused_stays b new refuses in
     let mine : holder_of mid k ≡ Some (b.number, r) = held_taken l.agents l.history s b.number c k x.legal.0 is_front in
-    let legal_mid : LegalLedger l.agents mid = legal_more l.agents l.history (Taken s b.number) x.legal there refl in
+    let legal_mid : LegalLedger l.agents mid = next_legal l.agents l.history (Taken s b.number) x.legal there refl in
     let grows = grows_on b.number l.history mid m (taking_grows b l.history mid b.number s refl refl) (spending_grows b mid m b.number r refl mine refl) in
     let fetched = takes b (stake b) l mid s r (ready b l x) is refl is_front refl in
-    record {
-      after = new;
-      ledger = with_history l m;
-      takes = stays.moves;
-      told = goes_on_ready b l (with_history l m) s is there;
-      grows = grows;
-      number = refl;
-      tied = refused_ties b new mid m r x.going.run fetched b.number refl mine refl refuses;
-      seated = seat b new l m x.seated stays.step refl grows;
-      legal = legal_more l.agents mid (Spent k) legal_mid (ap is_some mine) refl;
-      going = going_still b l.history m (Refused TooManyValues) x.going stays
-          (held_but l.agents mid k b.number (tickets b) legal_mid.0
-          (other_than_held b.number k l.history (tickets b) x.going.held (λ q held. not_mine l.agents l.history s b.number k c b.number q x.legal.0 is_front held))
-          (held_after l.agents l.history (Taken s b.number) b.number (tickets b) x.legal.0 (λ k f. cc) x.going.held))
-          (only_returned b.number k l.history (Taken s b.number) (tickets b) (λ j gives. inner (sym (ap (option_and_then serial_in) is_front) ∙ gives.0)) x.going.only);
-    }
+    moves_to b new l m x stays.step stays.moves (goes_on_ready b l (with_history l m) s is there) grows
+    (refused_ties b new mid m r x.going.run fetched b.number refl mine refl refuses) refl (next_legal l.agents mid (Spent k) legal_mid (ap is_some mine) refl)
+    (going_still b l.history m (Refused TooManyValues) x.going stays
+    (held_but l.agents mid k b.number (tickets b) legal_mid.0
+    (other_than_held b.number k l.history (tickets b) x.going.held (λ q held. not_mine l.agents l.history s b.number k c b.number q x.legal.0 is_front held))
+    (held_after l.agents l.history (Taken s b.number) b.number (tickets b) x.legal.0 (λ k f. cc) x.going.held))
+    (only_returned b.number k l.history (Taken s b.number) (tickets b) (λ j gives. inner (sym (ap (option_and_then serial_in) is_front) ∙ gives.0)) x.going.only))
 
 -- the wait is recorded, where it is not yet
 
@@ -541,7 +484,7 @@ asked_legal b l s x is none = at (waits l.history b.number) refl
     others = subst (λ d. NamesOthers d b.number l.agents) is x.others
 
     at : (w : Option ℕ) → waits l.history b.number ≡ w → LegalLedger l.agents (cond (is_some w) l.history (WaitingEvent b.number s ∷ l.history))
-    at None w = legal_more l.agents l.history (WaitingEvent b.number s) x.legal (x.seated.known, others.0, others.1, none, w, x.seated.over ∙ open_for b (asks_message s) (λ f. cc) is) refl
+    at None w = next_legal l.agents l.history (WaitingEvent b.number s) x.legal (x.seated.known, others.0, others.1, none, w, x.seated.over ∙ open_for b (asks_message s) (λ f. cc) is) refl
     at (Some t) w = x.legal
 
 asked_held : (b : AgentView) (l : LedgerView) (s : ℕ) → Standing b l → AllHeld b.number (asked l.history b.number s) (tickets b)
@@ -584,19 +527,11 @@ skipped b l s x is none may heard =
     let stays = skipped_stays b new skip in
     let legal = asked_legal b l s x is none in
     let grows = grows_on b.number l.history k m (asked_grows l.history b.number s) (grows_one b.number k m (Passed b.number s) (Passes s) refl refl) in
-    record {
-      after = new;
-      ledger = with_history l m;
-      takes = stays.moves;
-      told = goes_on b l (with_history l m) s Skip m is heard (λ f. cc);
-      grows = grows;
-      number = refl;
-      tied = skipped_ties b new (stake b) l m b.number s (ready b l x) is refl refl skip;
-      seated = seat b new l m x.seated stays.step (asked_ends l.history b.number s b.number) grows;
-      legal = legal_more l.agents k (Passed b.number s) legal (asked_awaits b l.history s x.tied.awaits is, may) refl;
-      going = going_still b l.history m (Skipped at.0 s) x.going stays (held_after l.agents k (Passed b.number s) b.number (tickets b) legal.0 (λ k f. cc) (asked_held b l s x))
-          (only_after b.number k (Passed b.number s) (tickets b) (λ k gives. gives) (asked_only b l s x));
-    }
+    moves_to b new l m x stays.step stays.moves (goes_on b l (with_history l m) s Skip m is heard (λ f. cc)) grows
+    (skipped_ties b new (stake b) l m b.number s (ready b l x) is refl refl skip) (asked_ends l.history b.number s b.number)
+    (next_legal l.agents k (Passed b.number s) legal (asked_awaits b l.history s x.tied.awaits is, may) refl)
+    (going_still b l.history m (Skipped at.0 s) x.going stays (held_after l.agents k (Passed b.number s) b.number (tickets b) legal.0 (λ k f. cc) (asked_held b l s x))
+    (only_after b.number k (Passed b.number s) (tickets b) (λ k gives. gives) (asked_only b l s x)))
 
 -- it asks for a message
 hears : (b : AgentView) (l : LedgerView) (s : ℕ) → Standing b l → need b ≡ asks_message s → (p : Progress) × Turn p b l
@@ -653,7 +588,7 @@ closed b l x is =
         agents = x.seated.agents;
         over = ap (λ c. c || ended (spent out l.history) b.number) (eq-eqb b.number b.number refl);
       };
-      legal = legal_more l.agents (spent out l.history) (EndedEvent b.number) (all.legal, all.owes) (x.seated.known, spent_over out l.history b.number ∙ x.seated.over ∙ open_for b asks_closing (λ f. cc) is) refl;
+      legal = next_legal l.agents (spent out l.history) (EndedEvent b.number) (all.legal, all.owes) (x.seated.known, spent_over out l.history b.number ∙ x.seated.over ∙ open_for b asks_closing (λ f. cc) is) refl;
       going = going_on b l.history m Closed x.going moves tt tt (only_after b.number (spent out l.history) (EndedEvent b.number) [] (λ k gives. gives) (only_none b.number l.history out x.going.only));
     }
 

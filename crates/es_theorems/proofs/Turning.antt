@@ -1,9 +1,9 @@
 -- A turn of an agent from two clusters that tell the same: both go on to clusters that tell the same.
 use Rattle.std.proofs.Common.{◌≡◌, ℕ, ◌+◌, Bool, true, false, cond, sym, ◌∙◌, ap, refl, subst, List, [], ◌∷◌, ◌++◌, append-nil, append_assoc, reverse, Option, Some, None}
-use Rattle.std.proofs.lemmas.List.{reverse-append}
+use Rattle.std.proofs.lemmas.List.{reverse-append, append_cancel_left}
 use Rattle.es_event.specs.declared.event.Event.{Event}
 use Rattle.es_event.specs.declared.ledger_event.LedgerEvent.{LedgerEvent}
-use Rattle.es_event.specs.declared.ledger_event.LedgerEvent.TheVariants.{Opened, Posted, Taken, Spent, Accessed, Waiting as WaitingEvent, Passed, Ended as EndedEvent, Drained}
+use Rattle.es_event.specs.declared.ledger_event.LedgerEvent.TheVariants.{Drained}
 use Rattle.es_event.specs.declared.row.Row.{Row}
 use Rattle.es_event.specs.Identities.{made}
 use Rattle.es_event.specs.Jobs.{job}
@@ -37,14 +37,7 @@ pub record Done (n : ℕ) (l m : Ledger) : Type 0 where
 -- no ticket of a drained message is owed after a deed of an agent
 pub owes_nothing : (l : Ledger) (e : LedgerEvent) (n : ℕ) (d : Deed) → deed l e ≡ Some (n, d) → owed (e ∷ l) ≡ None
 owes_nothing l (Drained s r) n d is = cc
-owes_nothing l (Opened b w s a) n d is = refl
-owes_nothing l (Posted a r m) n d is = refl
-owes_nothing l (Taken s r) n d is = refl
-owes_nothing l (Spent s) n d is = refl
-owes_nothing l (Accessed s i m old) n d is = refl
-owes_nothing l (WaitingEvent a s) n d is = refl
-owes_nothing l (Passed a s) n d is = refl
-owes_nothing l (EndedEvent a) n d is = refl
+owes_nothing l _ n d is = refl
 
 pub still_owes_nothing : (n : ℕ) (l : Ledger) (es : List LedgerEvent) → AreDeedsOf n es l → owed l ≡ None → owed (es ++ l) ≡ None
 still_owes_nothing n l [] are none = none
@@ -86,14 +79,10 @@ done k n l m grows none legal = subst (Done n l) (sym grows.1) (done_each k n l 
 
 -- So it goes on in one way
 
-cancelled : {A : Type 0} (xs ys zs : List A) → xs ++ ys ≡ xs ++ zs → ys ≡ zs
-cancelled [] ys zs is = is
-cancelled (x ∷ xs) ys zs is = cancelled xs ys zs (let rest : xs ++ ys ≡ xs ++ zs = cc in rest)
-
 -- the ticket that came
 row_came : (b : AgentView) (r : Option Row) (t : Tickets) → reverse b.over ++ t ≡ reverse (with_row r b).over → t ≡ came_row (made b.history) r
-row_came b None t is = cancelled (reverse b.over) t [] (is ∙ sym (append-nil (reverse b.over)))
-row_came b (Some r) t is = cancelled (reverse b.over) t ((made b.history + 1, r) ∷ []) (is ∙ reverse-append ((made b.history + 1, r) ∷ []) b.over)
+row_came b None t is = append_cancel_left (reverse b.over) t [] (is ∙ sym (append-nil (reverse b.over)))
+row_came b (Some r) t is = append_cancel_left (reverse b.over) t ((made b.history + 1, r) ∷ []) (is ∙ reverse-append ((made b.history + 1, r) ∷ []) b.over)
 
 -- the agent after the event
 abbrev pub after_event : AgentView → Option Row → Event → AgentView
@@ -109,6 +98,6 @@ move n l m b e r before now next x =
       left = had.0;
       met = had.1;
       came = row_came b r (ticket_in (asked_by b e) x.deeds) (ap (λ c. c.ever) had.2);
-      sender = cancelled (refused_senders b.plan b.history) (refused_in (asked_by b e) x.deeds) (cond (is_refusal_asked (asked_by b e)) (awaited b.plan (job b.history)) []) (ap (λ c. c.refused) had.2);
+      sender = append_cancel_left (refused_senders b.plan b.history) (refused_in (asked_by b e) x.deeds) (cond (is_refusal_asked (asked_by b e)) (awaited b.plan (job b.history)) []) (ap (λ c. c.refused) had.2);
       fit = x.fit;
     }

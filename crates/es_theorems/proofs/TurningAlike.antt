@@ -6,7 +6,7 @@ use Rattle.es_event.specs.declared.event.Event.{Event}
 use Rattle.es_event.specs.declared.row.Row.{Row}
 use Rattle.es_event.specs.Ledger.{Ledger}
 use Rattle.es_event.specs.LegalLedger.{LegalSoFar}
-use Rattle.es_event.specs.Order.{Due, begin, receive, run, clean, take_cell, finish, end_job, close, nothing, due}
+use Rattle.es_event.specs.Order.{Due, receive, run, due}
 use Rattle.es_event.specs.Runs.{ComesNext}
 use Rattle.es_match.specs.Deeds.{Deed, part}
 use Rattle.es_match.specs.Cluster.{DeedsMeet}
@@ -47,14 +47,7 @@ means n c words i m b e r ds holds x = by_due (due b.plan b.history) refl
   where
     by_due : (d : Due) → due b.plan b.history ≡ d → Means n c words i m b e r ds
     by_due (receive k s) at = means_message n c words i m b e r ds k s x at
-    by_due (begin j) at = means_alone n c words i m b e r ds holds x (λ k s is. let clash = sym at ∙ is in cc)
-    by_due (run q) at = means_alone n c words i m b e r ds holds x (λ k s is. let clash = sym at ∙ is in cc)
-    by_due (clean q) at = means_alone n c words i m b e r ds holds x (λ k s is. let clash = sym at ∙ is in cc)
-    by_due (take_cell q) at = means_alone n c words i m b e r ds holds x (λ k s is. let clash = sym at ∙ is in cc)
-    by_due (finish p) at = means_alone n c words i m b e r ds holds x (λ k s is. let clash = sym at ∙ is in cc)
-    by_due end_job at = means_alone n c words i m b e r ds holds x (λ k s is. let clash = sym at ∙ is in cc)
-    by_due close at = means_alone n c words i m b e r ds holds x (λ k s is. let clash = sym at ∙ is in cc)
-    by_due nothing at = means_alone n c words i m b e r ds holds x (λ k s is. let clash = sym at ∙ is in cc)
+    by_due _ at = means_alone n c words i m b e r ds holds x (λ k s is. let clash = sym at ∙ is in cc)
 
 pub step : (n : ℕ) (c : ClusterView) (words : Words) (i : ℕ) (d : ClusterView) → Along n c → HasWords n c.ledger.history words → (turn : Turned Moved i c d) → Step n c words i d turn.before turn.after
 step n c words i d along holds turn = record { event = e; row = r; is = turn.turn.3; deeds = doing.deeds; at = at; means = means n c words i d.ledger.history b e r doing.deeds holds at }
@@ -121,8 +114,8 @@ over_on n c i m b e r ds x come =
 -- The agent, and all of them, by their own names
 
 goes : (n : ℕ) (c : ClusterView) (words : Words) (i : ℕ) (d : ClusterView) (b new : AgentView) (e : Event) (r : Option Row) (ds : List Deed) → n ≡ c.ledger.agents → d.ledger.agents ≡ c.ledger.agents → d.agents ≡ slice_set c.agents i new → new ≡ grown_by b r e
-    → AtTurn n c i d.ledger.history b e r ds → Means n c words i d.ledger.history b e r ds → Goes n (world_of c words) i (world_of d (words_after words (touch_by (renamed (name n c.ledger.history) b.over) e)))
-goes n c words i d b new e r ds size number agents is x y = record {
+    → HasWords n c.ledger.history words → AtTurn n c i d.ledger.history b e r ds → Means n c words i d.ledger.history b e r ds → Goes n (world_of c words) i (world_of d (words_after words (touch_by (renamed (name n c.ledger.history) b.over) e)))
+goes n c words i d b new e r ds size number agents is holds x y = record {
   before = local_of n l b;
   at = mapped_at (local_of c.ledger.agents l) c.agents i ∙ ap (option_map (local_of c.ledger.agents l)) x.here ∙ ap (λ n. Some (local_of n l b)) (sym size);
   run = run_renamed (name n l) b.over b.plan b.history (names_apart n l b.over x.along.legal (over_opened l b.over keeps.over)) (x.along.stands.each i b x.here).run;
@@ -191,15 +184,15 @@ goes n c words i d b new e r ds size number agents is x y = record {
         ∙ ap (slice_set (map (local_of n l) c.agents) i) mine
         ∙ ap (λ k. slice_set (map (local_of k l) c.agents) i (after_event (local_of n l b) e (option_map (renamed_row (name n m)) r) (got_in ds))) size
 
-    lore_is : lore_of d.ledger.agents m ≡ lore_after (lore_of c.ledger.agents l) i (new_lore (lore_of c.ledger.agents l i) i (learned (lore_of c.ledger.agents l) i (local_of n l b) (got_in ds)) (local_of n l b) e)
+    lore_is : lore_of d.ledger.agents m ≡ lore_after (lore_of c.ledger.agents l) i (new_lore (lore_of c.ledger.agents l i) i (learned (lore_of c.ledger.agents l) i (local_of n l b) (got_in ds)) words (local_of n l b) e)
     lore_is =
-        ap (λ k. lore_of k m) (number ∙ sym size) ∙ learns n c i m b e r ds x y.does
-        ∙ ap (λ k. lore_after (lore_of k l) i (new_lore (lore_of k l i) i (learned (lore_of k l) i (local_of n l b) (got_in ds)) (local_of n l b) e)) size
+        ap (λ k. lore_of k m) (number ∙ sym size) ∙ learns n c words i m b e r ds holds x y.does
+        ∙ ap (λ k. lore_after (lore_of k l) i (new_lore (lore_of k l i) i (learned (lore_of k l) i (local_of n l b) (got_in ds)) words (local_of n l b) e)) size
 
 pub turn_goes : (n : ℕ) (c : ClusterView) (words : Words) (i : ℕ) (d : ClusterView) → Along n c → HasWords n c.ledger.history words → Turned Moved i c d → (more : Words) × HasWords n d.ledger.history more × Goes n (world_of c words) i (world_of d more)
 turn_goes n c words i d along holds turn =
     let s = step n c words i d along holds turn in (
       words_after words (touch_by (renamed (name n c.ledger.history) turn.before.over) s.event),
       words_turn n c words i d.ledger.history turn.before s.event s.row s.deeds s.at s.means.does holds,
-      goes n c words i d turn.before turn.after s.event s.row s.deeds (sym along.number) turn.number turn.agents s.is s.at s.means,
+      goes n c words i d turn.before turn.after s.event s.row s.deeds (sym along.number) turn.number turn.agents s.is holds s.at s.means,
     )

@@ -1,7 +1,7 @@
 -- An agent takes a turn, whose deeds are the first of those that follow.
 use Rattle.std.proofs.Common.{◌≡◌, ℕ, false, sym, ◌∙◌, ap, refl, subst, arith, List, [], ◌∷◌, ◌++◌, take, drop, reverse, Option, Some, None}
 use Rattle.std.specs.Prelude.{slice_get, slice_set}
-use Rattle.std.proofs.lemmas.List.{take-append-drop}
+use Rattle.std.proofs.lemmas.List.{take-append-drop, append_cancel_left}
 use Rattle.es_event.specs.declared.event.Event.{Event}
 use Rattle.es_event.specs.declared.ledger_event.LedgerEvent.{LedgerEvent}
 use Rattle.es_event.specs.Follows.{Follows}
@@ -36,13 +36,9 @@ use Rattle.es_theorems.proofs.Gathering.{legal_far, steps_apart, steps_first}
 use Rattle.es_theorems.proofs.Playing.{ahead_append, last_played, part_played, patient_played}
 use Rattle.es_theorems.proofs.Unfolding.{unfolds}
 
-cancelled : {A : Type 0} (xs ys zs : List A) → xs ++ ys ≡ xs ++ zs → ys ≡ zs
-cancelled [] ys zs is = is
-cancelled (x ∷ xs) ys zs is = cancelled xs ys zs (let rest : xs ++ ys ≡ xs ++ zs = cc in rest)
-
 -- what is left when the first are taken
 pub rest_is : (k : ℕ) (ds xs ys : List Deed) → xs ≡ take k ds → ds ≡ xs ++ ys → drop k ds ≡ ys
-rest_is k ds xs ys first whole = cancelled (take k ds) (drop k ds) ys (take-append-drop k ds ∙ whole ∙ ap (λ xs. xs ++ ys) first)
+rest_is k ds xs ys first whole = append_cancel_left (take k ds) (drop k ds) ys (take-append-drop k ds ∙ whole ∙ ap (λ xs. xs ++ ys) first)
 
 -- the next event of an agent on its way
 pub next_of : (a : Account) (b : AgentView) (ds : List Deed) (e : Event) (rest : List Event) → IsRunOver b.over b.plan b.history → IsWhole a → (left : Left a b ds) → left.rest ≡ e ∷ rest → Unfolded b e rest ds left.final

@@ -3,7 +3,7 @@ use Rattle.std.proofs.Common.{◌≡◌, ℕ, ◌+◌, ◌≤◌, ◌&&◌, Bool
 use Rattle.std.specs.Prelude.{slice_get}
 use Rattle.std.specs.Option.{option_map_or}
 use Rattle.std.proofs.lemmas.Bool.{and_parts, false≢true}
-use Rattle.std.proofs.lemmas.List.{reverse-append, reverse-reverse}
+use Rattle.std.proofs.lemmas.List.{reverse-append, reverse-reverse, append_cancel_left}
 use Rattle.es_event.specs.declared.event.Event.{Event}
 use Rattle.es_event.specs.declared.event.Event.TheVariants.{Did, Refused, Emptied, Closed}
 use Rattle.es_event.specs.declared.event.Refusal.{Refusal}
@@ -32,11 +32,8 @@ use Rattle.es_cluster.proofs.Asking.{at_command, awaited_at}
 use Rattle.es_cluster.proofs.Midway.{did_not_refuse}
 use Rattle.es_theorems.specs.Settled.{came_row}
 use Rattle.es_theorems.specs.Grown.{AllAbove, Later, Unfolded, asked_by, deeds_asked, grown}
-use Rattle.es_theorems.proofs.Coming.{quiet_brings, quiet_tickets}
-
-some_if_is : {A : Type 0} (b : Bool) (x y : A) → some_if b x ≡ Some y → y ≡ x
-some_if_is true x y e = cc
-some_if_is false x y e = cc
+use Rattle.es_theorems.proofs.Coming.{quiet_brings, quiet_tickets, some_if_is}
+use Rattle.es_theorems.proofs.Messages.{two_of}
 
 -- What comes with any event
 
@@ -107,12 +104,6 @@ past (t ∷ x) ov o m above within =
 
 -- The sender of a message that finds no room
 
-two_of : (test : Deed × Deed → Bool) (ds : List Deed) → option_map_or test (pair ds) false ≡ true → (c d : Deed) × (ds ≡ c ∷ d ∷ []) × (test (c, d) ≡ true)
-two_of test (c ∷ d ∷ []) e = (c, d, refl, e)
-two_of test [] e = cc
-two_of test (d ∷ []) e = cc
-two_of test (b ∷ c ∷ d ∷ ds) e = cc
-
 its_sender : (c d : Deed) → is_refusal c d ≡ true → (u : ℕ) × (sender_of c ≡ u ∷ [])
 its_sender (Takes u m w) d is = (u, refl)
 its_sender _ d is = cc
@@ -128,7 +119,7 @@ refused_one t left now met = at (option_map_or (λ p. is_refusal p.0 p.1) (pair 
         (sender.0, ap (refused_in to_refuse) two.2 ∙ sender.1)
 
 -- what is refused between two jobs is a message
-refused_between : (over : Buffers) (into : Receivers) (plan : AgentPlan) (h : History) (code : Refusal) (d : Due) → due plan h ≡ d → Permits over into h d (Refused code) → between_jobs h ≡ true → (n s : ℕ) × (due plan h ≡ receive n s)
+pub refused_between : (over : Buffers) (into : Receivers) (plan : AgentPlan) (h : History) (code : Refusal) (d : Due) → due plan h ≡ d → Permits over into h d (Refused code) → between_jobs h ≡ true → (n s : ℕ) × (due plan h ≡ receive n s)
 refused_between over into plan h code (run c) is may between = absurd (false≢true (sym (at_command plan h c is) ∙ between))
 refused_between over into plan h code (receive n s) is may between = (n, s, is)
 refused_between over into plan h code _ is may between = absurd may
@@ -177,10 +168,6 @@ leaves over b e now left history law met =
 ever_more : (b : AgentView) (r : Option Row) → reverse b.over ++ came_row (made b.history) r ≡ reverse (with_row r b).over
 ever_more b None = append-nil (reverse b.over)
 ever_more b (Some r) = sym (reverse-append ((made b.history + 1, r) ∷ []) b.over)
-
-cancelled : {A : Type 0} (xs ys zs : List A) → xs ++ ys ≡ xs ++ zs → ys ≡ zs
-cancelled [] ys zs is = is
-cancelled (x ∷ xs) ys zs is = cancelled xs ys zs (let rest : xs ++ ys ≡ xs ++ zs = cc in rest)
 
 pub unfolds : (over : Buffers) (b : AgentView) (e : Event) (rest : List Event) (ds : List Deed) (final : Came) → IsRunOver b.over b.plan b.history
     → LegalBy over (receivers b.plan.jobs) (reverse (e ∷ rest) ++ b.history) → Follows over b.plan (reverse (e ∷ rest) ++ b.history) → goes (between_jobs b.history) (came_to b) (e ∷ rest) ds ≡ Some final
@@ -253,7 +240,7 @@ unfolds over b e rest ds final history legal follows go buffers senders =
     refused : refused_in w now ≡ mine
     refused =
         named over (receivers b.plan.jobs) b.plan h e (tickets b) m.0 now on.senders all_senders.0 follows_now.0 m.1
-        (cancelled (refused_senders b.plan h) (refused_in w now ++ on.senders) (mine ++ all_senders.0)
+        (append_cancel_left (refused_senders b.plan h) (refused_in w now ++ on.senders) (mine ++ all_senders.0)
         (sym (append_assoc (refused_senders b.plan h) (refused_in w now) on.senders)
         ∙ ap (λ c. c.refused ++ on.senders) m.2
         ∙ sym on.refused

@@ -7,7 +7,7 @@ use Rattle.es_event.specs.declared.command.Command.{Command}
 use Rattle.es_event.specs.declared.command.Command.TheVariants.{SharedArrayBuffer}
 use Rattle.es_event.specs.declared.event.Answer.{Answer}
 use Rattle.es_event.specs.declared.event.Event.{Event}
-use Rattle.es_event.specs.declared.event.Event.TheVariants.{JobBegun, CleanupBegun, Received, Did, Refused, Emptied, Taken as TakenCell, JobEnded, Skipped, Closed}
+use Rattle.es_event.specs.declared.event.Event.TheVariants.{Did, Refused}
 use Rattle.es_event.specs.declared.ledger_event.Body.{Body}
 use Rattle.es_event.specs.declared.ledger_event.Body.TheVariants.{Plain, Block}
 use Rattle.es_event.specs.declared.ledger_event.LedgerEvent.{LedgerEvent}
@@ -29,10 +29,11 @@ use Rattle.es_ledger.specs.Laws.{sum_below}
 use Rattle.es_ledger.proofs.Sums.{sum_none, sum_one, sum_plus, sum_same, sum_zero}
 use Rattle.es_theorems.proofs.Commands.{none_more, one_of, sole_of, some_if_true}
 use Rattle.es_theorems.specs.Found.{AreSpends}
-use Rattle.es_theorems.proofs.Draining.{counted, its_agents, turned}
-use Rattle.es_theorems.proofs.Playing.{spends_are}
+use Rattle.es_theorems.proofs.Draining.{counted, its_agents}
+use Rattle.es_theorems.proofs.Playing.{spends_so, held_deed}
 use Rattle.es_cluster.specs.Tied.{AreDeedsOf}
 use Rattle.es_theorems.specs.Weights.{asked_weight, event_weight, history_weight, ledger_weight, weigh, weight}
+use Rattle.es_theorems.proofs.Spending.{test_turned}
 
 -- Deeds that meet what is asked
 
@@ -95,8 +96,8 @@ met_weight x y z t left (to_pass s) ds met = let one = one_of (is_pass s) ds (so
     at : (d : Deed) → is_pass s d ≡ true → weight x y z d ≡ 0
     at (Passes u) met = refl
     at _ met = cc
-met_weight x y z t left (to_empty ids) ds met = spent_weight x y z ds (spends_are false (serials_of (within ids t)) ds (some_if_true _ _ left met))
-met_weight x y z t left to_close ds met = spent_weight x y z ds (spends_are true (serials_of t) ds (some_if_true _ _ left met))
+met_weight x y z t left (to_empty ids) ds met = spent_weight x y z ds (spends_so false (serials_of (within ids t)) ds (some_if_true _ _ left met)).1
+met_weight x y z t left to_close ds met = spent_weight x y z ds (spends_so true (serials_of t) ds (some_if_true _ _ left met)).1
 
 -- an agent's deeds, by its history
 pub deeds_weight : (x y z : ℕ) (h : History) (ds : List Deed) (c : Came) → DeedsMeet h ds c → weigh x y z ds ≡ history_weight x y z h
@@ -114,20 +115,13 @@ opens_did (SharedArrayBuffer to n) vs r = refl
 opens_did _ vs r = refl
 
 opens_event : (between : Bool) (e : Event) → asked_weight 1 0 0 (asks between e) ≡ opens_at e
-opens_event between (JobBegun j) = refl
-opens_event between (CleanupBegun q) = refl
-opens_event between (Received t v) = refl
 opens_event between (Did (c, vs, r)) = opens_did c vs r
 opens_event between (Refused code) = at (between && wants_room code)
   where
     at : (t : Bool) → asked_weight 1 0 0 (cond t to_refuse nothing) ≡ 0
     at true = refl
     at false = refl
-opens_event between (Emptied ids) = refl
-opens_event between (TakenCell m held) = refl
-opens_event between JobEnded = refl
-opens_event between (Skipped j t) = refl
-opens_event between Closed = refl
+opens_event between _ = refl
 
 pub opened_weight : (h : History) → history_weight 1 0 0 h ≡ blocks_opened h
 opened_weight [] = refl
@@ -145,7 +139,7 @@ its_part x y z k d plain a = ap (λ w. weigh x y z (cond ((k == a) && not w) (d 
 -- a deed of one of n agents is counted once
 once : (n x y z k : ℕ) (d : Deed) → is_wait d ≡ false → k < n → sum_below n (λ a. weigh x y z (part_of a (Some (k, d)))) ≡ weight x y z d
 once n x y z k d plain known =
-    sum_same n (λ a. weigh x y z (part_of a (Some (k, d)))) (λ a. cond (a == k) (weight x y z d) 0) (λ a. its_part x y z k d plain a ∙ ap (λ t. cond t (weight x y z d) 0) (turned k a))
+    sum_same n (λ a. weigh x y z (part_of a (Some (k, d)))) (λ a. cond (a == k) (weight x y z d) 0) (λ a. its_part x y z k d plain a ∙ ap (λ t. cond t (weight x y z d) 0) (test_turned k a))
     ∙ sum_one n k (weight x y z d) known
 
 deed_in : {k n : ℕ} {c d : Deed} → ◌≡◌ {A = Owned} (Some (k, c)) (Some (n, d)) → c ≡ d
@@ -212,33 +206,18 @@ ledger_taken (e ∷ l) = counted is_taken l e ∙ ap (λ k. k + taken l) (one e)
 
 -- What one agent does
 
-its_deed : (o : Option (ℕ × Row)) (n : ℕ) (c d : Deed) → option_map {U = ℕ × Deed} (λ p. (p.0, c)) o ≡ Some (n, d) → c ≡ d
-its_deed None n c d is = cc
-its_deed (Some p) n c d is = deed_in is
-
 deed_weight : (x y z n : ℕ) (l : Ledger) (e : LedgerEvent) (d : Deed) → deed l e ≡ Some (n, d) → weight x y z d ≡ event_weight x y z e
-deed_weight x y z n l (Opened b w s a) d is = ap (weight x y z) (sym (deed_in is))
-deed_weight x y z n l (Posted a r m) d is = ap (weight x y z) (sym (deed_in is))
-deed_weight x y z n l (Taken s r) d is = ap (weight x y z) (sym (deed_in is))
-deed_weight x y z n l (Spent k) d is = ap (weight x y z) (sym (its_deed (holder_of l k) n (Spends k) d is))
-deed_weight x y z n l (Accessed k i m old) d is = ap (weight x y z) (sym (its_deed (holder_of l k) n (Accesses k i m old) d is))
-deed_weight x y z n l (Waiting a s) d is = ap (weight x y z) (sym (deed_in is))
-deed_weight x y z n l (Passed a s) d is = ap (weight x y z) (sym (deed_in is))
-deed_weight x y z n l (Ended a) d is = ap (weight x y z) (sym (deed_in is))
+deed_weight x y z n l (Spent k) d is = ap (weight x y z) (sym (held_deed (holder_of l k) n (Spends k) d is))
+deed_weight x y z n l (Accessed k i m old) d is = ap (weight x y z) (sym (held_deed (holder_of l k) n (Accesses k i m old) d is))
 deed_weight x y z n l (Drained s r) d is = cc
+deed_weight x y z n l _ d is = ap (weight x y z) (sym (deed_in is))
 
 own_weight : (x y z n : ℕ) (d : Deed) → weigh x y z (part_of n (Some (n, d))) ≡ weight x y z d
 own_weight x y z n d = ap (λ t. weigh x y z (cond (t && not (is_wait d)) (d ∷ []) [])) (eq-eqb n n refl) ∙ at d
   where
     at : (d : Deed) → weigh x y z (cond (not (is_wait d)) (d ∷ []) []) ≡ weight x y z d
     at (Waits s) = refl
-    at (Opens b w s) = sole_weight x y z (Opens b w s)
-    at (Posts r m) = sole_weight x y z (Posts r m)
-    at (Takes s m w) = sole_weight x y z (Takes s m w)
-    at (Spends s) = sole_weight x y z (Spends s)
-    at (Accesses s i m old) = sole_weight x y z (Accesses s i m old)
-    at (Passes s) = sole_weight x y z (Passes s)
-    at Ends = sole_weight x y z Ends
+    at d = sole_weight x y z d
 
 pub grown_weight : (x y z n : ℕ) (es : List LedgerEvent) (l : Ledger) → AreDeedsOf n es l → ledger_weight x y z (es ++ l) + weigh x y z (part l n) ≡ ledger_weight x y z l + weigh x y z (part (es ++ l) n)
 grown_weight x y z n [] l are = refl

@@ -4,41 +4,22 @@ use Rattle.std.specs.Option.{option_and_then, option_map}
 use Rattle.std.proofs.lemmas.Bool.{and_parts, cases_lt, eqb-true, ne_eqb}
 use Rattle.es_event.specs.declared.access.Change.{Change}
 use Rattle.es_event.specs.declared.event.Event.{Event}
-use Rattle.es_event.specs.declared.ledger_event.LedgerEvent.TheVariants.{Opened, Posted, Taken, Spent, Accessed, Waiting, Passed, Ended, Drained}
+use Rattle.es_event.specs.declared.ledger_event.LedgerEvent.TheVariants.{Taken}
 use Rattle.es_event.specs.declared.row.Row.{Row}
-use Rattle.es_event.specs.Access.{written}
-use Rattle.es_event.specs.Ledger.{Ledger, holder_of, newest_word, opened, word}
+use Rattle.es_event.specs.Access.{written, change_by}
+use Rattle.es_event.specs.Ledger.{Ledger, newest_word, opened, word}
 use Rattle.es_event.specs.LegalLedger.{LegalSoFar}
 use Rattle.es_match.specs.Deeds.{Deed, Opens, Spends, Accesses, Waits, Passes, Ends}
 use Rattle.es_ledger.proofs.Made.{IsMade}
+use Rattle.es_ledger.proofs.Opening.{unwritten}
 use Rattle.es_record.specs.AgentView.{AgentView}
 use Rattle.es_cluster.specs.State.{ClusterView}
 use Rattle.es_theorems.specs.Doing.{did, event_of}
-use Rattle.es_theorems.specs.Alone.{Touch, Words, is_over, left_over, touch_by, words_after}
+use Rattle.es_theorems.specs.Alone.{Touch, Words, is_over, left_over, touch_by, words_after, change_at}
 use Rattle.es_theorems.specs.Renamed.{HasWords, name, renamed}
 use Rattle.es_theorems.specs.Steps.{AreSilent, AtTurn, Does, IsTouch, is_quiet, is_silent, posts, takes, touches}
-use Rattle.es_theorems.proofs.Learning.{held_opened}
+use Rattle.es_theorems.proofs.Learning.{held_opened, word_found}
 use Rattle.es_theorems.proofs.Names.{apart, grown, name_stays, name_test}
-
--- Where nothing was opened the word is 0
-
-unwritten_by : (o : Option (ℕ × Row)) (v : Option ℕ) (b x j before : ℕ) → ((p : ℕ × Row) → o ≡ Some p → (p.1.block == b) ≡ false) → newest_word (option_and_then (λ w. option_map (λ p. (p.1.block, j, w)) o) v) b x before ≡ before
-unwritten_by o None b x j before other = refl
-unwritten_by None (Some w) b x j before other = refl
-unwritten_by (Some p) (Some w) b x j before other = ap (λ t. cond (t && (j == x)) w before) (other p refl)
-
-pub unwritten : (n : ℕ) (l : Ledger) → LegalSoFar n l → (b x : ℕ) → opened l < b → word l b x ≡ 0
-unwritten n [] legal b x more = refl
-unwritten n (Accessed s j c old ∷ l) legal b x more =
-    unwritten_by (holder_of l s) (written c old) b x j (word l b x) (λ p is. let made = (held_opened n l s p.0 p.1 legal.1 is).1 in ne_eqb p.1.block b (λ same. omega (arith, same, made, more))) ∙ unwritten n l legal.1 b x (omega (arith, more))
-unwritten n (Opened d w s a ∷ l) legal b x more = unwritten n l legal.1 b x (omega (arith, more))
-unwritten n (Posted t u m ∷ l) legal b x more = unwritten n l legal.1 b x (omega (arith, more))
-unwritten n (Taken t u ∷ l) legal b x more = unwritten n l legal.1 b x (omega (arith, more))
-unwritten n (Spent s ∷ l) legal b x more = unwritten n l legal.1 b x (omega (arith, more))
-unwritten n (Waiting a s ∷ l) legal b x more = unwritten n l legal.1 b x (omega (arith, more))
-unwritten n (Passed a s ∷ l) legal b x more = unwritten n l legal.1 b x (omega (arith, more))
-unwritten n (Ended a ∷ l) legal b x more = unwritten n l legal.1 b x (omega (arith, more))
-unwritten n (Drained t u ∷ l) legal b x more = unwritten n l legal.1 b x (omega (arith, more))
 
 -- Deeds that access no word
 
@@ -102,13 +83,13 @@ words_turn n c words i m b e r ds x does holds = by_does does
         size = (let now = x.alike.opened ∙ ap (λ ds. opened (did i ds l)) is in omega (arith, now))
 
         was : words t.block t.index ≡ old
-        was = ap (λ k. words k t.index) (sym its.block) ∙ ap (words (name n l its.row.block)) (sym its.index) ∙ holds.named_so its.row.block j made.0 made.1 ∙ sym its.old_is
+        was = word_found n l words i s j h old t x.along.legal holds its
 
         opened_so : (d y : ℕ) → 0 < d → d ≤ opened m → words_after words (Some t) (name n m d) y ≡ word m d y
         opened_so d y some less =
             let known : d ≤ opened l = omega (arith, less, size) in
             ap (λ k. words_after words (Some t) k y) (names d known)
-            ∙ ap (λ k. cond (is_over (name n l d) y t) (left_over t.access.change k) (words (name n l d) y)) was
+            ∙ ap (λ k. cond (is_over (name n l d) y t) (left_over (change_by t.access.edit k) k) (words (name n l d) y)) was
             ∙ ap (λ h. cond (is_over (name n l d) y t) (left_over h old) (words (name n l d) y)) (sym its.change)
             ∙ ap (λ k. cond (is_over (name n l d) y t) (left_over h old) k) (holds.named_so d y some known)
             ∙ ap (λ k. cond ((k == name n l d) && (t.index == y)) (left_over h old) (word l d y)) (sym its.block)
@@ -121,7 +102,7 @@ words_turn n c words i m b e r ds x does holds = by_does does
         others_so : (k y : ℕ) → ((d : ℕ) → 0 < d → d ≤ opened m → name n m d ≡ k → ⊥) → words_after words (Some t) k y ≡ 0
         others_so k y none =
             let away : (t.block == k) ≡ false = ne_eqb t.block k (λ same. none its.row.block made.0 (omega (arith, made.1, more)) (names its.row.block made.1 ∙ its.block ∙ same)) in
-            ap (λ q. cond (q && (t.index == y)) (left_over t.access.change (words t.block t.index)) (words k y)) away
+            ap (λ q. cond (q && (t.index == y)) (left_over (change_at words t) (words t.block t.index)) (words k y)) away
             ∙ holds.others k y (λ d some less same. none d some (omega (arith, less, more)) (names d less ∙ same))
 
     by_does : Does n l i (renamed (name n l) b.over) e ds → HasWords n m (words_after words touch)

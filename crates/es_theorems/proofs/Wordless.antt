@@ -40,7 +40,7 @@ touched_same n w i t wordless x j = elim (cases_Bool (i == j)) [
   | inl here ↦ (
       let same = eqb-true i j here in
       ap (λ k. (t.lore k).touched) (sym same) ∙ ap (λ (o : Lore). o.touched) (lore_mine n w i t x)
-      ∙ (ap (λ q. (w.lore i).touched ++ touched_now (w.lore i).knows q) (no_touch n w i t wordless x) ∙ append-nil (w.lore i).touched)
+      ∙ (ap (λ q. (w.lore i).touched ++ touched_now (w.lore i).knows w.words q) (no_touch n w i t wordless x) ∙ append-nil (w.lore i).touched)
       ∙ ap (λ k. (w.lore k).touched) same)
   | inr off ↦ ap (λ (o : Lore). o.touched) (lore_other n w i t x j (eqb-false i j off))
 ]

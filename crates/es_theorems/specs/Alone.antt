@@ -15,10 +15,11 @@ use Rattle.es_event.specs.declared.event.Event.TheVariants.{JobBegun, CleanupBeg
 use Rattle.es_event.specs.declared.event.Refusal.TheVariants.{TooManyValues}
 use Rattle.es_event.specs.declared.plan.AgentPlan.{AgentPlan}
 use Rattle.es_event.specs.declared.row.Row.{Row}
-use Rattle.es_event.specs.Access.{access_of, written}
+use Rattle.es_event.specs.Access.{written, change_by}
 use Rattle.es_event.specs.Commands.{first}
 use Rattle.es_event.specs.History.{History}
 use Rattle.es_event.specs.Identities.{made}
+use Rattle.es_event.specs.Numbers.{access_of, index_of}
 use Rattle.es_event.specs.Order.{Due, receive, due, phase}
 use Rattle.es_event.specs.Rows.{row}
 use Rattle.es_event.specs.Runs.{ComesNext, Heard, IsRunOver, a_word, heard, silence}
@@ -142,7 +143,7 @@ pub record Touch : Type 0 where
 
 -- the one that a command with these values is
 abbrev pub touch_with : Buffers → Command → List Value → Option Touch
-touch_with over (Atomic c) vs = Some (record { block = block_of over (first vs); index = unsigned_abs c.index; access = access_of c.operation })
+touch_with over (Atomic c) vs = Some (record { block = block_of over (first vs); index = unsigned_abs (index_of c vs); access = access_of c vs })
 touch_with over c vs = None
 
 -- the one that the event is
@@ -169,13 +170,17 @@ hears_at m (Some t) = if t.access.gives_word then a_word (m t.block t.index) els
 abbrev pub is_over : ℕ → ℕ → Touch → Bool
 is_over b x t = (t.block == b) && (t.index == x)
 
+-- what becomes of the word
+abbrev pub change_at : Words → Touch → Change
+change_at m t = change_by t.access.edit (m t.block t.index)
+
 -- what a change leaves of a word
 abbrev pub left_over : Change → ℕ → ℕ
 left_over c old = unwrap_or (written c old) old
 
 abbrev pub words_after : Words → Option Touch → Words
 words_after m None b x = m b x
-words_after m (Some t) b x = if is_over b x t then left_over t.access.change (m t.block t.index) else m b x
+words_after m (Some t) b x = if is_over b x t then left_over (change_at m t) (m t.block t.index) else m b x
 
 -- What agents know
 
@@ -194,8 +199,8 @@ changes Change.Keep = false
 changes (Change.Write w) = true
 changes (Change.Add n) = true
 
-abbrev pub touched_by : List Mark → Touch → Touched
-touched_by knew t = record { block = t.block; index = t.index; writes = changes t.access.change; knew = knew }
+abbrev pub touched_by : List Mark → Words → Touch → Touched
+touched_by knew m t = record { block = t.block; index = t.index; writes = changes (change_at m t); knew = knew }
 
 -- two accesses to one word, one of them a write
 abbrev pub clash : Touched → Touched → Bool
@@ -217,21 +222,21 @@ abbrev pub own_mark : ℕ → List Touched → Option Touch → List Mark
 own_mark i earlier None = []
 own_mark i earlier (Some t) = (i, length earlier) ∷ []
 
-abbrev pub touched_now : List Mark → Option Touch → List Touched
-touched_now knew None = []
-touched_now knew (Some t) = touched_by knew t ∷ []
+abbrev pub touched_now : List Mark → Words → Option Touch → List Touched
+touched_now knew m None = []
+touched_now knew m (Some t) = touched_by knew m t ∷ []
 
--- what agent i knows after it was told of these accesses, made this one and posted these messages
-abbrev pub lore_with : Lore → ℕ → List Mark → Option Touch → List (ℕ × Letter) → Lore
-lore_with old i marks touch sent = record {
+-- what agent i knows after it was told of these accesses, made this one where these were the words, and posted these messages
+abbrev pub lore_with : Lore → ℕ → List Mark → Words → Option Touch → List (ℕ × Letter) → Lore
+lore_with old i marks m touch sent = record {
   knows = marks ++ (own_mark i old.touched touch ++ old.knows);
-  told = λ r. old.told r ++ map (λ m. old.knows) (addressed r sent);
-  touched = old.touched ++ touched_now old.knows touch;
+  told = λ r. old.told r ++ map (λ x. old.knows) (addressed r sent);
+  touched = old.touched ++ touched_now old.knows m touch;
 }
 
 -- what it knows after an event
-abbrev pub new_lore : Lore → ℕ → List Mark → Local → Event → Lore
-new_lore old i marks a e = lore_with old i marks (touch_by a.over e) (posted_by a.over e)
+abbrev pub new_lore : Lore → ℕ → List Mark → Words → Local → Event → Lore
+new_lore old i marks m a e = lore_with old i marks m (touch_by a.over e) (posted_by a.over e)
 
 abbrev pub lore_after : (ℕ → Lore) → ℕ → Lore → ℕ → Lore
 lore_after lore i new j = if i == j then new else lore j
@@ -262,7 +267,7 @@ pub record World : Type 0 where
 abbrev pub world_after : World → ℕ → Local → Event → Option Row → List ℕ → World
 world_after w i a e r got = record {
   locals = slice_set w.locals i (after_event a e r got);
-  lore = lore_after w.lore i (new_lore (w.lore i) i (learned w.lore i a got) a e);
+  lore = lore_after w.lore i (new_lore (w.lore i) i (learned w.lore i a got) w.words a e);
   words = words_after w.words (touch_by a.over e);
 }
 

@@ -9,9 +9,10 @@ use Rattle.es_event.specs.declared.command.Command.TheVariants.{SharedArrayBuffe
 use Rattle.es_event.specs.declared.ledger_event.Body.{Body}
 use Rattle.es_event.specs.declared.ledger_event.Body.TheVariants.{Plain, Block}
 use Rattle.es_event.specs.declared.row.Row.{Row}
-use Rattle.es_event.specs.Access.{access_of}
+use Rattle.es_event.specs.Access.{change_by}
 use Rattle.es_event.specs.Commands.{first}
 use Rattle.es_event.specs.Ledger.{Ledger, opened, serials, holder_of, word}
+use Rattle.es_event.specs.Numbers.{access_of, index_of}
 use Rattle.es_event.specs.Rows.{row}
 use Rattle.es_event.specs.Runs.{Heard, silence, a_word}
 use Rattle.es_event.specs.Sharing.{row_of}
@@ -34,20 +35,20 @@ abbrev pub body_for : Ledger → Tickets → Value → Body
 body_for l t (Object o) = Block (block_at t (Object o)) (serials l + 1)
 body_for l t v = Plain v
 
--- an access to the word at an index of the first value's block
+-- an access to the word at an index of the first value's block, with what becomes of the word that is there
 abbrev pub access_by : Ledger → Tickets → List Value → ℤ → Access → List Deed
-access_by l t vs i m = Accesses (serial_at t (first vs)) (unsigned_abs i) m.change (word_at l (serial_at t (first vs)) (unsigned_abs i)) ∷ []
+access_by l t vs i m = Accesses (serial_at t (first vs)) (unsigned_abs i) (change_by m.edit (word_at l (serial_at t (first vs)) (unsigned_abs i))) (word_at l (serial_at t (first vs)) (unsigned_abs i)) ∷ []
 
 -- what a command with these values does
 abbrev pub deeds_of : Ledger → Tickets → Command → List Value → List Deed
 deeds_of l t (SharedArrayBuffer to n) vs = Opens (opened l + 1) n (serials l + 1) ∷ []
-deeds_of l t (Atomic a) vs = access_by l t vs a.index (access_of a.operation)
+deeds_of l t (Atomic a) vs = access_by l t vs (index_of a vs) (access_of a vs)
 deeds_of l t (Post a x) vs = Posts a (body_for l t (first vs)) ∷ []
 deeds_of l t _ vs = []
 
 -- what it hears
 abbrev pub heard_from : Ledger → Tickets → Command → List Value → Heard
-heard_from l t (Atomic a) vs = if (access_of a.operation).gives_word then a_word (word_at l (serial_at t (first vs)) (unsigned_abs a.index)) else silence
+heard_from l t (Atomic a) vs = if (access_of a vs).gives_word then a_word (word_at l (serial_at t (first vs)) (unsigned_abs (index_of a vs))) else silence
 heard_from l t _ vs = silence
 
 -- the ticket that comes with it

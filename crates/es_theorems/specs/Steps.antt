@@ -5,6 +5,7 @@ use Rattle.es_event.specs.declared.access.Change.{Change}
 use Rattle.es_event.specs.declared.event.Event.{Event}
 use Rattle.es_event.specs.declared.ledger_event.Body.{Body}
 use Rattle.es_event.specs.declared.row.Row.{Row}
+use Rattle.es_event.specs.Access.{change_by}
 use Rattle.es_event.specs.History.{History}
 use Rattle.es_event.specs.Identities.{made}
 use Rattle.es_event.specs.Ledger.{Ledger, holder_of, opened, size, table, word}
@@ -92,7 +93,7 @@ pub record IsTouch (n : ℕ) (l : Ledger) (i : ℕ) (t : Touch) (s j : ℕ) (c :
   pub holder : holder_of l s ≡ Some (i, row)
   pub block : name n l row.block ≡ t.block
   pub index : j ≡ t.index
-  pub change : c ≡ t.access.change
+  pub change : c ≡ change_by t.access.edit old
   pub old_is : old ≡ word l row.block j
 
 -- what agent i's deeds are to what agents know and to words: nothing, or a message is posted or taken, or a word is accessed

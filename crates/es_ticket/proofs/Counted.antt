@@ -1,47 +1,13 @@
 -- The rows of tickets, counted: after a change of their rack, and that a row which is counted is there.
-use Rattle.std.proofs.Common.{◌≡◌, ◌≤◌, ◌+◌, ◌∷◌, ◌++◌, ◌&&◌, ◌==◌, [], List, ℕ, suc, Bool, true, false, not, cond, length, refl, ap, arith, eq-eqb}
-use Rattle.std.specs.Prelude.{nat_lt}
-use Rattle.std.specs.List.{Contains, count_by, sum_by}
+use Rattle.std.proofs.Common.{◌≡◌, ◌≤◌, ◌+◌, ◌∷◌, ◌++◌, ◌&&◌, ◌==◌, [], List, ℕ, suc, Bool, true, false, cond, refl, ap, arith, eq-eqb}
+use Rattle.std.specs.List.{Contains, count_by}
 use Rattle.std.proofs.lemmas.Bool.{and_from, and_parts, eqb-true}
 use Rattle.std.proofs.lemmas.List.Sums.{sum_by-cons, sum_by_push}
-use Rattle.std.proofs.lemmas.List.Filters.{length-filter_both, sum_by-filter_both}
 use Rattle.es_event.specs.declared.row.Row.{Row}
-use Rattle.es_event.specs.Identities.{is_in}
 use Rattle.es_ticket.specs.Owned.{Owns}
-use Rattle.es_ticket.specs.Stakes.{among, besides, placed}
-
-pub counted_placed : (p : Row → Bool) (i : ℕ) (r : Row) (ts : List (ℕ × Row)) → count_by (λ t. p t.1) (placed i r ts) ≡ count_by (λ t. p t.1) ts + cond (p r) 1 0
-counted_placed p i r [] = sum_by_push {X = ℕ × Row} (λ t. cond (p t.1) 1 0) [] (i, r)
-counted_placed p i r (t ∷ ts) = one (nat_lt i t.0) (counted_placed p i r ts)
-  where
-    f : ℕ × Row → ℕ
-    f t = cond (p t.1) 1 0
-
-    one : (b : Bool) → sum_by f (placed i r ts) ≡ sum_by f ts + cond (p r) 1 0
-        → sum_by f (cond b ((i, r) ∷ t ∷ ts) (t ∷ placed i r ts)) ≡ sum_by f (t ∷ ts) + cond (p r) 1 0
-    one true ih = (let a = sum_by-cons f (i, r) (t ∷ ts) in omega (arith, a))
-    one false ih = (let a = sum_by-cons f t (placed i r ts) in let b = sum_by-cons f t ts in omega (arith, a, b, ih))
 
 pub counted_last : (p : Row → Bool) (i : ℕ) (r : Row) (ts : List (ℕ × Row)) → count_by (λ t. p t.1) (ts ++ (i, r) ∷ []) ≡ count_by (λ t. p t.1) ts + cond (p r) 1 0
 counted_last p i r ts = sum_by_push {X = ℕ × Row} (λ t. cond (p t.1) 1 0) ts (i, r)
-
--- both parts of a rack
-pub record Parts (rows : List Row) (ts out left : List (ℕ × Row)) : Type 0 where
-  pub owned : (p : Row → Bool) → count_by (λ t. p t.1) out + count_by (λ t. p t.1) left ≤ count_by p rows
-  pub long : length out + length left ≡ length ts
-
-pub owned_parts : {ts out left : List (ℕ × Row)} (rows : List Row) (ids : List ℕ) → Owns rows ts → out ≡ among ids ts → left ≡ besides ids ts → Parts rows ts out left
-owned_parts {ts} {out} {left} rows ids owns o l = record {
-  owned = λ p.
-      let a = sum_by-filter_both (λ t. is_in ids t.0) (λ t. not (is_in ids t.0)) (λ t. refl) (λ t. cond (p t.1) 1 0) ts in
-      let b = ap (λ us. count_by (λ t. p t.1) us) o in
-      let c = ap (λ us. count_by (λ t. p t.1) us) l in
-      let d = owns p in omega (arith, a, b, c, d);
-  long =
-      (let a = length-filter_both (λ t. is_in ids t.0) (λ t. not (is_in ids t.0)) (λ t. refl) ts in
-      let b = ap (λ us. length us) o in
-      let c = ap (λ us. length us) l in omega (arith, a, b, c));
-}
 
 -- the test of one row
 abbrev is_row : Row → Row → Bool

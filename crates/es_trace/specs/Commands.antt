@@ -1,11 +1,15 @@
 -- To believe: a command as a trace shows it, in words or as JSON: its word and its operands as the plan has them.
-use Rattle.std.specs.Prelude.{ℕ, ℤ, ◌-◌, true, false, List, [], ◌++◌, Option, Some, None, codes, decimal, slice_get, unwrap_or}
+use Rattle.std.specs.Prelude.{ℕ, ◌-◌, true, false, List, [], ◌∷◌, ◌++◌, Option, Some, None, codes, decimal, slice_get, unwrap_or}
 use Rattle.std.specs.Fmt.{signed_decimal}
+use Rattle.std.specs.List.{flat_map}
 use Rattle.std.specs.Option.{option_map_or}
 use Rattle.es_value.specs.Printed.{quoted}
 use Rattle.es_event.specs.declared.literal.Literal.{Literal}
 use Rattle.es_event.specs.declared.literal.Literal.TheVariants.{Undefined, Boolean, Number, Text}
+use Rattle.es_event.specs.declared.atomic.AtomicParts.{AtomicParts}
 use Rattle.es_event.specs.declared.atomic.Operation.{Operation}
+use Rattle.es_event.specs.declared.operand.Operand.{Operand}
+use Rattle.es_event.specs.Access.{operands_of, word_for}
 use Rattle.es_event.specs.declared.command.Command.{Command}
 use Rattle.es_event.specs.declared.plan.AgentPlan.{AgentPlan}
 use Rattle.es_trace.specs.declared.style.Style.{Style}
@@ -63,18 +67,31 @@ registry_text st (Command.Register q y v t) = three st (codes "register") q y v 
 registry_text st (Command.Unregister to q t) = three st (codes "unregister") to q t
 registry_text st _ = []
 
+-- an operand that is a number, or the variable whose value is taken
+abbrev pub operand : Style → Operand → List ℕ
+operand st (Operand.Number n) = after st (signed_decimal n)
+operand st (Operand.Variable x) = named st x
+
+abbrev pub operands : Style → List Operand → List ℕ
+operands st os = flat_map (operand st) os
+
+-- what stands before the index of a command on a word: the word that names it, the variable that it assigns, the buffer
+abbrev pub access_begun : Style → List ℕ → Operation → List ℕ
+access_begun st b (Operation.Load to) = two st (codes "load") to b
+access_begun st b (Operation.Store n) = one st (codes "store") b
+access_begun st b (Operation.Modify to how n) = two st (word_for how) to b
+access_begun st b (Operation.CompareExchange to e r) = two st (codes "compareexchange") to b
+
 -- on a word of a buffer's block
-abbrev pub access_text : Style → List ℕ → ℤ → Operation → List ℕ
-access_text st b i (Operation.Load to) = two st (codes "load") to b ++ after st (signed_decimal i)
-access_text st b i (Operation.Store n) = one st (codes "store") b ++ after st (signed_decimal i) ++ after st (signed_decimal n)
-access_text st b i (Operation.Add to n) = two st (codes "add") to b ++ after st (signed_decimal i) ++ after st (signed_decimal n)
+abbrev pub access_text : Style → AtomicParts → List ℕ
+access_text st a = access_begun st a.buffer a.operation ++ operands st (a.index ∷ operands_of a.operation)
 
 -- of buffers, and then those of FinalizationRegistries
 abbrev pub shared_text : Style → Command → List ℕ
 shared_text st (Command.SharedArrayBuffer to n) = one st (codes "buffer") to ++ after st (decimal n)
 shared_text st (Command.Length to b) = two st (codes "length") to b
 shared_text st (Command.SameBlock to b d) = three st (codes "sameblock") to b d
-shared_text st (Command.Atomic a) = access_text st a.buffer a.index a.operation
+shared_text st (Command.Atomic a) = access_text st a
 shared_text st c = registry_text st c
 
 -- of WeakRefs, WeakMaps and WeakSets, and then the others

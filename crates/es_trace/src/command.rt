@@ -2,7 +2,7 @@
 
 ghost use Rattle.std.specs.Prelude.{◌≡◌, codes, OnOk};
 ghost use Rattle.std.specs.Io.KnownBytes.{Appends};
-ghost use Rattle.es_trace.specs.Commands.{access_text, begun, callback_name as callback_said, name_at as name_said, named, one, plain_text, registry_text, shared_text, weak_text};
+ghost use Rattle.es_trace.specs.Commands.{access_begun, access_text, begun, callback_name as callback_said, name_at as name_said, named, one, operand as operand_said, plain_text, registry_text, shared_text, weak_text};
 
 use crate::naming::{callback_name, name_at};
 use crate::style::Style;
@@ -10,7 +10,7 @@ use crate::words::{
     write_count, write_literal, write_name, write_named, write_number, write_one, write_quoted,
     write_three, write_token, write_two, write_word,
 };
-use es_event::{AgentPlan, Atomic, Command, Operation};
+use es_event::{AgentPlan, Atomic, Command, Operand, Operation};
 use es_value::Name;
 use std::io;
 use std::io::Write;
@@ -148,24 +148,58 @@ fn write_shared<W: Write>(style: Style, command: &Command, writer: &mut W) -> Re
 
 /// One on a word of a buffer's block.
 fn write_access<W: Write>(style: Style, atomic: &Atomic, writer: &mut W) -> Result<(), io::Error>
-    ensures { OnOk result (Appends (W.contents writer.old) (W.contents writer.new) (access_text style atomic.now.buffer atomic.now.index atomic.now.operation)) }
+    ensures { OnOk result (Appends (W.contents writer.old) (W.contents writer.new) (access_text style atomic.now)) }
 {
-    let (buffer, index) = (atomic.buffer(), atomic.index());
-    match atomic.operation() {
-        Operation::Load { to } => {
-            write_two(style, "load", to, buffer, writer)?;
-            write_number(style, index, writer)
+    let buffer = atomic.buffer();
+    let operation = atomic.operation();
+    write_begun(style, buffer, operation, writer)?;
+    write_operand(style, atomic.index(), writer)?;
+    match operation {
+        Operation::Load { .. } => Ok(()),
+        Operation::Store { number } | Operation::Modify { number, .. } => {
+            write_operand(style, number, writer)
         }
-        Operation::Store { number } => {
-            write_one(style, "store", buffer, writer)?;
-            write_number(style, index, writer)?;
-            write_number(style, *number, writer)
+        Operation::CompareExchange {
+            expected,
+            replacement,
+            ..
+        } => {
+            write_operand(style, expected, writer)?;
+            write_operand(style, replacement, writer)
         }
-        Operation::Add { to, number } => {
-            write_two(style, "add", to, buffer, writer)?;
-            write_number(style, index, writer)?;
-            write_number(style, *number, writer)
-        }
+    }
+}
+
+/// What stands before the index of a command on a word.
+fn write_begun<W: Write>(
+    style: Style,
+    buffer: &Name,
+    operation: &Operation,
+    writer: &mut W,
+) -> Result<(), io::Error>
+    ensures { OnOk result (Appends (W.contents writer.old) (W.contents writer.new) (access_begun style buffer.now operation.now)) }
+{
+    match operation {
+        Operation::Load { to } => write_two(style, "load", to, buffer, writer),
+        Operation::Store { .. } => write_one(style, "store", buffer, writer),
+        Operation::Modify { to, how, .. } => write_two(style, how.word(), to, buffer, writer),
+        Operation::CompareExchange { to, .. } => write_two(
+            style,
+            "compareexchange",
+            to,
+            buffer,
+            writer,
+        ),
+    }
+}
+
+/// An operand that is a number, or the variable whose value is taken.
+fn write_operand<W: Write>(style: Style, operand: &Operand, writer: &mut W) -> Result<(), io::Error>
+    ensures { OnOk result (Appends (W.contents writer.old) (W.contents writer.new) (operand_said style operand.now)) }
+{
+    match operand {
+        Operand::Number(number) => write_number(style, *number, writer),
+        Operand::Variable(name) => write_name(style, name, writer),
     }
 }
 

@@ -6,8 +6,7 @@ ghost use Rattle.es_event.specs.declared.plan.AgentPlan.{AgentPlan as PlanSaid};
 ghost use Rattle.es_event.specs.Order.{job_commands as job_said};
 ghost use Rattle.es_trace.specs.Places.{IsPlace, Leads, commands_in as commands_said, one_more as more_said, running_callback as running_said};
 
-use es_cursor::callback_commands;
-use es_event::{AgentPlan, Command, Event};
+use es_event::{AgentPlan, Command, Event, callback_commands};
 use es_value::Id;
 
 /// Whose commands run.

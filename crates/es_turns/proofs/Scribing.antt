@@ -2,7 +2,7 @@
 use Rattle.std.proofs.Common.{◌≡◌, ℕ, zero, suc, ◌+◌, ◌-◌, ◌<◌, ◌≤◌, sym, ◌∙◌, ap, refl, subst, arith, List, [], ◌∷◌, ◌++◌, append_assoc, append-nil, length, length-append, reverse, take, get_or, Some, Result, Ok, Err, ◌⊎◌, inl, inr}
 use Rattle.std.specs.Prelude.{slice_get, slice_index_or, slice_set, OnOk}
 use Rattle.std.specs.List.{AllByRecursion}
-use Rattle.std.proofs.lemmas.List.{map_more, map-append, reverse-append, reverse-reverse}
+use Rattle.std.proofs.lemmas.List.{map_more, reverse-append, reverse-reverse}
 use Rattle.es_event.specs.declared.event.Event.{Event}
 use Rattle.es_event.specs.declared.plan.AgentPlan.{AgentPlan}
 use Rattle.es_event.specs.declared.plan.Plan.{Plan}
@@ -211,12 +211,6 @@ first_unbegun agents n (p ∷ ps) = (refl, first_unbegun agents (n + 1) ps)
 
 cores_more : (ms : List MemberView) (i : ℕ) (m : MemberView) → i < length ms → m ≡ get_or ms i m → cores (take (i + 1) ms) ≡ cores (take i ms) ++ m.core ∷ []
 cores_more ms i m within is = map_more (λ m. m.core) ms i m within ∙ ap (λ (x : MemberView). cores (take i ms) ++ x.core ∷ []) (sym is)
-
-pub names_more : (ms : List MemberView) (i : ℕ) (m : MemberView) (ns more : List (List ℕ)) → i < length ms → m ≡ get_or ms i m → ns ≡ names_of (cores (take i ms)) → more ≡ ns ++ m.core.plan.name ∷ []
-    → more ≡ names_of (cores (take (i + 1) ms))
-names_more ms i m ns more within is before added =
-    added ∙ ap (λ (l : List (List ℕ)). l ++ m.core.plan.name ∷ []) before
-    ∙ sym (ap names_of (cores_more ms i m within is) ∙ map-append (λ b. b.plan.name) (cores (take i ms)) (m.core ∷ []))
 
 seat_at : (ms : List MemberView) (i : ℕ) (m : MemberView) → i < length ms → m ≡ get_or ms i m → slice_get (cores ms) i ≡ Some m.core
 seat_at [] i m less is = absurd (omega (arith, less))

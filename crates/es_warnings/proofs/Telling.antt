@@ -1,12 +1,11 @@
 -- What is to be said of the variables, one by one.
-use Rattle.std.proofs.Common.{ℕ, zero, suc, ◌≡◌, ◌+◌, ◌≤◌, List, [], ◌∷◌, ◌++◌, flat_map, length, slice_get, take, Option, Some, None, option_and_then, option_map, option_to_list, refl, sym, ap, subst, ◌∙◌, add-one, append-nil, append_assoc}
+use Rattle.std.proofs.Common.{ℕ, zero, suc, ◌≡◌, ◌+◌, ◌≤◌, List, [], ◌∷◌, ◌++◌, flat_map, length, slice_get, take, option_to_list, refl, sym, ap, subst, ◌∙◌, add-one, append_assoc}
 use Rattle.std.proofs.lemmas.List.{take_all}
 use Rattle.std.proofs.lemmas.Map.Entries.{length-keys_of}
-use Rattle.std.proofs.lemmas.Option.{none-some, slice_get_past}
-use Rattle.es_warnings.specs.Known.{IsEntry, Knows, VariablesView, known, of_known, of_variable_at}
+use Rattle.std.proofs.lemmas.Option.{slice_get_past}
+use Rattle.es_warnings.specs.Known.{Knows, VariablesView, of_variable_at}
 use Rattle.es_warnings.specs.Mentions.{Mention}
-use Rattle.es_warnings.specs.Warnings.{cause_of, first_mention, is_assigned, is_given, is_used, of_variable, of_variables, variables, warning}
-use Rattle.es_warnings.specs.declared.variables.Known.{Known}
+use Rattle.es_warnings.specs.Warnings.{of_variable, of_variables, variables}
 
 flat_map_suc : {X A : Type 0} (f : X → List A) (i : ℕ) (xs : List X) → flat_map f (take (suc i) xs) ≡ flat_map f (take i xs) ++ flat_map f (option_to_list (slice_get xs i))
 flat_map_suc f zero [] = refl
@@ -17,21 +16,6 @@ flat_map_suc f (suc i) (x ∷ xs) = ap (λ l. f x ++ l) (flat_map_suc f i xs) �
 -- one more item, if there is one
 pub flat_map_take : {X A : Type 0} (f : X → List A) (i : ℕ) (xs : List X) → flat_map f (take (i + 1) xs) ≡ flat_map f (take i xs) ++ flat_map f (option_to_list (slice_get xs i))
 flat_map_take f i xs = ap (λ n. flat_map f (take n xs)) (add-one i) ∙ flat_map_suc f i xs
-
--- what is said of a variable is said by what is known of it
-said_of_known : (agent : ℕ) (past : List Mention) (x : List ℕ) (k : Known) → known past x ≡ Some k → of_variable agent past x ≡ of_known agent x k
-said_of_known agent past x k is = by (first_mention past x) is
-  where
-    by : (o : Option Mention)
-        → option_map (λ m. record { manner = m.manner; place = m.place; is_used = is_used past x; is_assigned = is_assigned past x; is_given = is_given past x }) o ≡ Some k
-        → option_and_then (λ m. option_map (warning agent x m.place) (cause_of m.manner (is_used past x) (is_assigned past x) (is_given past x))) o ≡ of_known agent x k
-    by None e = absurd (none-some k e)
-    by (Some m) e = ap (λ o. option_and_then (of_known agent x) o) e
-
-pub said_at : (agent : ℕ) (past : List Mention) (v : VariablesView) (i : ℕ) (x : List ℕ) (k : Known) → Knows past v → IsEntry v i x k → of_variable_at agent past i ≡ option_to_list (of_known agent x k)
-said_at agent past v i x k knows entry =
-    ap (λ o. flat_map (λ x. option_to_list (of_variable agent past x)) (option_to_list o)) (ap (λ ks. slice_get ks i) (sym knows.names) ∙ entry.name)
-    ∙ append-nil _ ∙ ap option_to_list (said_of_known agent past x k (sym (knows.known x) ∙ entry.known))
 
 pub nothing_at : (agent : ℕ) (past : List Mention) (v : VariablesView) (i : ℕ) → Knows past v → length v.entries ≤ i → of_variable_at agent past i ≡ []
 nothing_at agent past v i knows none =

@@ -24,7 +24,7 @@ use Rattle.es_mark.specs.declared.way.Way.{Way}
 use Rattle.es_mark.specs.Ways.{sources, has_way}
 use Rattle.es_mark.specs.Finds.{Finds, FindsEntries, has_pair}
 use Rattle.es_mark.proofs.Adding.{has_front, has_back}
-use Rattle.es_mark.proofs.StepLists.{all_join}
+use Rattle.es_mark.proofs.Lists.{all_join}
 use Rattle.es_record.specs.AgentView.{AgentView}
 use Rattle.es_record.specs.Leading.{held_in, held_of, property_at, AddsUnder}
 use Rattle.es_record.proofs.Reached.{here_of, is_within, called_within}

@@ -9,7 +9,7 @@ use Rattle.es_mark.specs.declared.way.Way.{Way}
 use Rattle.es_mark.specs.Ways.{has_way}
 use Rattle.es_mark.specs.Search.{way_to}
 use Rattle.es_mark.proofs.Adding.{has_front, has_back}
-use Rattle.es_mark.proofs.StepLists.{all_join}
+use Rattle.es_mark.proofs.Lists.{all_join}
 use Rattle.es_why.specs.Numbered.{way_if, numbered}
 
 pub range_more : (a n : ℕ) → range_with_len a (suc n) ≡ range_with_len a n ++ (a + n) ∷ []

@@ -11,7 +11,7 @@ use Rattle.es_event.specs.Registrations.{Cell, Fate, live, awaiting, unregistere
 use Rattle.es_tables.specs.Tags.{tag_of, tag_said}
 use Rattle.es_record.specs.Leading.{AddsSets, AddsUnder, registration_in, registration_said}
 use Rattle.es_why.specs.Lines.{thing_line}
-use Rattle.es_why.specs.Picture.{around, cell_lines, registration_at, thing_at, AreEntries, AreSets, IsAround}
+use Rattle.es_why.specs.Picture.{cell_lines, registration_at, thing_at, AreEntries, AreSets, IsAround}
 use Rattle.es_why.specs.Written.{registration_line, tagged_line}
 use Rattle.es_why.proofs.Ranged.{WritesAround}
 
@@ -61,7 +61,3 @@ there_around h i a b there w = (w.0, record { there = λ e. w.1; not_there = λ 
 
 pub nothing_around : (h : History) (i : ℕ) (a : Option (List ℕ)) → is_there h i ≡ false → WritesAround h i a a
 nothing_around h i a gone = ([], record { there = λ e. cc; not_there = λ e. refl }, Appends-nil a)
-
-pub is_around : (h : History) (i : ℕ) (es : List (ℕ × Value)) (ss : List ℕ) (a b : Option (List ℕ)) → AreEntries h i es → AreSets h i ss → Appends a b (around h i es ss)
-    → (text : List ℕ) × IsAround h i text × Appends a b text
-is_around h i es ss a b entries sets written = (around h i es ss, record { entries = es; sets = ss; entries_are = entries; sets_are = sets; is = refl }, written)

@@ -9,7 +9,7 @@ use Rattle.es_event.specs.Legal.{LegalBy}
 use Rattle.es_mark.specs.declared.kept.Kept.{Kept}
 use Rattle.es_mark.specs.declared.way.Way.{Way}
 use Rattle.es_mark.specs.Ways.{AreOrdered}
-use Rattle.es_mark.proofs.StepLists.{all_mono}
+use Rattle.es_mark.proofs.Lists.{all_mono}
 use Rattle.es_record.specs.AgentView.{AgentView}
 use Rattle.es_why.specs.Kept.{kept_by, AreKept}
 use Rattle.es_why.specs.Leads.{LeadsTo, AreReasons}

@@ -126,7 +126,7 @@ pub(crate) fn access_word<L: LedgerName>(
     ensures keeps { Keeps core.old ledger.old core.new stake.new ledger.new }
 {
     let _ = core.history();
-    let old = ledger.access(stake, core.ticket(buffer), index, access.change)?;
+    let old = ledger.edit(stake, core.ticket(buffer), index, access.edit)?;
     answer(core, access, old)?;
     Ok(Progress::Moved)
 }

@@ -9,13 +9,12 @@ ghost use Rattle.es_event.specs.Registrations.{live, awaiting, unregistered, tak
 ghost use Rattle.es_tables.specs.Registries.{again_at};
 ghost use Rattle.es_event.specs.Order.{due_after, queue, is_cleaning_up};
 ghost use Rattle.es_event.specs.Runs.{IsRunOver};
-ghost use Rattle.es_cursor.specs.Due.{shown};
+ghost use Rattle.es_event.specs.Due.{shown};
 ghost use Rattle.es_event.specs.Later.{snapshot};
 ghost use Rattle.es_record.specs.NextCell.{next_taken, FindsNextCell};
 
 use super::AgentRecord;
-use es_cursor::{Due, Position};
-use es_event::Event;
+use es_event::{Due, Event, Position};
 use es_registry::{Cell, Tally};
 use es_value::{Id, Value};
 

@@ -7,8 +7,8 @@ use Rattle.calls.proofs.asking.access_word.Goals as goal
 pub ticket-requires : goal.ticket-requires
 ticket-requires g c = aims_at_ticket c.args.core.now (for_access c.args.buffer c.args.index c.args.access) c.args.buffer c.history.ensures.run c.requires.due refl
 
-pub access-requires-clause-here : goal.access-requires-clause-here
-access-requires-clause-here g c = ticket_held c.args.core.now c.args.stake.now c.args.buffer c.ticket.result.now c.requires.held c.ticket.ensures.here
+pub edit-requires-clause-here : goal.edit-requires-clause-here
+edit-requires-clause-here g c = ticket_held c.args.core.now c.args.stake.now c.args.buffer c.ticket.result.now c.requires.held c.ticket.ensures.here
 
-pub access-requires-clause-inside : goal.access-requires-clause-inside
-access-requires-clause-inside g c = aims_inside c.args.core.now (for_access c.args.buffer c.args.index c.args.access) c.args.buffer c.args.index c.requires.due refl refl c.ticket.result.now c.ticket.ensures.named
+pub edit-requires-clause-inside : goal.edit-requires-clause-inside
+edit-requires-clause-inside g c = aims_inside c.args.core.now (for_access c.args.buffer c.args.index c.args.access) c.args.buffer c.args.index c.requires.due refl refl c.ticket.result.now c.ticket.ensures.named

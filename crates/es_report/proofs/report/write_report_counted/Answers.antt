@@ -13,4 +13,4 @@ pub returns : goal.returns
 returns g c =
     let o = c.args.outcome.now in
     let agents : Appends (g.W.Write.contents c.args.writer.now) (g.W.Write.contents c.write_agents.new.writer) (agents_text o.names o.histories) = rw (c.as_slice.ensures, c.as_slice-2.ensures) at c.in_ok-write_agents.ensures in
-    whole_written o c.args.counts.now c.write_totals.result _ _ _ c.requires agents c.write_totals.ensures
+    whole_written o c.args.counts.now c.write_counts.result _ _ _ c.requires agents c.write_counts.ensures

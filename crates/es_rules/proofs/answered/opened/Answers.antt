@@ -1,7 +1,7 @@
 use Rattle.std.proofs.Common.{◌∙◌, ap, sym, refl}
 use Rattle.std.proofs.lemmas.Result.{IfOk-weaker}
 use Rattle.es_event.specs.Later.{snapshot}
-use Rattle.es_cursor.specs.Due.{shown}
+use Rattle.es_event.specs.Due.{shown}
 use Rattle.es_rules.proofs.Answering.{opening_is, opening_next}
 use Rattle.es_rules.proofs.answered.opened.Goals as goal
 

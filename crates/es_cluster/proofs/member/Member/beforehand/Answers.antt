@@ -1,7 +1,7 @@
 use Rattle.std.proofs.Common.{◌≡◌, sym, ◌∙◌, ap, subst}
 use Rattle.es_event.specs.Later.{snapshot}
 use Rattle.es_event.specs.Order.{due}
-use Rattle.es_cursor.specs.Due.{shown}
+use Rattle.es_event.specs.Due.{shown}
 use Rattle.es_cluster.proofs.Needless.{command_beforehand}
 use Rattle.es_cluster.proofs.member.Member.beforehand.Goals as goal
 

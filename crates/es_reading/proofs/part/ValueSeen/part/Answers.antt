@@ -4,7 +4,7 @@ use Rattle.serde_json.specs.View.{view}
 use Rattle.serde_json.proofs.Views.{view-Array, view-Object}
 use Rattle.es_reading.specs.declared.fault.Spot.{Spot}
 use Rattle.es_reading.specs.Scope.{Scope}
-use Rattle.es_reading.specs.Forms.{OperandType, name, literal, text, callback, agent, whole, words}
+use Rattle.es_reading.specs.Forms.{OperandType, name, literal, text, callback, agent, whole, amount, words}
 use Rattle.es_reading.specs.Reading.{operand_read}
 use Rattle.es_reading.proofs.part.ValueSeen.part.Goals as goal
 
@@ -15,6 +15,7 @@ array_read scope s text ds = refl
 array_read scope s callback ds = refl
 array_read scope s agent ds = refl
 array_read scope s whole ds = refl
+array_read scope s amount ds = refl
 array_read scope s words ds = refl
 
 object_read : (scope : Scope) (s : Spot) (k : OperandType) (ms : Members) → operand_read scope s k (array no_items) ≡ operand_read scope s k (object ms)
@@ -24,6 +25,7 @@ object_read scope s text ms = refl
 object_read scope s callback ms = refl
 object_read scope s agent ms = refl
 object_read scope s whole ms = refl
+object_read scope s amount ms = refl
 object_read scope s words ms = refl
 
 pub returns-in-Array-clause-read : goal.returns-in-Array-clause-read

@@ -1,7 +1,7 @@
 use Rattle.std.proofs.Common.{subst, ap, sym, ◌∙◌}
 use Rattle.std.specs.Prelude.{drop}
 use Rattle.es_event.specs.Order.{job_commands}
-use Rattle.es_cursor.specs.Cursor.{IsAt, commands_of}
+use Rattle.es_event.specs.Cursor.{IsAt, commands_of}
 use Rattle.es_record.proofs.DueCommand.{answers_due}
 use Rattle.es_record.proofs.agent_record.AgentRecord.due_command.Goals as goal
 

@@ -1,5 +1,5 @@
 use Rattle.std.specs.Option.{option_copied}
-use Rattle.es_cursor.specs.Cursor.{IsAt}
+use Rattle.es_event.specs.Cursor.{IsAt}
 use Rattle.std.proofs.Common.{subst}
 use Rattle.es_record.proofs.Cells.{next_found}
 use Rattle.es_record.proofs.agent_record.AgentRecord.next_cell.Goals as goal

@@ -1,6 +1,0 @@
-use Rattle.std.proofs.Common.{◌∙◌}
-use Rattle.es_agent.proofs.Racks.{no_tickets}
-use Rattle.call_tests.proofs.tests.agents.end.Goals as goal
-
-pub end-requires : goal.end-requires
-end-requires g c = c.abandon.ensures ∙ no_tickets c.args.core c.requires
