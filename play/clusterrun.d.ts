@@ -18,7 +18,7 @@ export type Plan = string | ArrayBuffer | ArrayBufferView | PlanObject;
  * makes null of undefined, of NaN and of a function; and null stands for undefined in a plan.
  */
 export interface PlanObject {
-  /** 1 or 2. */
+  /** 1, 2 or 3. */
   version: number;
   agents: readonly PlanAgent[];
 }

@@ -1,6 +1,7 @@
 // Which lines of a script every engine has to print, and which ones hang on what an engine may choose: when it collects, and
 // when it calls the callbacks of a FinalizationRegistry. docs/PAGE.md has the criterion.
 
+import { givesWord } from "../script/commands.mjs";
 import { placed } from "../script/lines.mjs";
 import { orderOf } from "./calls.mjs";
 import { Effects } from "./effects.mjs";
@@ -63,7 +64,7 @@ class Judge {
 
   /** Whether something comes from another agent for which something was chosen. */
   comes({ agent, event, command }) {
-    if (event !== "message" && command?.[0] !== "load" && command?.[0] !== "add") return false;
+    if (event !== "message" && !(command && givesWord(command))) return false;
     return [...this.agents].some(([name, { effects }]) => name !== agent && effects.hasChosen);
   }
 }

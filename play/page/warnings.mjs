@@ -62,7 +62,8 @@ function variablesIn(runs) {
 /** A command reads before it assigns. */
 function mentionAll(variables, command, run, at) {
   const { read, assigned } = operandsOf(command);
-  for (const place of read) mention(variables, command[1 + place], READ, run, at);
+  // From version 3 on a variable may stand where else a number does.
+  for (const place of read) if (typeof command[1 + place] === "string") mention(variables, command[1 + place], READ, run, at);
   if (assigned >= 0) mention(variables, command[1 + assigned], isAnswer(command) ? ANSWERED : OTHERWISE, run, at);
 }
 

@@ -13,12 +13,12 @@ function valued(value, name = numbered) {
   return hasNumber(value) ? name(value) : plain(value);
 }
 
-/** The operands that plans write as names, by the place from which on they do not; the others are literals, texts and numbers. */
-const PLAIN = { let: 1, symbolfor: 1, buffer: 1, load: 2, store: 1, add: 2 };
+/** The commands whose second operand is a literal. All other texts of a command are names. */
+const LITERALS = new Set(["let", "symbolfor"]);
 
 function command(words) {
-  const from = 1 + (PLAIN[words[0]] ?? words.length);
-  return words.map((word, place) => (place < from ? word : JSON.stringify(word))).join(" ");
+  const isName = (word, place) => typeof word === "string" && !(place === 2 && LITERALS.has(words[0]));
+  return words.map((word, place) => (isName(word, place) ? word : JSON.stringify(word))).join(" ");
 }
 
 /** The event of a line, and its answer, which is empty where there is none; `name` says what values are called. */

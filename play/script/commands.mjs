@@ -1,15 +1,22 @@
 // Commands as lists of words: which of the words are variables.
 
 /** Up to which place a command's words are variables, where not all are; and the one place that is none. */
-const UP_TO = { let: 1, symbolfor: 1, registry: 1, buffer: 1, load: 2, store: 1, add: 2 };
+const UP_TO = { let: 1, symbolfor: 1, registry: 1, buffer: 1 };
 const NOT = { set: 2, get: 3, delete: 3, post: 1 };
+/** The commands that give a word of a block. */
+const GIVING_WORDS = new Set(["load", "add", "sub", "and", "or", "xor", "exchange", "compareexchange"]);
 const ASSIGNING = new Set([
   "let", "new", "symbol", "symbolfor", "copy", "same", "get", "delete", "weakref", "deref", "weakmap", "wmget", "wmhas", "wmdelete",
-  "weakset", "wshas", "wsdelete", "registry", "unregister", "buffer", "length", "sameblock", "load", "add",
+  "weakset", "wshas", "wsdelete", "registry", "unregister", "buffer", "length", "sameblock", ...GIVING_WORDS,
 ]);
 
-/** Whether the word at a place of a command is a variable. */
-export const isVariable = (command, place) => place >= 1 && place <= (UP_TO[command[0]] ?? command.length) && NOT[command[0]] !== place;
+/** Whether the word at a place of a command is a variable. A number is none: version 3 has both for indices and numbers. */
+export function isVariable(command, place) {
+  return place >= 1 && place <= (UP_TO[command[0]] ?? command.length) && NOT[command[0]] !== place && typeof command[place] === "string";
+}
+
+/** Whether a command gives a word of a block, which another agent may have written. */
+export const givesWord = ([word]) => GIVING_WORDS.has(word);
 
 /** Whether a command assigns a variable, which is its first operand. */
 export const assigns = (command, name) => ASSIGNING.has(command[0]) && command[1] === name;

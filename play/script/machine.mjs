@@ -139,6 +139,21 @@ const set = (thing, key, value) => {
   else thing.edges.set(key, value);
 };
 
+/** What a command makes of a word, by numbers from 0 to 2^32 - 1. A block takes it modulo 2^32. */
+const CHANGES = {
+  add: (old, number) => old + number, and: (old, number) => old & number, or: (old, number) => old | number,
+  xor: (old, number) => old ^ number, exchange: (old, number) => number,
+  compareexchange: (old, expected, number) => (old === expected ? number : old),
+};
+
+/** A command that changes a word gives what it was. */
+const changing = (change) => (machine, [, x, b, i, ...numbers]) => {
+  const { words } = machine.value(b).block;
+  const old = words[i];
+  words[i] = change(old, ...numbers.map((number) => number >>> 0));
+  return machine.assign(x, old);
+};
+
 /** The value after the operands are read. */
 const DOES = {
   let: (machine, [, x], given) => machine.assign(x, given),
@@ -194,12 +209,7 @@ const DOES = {
   sameblock: (machine, [, x, b, d]) => machine.assign(x, machine.value(b).block === machine.value(d).block),
   load: (machine, [, x, b, i]) => machine.assign(x, machine.value(b).block.words[i]),
   store: (machine, [, b, i, n]) => void (machine.value(b).block.words[i] = n),
-  add: (machine, [, x, b, i, n]) => {
-    const { words } = machine.value(b).block;
-    const old = words[i];
-    words[i] = Number(BigInt.asUintN(32, BigInt(old) + BigInt(n)));
-    return machine.assign(x, old);
-  },
+  ...Object.fromEntries(Object.entries(CHANGES).map(([word, change]) => [word, changing(change)])),
   post: () => undefined,
   collect: (machine) => machine.empty(new Graph(machine)),
   collectlater: (machine) => void (machine.open = { graph: new Graph(machine), given: [] }),

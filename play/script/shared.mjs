@@ -1,10 +1,11 @@
 // SharedArrayBuffer and Atomics. In a plan a view is its buffer, and an index and a number are literals: the script knows them when
 // it gets there.
 
-import { raise } from "./core.mjs";
+import { needing, raise } from "./core.mjs";
 import { ScriptFault } from "./faults.mjs";
 import { newInstance } from "./functions.mjs";
-import { planned } from "./values.mjs";
+import { toNumber } from "./operators.mjs";
+import { isThing, planned } from "./values.mjs";
 
 const MOST_WORDS = 16384;
 const MOST_BLOCKS = 256;
@@ -25,14 +26,16 @@ function newBuffer(cx, node, bytes, newTarget) {
   return made;
 }
 
-/** The index that a call of Atomics is given, in a view. */
-function indexIn(cx, node, view, given) {
+/** The index that a call of Atomics is given, in a view. Where it is refused, so is a command of the plan: of this word, with these
+    numbers. An object has not been asked for its number by then, so 0 stands in its place. */
+function* indexIn(cx, node, view, given, [command, ...numbers] = ["load"]) {
   if (view?.kind !== "view") raise(cx, node, "TypeError", "[object Object] is not an integer typed array.");
-  const index = wholeOf(given);
+  const [index] = yield* wholesOf(cx, node, view, [given]);
   if (index >= 0 && index < view.count) return index;
   const word = view.from + index;
   if (cx.strand.guards === 0 && Number.isSafeInteger(word) && !(word in view.stands.block.words)) {
-    cx.writer.refuse(node, ["load", cx.writer.temporary(cx.temporaries), cx.operand(node, view), word], "RangeError: index");
+    const words = [word, ...numbers.map((number) => (typeof number === "object" ? 0 : wordOf(number)))];
+    cx.writer.refuse(node, [command, cx.writer.temporary(cx.temporaries), cx.operand(node, view), ...words], "RangeError: index");
   }
   return raise(cx, node, "RangeError", "Invalid atomic access index");
 }
@@ -40,28 +43,45 @@ function indexIn(cx, node, view, given) {
 /** A value as a whole number, or infinite. */
 export const wholeOf = (value) => Math.trunc(Number(value)) || 0;
 
-/** What is stored or added, as a plan has it: modulo 2^32 where a plan has no such number. */
+/** Values as whole numbers, from left to right. What an object's method does meanwhile may let go of the view. */
+function* wholesOf(cx, node, view, values) {
+  const found = [];
+  for (const value of values) {
+    const convert = () => toNumber(cx, node, value);
+    found.push(wholeOf(yield* isThing(value) ? needing(cx, view, convert) : convert()));
+  }
+  return found;
+}
+
+/** A number of a command, as a plan has it: modulo 2^32 where a plan has no such number. */
 export function wordOf(value) {
   const whole = wholeOf(value);
   return Number.isSafeInteger(whole) ? whole : whole >>> 0;
 }
 
-function atomics(realm) {
-  const add = (sign) => function* (cx, node, self, [view, index, value]) {
-    const at = indexIn(cx, node, view, index);
-    return view.reads(cx.ask(node, ["add", cx.operand(node, view), view.from + at, sign * wordOf(value)]));
-  };
-  return {
-    *load(cx, node, self, [view, index]) {
-      return realm.load(cx, node, view, indexIn(cx, node, view, index));
-    },
-    *store(cx, node, self, [view, index, value]) {
-      realm.store(cx, node, view, indexIn(cx, node, view, index), value);
-      return wholeOf(value);
-    },
-    add: add(1), sub: add(-1),
-  };
-}
+/** The methods that change a word, each with its command. A plan of version 1 can subtract too: it adds the negative number. */
+const CHANGING = { add: "add", sub: "add", and: "and", or: "or", xor: "xor", exchange: "exchange", compareExchange: "compareexchange" };
+
+const changing = (name, word) => function* (cx, node, self, [view, index, first, second]) {
+  const values = word === "compareexchange" ? [first, second] : [first];
+  const sign = name === "sub" ? -1 : 1, isOfThree = word !== "add";
+  if (isOfThree) cx.agent.world.needVersion(3);
+  const at = yield* indexIn(cx, node, view, index, isOfThree ? [word, ...values] : undefined);
+  const numbers = (yield* wholesOf(cx, node, view, values)).map((whole) => sign * wordOf(whole));
+  return view.reads(cx.ask(node, [word, cx.operand(node, view), view.from + at, ...numbers]));
+};
+
+const atomics = (realm) => ({
+  *load(cx, node, self, [view, index]) {
+    return realm.load(cx, node, view, yield* indexIn(cx, node, view, index));
+  },
+  *store(cx, node, self, [view, index, value]) {
+    const at = yield* indexIn(cx, node, view, index);
+    const [whole] = yield* wholesOf(cx, node, view, [value]);
+    return realm.store(cx, node, view, at, whole);
+  },
+  ...Object.fromEntries(Object.entries(CHANGING).map(([name, word]) => [name, changing(name, word)])),
+});
 
 /** Whether two shared buffers, or views of these, are over the same block: ours, since JavaScript can't ask. */
 function* sameBlock(cx, node, self, [one, other]) {
@@ -76,7 +96,7 @@ function* sameBlock(cx, node, self, [one, other]) {
   return cx.ask(node, ["sameblock", ...both.map((value) => cx.operand(node, value))]);
 }
 
-const MISSING = ["exchange", "compareExchange", "and", "or", "xor", "wait", "waitAsync", "notify", "isLockFree"];
+const MISSING = ["wait", "waitAsync", "notify", "isLockFree"];
 
 export function installShared(realm) {
   realm.constructorOf("SharedArrayBuffer", realm.protos.buffer, function* (cx, node, self, [bytes], newTarget) {
@@ -93,7 +113,7 @@ export function installShared(realm) {
   realm.methods(object, atomics(realm));
   for (const name of MISSING) {
     realm.constant(object, name, realm.native(name, function* (cx, node) {
-      throw new ScriptFault(`Atomics.${name} is not taken: plans load, store and add`, node);
+      throw new ScriptFault(`Atomics.${name} is not taken: plans load, store and change words`, node);
     }));
   }
 }

@@ -167,7 +167,7 @@ export function installWeak(realm) {
     if (cx.writer.machine.open) {
       throw new ScriptFault("a later collection is open until the job ends; a plan refuses another one", node);
     }
-    if (word === "collectlater") cx.agent.world.version = 2;
+    if (word === "collectlater") cx.agent.world.needVersion(2);
     cx.do(node, [word]);
   };
   realm.define("gc", realm.native("gc", collecting("collect"), { length: 0 }));

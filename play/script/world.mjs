@@ -34,6 +34,11 @@ export class World {
     return agent;
   }
 
+  /** What the script does asks for a version of the format. */
+  needVersion(version) {
+    this.version = Math.max(this.version, version);
+  }
+
   find(name) {
     return this.agents.find((agent) => agent.name === name) ?? null;
   }

@@ -485,7 +485,7 @@ def helps(count, tab):
     count.expect("Escape goes back", tab.value("document.activeElement.id"), "plan")
     count.expect("a call of the host", caret("let a = {}; await tur", "tur"), ["await turn()"])
     count.expect("its meaning", tab.value("at('heard-word').textContent"), "await turn(): ends the job; what follows is a new job")
-    names = ["gc", "collectLater", "agent", "postMessage", "message", "setTimeout", "deref", "register"]
+    names = ["gc", "collectLater", "agent", "postMessage", "message", "setTimeout", "deref", "register", "compareExchange"]
     count.expect("each call is known", [caret(name, name) != [] for name in names], [True] * len(names))
 
 

@@ -136,6 +136,8 @@ const STATEMENTS = [
 const ON_BLOCK = [
   (dice) => `Atomics.store(words, ${dice.below(4)}, ${dice.below(100) - 20});`,
   (dice) => `console.log(me, Atomics.add(words, ${dice.below(4)}, ${dice.below(9) - 4}));`,
+  (dice) => `console.log(me, Atomics.${dice.one(["and", "or", "xor", "exchange"])}(words, ${dice.below(4)}, ${dice.below(100) - 20}));`,
+  (dice) => `console.log(me, Atomics.compareExchange(words, ${dice.below(4)}, words[${dice.below(4)}], ${dice.below(9) - 4}));`,
   (dice) => `words[${dice.below(4)}] = words[${dice.below(4)}] + ${dice.below(5)};`,
   () => "for (let i = 0; i < words.length; i++) console.log(me, i, Atomics.load(words, i));",
   (dice) => `try { Atomics.store(words, ${2 + dice.below(4)}, 1); } catch (e) { console.log(me, e.name); }`,

@@ -6,8 +6,8 @@
 // - The lessons write their lines, here and on node; what may differ is named in lines.json.
 // - Each command has JavaScript that gives it in docs/PLANS.md, and what docs/SCRIPTS.md has beside that gives it too.
 // - Plans of the corpus, written as scripts and read back, say what their reports say.
-// - Commands have their places in the script. Wrong guesses of what a collection empties are put right. A long script takes
-//   some seconds.
+// - A script that needs it has a plan of a later version. Commands have their places in the script. Wrong guesses of what a
+//   collection empties are put right. A long script takes some seconds.
 // - COUNT random scripts say the same here and on node, but for what an engine may keep.
 // The plans of the lessons and of the random scripts are put into the folder, for other tests. Prints what fails, and
 // `N passed, M failed` last.
@@ -107,6 +107,21 @@ function lessons() {
   }
 }
 
+/** Scripts and the versions of their plans. */
+const VERSIONED = [
+  ["const v = new Uint32Array(new SharedArrayBuffer(4)); Atomics.sub(v, 0, Atomics.add(v, 0, 1)); gc();", 1],
+  ["collectLater();", 2],
+  ["const v = new Uint32Array(new SharedArrayBuffer(4)); Atomics.or(v, 0, 1); collectLater();", 3],
+  ["collectLater(); await turn(); const v = new Uint32Array(new SharedArrayBuffer(4)); Atomics.exchange(v, 0, 1);", 3],
+];
+
+function versions() {
+  for (const [source, wanted] of VERSIONED) {
+    const { text } = run(source);
+    check(text?.startsWith(`{"version": ${wanted},`), `the plan of ${source} is of version ${wanted}: ${text}`);
+  }
+}
+
 /** Commands with the letters of the script from which they come. What only lets something go is not among them. */
 const PLACED = [
   ["let key = {}; const ref = new WeakRef(key);", [["new", "{}"], ["weakref", "new WeakRef(key)"]]],
@@ -160,11 +175,12 @@ function timed() {
 
 /** What the interpreter knows of the operands of commands is what commands.json says. */
 function operands() {
-  for (const [word, { operands: uses, and = "", since }] of Object.entries(JSON.parse(readFileSync(here("../rows/commands.json"), "utf8")))) {
-    if (since === 3) continue; // the interpreter does not know it yet
-    const command = [word, ...uses, ...and].map((use, place) => `${use}${place}`);
-    const variables = [...uses + and].map((use) => "xvohwmsrb".includes(use));
-    check(variables.every((is, place) => isVariable([word, ...command.slice(1)], place + 1) === is), `the variables of ${word}`);
+  for (const [word, { operands: uses, and = "", ahead }] of Object.entries(JSON.parse(readFileSync(here("../rows/commands.json"), "utf8")))) {
+    if (ahead) continue; // the interpreter does not know it yet
+    const all = [...uses + and], areVariables = (operands, letters) => (
+      all.every((use, place) => isVariable([word, ...operands], place + 1) === letters.includes(use)));
+    check(areVariables(all.map((use, place) => `${use}${place}`), "xvohwmsrbinp"), `the variables of ${word}`);
+    check(areVariables(all.map((use, place) => ("inp".includes(use) ? place : use)), "xvohwmsrb"), `the variables of ${word} beside numbers`);
     check(assigns([word, "name"], "name") === uses.startsWith("x"), `whether ${word} assigns`);
   }
 }
@@ -211,6 +227,7 @@ lessons();
 operands();
 documented();
 corpus();
+versions();
 marked();
 guessed();
 timed();

@@ -6,6 +6,14 @@ const v = (name) => `v_${name}`;
 const all = (names) => names.map(v).join(", ");
 const gives = (write) => (x, ...operands) => `${v(x)} = ${write(...operands)}`;
 
+/** An index or a number: a variable has a name. */
+const amount = (given) => (typeof given === "string" ? v(given) : given);
+
+/** The methods of Atomics by their commands. */
+const ATOMICS = {
+  load: "load", store: "store", add: "add", sub: "sub", and: "and", or: "or", xor: "xor", exchange: "exchange", compareexchange: "compareExchange",
+};
+
 /** What makes a thing, and the class of which it is one. */
 const CLASSES = { weakmap: "WeakMap", weakset: "WeakSet" };
 
@@ -19,7 +27,12 @@ function formsOf(words, keys) {
   const method = (maker, name) => (o, ...operands) => (
     words.has(maker) ? `${v(o)}.${name}(${all(operands)})` : `${CLASSES[maker]}.prototype.${name}.call(${all([o, ...operands])})`);
   const object = keys.some((key) => key in {}) ? "Object.create(null)" : "{}";
+  const atomics = Object.entries(ATOMICS).map(([word, name]) => {
+    const write = (b, ...numbers) => `Atomics.${name}(${[view(b), ...numbers.map(amount)].join(", ")})`;
+    return [word, word === "store" ? write : gives(write)];
+  });
   return {
+    ...Object.fromEntries(atomics),
     let: gives(literal), new: gives(() => object), symbol: gives(() => "Symbol()"), symbolfor: gives((text) => `Symbol.for(${literal(text)})`),
     copy: gives(v), same: gives((y, z) => `${v(y)} === ${v(z)}`), say: (y) => `console.log(${v(y)})`,
     set: (o, key, y) => `${v(o)}.${key} = ${v(y)}`, get: gives((o, key) => `${v(o)}.${key}`), delete: gives((o, key) => `delete ${v(o)}.${key}`),
@@ -32,9 +45,7 @@ function formsOf(words, keys) {
     registry: gives((callback) => `new FinalizationRegistry(c_${callback})`),
     register: (r, ...operands) => `${v(r)}.register(${all(operands)})`, unregister: gives((r, t) => `${v(r)}.unregister(${v(t)})`),
     buffer: gives((count) => `new SharedArrayBuffer(${4 * count})`), length: gives((b) => `${view(b)}.length`),
-    sameblock: gives((b, d) => `sameBlock(${v(b)}, ${v(d)})`), load: gives((b, index) => `Atomics.load(${view(b)}, ${index})`),
-    store: (b, index, n) => `Atomics.store(${view(b)}, ${index}, ${n})`, add: gives((b, index, n) => `Atomics.add(${view(b)}, ${index}, ${n})`),
-    post: (agent, y) => `postMessage(${v(y)}, "${agent}")`, collect: () => "gc()",
+    sameblock: gives((b, d) => `sameBlock(${v(b)}, ${v(d)})`), post: (agent, y) => `postMessage(${v(y)}, "${agent}")`, collect: () => "gc()",
   };
 }
 

@@ -18,7 +18,7 @@ export function causeOf(parts, plan, part) {
 /** Outside of commands. */
 const BESIDE = {
   S2: (parts, plan) => planTrouble(plan)?.sentence,
-  S3: () => "The version is 1 or 2.",
+  S3: () => "The version is 1, 2 or 3.",
   S4: (parts, plan, { items }) => `A plan has 1 to 8 agents, and here are ${items.length === 0 ? "none" : items.length}.`,
   S5: (parts, plan, part) => nameSentence(parts, part),
   S6: (parts, plan, { items }) => noAgent("wait for", plan, parts.agent, items[0].content),

@@ -4,13 +4,13 @@ import { isFloat } from "../json.mjs";
 import { noAgent, noCallback } from "./absent.mjs";
 import { illText, isName, isText, noName } from "./names.mjs";
 import { quoted, valueText } from "./texts.mjs";
-import { lettersOf, nearest, typesOf } from "./words.mjs";
+import { lettersOf, nearest, sinceOf, typesOf } from "./words.mjs";
 
 const MOST_WORDS = 16384;
 /** What an operand of a type has to be. */
 const WANTED = {
   name: "a name", literal: "null, true, false, a number or a text", text: "a text", callback: "the name of a callback",
-  agent: "the name of an agent", whole: "a number", words: "a number",
+  agent: "the name of an agent", whole: "a number", amount: "a name or a number", words: "a number",
 };
 
 const isString = ({ content }) => typeof content === "string";
@@ -28,11 +28,12 @@ export function commandSentence(code, plan, agent, [{ content: word }, ...operan
 }
 
 /** The version that the plan says; of one that says none it does not matter. */
-const versionOf = (plan) => (plan.members.get("version")?.value.written === "2" ? 2 : 1);
+const versionOf = (plan) => ({ 2: 2, 3: 3 })[plan.members.get("version")?.value.written] ?? 1;
 
+/** A version has no such word. */
 function noWord(word) {
-  if (word === "collectlater") return "collectlater is a command of version 2.";
-  const near = nearest(word);
+  const since = sinceOf(word), near = nearest(word);
+  if (since !== undefined) return `${word} is a command of version ${since}.`;
   return `There is no command ${quoted(word)}.${near === null ? "" : ` Did you mean ${near}?`}`;
 }
 
@@ -44,6 +45,7 @@ function operandsHere(count) {
 /** Whether an operand is of the JSON kind that its type asks for. */
 function fits(type, operand) {
   if (type === "literal") return !operand.items && !operand.members;
+  if (type === "amount" && isNumber(operand)) return true;
   return type === "whole" || type === "words" ? isNumber(operand) : isString(operand);
 }
 
@@ -52,16 +54,19 @@ const isWhole = (operand) => !isFloat(operand) && Number.isSafeInteger(operand.c
 
 /** By the code of a fault, whether an operand of a type has it. */
 const IS_WRONG = {
-  S5: (type, operand) => ["name", "callback", "agent"].includes(type) && isString(operand) && !isName(operand.content),
+  S5: (type, operand) => ["name", "callback", "agent", "amount"].includes(type) && isString(operand) && !isName(operand.content),
   S6: (type) => type === "callback" || type === "agent",
   S7: (type, operand) => !fits(type, operand),
   S8: (type, operand) => (isNumber(operand) ? !isWhole(operand) : (type === "literal" || type === "text") && isString(operand) && !isText(operand.content)),
   S10: (type) => type === "words",
 };
 
+const ADVICE = " A text is said by a variable that let gave it.";
+
 /** By the code of a fault, the sentence on the operand that has it. */
 const SENTENCES = {
-  S5: ({ word, operand, called }) => `${called} is a name, and ${noName(operand.content)}${word === "say" ? " A text is said by a variable that let gave it." : ""}`,
+  S5: ({ word, type, operand, called }) => (
+    `${called} is ${WANTED[type === "amount" ? type : "name"]}, and ${noName(operand.content)}${word === "say" ? ADVICE : ""}`),
   S6: ({ plan, agent, type, operand }) => (type === "callback" ? noCallback(plan, agent, operand.content) : noAgent("post to", plan, agent, operand.content)),
   S7: ({ type, operand, called }) => `${called} is ${WANTED[type]}, and here stands ${valueText(operand)}.`,
   S8: ({ operand, called }) => `${called}${isNumber(operand) ? illNumber(operand) : illText(operand.content)}`,

@@ -8,11 +8,14 @@ const TABLE = Object.entries({
   weakmap: "X", wmset: "M Y Z", wmget: "X M Y", wmhas: "X M Y", wmdelete: "X M Y",
   weakset: "X", wsadd: "S Y", wshas: "X S Y", wsdelete: "X S Y",
   registry: "X C", register: "R Y H or R Y H T", unregister: "X R T",
-  buffer: "X N", length: "X B", sameblock: "X B D", load: "X B I", store: "B I N", add: "X B I N", post: "A Y",
+  buffer: "X N", length: "X B", sameblock: "X B D", load: "X B I", store: "B I N", add: "X B I N",
+  sub: "X B I N", and: "X B I N", or: "X B I N", xor: "X B I N", exchange: "X B I N", compareexchange: "X B I N P", post: "A Y",
   collect: "no operands", collectlater: "no operands",
 });
-/** What an operand with such a letter is; each other letter is a name. */
-const TYPES = { L: "literal", TEXT: "text", C: "callback", A: "agent", I: "whole", N: "whole" };
+/** The version with which a command came, where it is not the first. */
+const SINCE = { collectlater: 2, sub: 3, and: 3, or: 3, xor: 3, exchange: 3, compareexchange: 3 };
+/** What an operand with such a letter is; each other letter is a name. From version 3 on a whole number may be a variable's value. */
+const TYPES = { L: "literal", TEXT: "text", C: "callback", A: "agent", I: "whole", N: "whole", P: "whole" };
 /** The letters of names that are no variables which are read. */
 const ASSIGNED = "X", PROPERTY = "K";
 
@@ -28,17 +31,27 @@ function formOf(word, count) {
   return (count === 4 ? forms.at(-1) : forms[0]).split(" ");
 }
 
-/** What each operand of a version's command with so many of them has to be; null for a word that is none. */
-export function typesOf(word, count, version) {
-  if (lettersOf(word) === "" || (word === "collectlater" && version === 1)) return null;
-  return formOf(word, count).map((letter) => (word === "buffer" && letter === "N" ? "words" : (TYPES[letter] ?? "name")));
+/** The version with which a word came; undefined for a word that is none. */
+export const sinceOf = (word) => (lettersOf(word) === "" ? undefined : (SINCE[word] ?? 1));
+
+/** What an operand is whose letter stands behind a word. */
+function typeOf(word, letter) {
+  if (word === "buffer" && letter === "N") return "words";
+  return TYPES[letter] ?? "name";
 }
 
-/** Of a command with so many operands, the places of those that are variables, from 0: of each that is read, and of the one that is
-    assigned, below 0 where there is none. */
+/** What each operand of a version's command with so many of them has to be; null for a word that is none. */
+export function typesOf(word, count, version) {
+  if (!(sinceOf(word) <= version)) return null;
+  const types = formOf(word, count).map((letter) => typeOf(word, letter));
+  return version < 3 ? types : types.map((type) => (type === "whole" ? "amount" : type));
+}
+
+/** Of a command with so many operands, the places of those that are variables, from 0: of each that is read, also of one in whose place
+    a number may stand, and of the one that is assigned, below 0 where there is none. */
 export function variablesOf(word, count) {
   const form = formOf(word, count);
-  const isRead = (letter) => letter !== ASSIGNED && letter !== PROPERTY && !Object.hasOwn(TYPES, letter);
+  const isRead = (letter) => letter !== ASSIGNED && letter !== PROPERTY && ["name", "whole"].includes(typeOf(word, letter));
   return { read: [...form.keys()].filter((at) => isRead(form[at])), assigned: form.indexOf(ASSIGNED) };
 }
 

@@ -8,6 +8,16 @@ const r = new FinalizationRegistry((h) => { console.log("before", h); new WeakRe
 const r = new FinalizationRegistry((h) => { throw new Error("x" + h); }); r.register({}, 1); r.register({}, 2); await turn(); gc(); await turn(); console.log("after");
 /// Uncaught RangeError: index | next
 const v = new Uint32Array(new SharedArrayBuffer(4)); setTimeout(() => console.log("next"), 1); Atomics.load(v, 7);
+/// Uncaught RangeError: index | Uncaught RangeError: index | 6 6
+const v = new Int32Array(new SharedArrayBuffer(8)); v.fill(6); setTimeout(() => Atomics.compareExchange(v, -1, 6, 7), 1); setTimeout(() => console.log(...v), 2); Atomics.exchange(v, 2, { valueOf() { console.log("never"); } });
+/// TypeError | TypeError | RangeError | RangeError | 12 12
+const b = new SharedArrayBuffer(8), v = new Int32Array(b); v.fill(12); for (const [view, at] of [[b, 0], [[12], 0], [v, 2], [v, -1]]) try { Atomics.and(view, at, 10); } catch (e) { console.log(e.name); } console.log(...v);
+/// 12 8 11 13 | 13 -1 4294967295 5
+const b = new SharedArrayBuffer(4), s = new Int32Array(b), u = new Uint32Array(b); u[0] = 12; console.log(Atomics.and(u, 0, 10), Atomics.or(s, 0, 3), Atomics.xor(u, 0, 6), s[0]); console.log(Atomics.exchange(s, 0, -1), s[0], Atomics.exchange(u, 0, 2 ** 32 + 5), s[0]);
+/// -1 4294967294 | -2 4294967295 | -1 2147483648 -2147483648
+const b = new SharedArrayBuffer(4), s = new Int32Array(b), u = new Uint32Array(b); s[0] = -1; console.log(Atomics.and(s, 0, -2), u[0]); console.log(Atomics.xor(s, 0, 2 ** 32 + 1), u[0]); console.log(Atomics.and(s, 0, 2 ** 31), Atomics.or(u, 0, -(2 ** 31)), s[0]);
+/// 5 7 | 7 7 | 7 -1 | 4294967295 2 | 2 2 | 2 4294967295
+const b = new SharedArrayBuffer(4), s = new Int32Array(b), u = new Uint32Array(b); u[0] = 5; for (const [view, expected, next, other] of [[u, 5, 7, s], [u, 5, 9, s], [s, 2 ** 32 + 7, -1, s], [u, -1, 2 ** 32 + 2, u], [s, 3, 4, u], [s, 2, -1, u]]) console.log(Atomics.compareExchange(view, 0, expected, next), other[0]);
 /// DataCloneError | Uncaught DataCloneError: value cannot be posted | ok
 agent("b", async () => { console.log(await message("main")); }); try { postMessage({}, "b"); } catch (e) { console.log(e.name); } postMessage("ok", "b"); postMessage({}, "b");
 /// Symbol(k) true | next

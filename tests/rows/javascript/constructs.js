@@ -454,6 +454,27 @@ ta[0] = 5; Atomics.store(ta, 1, 7); console.log(Atomics.add(ta, 0, 3), ta[0], ta
 try { Atomics.load(ta, 9); } catch (e) { console.log(e.name); }
 /// a word is taken modulo
 const w32 = new Uint32Array(new SharedArrayBuffer(4)); w32[0] = -1; console.log(w32[0]); w32[0] = 2 ** 32 + 5; console.log(w32[0], Atomics.add(w32, 0, 2 ** 32 - 1), w32[0]); w32[0]++; w32[0] += 10; console.log(w32[0]);
+/// words that are changed, as signed and as unsigned numbers
+const block = new SharedArrayBuffer(8), views = [new Uint32Array(block), new Int32Array(block)], numbers = [0, 1, -1, 5, 2 ** 31, 2 ** 32 + 9, -(2 ** 53) + 1, 2 ** 60, Infinity, NaN, -0.9, "0x10", " 12 ", "1e3", null, undefined, true];
+for (const v of views) for (const name of ["and", "or", "xor", "exchange"]) for (const n of numbers) { v[1] = -6; console.log(name, n, Atomics[name](v, 1, n), v[1], views[0][1], views[1][1], v[0]); }
+for (const v of views) for (const n of numbers) { v[1] = n; console.log(n, Atomics.compareExchange(v, 1, n, -7), v[1], Atomics.compareExchange(v, 1, n, 8), v[1], Atomics.compareExchange(v, 1, 2 ** 32 - 7, n), v[1], Atomics.compareExchange(v, 1), v[1]); }
+/// what a call of Atomics asks for, in order
+const told = [], give = (name, value) => ({ valueOf() { told.push(name); return value; }, toString() { told.push("never"); return "9"; } }), v = new Int32Array(new SharedArrayBuffer(12), 4, 1);
+const calls = { and: 1, or: 1, xor: 1, exchange: 1, add: 1, sub: 1, store: 1, compareExchange: 2, load: 0 };
+const tried = (name, view, index, ...all) => { try { console.log(name, Atomics[name](view, index, ...all)); } catch (e) { console.log(name, e.name); } console.log(told.splice(0), v[0]); };
+for (const [name, count] of Object.entries(calls)) {
+  const all = [give("first", 3), give("second", "4")].slice(0, count);
+  for (const none of [{}, [1], v.buffer, 5, null, undefined]) tried(name, none, give("index", 0), ...all);
+  for (const index of [-1, 1, Infinity, 2 ** 53, Symbol("s"), { [Symbol.toPrimitive]: () => 1 }, { valueOf() { throw new EvalError("own"); } }]) tried(name, v, index, ...all);
+  for (const index of [give("index", "0"), undefined, -0.5, "", [], [0]]) tried(name, v, index, ...all);
+  for (let at = 0; at < count; at += 1) tried(name, v, 0, ...all.map((one, place) => (place === at ? Symbol("s") : one)));
+}
+let gone = new Int32Array(new SharedArrayBuffer(4)); const ref = new WeakRef(gone.buffer); await turn();
+console.log(Atomics.exchange(gone, { valueOf() { gone = null; gc(); return 0; } }, { valueOf() { gc(); return 7; } })); await turn(); gc(); console.log(ref.deref(), typeof gone);
+/// a lock of two agents, and a place that one of them takes from
+const LOCK = 0, PLACE = 1; const go = async (me, v) => { for (let i = 0; i < 3; i++) { const had = Atomics.compareExchange(v, LOCK, 0, me); if (had === 0) { console.log(me, "has it, and takes", Atomics.exchange(v, PLACE, me * 10 + i)); if (i > 0) Atomics.store(v, LOCK, 0); } else console.log(me, "waits for", had); await null; } };
+agent("a", async () => { const b = new SharedArrayBuffer(8), v = new Int32Array(b); postMessage(b, "b"); Atomics.compareExchange(v, LOCK, 0, 9); await message("b"); console.log("a lets go", Atomics.xor(v, LOCK, 9)); postMessage(1, "b"); await message("b"); await go(1, v); console.log("bits", Atomics.or(v, PLACE, 128), Atomics.and(v, PLACE, ~3), v[PLACE]); });
+agent("b", async () => { const v = new Uint32Array(await message("a")); await go(2, v); postMessage(1, "a"); await message("a"); await go(3, v); postMessage(2, "a"); });
 /// console.log of several kinds
 console.log(); console.log(""); console.log("a", 1, true, null, undefined, -0, 1.5); console.log([1, "a", null, [2]], [], [[]]); console.log("%", "\"quoted\"", "back\\slash", "é");
 console.log(function named() {}, () => {}, class K {}, new Error("boom"), Symbol("s"), Symbol.for("t"));

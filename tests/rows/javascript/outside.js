@@ -40,9 +40,9 @@ new Uint32Array(4);
 new SharedArrayBuffer(6);
 /// 16,384 words | new SharedArrayBuffer(4 * 16385)
 new SharedArrayBuffer(4 * 16385);
-/// plans load, store and add | Atomics.exchange(v, 0, 1)
-const v = new Uint32Array(new SharedArrayBuffer(4)); Atomics.exchange(v, 0, 1);
-/// plans load, store and add | Atomics.wait(v, 0, 1)
+/// plans load, store and change words | Atomics.isLockFree(4)
+Atomics.isLockFree(4);
+/// plans load, store and change words | Atomics.wait(v, 0, 1)
 const v = new Int32Array(new SharedArrayBuffer(4)); Atomics.wait(v, 0, 1);
 /// it is its buffer | new WeakRef(v)
 const v = new Uint32Array(new SharedArrayBuffer(4)); new WeakRef(v);
@@ -112,8 +112,8 @@ const words = new Uint32Array(new SharedArrayBuffer(4)); agent("a", async () => 
 function f() {} f.calls = 0; agent("a", async () => { f.calls++; });
 /// waits for a message | turn()
 agent("a", async () => { const flag = new Int32Array(new SharedArrayBuffer(4)); postMessage(flag.buffer, "b"); while (Atomics.load(flag, 0) === 0) await turn(); }); agent("b", async () => { Atomics.store(new Int32Array(await message("a")), 0, 1); });
-/// compareExchange | Atomics.compareExchange(lock, 0, 0, 1)
-agent("a", async () => { const lock = new Int32Array(new SharedArrayBuffer(4)); while (Atomics.compareExchange(lock, 0, 0, 1) !== 0); });
+/// more than 10,000 commands | Atomics.compareExchange(lock, 0, 0, 1)
+agent("a", async () => { const lock = new Int32Array(new SharedArrayBuffer(4)); lock[0] = 1; while (Atomics.compareExchange(lock, 0, 0, 1) !== 0); });
 /// send it with postMessage | n
 let n = 1; agent("a", async () => { console.log(n); }); n = 2;
 /// belongs to another agent | n
