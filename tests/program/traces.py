@@ -66,7 +66,9 @@ def parts(text):
     width = max(len(row.split(" ", 1)[0]) for row in rows)
     for row in rows:
         name, rest = row[:width].rstrip(), row[width + 2:]
-        cut = rest.rfind("  ") if len(rest) > EVENT_WIDTH else -1
+        # a text may have blanks of its own
+        masked = re.sub(r'"[^"]*"', lambda text: text[0].replace(" ", "_"), rest)
+        cut = masked.rfind("  ") if len(rest) > EVENT_WIDTH else -1
         yield name, rest[:cut].rstrip() if cut > 0 else rest, rest[cut + 2:] if cut > 0 else ""
 
 
