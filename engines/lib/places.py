@@ -2,8 +2,9 @@
 
 import rules
 from verdicts import (
-    ATOMICS, BLOCKS, BUFFER, CLEANUP, CLEAR, DEREF, ENQUEUE, EXECUTION, HELD_WEAKLY, JOBS, KEEP, KEYS, LIVENESS, PROPERTIES,
-    REGISTER, REGISTRY, SAME_VALUE, SYMBOLS, TYPES, UNREGISTER, VALIDATE, WEAKMAP, WEAKREF, WEAKSET,
+    ATOMICS, BLOCKS, BUFFER, CLEANUP, CLEAR, DEREF, ENQUEUE, EXCHANGING, EXECUTION, HELD_WEAKLY, JOBS, KEEP, KEYS,
+    LIVENESS, NUMBERS, PROPERTIES, REGISTER, REGISTRY, SAME_VALUE, SYMBOLS, TYPES, UNREGISTER, VALIDATE, WEAKMAP, WEAKREF,
+    WEAKSET,
 )
 
 # the identifiers of the sections in the text of ECMA-262
@@ -16,7 +17,8 @@ ESID = {
     REGISTRY: "sec-finalization-registry-cleanup-callback", REGISTER: "sec-finalization-registry.prototype.register",
     UNREGISTER: "sec-finalization-registry.prototype.unregister", CLEANUP: "sec-cleanup-finalization-registry",
     ENQUEUE: "sec-host-cleanup-finalization-registry", JOBS: "sec-jobs", BLOCKS: "sec-data-blocks",
-    ATOMICS: "sec-atomics-object", BUFFER: "sec-sharedarraybuffer-length", VALIDATE: "sec-validateatomicaccess",
+    ATOMICS: "sec-atomics-object", EXCHANGING: "sec-atomics-object", NUMBERS: "sec-tointegerorinfinity",
+    BUFFER: "sec-sharedarraybuffer-length", VALIDATE: "sec-validateatomicaccess",
 }
 OTHERWISE = "sec-weakref-execution"
 # what the sections say, as far as tests quote them
@@ -75,7 +77,7 @@ FOLDERS = {
     REGISTRY: "built-ins/FinalizationRegistry", REGISTER: "built-ins/FinalizationRegistry/prototype/register",
     UNREGISTER: "built-ins/FinalizationRegistry/prototype/unregister", CLEANUP: "built-ins/FinalizationRegistry",
     ENQUEUE: "built-ins/FinalizationRegistry", BLOCKS: "built-ins/SharedArrayBuffer", BUFFER: "built-ins/SharedArrayBuffer",
-    ATOMICS: "built-ins/Atomics", VALIDATE: "built-ins/Atomics",
+    **dict.fromkeys([ATOMICS, EXCHANGING, NUMBERS, VALIDATE], "built-ins/Atomics"),
 }
 # what each command needs of an engine
 FEATURES = {

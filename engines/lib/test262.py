@@ -61,7 +61,12 @@ def operand(use, arg):
         return literal(arg)
     if use == "c":
         return f"callback_{arg}"
-    return arg if use in "kizn" else variable(arg)
+    return arg if use in "kz" or is_number(use, arg) else variable(arg)
+
+
+def is_number(use, arg):
+    """Whether an index or a number is written, and is no variable."""
+    return use in "inp" and not isinstance(arg, str)
 
 
 def is_named(value):
@@ -277,7 +282,7 @@ class Test:
         """All variables of the lines, but for those of choices."""
         uses = ((use, arg) for place, command in self.commands() if self.is_done(place) or place in self.seen.refused
                 for use, arg in zip(rules.USES[command[0]] + rules.ONE_MORE_USE.get(command[0], ""), command[1:]))
-        found = {variable(arg) for use, arg in uses if use == "x" or use in rules.READ}
+        found = {variable(arg) for use, arg in uses if use in "xinp" + rules.READ and not is_number(use, arg)}
         return sorted(found | ({"held"} if self.callbacks() and self.collects else set()))
 
     def callbacks(self):

@@ -431,11 +431,11 @@ def run_on(rng, agent, steps, others):
 
 def in_variables(rng, plan):
     """The plan, of version 1 or 2, with some of its numbers in variables, other changes of words in the place of some of
-    its additions, and some of its commands behind `try`."""
+    its additions, and some of its commands behind `try`, if the program knows that."""
     for agent in plan["agents"]:
         for job in agent["jobs"]:
             job["run"] = [done for step in job["run"] for done in widened(rng, step)]
-    return known(rng, {**plan, "version": 3})
+    return {**plan, "version": 3}
 
 
 def widened(rng, step):
@@ -445,7 +445,7 @@ def widened(rng, step):
         if use in "in" and rng.random() < 0.5:
             before.append(["let", NUMERALS[place % 3], step[place] if rng.random() < 0.7 else f" {step[place]}"])
             wide[place] = before[-1][1]
-    return [*before, *(tried(rng, wide) if rng.random() < 0.15 else [wide])]
+    return [*before, *(tried(rng, wide) if not rules.AHEAD and rng.random() < 0.15 else [wide])]
 
 
 def exchanged(rng, step):

@@ -48,7 +48,7 @@ expect("a check of one", check(object), { status: 0, text: "ok\n" });
 expect("a trace of one", trace(object), trace(text));
 expect("one of another realm", run(runInNewContext(`(${text})`)), good);
 expect("one without a prototype", run(Object.assign(Object.create(null), object)), good);
-expect("one with a fault", [run({}), check({ ...object, version: 3 })], [{ status: 1, text: "refused S2" }, { status: 1, text: "refused S3" }]);
+expect("one with a fault", [run({}), check({ ...object, version: 4 })], [{ status: 1, text: "refused S2" }, { status: 1, text: "refused S3" }]);
 expect("undefined in a command", check({ version: 1, agents: [{ name: "a", callbacks: {}, jobs: [{ run: [["let", "x", undefined]] }] }] }).status, 0);
 const cycle = { version: 1 };
 cycle.agents = cycle;
