@@ -56,7 +56,7 @@ AT_ONCE = [
 B_ADDS_FIRST = [[0, 1, 0], [0, 1, 1], [0, 1, 2], [0, 2, 0], [1, 1, 0], [1, 1, 1], [0, 2, 1], [0, 3, 0], [1, 2, 0]]
 # what an engine may lack, and the commands that need it
 LACKING = {
-    "Atomics": {"load", "store", "add"}, "SharedArrayBuffer": {"buffer"},
+    "Atomics": {*rules.ON_WORDS}, "SharedArrayBuffer": {"buffer"},
     "FinalizationRegistry": {"registry", "register", "unregister"},
 }
 WITHOUT_STATUS = ["jsc"]  # the shell's `quit` takes no status
