@@ -137,6 +137,7 @@ export type AgentLine =
   | { agent: string; event: "message"; sender: string; value: TraceValue }
   | { agent: string; event: "did"; command: TraceCommand; values: TraceValue[]; answer: TraceAnswer }
   | { agent: string; event: "refused"; command: TraceCommand | null; error: string }
+  | { agent: string; event: "caught"; variable: string; command: TraceCommand; error: string }
   | { agent: string; event: "emptied"; command: TraceCommand | null; identities: number[] }
   | { agent: string; event: "kept"; identity: number; by: TraceReason }
   | { agent: string; event: "taken"; registration: number; held: TraceValue }

@@ -86,15 +86,10 @@ def one_line(path):
         plan = rules.read_plan(data)
     except rules.Refused as refused:
         raise Wrong(f"{path}: {refused}") from None
-    words = {word for agent in plan["agents"] for run in drawing.runs_of(agent) for step in run for word in words_of(step)}
+    words = {rules.bared(step)[0] for agent in plan["agents"] for run in drawing.runs_of(agent) for step in run}
     if later := sorted(words & {*rules.SINCE_TWO}):
         raise Wrong(f"{path}: no engine can be asked for {', '.join(later)}, which version 2 has")
     return json.dumps(json.loads(data))
-
-
-def words_of(step):
-    """The word of a command, and of what it tries."""
-    return [step[0], *(step[2:3] if step[0] == "try" else [])]
 
 
 def run(main, given):

@@ -50,13 +50,13 @@ class Alone(interleaving.Following):
         self.events.append(Message(POST, (self.name, receiver)))
 
     def access(self, word, operands):
-        words, index = self.place(operands["b"], operands["i"])
-        at, old = (self.block(operands["b"]), index), None
+        _, index = self.place(operands["b"], operands["i"])
+        at, old, number = (self.block(operands["b"]), index), None, self.as_word(operands.get("n"))
         if "x" in operands:
             said = self.next()
             old = int(said.split()[-1]) if said.startswith("# gave ") and said.split()[-1].isdigit() else -1
             self.variables[operands["x"]] = ("number", old)
-        change = (word, operands["n"].whole()) if word in rules.WRITES else None
+        change = (word, number) if word in rules.WRITES else None
         self.events.append(Word(at, old, change))
 
 

@@ -31,7 +31,8 @@ def without(plan, pieces):
     for place, start, count in sorted(pieces, reverse=True):
         del parts[place][start : start + count]
     for agent in smaller["agents"]:
-        named = {step[2] for run in runs_of(agent) for step in run if step[0] == "registry" and len(step) == 3}
+        steps = [rules.bared(step) for run in runs_of(agent) for step in run]
+        named = {step[2] for step in steps if step[:1] == ["registry"] and len(step) == 3}
         agent["callbacks"] = {name: run for name, run in agent["callbacks"].items() if name in named}
     return smaller
 

@@ -128,6 +128,8 @@ class Test:
         self.agent, self.about, self.complete = plan["agents"][0], about, complete
         if len(plan["agents"]) > 1 or any("on" in job for job in self.agent["jobs"]):
             raise Unfit("the plan has several agents")
+        if "try" in self.words_of_plan():
+            raise Unfit("a caught refusal has the plan's words, and not those of the engine")
         read = rules.read_plan(json.dumps(plan).encode())
         self.seen = worlds.explore(read, complete, at_once=not self.words_of_plan() & set(rules.COLLECTING))
         self.by_name, self.recorded = set(), {}  # the variables whose values are named; the choices that are kept, by name

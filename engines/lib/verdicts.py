@@ -30,7 +30,7 @@ ATOMICS = "Atomics.load, store and add, on a Uint32Array over a shared block"
 EXCHANGING = "Atomics.sub, and, or, xor, exchange and compareExchange, on a Uint32Array over a shared block"
 VALIDATE = "Atomics.load, store and add: ValidateIntegerTypedArray, ValidateAtomicAccess, ToUint32"
 NUMBERS = "ToIntegerOrInfinity, StringToNumber, of an index or a number that is a variable"
-TRY = "The try Statement"
+TRY = "The try Statement: evaluation of a TryStatement with a Catch"
 WAITING = "Atomics.wait and notify: DoWait, AddWaiter, RemoveWaiters"
 MESSAGES = "Agent Clusters: messages between agents"
 

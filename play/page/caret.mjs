@@ -4,6 +4,8 @@ import { isPlan } from "./kinds.mjs";
 
 /** The letters before the caret that are looked at for the bracket in which it stands. */
 const MOST_LOOKED_AT = 1000;
+/** What stands before a command that may be refused: `try` and its variable. */
+const TRIED = /^\s*"try"\s*,\s*"\w*"\s*,(?=\s*")/;
 
 /** At a caret: the list of words that may stand there (`commands`, `keys` or `calls`), from where to where the word goes, and
     its letters; `isKnown` if the word is not the one at the caret, but that of the command around it. Null where no word stands. */
@@ -18,8 +20,9 @@ function inPlan(text, word) {
   if (bracket === null) return null;
   const quoted = text[word.start - 1] === '"', inside = text.slice(bracket + 1, word.start);
   if (text[bracket] === "{") return quoted && /(^|,)\s*"$/.test(inside) ? { ...word, list: "keys" } : null;
-  if (/^\s*"$/.test(inside)) return { ...word, list: "commands" };
-  const [, command] = inside.match(/^\s*"(\w+)"/) ?? [];
+  const bare = inside.replace(TRIED, "");
+  if (/^\s*"$/.test(bare)) return { ...word, list: "commands" };
+  const [, command] = bare.match(/^\s*"(\w+)"/) ?? [];
   return command === undefined ? null : { ...word, list: "commands", whole: command, isKnown: true };
 }
 

@@ -52,10 +52,11 @@ export class Trace {
   }
 
   /** A value without a name gets that of the variable that it is assigned to, or of the property. */
-  name({ agent, event, command, values, value, answer, held, identities }, heap) {
+  name({ agent, event, command, values, value, answer, held, variable, identities }, heap) {
     const names = this.names.get(agent), row = this.rows.length;
     if (event === "message") names.assign(heap.jobs[heap.passed].on[1], identityOf(value), row);
     if (event === "taken") names.assign("held", identityOf(held), row);
+    if (event === "caught") names.assign(variable, null, row);
     if (event === "emptied") names.empty(identities, row);
     if (event !== "did") return;
     if (command[0] === "set") names.setProperty(identityOf(values[0]), command[2], identityOf(values[1]), row);
@@ -180,6 +181,11 @@ export class Heap {
     this.assign("held", held);
   }
 
+  /** A caught refusal changes the variable alone. */
+  catch({ variable, error }) {
+    this.assign(variable, error);
+  }
+
   endJob() {
     this.keptAlive.clear();
     if (!this.isCleaning) this.passed += 1;
@@ -216,8 +222,8 @@ export class Heap {
 
 /** What each event does; the others change no heap. */
 const EVENTS = {
-  "cleanup job": "beginCleanup", "message": "receive", "did": "do", "emptied": "empty", "taken": "take", "job ends": "endJob",
-  "skipped": "skip",
+  "cleanup job": "beginCleanup", "message": "receive", "did": "do", "caught": "catch", "emptied": "empty", "taken": "take",
+  "job ends": "endJob", "skipped": "skip",
 };
 /** What commands make. */
 const MADE = {

@@ -2,7 +2,7 @@
 // registration that is sure to be refused. Nothing is refused for it. docs/COMMAND_LINE.md has the rules.
 
 import { escaped } from "./mistakes/texts.mjs";
-import { variablesOf } from "./mistakes/words.mjs";
+import { TRY, variablesOf } from "./mistakes/words.mjs";
 
 /** The variable that the host assigns before each call of a callback. */
 const HELD = "held";
@@ -28,15 +28,25 @@ export function warningsOf(plan) {
 /** Warnings as the program writes them, each on a line. */
 export const warningLines = (warnings) => warnings.map(({ pointer, sentence }) => `warning ${JSON.stringify(pointer)} ${sentence}\n`).join("");
 
-/** The lists of commands of an agent in the order in which they are looked through, each with its path and the variable that is
-    assigned before its first command. Names are ASCII, so their order is that of their bytes. */
+/** The lists of commands of an agent in the order in which they are looked through. Names are ASCII, so their order is that of
+    their bytes. */
 function runsOf({ jobs, callbacks }, path) {
   const names = Object.keys(callbacks).sort();
   return [
-    ...jobs.map(({ on, run }, job) => ({ path: [...path, "jobs", job, "run"], commands: run, before: on?.[1], isCallback: false })),
-    ...names.map((name) => ({ path: [...path, "callbacks", name], commands: callbacks[name], before: HELD, isCallback: true })),
+    ...jobs.map(({ on, run }, job) => runOf([...path, "jobs", job, "run"], run, { before: on ? [on[1]] : [], isCallback: false })),
+    ...names.map((name) => runOf([...path, "callbacks", name], callbacks[name], { before: [HELD], isCallback: true })),
   ];
 }
+
+/** A list of commands with its path, and the variables that are assigned before the first one. A plan does not tell whether a refusal
+    is caught, so what `try` may assign is one of these. The commands have no `try`. */
+function runOf(path, commands, { before, isCallback }) {
+  const caught = commands.filter(isTried).map(([, variable]) => variable);
+  const bare = commands.map((command) => (isTried(command) ? command.slice(2) : command));
+  return { path, commands: bare, before: [...before, ...caught], isCallback };
+}
+
+const isTried = ([word]) => word === TRY;
 
 function ofAgent({ name }, runs) {
   const variables = variablesIn(runs);
@@ -53,7 +63,7 @@ function ofAgent({ name }, runs) {
 function variablesIn(runs) {
   const variables = new Map();
   for (const run of runs) {
-    if (run.before !== undefined) mention(variables, run.before, OTHERWISE, run, -1);
+    for (const variable of run.before) mention(variables, variable, OTHERWISE, run, -1);
     run.commands.forEach((command, at) => mentionAll(variables, command, run, at));
   }
   return variables;

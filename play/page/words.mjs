@@ -33,6 +33,7 @@ const AGENT = {
   "message": ({ sender, value }, name) => [`message of ${sender}`, valued(value, name)],
   "did": (line, name) => [command(line.command), answered(line, name)],
   "refused": (line) => [line.command ? command(line.command) : "message", `error ${line.error}`],
+  "caught": (line) => [`try ${line.variable} ${command(line.command)}`, valued(line.error)],
   "emptied": (line) => [line.command ? command(line.command) : "later collection ends", `emptied ${line.identities.length}`],
   "taken": ({ registration, held }, name) => [`registration ${registration} taken`, `cleanup ${registration} held ${valued(held, name)}`],
   "job ends": () => ["job ends"],

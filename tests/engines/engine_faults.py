@@ -29,7 +29,8 @@ import rules
 import session
 from engines import Tests
 from verdicts import (
-    ATOMICS, CLEAR, DEREF, ENQUEUE, EXCHANGING, MESSAGES, UNREGISTER, WEAKMAP, WEAKSET, NEVER_CALLED, NEVER_EMPTIED, Broken,
+    ATOMICS, CLEAR, DEREF, ENQUEUE, EXCHANGING, MESSAGES, TRY, UNREGISTER, WEAKMAP, WEAKSET, NEVER_CALLED, NEVER_EMPTIED,
+    Broken,
 )
 
 NONE = os.path.join(TOP, "tests", "engines", "engine_of_rules.py")  # the engine that is none
@@ -60,12 +61,18 @@ FOUND = {
     "other-target": ("deref", [(Broken.ANSWERED, DEREF)]),
     "clone": ("messages", [(Broken.ANSWERED, MESSAGES)]),
     "copied-block": ("messages", [(Broken.ANSWERED, ATOMICS)]),
+    "thrown": ("caught", [Broken.EMPTIED_KEPT]),
     **dict.fromkeys(["sub", "exchange"], ("atomics", [(Broken.ANSWERED, EXCHANGING)])),
     **dict.fromkeys(["bits", "compare"], ("atomics", [(Broken.ANSWERED, ATOMICS)])),  # a later load shows it
 }
 # the same of what breaks no rule in any one plan, with what never happens
 NEVER = {"never": ("deref cycles kept-alive", NEVER_EMPTIED), "no-calls": ("registrations queue in-callbacks", NEVER_CALLED)}
 OF_THREADS = ["dropped", "doubled", "torn"]  # what tests/engines/engine_hosts.py looks for
+# what engine_of_rules.py does where a refusal is caught, and what is said of it
+CAUGHT = {
+    "ends": 'say "TypeError: not an object" -> error TypeError', "clears": Broken.EMPTIED_KEPT.value[0],
+    "assigns": 'say 3 -> say "TypeError', "leaves": f"-> say undefined ({Broken.ANSWERED.value[0]}; {TRY})",
+}
 # a plan of which a job has what engine_of_rules.py dies of, one that says true, and one with nothing of the kind
 DIES = "new a; keys x"
 TRUE = "new a; same x a a; say x"
@@ -131,6 +138,8 @@ def statuses(tests, folder):
         ("never emptied", "retains", [*places("deref cycles kept-alive")], 1, f"over the whole run: {NEVER_EMPTIED[0]}"),
         ("never called", "retains", [*places("registrations queue")], 1, f"over the whole run: {NEVER_CALLED[0]}"),
         ("not emptied in a few plans", "retains", [*places("weakrefs")], 0, "| retained |"),
+        ("refusals that are caught", "", [*places("caught")], 0, "| contradiction | 0 | 0 |"),
+        *((f"a caught refusal {fault}", fault, ["--no-shrink", *places("caught")], 1, told) for fault, told in CAUGHT.items()),
     ]
     for title, fault, words, wanted, told in cases:
         status, out, err = ran("compare", "qjs", *words, FAULT=fault, ONCE=os.path.join(folder, "once"))

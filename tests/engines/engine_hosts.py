@@ -35,8 +35,8 @@ THREADS, SUITE = os.path.join(engines.ENGINES, "threads"), os.path.join(engines.
 COMPARE, CORPUS = os.path.join(engines.ENGINES, "compare"), os.path.join(engines.ENGINES, "corpus")
 EXPORT, RUNNER = os.path.join(engines.ENGINES, "export"), os.path.join(engines.ENGINES, "runner.mjs")
 # each fault with the folders of the corpus whose tests speak of it; of those that the tests of comparisons have, without
-# what needs several agents, or counts what was done in the plans before
-COUNTING = {"again", "all-lost", "clone", "copied-block", "held", "other-target", "second", "swapped"}
+# what needs several agents or a caught refusal, or counts what was done in the plans before
+COUNTING = {"again", "all-lost", "clone", "copied-block", "held", "other-target", "second", "swapped", "thrown"}
 SHOWN = {fault: shown for fault, (_, _, shown) in engines.FAULTS.items()} | {"all-lost": "ephemerons"}
 SHOWN |= {fault: where for fault, (where, _) in engine_faults.FOUND.items() if fault not in COUNTING and ":" not in where}
 ADD = ["add", "x", "b", 0, 1]

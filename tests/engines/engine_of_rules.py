@@ -6,7 +6,8 @@ Usage: engine_of_rules.py < plans; with --help it says its version.
 
 Faults: `silent` writes a word on standard error and ends; `dies` ends at a plan of which a job has nothing but `keys x`;
 `retains` never empties and never calls a callback; `wrong` says 7 for true; `once` does so in one plan, when it is run
-the first time: after that the file that the variable ONCE names is there.
+the first time: after that the file that the variable ONCE names is there. Where a refusal is caught, `ends` ends the job,
+`clears` lets go what is kept alive, `assigns` gives the text to what the command assigns too, and `leaves` to nothing.
 """
 
 import json
@@ -32,6 +33,19 @@ class Told(rules.Agent):
         if word == "deref" or rules.COMMANDS[word].get("tells"):
             self.notes.append(f"# {'deref' if word == 'deref' else 'gave'} {rules.printed(self.value(args[0]))}")
         return line.replace("true", "7") if line == "say true" and is_wrong() else line
+
+    def tried(self, name, command):
+        try:
+            return self.do(command[0], command[1:])
+        except rules.TypeRefused as refused:
+            if FAULT == "ends":
+                raise
+            assigned = [] if FAULT == "leaves" else [name]
+            if FAULT == "assigns" and command[0] in rules.ASSIGNING:
+                assigned.append(command[1])
+            self.variables |= dict.fromkeys(assigned, ("text", str(refused)))
+            self.kept = [] if FAULT == "clears" else self.kept
+            return None
 
     def run(self, commands):
         for command in commands:

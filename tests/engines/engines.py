@@ -24,7 +24,7 @@ import rules
 import session
 from verdicts import ATOMICS, WEAKMAP, Broken, Kind
 
-RANDOM_PLANS, WITH_AGENTS, SEED = 40, 20, 50
+RANDOM_PLANS, WITH_AGENTS, OF_VERSION_3, SEED = 40, 20, 20, 50
 # each fault with the rules of which it breaks one first, the section where the rule leaves it open, and the tests that
 # show it; a callback that comes early may break any rule on callbacks first, and takes what is unregistered later
 FAULTS = {
@@ -173,9 +173,10 @@ def script(tests, *words):
 
 
 def sound(tests, engine, program):
-    """The corpus and random plans, of one agent and of several, are never contradicted."""
+    """The corpus and random plans, of one agent, of several, and of version 3, are never contradicted."""
     rng, report = random.Random(SEED), session.reporter(program)
     drawn = drawing.draw(rng, RANDOM_PLANS, True, False) + drawing.draw(rng, WITH_AGENTS, False, True)
+    drawn += drawing.draw(rng, OF_VERSION_3, True, False, about="atomics")
     plans = given.plans_in([corpus.FOLDER]) + [(f"random plan {at}", text) for at, text in enumerate(drawn)]
     for found in session.compare_all(engine, plans, report).found:
         fault = found.contradiction()

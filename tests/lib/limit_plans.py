@@ -251,6 +251,11 @@ def chain(count):
     return alone(made, [["let", "n", None], ["collect"], ["let", "o", None], ["collect"]])
 
 
+def caught_refusals(count):
+    """As many commands, of which half are refused and caught."""
+    return alone(each(count // 2, ["try", "e", "keys", "x"], ["copy", "y", "e"]), version=3)
+
+
 def eight_agents(count):
     """As many commands in all, on one block."""
     run = each(count // 8 // 4, ["add", "x", "b", 0, 1], ["load", "x", "b", 1], ["store", "b", 2, 3], ["let", "x", 1])
@@ -288,5 +293,6 @@ PLANS = {
     "registries": (registries_queued, 100_000), "cells registered anew": (cells_registered_anew, 100_000),
     "kept": (kept, 1_000_000), "derefs beside a later collection": (derefs_beside_later, 72_000),
     "variables": (variables, 200_000), "collections": (collections, 1_000_000), "small heaps": (small_heaps, 10_000),
-    "chain": (chain, 300_000), "eight agents": (eight_agents, 400_000), "ring": (ring, 7_992), "skips": (skips, 8_000),
+    "chain": (chain, 300_000), "caught refusals": (caught_refusals, 400_000), "eight agents": (eight_agents, 400_000),
+    "ring": (ring, 7_992), "skips": (skips, 8_000),
 }  # fmt: skip

@@ -185,6 +185,11 @@ def has_form(command, known):
     )
 
 
+def bared(command):
+    """A command, without the `try` and the variable that it may stand behind."""
+    return command[2:] if command[:1] == ["try"] else command
+
+
 def check_operand(kind, operand, known, place):
     if (kind in "nca" or (kind == "i" and isinstance(operand, str))) and not NAME.match(operand):
         raise Refused(5, *place)
@@ -201,7 +206,7 @@ def check_operand(kind, operand, known, place):
 def check_command(command, known, where, number):
     if not has_form(command, known):
         raise Refused(7, *where, number)
-    done = command[2:] if command[0] == "try" else command
+    done = bared(command)
     if done[0] in COLLECTING and where[1][0] == "callback":
         raise Refused(9, *where, number)
     kinds = kinds_of(done) if done is command else OPERANDS["try"] + kinds_of(done)

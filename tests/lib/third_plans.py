@@ -374,7 +374,7 @@ def alone(rng):
     calls = random_plans.without_collections(agents[0]["callbacks"])
     growing = Sleeper(rng, {**agents[0], "callbacks": calls}, rules.Ledger(), {"a": None}, AT_ONCE, OFTEN_AT_ONCE)
     rules.run_turns({"a": growing})
-    return {"version": 3, "agents": agents}
+    return known(rng, {"version": 3, "agents": agents})
 
 
 def gathered(rng):
@@ -431,7 +431,7 @@ def run_on(rng, agent, steps, others):
 
 def in_variables(rng, plan):
     """The plan, of version 1 or 2, with some of its numbers in variables, other changes of words in the place of some of
-    its additions, and some of its commands behind `try`, if the program knows that."""
+    its additions, and some of its commands behind `try`."""
     for agent in plan["agents"]:
         for job in agent["jobs"]:
             job["run"] = [done for step in job["run"] for done in widened(rng, step)]
@@ -445,7 +445,7 @@ def widened(rng, step):
         if use in "in" and rng.random() < 0.5:
             before.append(["let", NUMERALS[place % 3], step[place] if rng.random() < 0.7 else f" {step[place]}"])
             wide[place] = before[-1][1]
-    return [*before, *(tried(rng, wide) if not rules.AHEAD and rng.random() < 0.15 else [wide])]
+    return [*before, *(tried(rng, wide) if rng.random() < 0.15 else [wide])]
 
 
 def exchanged(rng, step):
@@ -495,16 +495,15 @@ def runs_of(drawn):
 
 
 def known(rng, drawn):
-    """The plan without the words that the program does not know, of which few plans keep some. What stands behind `try`
-    stands alone now and then."""
-    def done(step):
-        if step[:1] and step[0] in rules.AHEAD:
-            return [step[2:]] if step[0] == "try" and len(step) > 2 and rng.random() < 0.15 else []
-        return [step]
-
+    """The plan without the words that the program does not know, of which few plans keep some."""
     for run in runs_of(drawn) if rules.AHEAD and rng.random() < 0.98 else ():
-        run[:] = [kept for step in run for kept in done(step)]
+        run[:] = [step for step in run if not is_ahead(step, rules.AHEAD)]
     return drawn
+
+
+def is_ahead(step, ahead):
+    """Whether the word of a command, or of that behind its `try`, is one of these."""
+    return any(word in ahead for word in rules.bared(step)[:1])
 
 
 def plan(rng):

@@ -35,6 +35,34 @@ WRONG = {
 }
 # Of two ways that are equally short.
 ALSO = {"5 variable o": "5 KeptAlive"}
+# A refusal that is caught, and a command behind `try` that is done; what of its trace stands between the beginning of its job
+# and the end, without the column of the agent's name or the first member; and changes of it.
+TRIED = """{"version": 3, "agents": [{"name": "a", "callbacks": {}, "jobs": [{"run": [
+  ["try", "e", "weakref", "w", "x"], ["try", "e", "say", "e"]]}]}]}"""
+SAID = 'say "TypeError: cannot be held weakly"'
+TRIED_ROWS = [f'{"try e weakref w x":32}  "TypeError: cannot be held weakly"', f"{'say e':32}  {SAID}"]
+TRIED_LINES = [
+    '"event":"caught","variable":"e","command":["weakref","w","x"],"error":"TypeError: cannot be held weakly"}',
+    '"event":"did","command":["say","e"],"values":["TypeError: cannot be held weakly"],"answer":null}',
+]
+WRONG_ROWS = {
+    "the let of the text": (0, 'let e "TypeError: cannot be held weakly"  "TypeError: cannot be held weakly"'),
+    "no try": (0, f'{"weakref w x":32}  "TypeError: cannot be held weakly"'),
+    "an error": (0, f'{"try e weakref w x":32}  error TypeError: cannot be held weakly'),
+    "no error": (0, "try e weakref w x"),
+    "another variable": (0, f'{"try w weakref w x":32}  "TypeError: cannot be held weakly"'),
+    "a try where nothing was refused": (1, f"{'try e say e':32}  {SAID}"),
+    "the variable as it was": (1, f"{'say e':32}  say undefined"),
+    "the end of the job": (1, "job ends"),
+}
+WRONG_LINES = {
+    "the let of the text": (0, '"event":"did","command":["let","e","TypeError: cannot be held weakly"],"values":[],"answer":'
+                               '{"gives":"TypeError: cannot be held weakly"}}'),
+    "a refusal": (0, '"event":"refused","command":["weakref","w","x"],"error":"TypeError: cannot be held weakly"}'),
+    "the whole command": (0, TRIED_LINES[0].replace('["weakref"', '["try","e","weakref"')),
+    "another variable": (0, TRIED_LINES[0].replace('"e"', '"w"')),
+    "a try where nothing was refused": (1, TRIED_LINES[1].replace('["say"', '["try","e","say"')),
+}
 
 
 def row(told):
@@ -59,6 +87,20 @@ def by_hand(count):
     count.expect("another right row", fault(ALSO), None)
     for what, changes in WRONG.items():
         count.add(f"refused: {what}", None if fault(changes) else "accepted")
+
+
+def of_tried(count):
+    """A caught refusal, and its changes."""
+    turns, names = trace_check.model(TRIED.encode())
+    for form, before, right, wrong in (
+        (trace_forms.Rows(), "a  ", TRIED_ROWS, WRONG_ROWS), (trace_forms.Lines(), '{"agent":"a",', TRIED_LINES, WRONG_LINES),
+    ):
+        text = trace_check.written(form, turns, names, False, None)
+        told = "".join(f"{before}{line}\n" for line in right)
+        count.expect(f"a caught refusal {form.words}", told in text, True)
+        for what, (at, line) in wrong.items():
+            said = trace_check.fault(form, turns, names, False, text.replace(right[at], line))
+            count.add(f"refused: of a caught refusal {what} {form.words}", None if said else "accepted")
 
 
 def changed(chance, form, lines):
@@ -111,8 +153,9 @@ def of_plan(count, chance, what, data):
 
 
 def try_all(count, plans, seed):
-    """Counts the changes of the plan above, and those of so many random plans."""
+    """Counts the changes of the plans above, and those of so many random plans."""
     by_hand(count)
+    of_tried(count)
     chance = random.Random(seed)
     for number in range(plans):
         data = third_plans.text_of_any(chance)

@@ -126,8 +126,6 @@ class Rows:
 
 def command_in_words(command):
     """A command as its row has it: texts and literals as in JSON, names without signs."""
-    if command[0] == "try":
-        return f"try {command[1]} {command_in_words(command[2:])}"
     words = [command[0]]
     for kind, operand in zip(rules.OPERANDS[command[0]] + rules.ONE_MORE.get(command[0], ""), command[1:]):
         is_name = kind in "nca" or (kind == "i" and isinstance(operand, str))
@@ -147,7 +145,8 @@ def told_of_agent(event):
         case "did":
             return told_of_command(event)
         case "caught":
-            return command_in_words(event["command"]), rules.printed(("text", event["error"]))
+            words = command_in_words(event["command"])
+            return f"try {event['variable']} {words}", rules.printed(("text", event["error"]))
         case "refused":
             return command_in_words(event["command"] or ["message"]), f"error {event['error']}"
         case "emptied":
@@ -163,7 +162,7 @@ def told_of_agent(event):
 
 def told_of_command(event):
     words, answer = command_in_words(event["command"]), event["answer"]
-    if event["command"][0] == "say" or event["command"][:3:2] == ["try", "say"]:
+    if event["command"][0] == "say":
         return words, f"say {rules.printed(event['values'][0])}"
     if answer is None:
         return (words,)

@@ -176,19 +176,21 @@ class Teller(rules.Agent):
 
     def told(self, command):
         """The event of a command that is done, or whose refusal is caught; and None before it where the agent sleeps."""
-        done = command[2:] if command[0] == "try" else command
+        done = rules.bared(command)
         values, self.caught = [*map(self.value, read_by(done))], None
         self.do(command[0], command[1:])
         if self.sleep:
             while not self.sleep.answer:
                 yield None
             self.wake()
-        yield self.of_command(command, done, values)
-
-    def of_command(self, command, done, values):
         if self.caught:
-            return self.event("caught", command=command, error=self.caught)
-        word, args = done[0], done[1:]
+            yield self.event("caught", variable=command[1], command=done, error=self.caught)
+        else:
+            yield self.of_command(done, values)
+
+    def of_command(self, command, values):
+        """The event of a command that was done, which does not show whether it stood behind `try`."""
+        word, args = command[0], command[1:]
         if word == "collect":
             return self.event("emptied", command=command, identities=self.dead)
         answer = None

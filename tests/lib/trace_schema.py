@@ -17,8 +17,13 @@ PATH = os.path.join(TOP, "docs", "trace.schema.json")
 # how many lines of each kind are judged at most, and how many are spoiled
 JUDGED = 10
 SPOILED = 1
-# A job that is refused when its message comes would need a million values first; so this line is written by hand.
-BY_HAND = [{"agent": "a", "event": "refused", "command": None, "error": "limit: values"}]
+# A job that is refused when its message comes would need a million values first; so this line is written by hand, and so is
+# one of a refusal that is caught.
+BY_HAND = [
+    {"agent": "a", "event": "refused", "command": None, "error": "limit: values"},
+    {"agent": "a", "event": "caught", "variable": "e", "command": ["weakref", "w", "x"],
+     "error": "TypeError: cannot be held weakly"},
+]
 
 
 def judges():

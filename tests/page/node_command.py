@@ -356,7 +356,7 @@ def warned(count, what, answer, wanted, fault):
 def of_module(count):
     """The same rows by the calls of the module, and what it knows of operands."""
     rows, table = [*warned_rows()], json.loads(read("tests", "rows", "commands.json"))
-    known = {word: row for word, row in table.items() if not row.get("ahead")}
+    known = {word: row for word, row in table.items() if not row.get("ahead") and word != "try"}
     forms = [(word, uses) for word, row in known.items() for uses in {row["operands"], row["operands"] + row.get("and", "")}]
     flags = [] if node_package.is_wide() else [node_package.FLAG]
     paths = [os.path.join(PLAY, *name) for name in (("explain.mjs",), ("page", "mistakes", "words.mjs"))]

@@ -114,7 +114,8 @@ def compare(count, script, what, data):
     got = script.ask(data, lines.encode())
     words = [row[:3] for row in got["rows"]]
     count.expect(f"the page's words of {what}", words, [*rows(turns, names)])
-    marked = [row[3] and json.loads(row[3]) for row in got["rows"]]
+    # The lines show no `try`.
+    marked = [row[3] and rules.bared(json.loads(row[3])) for row in got["rows"]]
     count.expect(f"the page's commands of {what}", marked, [*commands(turns)])
     heaps = [turn.heap for turn in turns if turn.heap]
     count.expect(f"the page's list of {what}", got["listed"], page_rows.rows_of(data, False))

@@ -39,6 +39,8 @@ class Agent:
                 self.put(variable, variable, event["value"])
             case "taken":
                 self.put("held", "held", event["held"])
+            case "caught":
+                self.put(event["variable"], event["variable"], ("text", event["error"]))
             case "emptied":
                 self.gone |= {*event["identities"]}
             case "did":
@@ -90,7 +92,7 @@ class Rows:
             words = f"registration {event['registration']} of {agent.called(agent.targets[event['registration'] - 1])} taken"
         if event["event"] == "did" and event["command"][0] == "let" and event["command"][2] is None:
             answer = "undefined, a plan's null"
-        is_plain = event["event"] not in ("did", "refused", "taken")
+        is_plain = event["event"] not in ("did", "refused", "caught", "taken")
         self.add(name, agent.named(words) if is_plain else words, agent.named(answer))
         shown = words if len(words) <= LONGEST else f"{words[:LONGEST - 1]}…"
         since = f"row {len(self.found)} ({agent.named(shown) if is_plain else shown})"

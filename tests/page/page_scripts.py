@@ -458,7 +458,7 @@ def leading_of_plan(count, tab):
 
 def helps(count, tab):
     """Help for the word at the caret, by the keys alone: of plans the commands and keys, of scripts the host's calls."""
-    plan = '{"version": 1, "agents": [{"name": "a", "callbacks": {}, "jobs": [{"run": [["wea"], ["set", "o"]]}]}]}'
+    plan = '{"version": 1, "agents": [{"name": "a", "callbacks": {}, "jobs": [{"run": [["wea"], ["set", "o"], ["try", "e", "der"]]}]}]}'
 
     def caret(text, after):
         pasted(tab, text)
@@ -477,6 +477,7 @@ def helps(count, tab):
     tab.call("Input.dispatchKeyEvent", type="rawKeyDown", key="z", code="KeyZ", windowsVirtualKeyCode=90, modifiers=2, commands=["undo"])
     count.expect("Control and Z take it back", tab.value("at('plan').value"), plan)
     count.expect("the command of an operand", caret(plan, '"set", "o'), ["set O K Y"])
+    count.expect("the variable of try, and a command behind it", [caret(plan, end) for end in ('"try", "e', '"der')], [["try X COMMAND"], ["deref X W"]])
     count.expect("keys of a plan", caret(plan, '"jo'), ['"jobs"'])
     count.expect("nothing without a letter", caret("let a = 1;\n", "\n"), [])
     tab.press(" ", 32, modifiers=2)

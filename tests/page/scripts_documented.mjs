@@ -16,7 +16,7 @@ await turn();
 `;
 
 /** The commands that no script gives. */
-const GIVEN_BY_NONE = ["keys O", "sub X B I N"];
+const GIVEN_BY_NONE = ["keys O", "sub X B I N", "try X COMMAND"];
 
 /** The rows of the table below a heading: the words of the first two columns that are code. */
 function rowsOf(path, heading) {

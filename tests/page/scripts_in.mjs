@@ -176,7 +176,7 @@ function timed() {
 /** What the interpreter knows of the operands of commands is what commands.json says. */
 function operands() {
   for (const [word, { operands: uses, and = "", ahead }] of Object.entries(JSON.parse(readFileSync(here("../rows/commands.json"), "utf8")))) {
-    if (ahead) continue; // the interpreter does not know it yet
+    if (ahead || word === "try") continue; // the interpreter writes no such command
     const all = [...uses + and], areVariables = (operands, letters) => (
       all.every((use, place) => isVariable([word, ...operands], place + 1) === letters.includes(use)));
     check(areVariables(all.map((use, place) => `${use}${place}`), "xvohwmsrbinp"), `the variables of ${word}`);

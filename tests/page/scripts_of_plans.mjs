@@ -51,11 +51,21 @@ function formsOf(words, keys) {
 
 const KEYED = new Set(["set", "get", "delete"]);
 const isName = (operand) => /^[A-Za-z_]\w*$/.test(operand);
-const commandsOf = ({ callbacks, jobs }) => [...Object.values(callbacks).flat(), ...jobs.flatMap(({ run }) => run)];
+
+/** The commands of an agent: `try` as one that has its variable, and the command behind it as another. */
+const commandsOf = ({ callbacks, jobs }) => [...Object.values(callbacks).flat(), ...jobs.flatMap(({ run }) => run)].flatMap(
+  (command) => (command[0] === "try" ? [command.slice(0, 2), command.slice(2)] : [command]));
+
+/** A command as a statement. */
+function statementOf([word, ...operands], forms) {
+  if (word !== "try") return `${forms[word](...operands)};`;
+  const [x, ...command] = operands;
+  return `try { ${statementOf(command, forms)} } catch (error) { ${v(x)} = String(error); }`;
+}
 
 /** What an agent does, as statements. */
 function bodyOf({ callbacks, jobs }, forms) {
-  const lines = (run) => run.map(([word, ...operands]) => `  ${forms[word](...operands)};\n`).join("");
+  const lines = (run) => run.map((command) => `  ${statementOf(command, forms)}\n`).join("");
   const names = [...commandsOf({ callbacks, jobs }).flatMap(([, ...operands]) => operands), ...jobs.flatMap(({ on = [] }) => on)];
   const job = ({ on, run }, at) => {
     const [head, first] = on ? ["async () =>", `  ${v(on[1])} = await message("${on[0]}");\n`] : ["() =>", ""];

@@ -6,9 +6,11 @@ import { scriptOf } from "./scripts_of_plans.mjs";
 
 const TOP = new URL("../../engines/corpus/", import.meta.url);
 
-/** Plans that no script has, since JavaScript gives a value where the command is refused. */
+/** Plans that no script has, since JavaScript gives a value where the command is refused, or has other words for the refusal. */
 export const NOT_AS_SCRIPTS = {
   "blocks/not-a-buffer.json": "the length of another object than a block is a property of it, as any",
+  "caught/text.json": "an error has the words of its engine",
+  "caught/writes-no-word.json": "a text is a number with an exponent too",
   "values/get-of-a-number.json": "a number has properties, by its prototype",
 };
 

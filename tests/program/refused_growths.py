@@ -39,6 +39,7 @@ ESCAPED = (b'"name"', b'"n\\u0061me"')
 THREADS = {
     1: [[], ["--helpers", "2", "--watch", "2"]],
     2: [[], ["--helpers", "3"], ["--helpers", "3", "--watch", "2"]],  # with later collections
+    3: [[]],
 }
 MORE_THREADS = [["--helpers", "8"], ["--watch", "1"], ["--helpers", "3", "--watch", "20"]]
 
@@ -97,8 +98,11 @@ def try_played(refusing, row):
 def cases(program, played, is_long):
     """What is tried: a function, the program, and a row."""
     for row in rows("growths.txt"):
-        yield try_ways, program, row
-        for way in (plain, escaped):
+        # a plan with `try` is read by way of its value alone
+        ways = (plain,) if row.version == 3 else (plain, escaped)
+        if escaped in ways:
+            yield try_ways, program, row
+        for way in ways:
             if is_long or "callbacks" in row.title:
                 yield try_read, program, way(row)
             yield try_turns, program, way(row)

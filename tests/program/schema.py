@@ -8,8 +8,10 @@ Usage: schema.py PROGRAM. Prints what differs, and `N passed, M failed` last.
   number wrong, the schema accepts it.
 - The commands of the schema are those of the program's table, with the same operands; its limits are the program's; and
   what it says of each command begins as the row of docs/PLANS.md does.
+- What may stand behind `try` are these commands, but for `try`.
 - What the schemas of plans and traces say of each command is what command_schemas.py writes.
-- Of small plans with one command, whole and spoiled, the program accepts those that the schema accepts.
+- Of small plans with one command, whole and spoiled, alone and behind `try`, the program accepts those that the schema
+  accepts.
 
 A schema sees values and not how they are written, so 1.0 and -0 are whole numbers to it. Texts are judged by those of
 schema_judges.py.
@@ -114,16 +116,31 @@ def read(path):
 def operands_of(command):
     """The word of a command of the schema, its operands' definitions, and how many operands it has at least."""
     first, *operands = command["prefixItems"]
-    names = [operand["$ref"].removeprefix("#/$defs/") for operand in operands]
     assert command["maxItems"] == len(operands) + 1 and command.keys() == {"prefixItems", "minItems", "maxItems"}
-    return first["const"], names, command["minItems"] - 1
+    return first["const"], defined(operands), command["minItems"] - 1
+
+
+def defined(operands):
+    return [operand["$ref"].removeprefix("#/$defs/") for operand in operands]
 
 
 def commands_of(root):
-    """The commands of the schema that stand in jobs alone, and those that stand in callbacks too."""
-    *in_jobs, others = root["$defs"]["job_command"]["anyOf"]
-    assert others == {"$ref": "#/$defs/command"}
-    return in_jobs, root["$defs"]["command"]["anyOf"]
+    """The commands of the schema that stand in jobs alone, and those that stand in callbacks too, but for `try`."""
+    *in_jobs, tried, others = root["$defs"]["job_command"]["anyOf"]
+    assert [tried, others] == [{"$ref": "#/$defs/tried_collection"}, {"$ref": "#/$defs/command"}]
+    return in_jobs, [command for command in root["$defs"]["command"]["anyOf"] if "anyOf" not in command]
+
+
+def tried_of(root):
+    """What stands behind `try`, in jobs alone and in callbacks too: words, their operands' definitions, and how many operands
+    each has at least."""
+    (tried,) = (command for command in root["$defs"]["command"]["anyOf"] if "anyOf" in command)
+    said, *to = tried["prefixItems"]
+    assert said["const"] == "try" and defined(to) == ["assigned"] and said["description"].startswith(f"{rows()['try']}: ")
+    for forms in ([root["$defs"]["tried_collection"]], tried["anyOf"]):
+        parts = ((form["prefixItems"][2:], form["minItems"] - 3, form["maxItems"]) for form in forms)
+        yield [(word, defined(operands), least) for (words, *operands), least, most in parts for word in words["enum"]
+               if most == len(operands) + 3]
 
 
 def table():
@@ -164,21 +181,24 @@ def plan_of(command, in_callback=False, version=1):
 
 
 def small_plans(root):
-    """Plans with one command: each whole, in a job and in a callback, with one operand too few and too many, in each
-    version; and with each odd operand at each place, in version 1, and in version 3 where this takes variables for numbers."""
+    """Plans with one command: each whole, in a job and in a callback, alone and behind `try`, with one operand too few and too
+    many, in each version; with each odd operand at each place, in version 1, and in version 3 where this takes variables for
+    numbers; and with each in the places behind `try`."""
     for command in itertools.chain(*commands_of(root)):
         word, names, least = operands_of(command)
         whole = [SOME_OPERAND[TYPES[name]] for name in names]
         for count in range(least - 1, len(whole) + 2):
             some = [word, *(whole + ["x"])[: max(count, 0)]]
-            for version, in_callback in itertools.product((1, 2, 3), (False, True)):
-                yield plan_of(some, in_callback, version)
+            for version, in_callback, before in itertools.product((1, 2, 3), (False, True), ([], ["try", "x"])):
+                yield plan_of([*before, *some], in_callback, version)
         for place, odd in itertools.product(range(len(whole)), ODD_OPERANDS):
             for version in (1, 3) if "number" in names else (1,):
                 yield plan_of([word, *whole[:place], odd, *whole[place + 1 :]], version=version)
     for odd in ODD_OPERANDS:
         yield plan_of([odd])
         yield plan_of(odd)
+        for tried in ([odd], [odd, "new", "x"], ["x", odd, "x"], ["x", "new", odd], ["x", "try", "x", "new", odd]):
+            yield plan_of(["try", *tried], version=3)
 
 
 def verdicts(judges, value, length):
@@ -229,6 +249,12 @@ def test_table(count, root):
         count.test(found == form and word in told, f"{word}: {found} in the schema, {form} in the program")
 
 
+def test_tried(count, root):
+    for commands, tried in zip(commands_of(root), tried_of(root), strict=True):
+        alone = [*map(operands_of, commands)]
+        count.test(sorted(tried) == sorted(alone), f"behind try stand {tried}, and alone {alone}")
+
+
 def test_limits(count, root):
     defs, most = root["$defs"], limits()
     agent, whole, number = defs["agent"]["properties"], 9007199254740991, defs["number"]["anyOf"][0]
@@ -274,6 +300,7 @@ def main():
     count = Count()
     test_texts(count, judges)
     test_table(count, root)
+    test_tried(count, root)
     test_limits(count, root)
     test_written(count)
     test_program(count, root, judges, program)

@@ -38,7 +38,7 @@ def by_program(data):
 
 def is_known(plan, ahead):
     """Whether the program knows each word of a plan."""
-    return all(step[0] not in ahead for run in third_plans.runs_of(plan) for step in run)
+    return not any(third_plans.is_ahead(step, ahead) for run in third_plans.runs_of(plan) for step in run)
 
 
 def of_rows(count, ahead):

@@ -250,7 +250,7 @@ done_leaves b r e is = subst (λ e. IsQuiet e × (e ≡ Closed → ⊥)) (sym is
 pub brings_leaves : (d : Due) (o : ℕ) (e : Event) → Brings d o e → IsQuiet e × (e ≡ Closed → ⊥)
 brings_leaves (begin n) o e is = absurd is
 brings_leaves (receive n s) o e is = subst (λ e. IsQuiet e × (e ≡ Closed → ⊥)) (sym is) (tt, λ f. cc)
-brings_leaves (run c) o e is = subst (λ e. IsQuiet e × (e ≡ Closed → ⊥)) (sym is) (tt, λ f. cc)
+brings_leaves (run x c) o e is = subst (λ e. IsQuiet e × (e ≡ Closed → ⊥)) (sym is) (tt, λ f. cc)
 brings_leaves (clean r) o e is = absurd is
 brings_leaves (take_cell n) o e is = absurd is
 brings_leaves (finish p) o e is = absurd is
@@ -283,7 +283,7 @@ dead_next b ids asked dead there rising =
     let command = collects_due b (due b.plan b.history) asked in
     record {
       lawful = (there, rising);
-      permitted = subst (λ d. Permits b.over (receivers b.plan.jobs) b.history d (Emptied ids)) (sym command.1) (command.2, dead);
+      permitted = subst (λ d. Permits b.over (receivers b.plan.jobs) b.history d (Emptied ids)) (sym command.1.1) (command.2, dead);
     }
 
 -- the same, told of what the record shows

@@ -34,7 +34,7 @@ tickets b = if is_ended (phase b.history) then [] else filter (λ t. not (is_gon
 abbrev pub is_command : Due → Bool
 is_command (begin n) = false
 is_command (receive n s) = false
-is_command (run c) = true
+is_command (run x c) = true
 is_command (clean r) = false
 is_command (take_cell n) = false
 is_command (finish p) = false

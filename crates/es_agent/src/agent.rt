@@ -1,6 +1,6 @@
 //! The agent: its calls, each of which records one event or shows what stands.
 
-ghost use Rattle.std.specs.Prelude.{◌≡◌, ◌+◌, ◌↔◌, ℕ, [], true, false, IsTrue, Some, None, pos, is_some, length, reverse, IfOk, IfErr, OnOk, OnErr};
+ghost use Rattle.std.specs.Prelude.{◌≡◌, ◌+◌, ◌↔◌, ℕ, [], true, false, IsTrue, Option, List, Some, None, pos, is_some, length, reverse, IfOk, IfErr, OnOk, OnErr};
 ghost use Rattle.es_value.specs.Values.{identity};
 ghost use Rattle.es_event.specs.Identities.{gone, is_in, made};
 ghost use Rattle.es_event.specs.Jobs.{receivers};
@@ -27,7 +27,7 @@ mod reach;
 
 use crate::admission::{AdmitFault, enter};
 use crate::recorder::Recorder;
-use es_event::{AgentPlan, Answer, Due, Event, Row, Sequence};
+use es_event::{AgentPlan, Answer, Due, Event, Row, Sequence, catch_refusal};
 use es_mark::{Graph, Marks};
 use es_parmark::Snapshot;
 use es_record::AgentRecord;
@@ -185,7 +185,7 @@ impl<L: LedgerName> AgentCore<L> {
     pub fn is_at_command(&self) -> bool
         ensures { result ≡ is_command (due self.now.plan self.now.history) }
     {
-        matches!(self.record.read().due(), Due::Run(_))
+        matches!(self.record.read().due(), Due::Run(..))
     }
 
     /// Takes the next step that asks nobody else, and records its one event; where there is no
@@ -208,7 +208,7 @@ impl<L: LedgerName> AgentCore<L> {
         ensures err { OnErr result (self.new ≡ self.old) }
     {
         let record = self.record.read();
-        if let Due::Run(command) = record.due() {
+        if let Due::Run(catches, command) = record.due() {
             if asks_somebody(record, command) {
                 return Ok(false);
             }
@@ -217,7 +217,13 @@ impl<L: LedgerName> AgentCore<L> {
                 Ok(()) => self.record.record_done(done)?,
                 Err(Stop::Refused(code)) => {
                     drop(done);
-                    self.record.record(Event::Refused { code })?;
+                    match catches {
+                        Some(to) => {
+                            let caught = catch_refusal(record.alloc(), to, code)?;
+                            self.record.record_done(caught)?;
+                        }
+                        None => self.record.record(Event::Refused { code })?,
+                    }
                 }
                 Err(Stop::NoMemory) => return Err(NoMemory),
             }
@@ -229,7 +235,7 @@ impl<L: LedgerName> AgentCore<L> {
     /// The same, where no command is due.
     #[inline(never)]
     fn perform_between(&mut self) -> Result<bool, NoMemory>
-        requires { (c : CommandSaid) → due self.old.plan self.old.history ≡ run c → ⊥ }
+        requires { (x : Option (List ℕ)) (c : CommandSaid) → due self.old.plan self.old.history ≡ run x c → ⊥ }
         ensures asks { IfOk result (λ done. IsTrue done ↔ (need self.old ≡ asks_nobody)) }
         ensures done { IfOk result (λ done. IsTrue done → RecordsNext self.old self.new) }
         ensures left { IfOk result (λ done. done ≡ false → self.new ≡ self.old) }

@@ -34,9 +34,10 @@ use Rattle.es_event.specs.Sharing.{Buffers, row_at, is_index, words_of}
 use Rattle.es_event.specs.Rules.{Test, of_buffer, of_number, of_index, refusal, first_refusal}
 use Rattle.es_event.specs.Legal.{values_of}
 use Rattle.es_event.specs.Later.{snapshot}
-use Rattle.es_event.specs.Order.{Phase, between, handed, inside, stopped, ended, phase, phase_after, receive, run, clean, left, queue, due_end, due_after, due_inside, due_job, due_between, due_at, due}
+use Rattle.es_event.specs.Order.{Phase, between, handed, inside, stopped, ended, phase, phase_after, receive, run, clean, left, catching, queue, due_end, due_after, due_inside, due_job, due_between, due_at, due}
 use Rattle.es_event.proofs.Accepted.{word_holds}
 use Rattle.es_event.proofs.Accesses.{same_as_itself}
+use Rattle.es_event.proofs.Left.{is_first}
 use Rattle.es_match.specs.Asks.{to_open, to_access, to_post, to_receive, to_pass, given, asks_did, between_jobs}
 use Rattle.es_match.specs.Cluster.{awaited}
 use Rattle.es_match.specs.Deeds.{Opens, Posts, Takes, Accesses, Passes}
@@ -77,9 +78,9 @@ pub record DueCommand (b : AgentView) (c : Command) (r : Request) : Type 0 where
   pub accepted : refusal b.over b.history c (values_of (receivers b.plan.jobs) b.history (reads c)) ≡ None
   pub asks : asked c (values_of (receivers b.plan.jobs) b.history (reads c)) ≡ Some r
 
-pub due_command : (b : AgentView) (c : Command) (r : Request) → due b.plan b.history ≡ run c → need b ≡ asks_ledger r → DueCommand b c r
-due_command b c r is asked' =
-    let command = ledger_command b c r (ap (need_of b) (sym is) ∙ asked') in
+pub due_command : (b : AgentView) (x : Option (List ℕ)) (c : Command) (r : Request) → due b.plan b.history ≡ run x c → need b ≡ asks_ledger r → DueCommand b c r
+due_command b x c r is asked' =
+    let command = ledger_command b x c r (ap (need_of b) (sym is) ∙ asked') in
     let parts = not_refused _ _ r command.1 in
     record { accepted = parts.0; asks = parts.1 }
 
@@ -244,41 +245,17 @@ nothing_left plan (JobEnded ∷ h) is = refl
 nothing_left plan (Skipped j t ∷ h) is = refl
 nothing_left plan (e ∷ h) is = cc
 
-end_command : (o : Option History) (c : Command) → due_end o ≡ run c → ⊥
-end_command None c is = cc
-end_command (Some p) c is = cc
-
 end_message : (o : Option History) (n s : ℕ) → due_end o ≡ receive n s → ⊥
 end_message None n s is = cc
 end_message (Some p) n s is = cc
 
-no_command : (plan : AgentPlan) (h : History) (p : Phase) (c : Command) → left plan h ≡ [] → due_at plan h p ≡ run c → ⊥
-no_command plan h between c none is = at_queue (queue h) is
-  where
-    at_job : (n : ℕ) (j : Option (Option (ℕ × List ℕ))) → due_job n j ≡ run c → ⊥
-    at_job n None is = cc
-    at_job n (Some None) is = cc
-    at_job n (Some (Some on)) is = cc
-
-    at_queue : (rs : List ℕ) → due_between plan h rs ≡ run c → ⊥
-    at_queue [] is = at_job (job h) _ is
-    at_queue (r ∷ rs) is = cc
-no_command plan h handed c none is = cc
-no_command plan h inside c none is = at_cell (option_and_then (first_awaiting h) (cleaning h)) (ap (due_inside h) (sym none) ∙ is)
-  where
-    at_cell : (o : Option ℕ) → due_after h o ≡ run c → ⊥
-    at_cell None is = end_command (snapshot h) c is
-    at_cell (Some n) is = cc
-no_command plan h stopped c none is = end_command (snapshot h) c is
-no_command plan h ended c none is = cc
-
 -- where a command is due, a job is under way
-pub at_command : (plan : AgentPlan) (h : History) (c : Command) → due plan h ≡ run c → between_jobs h ≡ false
-at_command plan h c is = by_test (between_jobs h) refl
+pub at_command : (plan : AgentPlan) (h : History) (x : Option (List ℕ)) (c : Command) → due plan h ≡ run x c → between_jobs h ≡ false
+at_command plan h x c is = by_test (between_jobs h) refl
   where
     by_test : (b : Bool) → between_jobs h ≡ b → between_jobs h ≡ false
     by_test false b = b
-    by_test true b = absurd (no_command plan h (phase h) c (nothing_left plan h b) is)
+    by_test true b = let none = sym (is_first plan h x c is).is_left ∙ nothing_left plan h b in cc
 
 -- what comes between two jobs is no event that leaves the phase as it is, but a skip
 no_event : (over : Buffers) (into : Receivers) (plan : AgentPlan) (h : History) (e : Event) (rs : List ℕ) → phase_after e ≡ None → between_jobs (e ∷ h) ≡ false → Permits over into h (due_between plan h rs) e → ⊥
@@ -324,14 +301,14 @@ at_message over plan h n s follows is = by_phase (phase h) refl is
     at_cell None is = end_message (snapshot h) n s is
     at_cell (Some n) is = cc
 
-    at_left : (cs : List Command) → due_inside h cs ≡ receive n s → ⊥
-    at_left [] is = at_cell (option_and_then (first_awaiting h) (cleaning h)) is
-    at_left (c ∷ cs) is = cc
+    at_left : (x : Option (List ℕ)) (cs : List Command) → due_inside h x cs ≡ receive n s → ⊥
+    at_left x [] is = at_cell (option_and_then (first_awaiting h) (cleaning h)) is
+    at_left x (c ∷ cs) is = cc
 
     by_phase : (p : Phase) → phase h ≡ p → due_at plan h p ≡ receive n s → between_jobs h ≡ true
     by_phase between p is = between_where_phase over plan h follows p
     by_phase handed p is = cc
-    by_phase inside p is = absurd (at_left (left plan h) is)
+    by_phase inside p is = absurd (at_left (catching plan h) (left plan h) is)
     by_phase stopped p is = absurd (end_message (snapshot h) n s is)
     by_phase ended p is = cc
 
@@ -351,9 +328,9 @@ awaited_at plan h n s is = by_phase (phase h) is
     at_cell None is = end_message (snapshot h) n s is
     at_cell (Some n) is = cc
 
-    at_left : (cs : List Command) → due_inside h cs ≡ receive n s → ⊥
-    at_left [] is = at_cell (option_and_then (first_awaiting h) (cleaning h)) is
-    at_left (c ∷ cs) is = cc
+    at_left : (x : Option (List ℕ)) (cs : List Command) → due_inside h x cs ≡ receive n s → ⊥
+    at_left x [] is = at_cell (option_and_then (first_awaiting h) (cleaning h)) is
+    at_left x (c ∷ cs) is = cc
 
     at_queue : (rs : List ℕ) → due_between plan h rs ≡ receive n s → awaited plan (job h) ≡ s ∷ []
     at_queue [] is = at_job (job h) (slice_get plan.jobs (job h - 1)) is
@@ -362,6 +339,6 @@ awaited_at plan h n s is = by_phase (phase h) is
     by_phase : (p : Phase) → due_at plan h p ≡ receive n s → awaited plan (job h) ≡ s ∷ []
     by_phase between is = at_queue (queue h) is
     by_phase handed is = cc
-    by_phase inside is = absurd (at_left (left plan h) is)
+    by_phase inside is = absurd (at_left (catching plan h) (left plan h) is)
     by_phase stopped is = absurd (end_message (snapshot h) n s is)
     by_phase ended is = cc

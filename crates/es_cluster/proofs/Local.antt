@@ -8,6 +8,7 @@ use Rattle.es_value.specs.declared.value.Value.{Value}
 use Rattle.es_value.specs.declared.value.Value.TheVariants.{Boolean, Number, Object}
 use Rattle.es_event.specs.declared.command.Command.{Command}
 use Rattle.es_event.specs.declared.command.Command.TheVariants.{SharedArrayBuffer, Length, SameBlock, Atomic, Post}
+use Rattle.es_event.specs.declared.event.Answer.{Answer}
 use Rattle.es_event.specs.declared.event.Event.{Event}
 use Rattle.es_event.specs.declared.event.Event.TheVariants.{JobBegun, CleanupBegun, Did, Refused, Emptied, Taken, JobEnded}
 use Rattle.es_event.specs.declared.event.Refusal.{Refusal}
@@ -23,7 +24,8 @@ use Rattle.es_event.specs.Numbers.{index_of, index_read, words_read}
 use Rattle.es_event.specs.Rules.{is_buffer, kind_of, of_index, of_number, of_buffer, refusal, first_refusal, tests, result}
 use Rattle.es_event.specs.Legal.{values_of, word_in, Lawful}
 use Rattle.es_event.specs.Order.{Due, begin, receive, run, clean, take_cell, finish, end_job, close, nothing, phase, due}
-use Rattle.es_event.specs.Follows.{Permits}
+use Rattle.es_event.specs.Follows.{Permits, refused_now}
+use Rattle.es_event.proofs.Coming.{IsDoneFor, itself, caught, done_so}
 use Rattle.es_event.specs.Runs.{IsRunOver}
 use Rattle.es_event.proofs.Accepted.{first_holds, is_accepted, is_result}
 use Rattle.es_event.proofs.Alive.{reached_not_gone}
@@ -122,25 +124,34 @@ did_met b (Atomic a) history named going none silent w =
 did_met b (Post a y) history named going none silent w = cc
 did_met b c history named going none silent w = refl
 
-command_met : (b : AgentView) (c : Command) (e : Event) → need_of b (run c) ≡ asks_nobody → due b.plan b.history ≡ run c → IsRunOver b.over b.plan b.history → AreNamed b → is_ended (phase b.history) ≡ false
-    → Lawful b.over (receivers b.plan.jobs) b.history e → Permits b.over (receivers b.plan.jobs) b.history (run c) e → after (tickets b) (asks (between_jobs b.history) e) [] ≡ Some (tickets b)
-command_met b c (Did (d, vs, r)) is here history named going lawful p =
+did_itself : (b : AgentView) (x : Option (List ℕ)) (c : Command) (vs : List Value) (r : Answer) → need_of b (run x c) ≡ asks_nobody → IsRunOver b.over b.plan b.history → AreNamed b → is_ended (phase b.history) ≡ false
+    → Lawful b.over (receivers b.plan.jobs) b.history (Did (c, vs, r)) → after (tickets b) (asks_did c vs r) [] ≡ Some (tickets b)
+did_itself b x c vs r is history named going lawful =
     let into = receivers b.plan.jobs in
-    let same : d ≡ c = p in
-    let accepted = is_accepted b.over b.history d vs (word_in r) r lawful.1 in
-    let answer = is_result b.over b.history d vs (word_in r) r lawful.1 in
+    let accepted = is_accepted b.over b.history c vs (word_in r) r lawful.1 in
+    let answer = is_result b.over b.history c vs (word_in r) r lawful.1 in
     let values = lawful.0 in
-    let nothing = no_request _ (asked c (values_of into b.history (reads c))) (ap (λ d. refusal b.over b.history d (values_of into b.history (reads d))) (sym same) ∙ ap (refusal b.over b.history d) (sym values) ∙ accepted) (local_command b c is).1 in
-    ap (λ r. after (tickets b) (asks_did d vs r) []) (sym answer)
-    ∙ ap (λ vs. after (tickets b) (asks_did d vs (result b.over b.history d vs (word_in r))) []) values
-    ∙ did_met b d history named going (ap (refusal b.over b.history d) (sym values) ∙ accepted) (ap (λ d. asked d (values_of into b.history (reads d))) same ∙ nothing) (word_in r)
-command_met b c (Refused code) is here history named going lawful p = ap (λ t. after (tickets b) (cond (t && wants_room code) to_refuse asks_nothing) []) (at_command b.plan b.history c here)
-command_met b c (Emptied ids) is here history named going lawful p = let clash : true ≡ false = sym p.0 ∙ (local_command b c is).0 in cc
-command_met b c _ is here history named going lawful p = absurd p
+    let nothing = no_request _ (asked c (values_of into b.history (reads c))) (ap (refusal b.over b.history c) (sym values) ∙ accepted) (local_command b x c is).1 in
+    ap (λ r. after (tickets b) (asks_did c vs r) []) (sym answer)
+    ∙ ap (λ vs. after (tickets b) (asks_did c vs (result b.over b.history c vs (word_in r))) []) values
+    ∙ did_met b c history named going (ap (refusal b.over b.history c) (sym values) ∙ accepted) nothing (word_in r)
+
+-- the command itself, or the assignment that catches its refusal, which asks for nothing
+done_met : (b : AgentView) (x : Option (List ℕ)) (c d : Command) (vs : List Value) (r : Answer) → need_of b (run x c) ≡ asks_nobody → IsRunOver b.over b.plan b.history → AreNamed b → is_ended (phase b.history) ≡ false
+    → Lawful b.over (receivers b.plan.jobs) b.history (Did (d, vs, r)) → IsDoneFor c d → after (tickets b) (asks_did d vs r) [] ≡ Some (tickets b)
+done_met b x c _ vs r is history named going lawful itself = did_itself b x c vs r is history named going lawful
+done_met b x c _ vs r is history named going lawful (caught y t) = refl
+
+command_met : (b : AgentView) (x : Option (List ℕ)) (c : Command) (e : Event) → need_of b (run x c) ≡ asks_nobody → due b.plan b.history ≡ run x c → IsRunOver b.over b.plan b.history → AreNamed b → is_ended (phase b.history) ≡ false
+    → Lawful b.over (receivers b.plan.jobs) b.history e → Permits b.over (receivers b.plan.jobs) b.history (run x c) e → after (tickets b) (asks (between_jobs b.history) e) [] ≡ Some (tickets b)
+command_met b x c (Did (d, vs, r)) is here history named going lawful p = done_met b x c d vs r is history named going lawful (done_so (refused_now b.over (receivers b.plan.jobs) b.history c) x c d p)
+command_met b x c (Refused code) is here history named going lawful p = ap (λ t. after (tickets b) (cond (t && wants_room code) to_refuse asks_nothing) []) (at_command b.plan b.history x c here)
+command_met b x c (Emptied ids) is here history named going lawful p = let clash : true ≡ false = sym p.0 ∙ (local_command b x c is).0 in cc
+command_met b x c _ is here history named going lawful p = absurd p
 
 local_at : (b : AgentView) (d : Due) (e : Event) → need_of b d ≡ asks_nobody → due b.plan b.history ≡ d → IsRunOver b.over b.plan b.history → AreNamed b → is_ended (phase b.history) ≡ false
     → Lawful b.over (receivers b.plan.jobs) b.history e → Permits b.over (receivers b.plan.jobs) b.history d e → after (tickets b) (asks (between_jobs b.history) e) [] ≡ Some (tickets b)
-local_at b (run c) e is here history named going lawful p = command_met b c e is here history named going lawful p
+local_at b (run x c) e is here history named going lawful p = command_met b x c e is here history named going lawful p
 local_at b (begin n) (JobBegun j) is here history named going lawful p = refl
 local_at b (clean r) (CleanupBegun q) is here history named going lawful p = refl
 local_at b (take_cell n) (Taken m held) is here history named going lawful p = refl

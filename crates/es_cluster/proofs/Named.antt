@@ -1,5 +1,5 @@
 -- Whom an agent asks to post to, or waits for, is one of those that its plan names.
-use Rattle.std.proofs.Common.{◌≡◌, ℕ, zero, suc, ◌-◌, ◌<◌, ◌==◌, Bool, true, false, cond, not, nat_lt, sym, ◌∙◌, ap, refl, List, [], ◌∷◌, drop, Option, Some, None, subst, arith}
+use Rattle.std.proofs.Common.{◌≡◌, ℕ, ◌-◌, ◌<◌, ◌==◌, Bool, true, false, cond, not, nat_lt, sym, ◌∙◌, ap, refl, List, [], ◌∷◌, drop, Option, Some, None, subst, arith}
 use Rattle.std.specs.Prelude.{slice_get}
 use Rattle.std.specs.List.{list_all}
 use Rattle.std.specs.Option.{option_map, option_map_or, option_and_then}
@@ -9,7 +9,6 @@ use Rattle.es_value.specs.declared.value.Value.{Value}
 use Rattle.es_value.specs.declared.value.Value.TheVariants.{Object}
 use Rattle.es_event.specs.declared.command.Command.{Command}
 use Rattle.es_event.specs.declared.command.Command.TheVariants.{Atomic, Post}
-use Rattle.es_event.specs.declared.event.Event.TheVariants.{JobBegun, CleanupBegun, Received, Did, Refused, Emptied, Taken, JobEnded, Skipped, Closed}
 use Rattle.es_event.specs.declared.event.Refusal.{Refusal}
 use Rattle.es_event.specs.declared.plan.AgentPlan.{AgentPlan}
 use Rattle.es_event.specs.declared.plan.Job.{Job}
@@ -19,74 +18,33 @@ use Rattle.es_event.specs.History.{History}
 use Rattle.es_event.specs.Identities.{object_of}
 use Rattle.es_event.specs.Jobs.{job, cleaning, receivers}
 use Rattle.es_event.specs.Others.{is_other, posts_where, speaks_where, names_others}
-use Rattle.es_event.specs.Registrations.{callback, first_awaiting}
+use Rattle.es_event.specs.Registrations.{first_awaiting}
 use Rattle.es_event.specs.Rules.{refusal}
 use Rattle.es_event.specs.Legal.{values_of}
-use Rattle.es_event.specs.Order.{Phase, between, handed, inside, stopped, ended, phase, Due, begin, receive, run, clean, take_cell, finish, end_job, due_end, close, nothing, left, queue, job_commands, callback_commands, due_after, due_inside, due_job, due_between, due_at, due}
+use Rattle.es_event.specs.Order.{Phase, between, handed, inside, stopped, ended, phase, Due, begin, receive, run, clean, take_cell, finish, end_job, due_end, close, nothing, left, catching, queue, due_after, due_inside, due_job, due_between, due_at, due}
+use Rattle.es_event.proofs.Left.{each_of, is_first, left_holds}
 use Rattle.es_record.specs.AgentView.{AgentView}
 use Rattle.es_rules.specs.Needs.{Request, posts_to, asked, unless_refused, request, Need, asks_marks, asks_copy, asks_ledger, ledger_or_nobody, opens_now, need_of, need}
 use Rattle.es_cluster.specs.Turned.{NamesOthers}
-
-all_at : {X : Type 0} (test : X → Bool) (xs : List X) (i : ℕ) (x : X) → list_all test xs ≡ true → slice_get xs i ≡ Some x → test x ≡ true
-all_at test [] i x all is = cc
-all_at test (y ∷ xs) zero x all is = ap test (let same : x ≡ y = cc in same) ∙ (and_parts (test y) (list_all test xs) all).0
-all_at test (y ∷ xs) (suc i) x all is = all_at test xs i x (and_parts (test y) (list_all test xs) all).1 is
 
 all_dropped : {X : Type 0} (test : X → Bool) (xs : List X) → list_all test xs ≡ true → list_all test (drop 1 xs) ≡ true
 all_dropped test [] all = refl
 all_dropped test (x ∷ xs) all = (and_parts (test x) (list_all test xs) all).1
 
-all_of : {X Y : Type 0} (test : Y → Bool) (f : X → List Y) (o : Option X) → ((x : X) → o ≡ Some x → list_all test (f x) ≡ true) → list_all test (option_map_or f o []) ≡ true
-all_of test f None each = refl
-all_of test f (Some x) each = each x refl
-
 module _ (test : ℕ → Bool) (plan : AgentPlan) (jobs : list_all (speaks_where test) plan.jobs ≡ true) (callbacks : list_all (λ c. list_all (posts_where test) c.run) plan.callbacks ≡ true) where
-  in_job : (n : ℕ) → list_all (posts_where test) (job_commands plan n) ≡ true
-  in_job n = all_of (posts_where test) (λ j. j.run) (slice_get plan.jobs (n - 1)) (λ j is. (and_parts _ _ (all_at (speaks_where test) plan.jobs (n - 1) j jobs is)).1)
-
-  in_callback : (n : ℕ) → list_all (posts_where test) (callback_commands plan n) ≡ true
-  in_callback n = all_of (posts_where test) (λ c. c.run) (slice_get plan.callbacks (n - 1)) (λ c is. all_at (λ c. list_all (posts_where test) c.run) plan.callbacks (n - 1) c callbacks is)
-
   in_left : (h : History) → list_all (posts_where test) (left plan h) ≡ true
-  in_left [] = refl
-  in_left (JobBegun j ∷ h) = in_job j
-  in_left (CleanupBegun q ∷ h) = refl
-  in_left (Received t v ∷ h) = refl
-  in_left (Did (c, vs, r) ∷ h) = all_dropped (posts_where test) (left plan h) (in_left h)
-  in_left (Refused code ∷ h) = refl
-  in_left (Emptied ids ∷ h) = all_dropped (posts_where test) (left plan h) (in_left h)
-  in_left (Taken n held ∷ h) = all_of (posts_where test) (callback_commands plan) (option_and_then (callback h) (cleaning h)) (λ n is. in_callback n)
-  in_left (JobEnded ∷ h) = refl
-  in_left (Skipped j t ∷ h) = refl
-  in_left (Closed ∷ h) = refl
+  in_left h =
+      left_holds (λ cs. list_all (posts_where test) cs ≡ true) plan (record {
+        none = refl;
+        rest = all_dropped (posts_where test);
+        jobs = λ i j is. (and_parts _ _ (each_of (speaks_where test) plan.jobs i j jobs is)).1;
+        callbacks = λ i c is. each_of (λ c. list_all (posts_where test) c.run) plan.callbacks i c callbacks is;
+      }) h
 
-  end_commands : (o : Option History) (c : Command) → due_end o ≡ run c → ⊥
-  end_commands None c is = cc
-  end_commands (Some p) c is = cc
-
-  after_commands : (h : History) (o : Option ℕ) (c : Command) → due_after h o ≡ run c → ⊥
-  after_commands h None c is = end_commands (snapshot h) c is
-  after_commands h (Some n) c is = cc
-
-  run_inside : (h : History) (cs : List Command) (c : Command) → list_all (posts_where test) cs ≡ true → due_inside h cs ≡ run c → posts_where test c ≡ true
-  run_inside h [] c all is = absurd (after_commands h (option_and_then (first_awaiting h) (cleaning h)) c is)
-  run_inside h (d ∷ cs) c all is = ap (posts_where test) (let same : c ≡ d = cc in same) ∙ (and_parts (posts_where test d) (list_all (posts_where test) cs) all).0
-
-  run_between : (h : History) (rs : List ℕ) (c : Command) → due_between plan h rs ≡ run c → ⊥
-  run_between h (r ∷ rs) c is = cc
-  run_between h [] c is = at_job (job h) (option_map (λ j. j.on) (slice_get plan.jobs (job h - 1))) is
-    where
-      at_job : (n : ℕ) (o : Option (Option (ℕ × List ℕ))) → due_job n o ≡ run c → ⊥
-      at_job n None is = cc
-      at_job n (Some None) is = cc
-      at_job n (Some (Some on)) is = cc
-
-  run_posts : (h : History) (p : Phase) (c : Command) → due_at plan h p ≡ run c → posts_where test c ≡ true
-  run_posts h between c is = absurd (run_between h (queue h) c is)
-  run_posts h handed c is = cc
-  run_posts h inside c is = run_inside h (left plan h) c (in_left h) is
-  run_posts h stopped c is = absurd (end_commands (snapshot h) c is)
-  run_posts h ended c is = cc
+  run_posts : (h : History) (x : Option (List ℕ)) (c : Command) → due plan h ≡ run x c → posts_where test c ≡ true
+  run_posts h x c is =
+      let first = is_first plan h x c is in
+      (and_parts (posts_where test c) (list_all (posts_where test) first.others) (ap (list_all (posts_where test)) (sym first.is_left) ∙ in_left h)).0
 
   heard_of : (n s : ℕ) (o : Option Job) → ((j : Job) → o ≡ Some j → speaks_where test j ≡ true) → (k : ℕ) → due_job k (option_map (λ j. j.on) o) ≡ receive n s → test s ≡ true
   heard_of n s None each k is = cc
@@ -100,22 +58,22 @@ module _ (test : ℕ → Bool) (plan : AgentPlan) (jobs : list_all (speaks_where
   end_receives None n s is = cc
   end_receives (Some p) n s is = cc
 
-  receive_inside : (h : History) (cs : List Command) (n s : ℕ) → due_inside h cs ≡ receive n s → ⊥
-  receive_inside h [] n s is = at_cell (option_and_then (first_awaiting h) (cleaning h)) is
+  receive_inside : (h : History) (x : Option (List ℕ)) (cs : List Command) (n s : ℕ) → due_inside h x cs ≡ receive n s → ⊥
+  receive_inside h x [] n s is = at_cell (option_and_then (first_awaiting h) (cleaning h)) is
     where
       at_cell : (o : Option ℕ) → due_after h o ≡ receive n s → ⊥
       at_cell None is = end_receives (snapshot h) n s is
       at_cell (Some m) is = cc
-  receive_inside h (c ∷ cs) n s is = cc
+  receive_inside h x (c ∷ cs) n s is = cc
 
   receive_between : (h : History) (rs : List ℕ) (n s : ℕ) → due_between plan h rs ≡ receive n s → test s ≡ true
   receive_between h (r ∷ rs) n s is = cc
-  receive_between h [] n s is = heard_of n s (slice_get plan.jobs (job h - 1)) (λ j at. all_at (speaks_where test) plan.jobs (job h - 1) j jobs at) (job h) is
+  receive_between h [] n s is = heard_of n s (slice_get plan.jobs (job h - 1)) (λ j at. each_of (speaks_where test) plan.jobs (job h - 1) j jobs at) (job h) is
 
   receive_hears : (h : History) (p : Phase) (n s : ℕ) → due_at plan h p ≡ receive n s → test s ≡ true
   receive_hears h between n s is = receive_between h (queue h) n s is
   receive_hears h handed n s is = cc
-  receive_hears h inside n s is = absurd (receive_inside h (left plan h) n s is)
+  receive_hears h inside n s is = absurd (receive_inside h (catching plan h) (left plan h) n s is)
   receive_hears h stopped n s is = absurd (end_receives (snapshot h) n s is)
   receive_hears h ended n s is = cc
 
@@ -155,10 +113,10 @@ names b agents n number is = subst (λ m. NamesOthers (need b) m agents) (sym nu
     at : (d : Due) → due b.plan b.history ≡ d → NamesOthers (need_of b d) n agents
     at (begin m) e = tt
     at (receive m s) e = is_other_agent agents n s (receive_hears (is_other agents n) b.plan parts.0 parts.1 b.history (phase b.history) m s e)
-    at (run c) e =
+    at (run x c) e =
         marks_or n agents (collects_now b.history c) (opens_now b.history c) (ledger_or_nobody (request b c))
         (unless_names n agents (refusal b.over b.history c (values_of (receivers b.plan.jobs) b.history (reads c))) (asked c (values_of (receivers b.plan.jobs) b.history (reads c)))
-        (asked_names n agents c (values_of (receivers b.plan.jobs) b.history (reads c)) (run_posts (is_other agents n) b.plan parts.0 parts.1 b.history (phase b.history) c e)))
+        (asked_names n agents c (values_of (receivers b.plan.jobs) b.history (reads c)) (run_posts (is_other agents n) b.plan parts.0 parts.1 b.history x c e)))
     at (clean r) e = tt
     at (take_cell m) e = tt
     at (finish p) e = tt

@@ -1,5 +1,5 @@
 -- What an agent needs before it has the ledger: a command that does not collect needs nothing.
-use Rattle.std.proofs.Common.{◌≡◌, Bool, true, false, cond, Option, Some, None, ap, sym, ◌∙◌, refl, ◌||◌, ◌&&◌}
+use Rattle.std.proofs.Common.{◌≡◌, Bool, true, false, cond, ℕ, List, Option, Some, None, ap, sym, ◌∙◌, refl, ◌||◌, ◌&&◌}
 use Rattle.std.specs.Prelude.{is_none}
 use Rattle.es_event.specs.declared.command.Command.{Command}
 use Rattle.es_event.specs.Commands.{collects}
@@ -24,10 +24,10 @@ neither true b c e = cc
 neither false true c e = cc
 neither false false c e = (refl, refl)
 
-of_command : (b : AgentView) (c : Command) → (collects c || is_later c) ≡ false → beforehand (need_of b (run c)) ≡ Nothing
-of_command b c none =
+of_command : (b : AgentView) (x : Option (List ℕ)) (c : Command) → (collects c || is_later c) ≡ false → beforehand (need_of b (run x c)) ≡ Nothing
+of_command b x c none =
     let both = neither (collects c) (is_later c) (is_none (snapshot b.history)) none in
     of_neither (collects_now b.history c) (opens_now b.history c) (ledger_or_nobody (request b c)) both.0 both.1 (of_ledger (request b c))
 
-pub command_beforehand : (b : AgentView) (c : Command) → due b.plan b.history ≡ run c → (collects c || is_later c) ≡ false → Nothing ≡ beforehand (need b)
-command_beforehand b c is none = sym (ap (λ d. beforehand (need_of b d)) is ∙ of_command b c none)
+pub command_beforehand : (b : AgentView) (x : Option (List ℕ)) (c : Command) → due b.plan b.history ≡ run x c → (collects c || is_later c) ≡ false → Nothing ≡ beforehand (need b)
+command_beforehand b x c is none = sym (ap (λ d. beforehand (need_of b d)) is ∙ of_command b x c none)

@@ -7,7 +7,7 @@ use Rattle.es_event.specs.Later.{snapshot, collects_now}
 use Rattle.es_event.specs.Follows.{Follows}
 use Rattle.es_event.specs.History.{History}
 use Rattle.es_event.specs.Jobs.{receivers, job, cleaning, callbacks_collect_nothing}
-use Rattle.es_event.specs.Order.{Phase, between, handed, inside, stopped, ended, phase, left, queue, due_at, due_end, due_job, due_between, due_inside, due_after, cleans_up, is_cleaning_up}
+use Rattle.es_event.specs.Order.{Phase, between, handed, inside, stopped, ended, phase, left, catching, queue, due_at, due_end, due_job, due_between, due_inside, due_after, cleans_up, is_cleaning_up}
 use Rattle.es_event.specs.Runs.{IsRunOver}
 use Rattle.es_event.specs.Sharing.{Buffers}
 use Rattle.es_event.proofs.Awaiting.{between_clean}
@@ -39,7 +39,7 @@ newest_next over plan h at _ (receives j t v b none is on room) here out = cc
 newest_next over plan h at _ (skips k j t b none is on same) here out = refl
 newest_next over plan h at _ (refuses_message j code b none is on same) here out = cc
 newest_next over plan h at _ (begins_cleanup r rs b is) here out = cc
-newest_next over plan h at _ (does d cs vs a i is) here out = inside_not h at here i out
+newest_next over plan h at _ (does b d cs vs a i is by) here out = inside_not h at here i out
 newest_next over plan h at _ (refuses d cs code i is) here out = cc
 newest_next over plan h at _ (empties_dead d cs ids i is co dead) here out = inside_not h at here i out
 newest_next over plan h at _ (takes n v i is next) here out = inside_not h at here i out
@@ -61,7 +61,7 @@ clean_next over plan h at _ (receives j t v b none is on room) here e = cc
 clean_next over plan h at _ (skips k j t b none is on same) here e = let f : between ≡ ended = sym (here ∙ b) ∙ e in cc
 clean_next over plan h at _ (refuses_message j code b none is on same) here e = cc
 clean_next over plan h at _ (begins_cleanup r rs b is) here e = cc
-clean_next over plan h at _ (does d cs vs a i is) here e = let f : inside ≡ ended = sym (here ∙ i) ∙ e in cc
+clean_next over plan h at _ (does b d cs vs a i is by) here e = let f : inside ≡ ended = sym (here ∙ i) ∙ e in cc
 clean_next over plan h at _ (refuses d cs code i is) here e = cc
 clean_next over plan h at _ (empties_dead d cs ids i is co dead) here e = let f : inside ≡ ended = sym (here ∙ i) ∙ e in cc
 clean_next over plan h at _ (takes n v i is next) here e = let f : inside ≡ ended = sym (here ∙ i) ∙ e in cc
@@ -101,9 +101,9 @@ idle_after : {P : Type 0} (b : AgentView) (h : History) (o : Option ℕ) → is_
 idle_after b h None idle = idle_end b (snapshot h) idle
 idle_after b h (Some n) idle = cc
 
-idle_inside : {P : Type 0} (b : AgentView) (h : History) (cs : List Command) → is_idle (need_of b (due_inside h cs)) ≡ true → P
-idle_inside b h [] idle = idle_after b h (next_cell h) idle
-idle_inside b h (c ∷ cs) idle = idle_command (collects_now b.history c) (opens_now b.history c) (request b c) idle
+idle_inside : {P : Type 0} (b : AgentView) (h : History) (x : Option (List ℕ)) (cs : List Command) → is_idle (need_of b (due_inside h x cs)) ≡ true → P
+idle_inside b h x [] idle = idle_after b h (next_cell h) idle
+idle_inside b h x (c ∷ cs) idle = idle_command (collects_now b.history c) (opens_now b.history c) (request b c) idle
 
 resting : (h : History) (at : Phase) (q : List ℕ) → phase h ≡ at → queue h ≡ q → is_outside at ≡ true → is_between h ≡ true → cleans_up None at q ≡ false → cleaning h ≡ None → (b : AgentView) → b.history ≡ h → rests b ≡ true
 resting h at q here queued out newest none clean b is = rw (is, newest, here, queued, clean, none) refl
@@ -116,7 +116,7 @@ idle_between b (r ∷ rs) run here queued idle = cc
 idle_at : (b : AgentView) (at : Phase) → IsRunOver b.over b.plan b.history → phase b.history ≡ at → is_idle (need_of b (due_at b.plan b.history at)) ≡ true → rests b ≡ true
 idle_at b between run here idle = idle_between b (queue b.history) run here refl idle
 idle_at b handed run here idle = cc
-idle_at b inside run here idle = idle_inside b b.history (left b.plan b.history) idle
+idle_at b inside run here idle = idle_inside b b.history (catching b.plan b.history) (left b.plan b.history) idle
 idle_at b stopped run here idle = idle_end b (snapshot b.history) idle
 idle_at b ended run here idle =
     resting b.history ended (queue b.history) here refl refl (newest b.over b.plan b.history run.1 (ap is_outside here)) refl (ended_clean b.over b.plan b.history run.1 here) b refl
@@ -139,7 +139,7 @@ between_asks b (r ∷ rs) is = cc
 nothing_at : (b : AgentView) (at : Phase) → need_of b (due_at b.plan b.history at) ≡ asks_nothing → is_ended at ≡ true
 nothing_at b between is = between_asks b (queue b.history) is
 nothing_at b handed is = cc
-nothing_at b inside is = idle_inside b b.history (left b.plan b.history) (ap is_idle is)
+nothing_at b inside is = idle_inside b b.history (catching b.plan b.history) (left b.plan b.history) (ap is_idle is)
 nothing_at b stopped is = idle_end b (snapshot b.history) (ap is_idle is)
 nothing_at b ended is = refl
 

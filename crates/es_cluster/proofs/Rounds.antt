@@ -38,7 +38,7 @@ no_request false false (Some r) is = cc
 nothing_permitted : (b : AgentView) (over : Buffers) (into : Receivers) (h : History) (d : Due) (e : Event) → need_of b d ≡ asks_nothing → Permits over into h d e → ⊥
 nothing_permitted b over into h (begin n) e is p = cc
 nothing_permitted b over into h (receive n s) e is p = cc
-nothing_permitted b over into h (run c) e is p = no_request (collects_now b.history c) (opens_now b.history c) (request b c) is
+nothing_permitted b over into h (run x c) e is p = no_request (collects_now b.history c) (opens_now b.history c) (request b c) is
 nothing_permitted b over into h (clean r) e is p = cc
 nothing_permitted b over into h (take_cell n) e is p = cc
 nothing_permitted b over into h (finish q) e is p = cc

@@ -109,7 +109,7 @@ pub access_ties : (old new : AgentView) (s : StakeView) (l : LedgerView) (m : Le
     → m ≡ Accessed r.serial i (change_by a.edit w) w ∷ l.history → DoesWith old (answer_to a w) new → IsSettled new m
 access_ties old new s l m o i w a r ready is mine here more done =
     done_ties old new s l m (Accessed r.serial i (change_by a.edit w) w) (Accesses r.serial i (change_by a.edit w) w) (for_access o i a) (answer_to a w) ready is more (owned old s l r (Accesses r.serial i (change_by a.edit w) w) ready.held.0 ready.holder mine) refl refl done refl
-    (ap (λ q. after (tickets old) q (Accesses r.serial i (change_by a.edit w) w ∷ [])) (access_asks old done.1.0 o i a (answer_to a w) (due_command old done.1.0 (for_access o i a) done.1.1 is)) ∙ access_met (tickets old) o i w a r here)
+    (ap (λ q. after (tickets old) q (Accesses r.serial i (change_by a.edit w) w ∷ [])) (access_asks old done.1.0 o i a (answer_to a w) (due_command old done.1.1.0 done.1.0 (for_access o i a) done.1.1.1 is)) ∙ access_met (tickets old) o i w a r here)
 
 pub post_grows : (old : AgentView) (l m : Ledger) (n a : ℕ) (b : Body) → n ≡ old.number → m ≡ Posted n a b ∷ l → GrowsBy old.number l m
 post_grows old l m n a b same more = grows_one old.number l m (Posted n a b) (Posts a b) more (ap (λ n. Some (n, Posts a b)) same)
@@ -118,13 +118,13 @@ pub post_ties : (old new : AgentView) (s : StakeView) (l : LedgerView) (m : Ledg
     → m ≡ Posted n a (Plain v) ∷ l.history → DoesWith old Nothing new → IsSettled new m
 post_ties old new s l m n a v ready is plain same more done =
     done_ties old new s l m (Posted n a (Plain v)) (Posts a (Plain v)) (for_post a v) Nothing ready is more (ap (λ n. Some (n, Posts a (Plain v))) same) refl refl done refl
-    (ap (λ q. after (tickets old) q (Posts a (Plain v) ∷ [])) (post_asks old done.1.0 a v Nothing (due_command old done.1.0 (for_post a v) done.1.1 is)) ∙ post_met (tickets old) a v plain)
+    (ap (λ q. after (tickets old) q (Posts a (Plain v) ∷ [])) (post_asks old done.1.0 a v Nothing (due_command old done.1.1.0 done.1.0 (for_post a v) done.1.1.1 is)) ∙ post_met (tickets old) a v plain)
 
 pub buffer_ties : (old new : AgentView) (s : StakeView) (l : LedgerView) (m : Ledger) (a o k : ℕ) (r : Row) → IsReady old s l → need old ≡ asks_ledger (for_buffer_post a o) → Some r ≡ at o (tickets old)
     → m ≡ Posted s.agent a (Block r.block k) ∷ l.history → DoesWith old Nothing new → IsSettled new m
 buffer_ties old new s l m a o k r ready is here more done =
     done_ties old new s l m (Posted s.agent a (Block r.block k)) (Posts a (Block r.block k)) (for_buffer_post a o) Nothing ready is more (ap (λ n. Some (n, Posts a (Block r.block k))) ready.held.0) refl refl done refl
-    (ap (λ q. after (tickets old) q (Posts a (Block r.block k) ∷ [])) (buffer_asks old done.1.0 a o Nothing (due_command old done.1.0 (for_buffer_post a o) done.1.1 is)) ∙ buffer_met (tickets old) a o k r here)
+    (ap (λ q. after (tickets old) q (Posts a (Block r.block k) ∷ [])) (buffer_asks old done.1.0 a o Nothing (due_command old done.1.1.0 done.1.0 (for_buffer_post a o) done.1.1.1 is)) ∙ buffer_met (tickets old) a o k r here)
 
 -- A message, a skip
 
@@ -232,14 +232,14 @@ admitted_comes : (old : AgentView) (r : Row) (d : Deed) (e : Event) (due' : Due)
 admitted_comes old r d e (receive n s) fetches is brings =
     subst (λ e. Comes old r (asks (between_jobs old.history) e) d) (sym brings)
     (subst (Comes old r (to_receive s (Object (made old.history + 1)))) (sym fetches) (comes_in_message old r s))
-admitted_comes old r d e (run c) fetches is brings = command (need_of old (run c)) refl fetches
+admitted_comes old r d e (run x c) fetches is brings = command (need_of old (run x c)) refl fetches
   where
-    command : (q : Need) → need_of old (run c) ≡ q → Fetches q r d → Comes old r (asks (between_jobs old.history) e) d
+    command : (q : Need) → need_of old (run x c) ≡ q → Fetches q r d → Comes old r (asks (between_jobs old.history) e) d
     command (asks_ledger (for_block n)) asked fetches =
         subst (λ e. Comes old r (asks (between_jobs old.history) e) d) (sym brings)
-        (subst (λ q. Comes old r q d) (sym (open_asks old c n (Object (made old.history + 1)) (due_command old c (for_block n) is (ap (need_of old) is ∙ asked)) []))
+        (subst (λ q. Comes old r q d) (sym (open_asks old c n (Object (made old.history + 1)) (due_command old x c (for_block n) is (ap (need_of old) is ∙ asked)) []))
         (subst (Comes old r (to_open n (Object (made old.history + 1)))) (sym fetches.1) (comes_anew old r n fetches.0)))
-    command (asks_message s) asked fetches = let f = message_due old (run c) s asked in let g : run c ≡ receive f.0 s = f.1 in cc
+    command (asks_message s) asked fetches = let f = message_due old (run x c) s asked in let g : run x c ≡ receive f.0 s = f.1 in cc
     command n asked fetches = absurd fetches
 admitted_comes old r d e _ fetches is brings = absurd brings
 

@@ -63,7 +63,7 @@ impl<L: Planned> Member<L> {
     {
         match self.core.record().due() {
             Due::EndJob => asked_beforehand(&self.core.next()),
-            Due::Run(command) => {
+            Due::Run(_, command) => {
                 if is_collection(command) {
                     asked_beforehand(&self.core.next())
                 } else {
@@ -167,7 +167,7 @@ fn names_others<L: LedgerName>(core: &AgentCore<L>, agents: usize) -> bool
 {
     match core.record().due() {
         Due::Receive { .. } => are_others(&core.next(), core.number(), agents),
-        Due::Run(command) if posts(command) => are_others(&core.next(), core.number(), agents),
+        Due::Run(_, command) if posts(command) => are_others(&core.next(), core.number(), agents),
         _ => true,
     }
 }

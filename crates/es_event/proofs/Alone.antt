@@ -1,9 +1,8 @@
 -- The plan of an agent that stays alone has one whole run: it hears nothing of others, and no rule that it meets asks the table of
 -- buffers.
-use Rattle.std.proofs.Common.{◌≡◌, ℕ, zero, suc, ◌+◌, ◌-◌, ◌≤◌, not, Bool, true, false, sym, ◌∙◌, ap, refl, subst, arith, List, [], ◌∷◌, ◌++◌, drop, length, Option, Some, None, inl, inr}
+use Rattle.std.proofs.Common.{◌≡◌, ℕ, ◌+◌, ◌-◌, ◌≤◌, not, true, false, sym, ◌∙◌, ap, refl, subst, arith, List, [], ◌∷◌, ◌++◌, drop, length, Option, Some, None, inl, inr}
 use Rattle.std.specs.Prelude.{is_none, is_some, slice_get}
 use Rattle.std.specs.List.{list_all, list_any}
-use Rattle.std.specs.Option.{option_map_or}
 use Rattle.std.proofs.lemmas.Bool.{and_parts, or_parts, not-true, cases_lt}
 use Rattle.std.proofs.lemmas.List.{append-nil}
 use Rattle.es_value.specs.declared.value.Value.{Value}
@@ -23,26 +22,18 @@ use Rattle.es_event.specs.Jobs.{Receivers, receivers, job, stays_alone}
 use Rattle.es_event.specs.Sharing.{Buffers}
 use Rattle.es_event.specs.Rules.{refusal, completion}
 use Rattle.es_event.specs.Legal.{word_in, HasWords, Lawful, values_of}
-use Rattle.es_event.specs.Order.{Phase, between, handed, inside, stopped, ended, phase, left, queue, Due, run, due_after, due_inside, due_job, due_between, due_at, due}
-use Rattle.es_event.specs.Follows.{Permits, Follows}
+use Rattle.es_event.specs.Order.{Phase, ended, phase, left, Due, run, RunsNow, due_at, due}
+use Rattle.es_event.specs.Follows.{Permits, Follows, done_for}
 use Rattle.es_event.specs.Runs.{ComesNext, silence, heard_by, heard, IsRunOver, IsWholeRunOver}
-use Rattle.es_event.proofs.Coming.{next_cell, Comes, begins_job, begins_handed, receives, skips, refuses_message, begins_cleanup, does, refuses, empties_dead, takes, ends, stops, finishes, finishes_stopped, closes, comes}
-use Rattle.es_event.specs.Order.{due_end}
-use Rattle.es_event.specs.Later.{snapshot}
+use Rattle.es_event.proofs.Coming.{Comes, begins_job, begins_handed, receives, skips, refuses_message, begins_cleanup, does, refuses, empties_dead, takes, ends, stops, finishes, finishes_stopped, closes, comes, of_done}
+use Rattle.es_event.proofs.Left.{each_of, is_first, left_holds}
 use Rattle.es_event.proofs.Next.{one_next}
-use Rattle.es_event.proofs.Work.{of_cleanup}
 
 -- What the plan says
 
 record IsAlone (plan : AgentPlan) : Type 0 where
   jobs : (i : ℕ) (j : Job) → slice_get plan.jobs i ≡ Some j → (is_none j.on ≡ true) × (list_any is_shared j.run ≡ false)
   callbacks : (i : ℕ) (c : Callback) → slice_get plan.callbacks i ≡ Some c → list_any is_shared c.run ≡ false
-
--- what all pass, each passes
-each_of : {A : Type 0} (p : A → Bool) (xs : List A) (i : ℕ) (x : A) → list_all p xs ≡ true → slice_get xs i ≡ Some x → p x ≡ true
-each_of p [] i x all e = cc
-each_of p (y ∷ ys) zero x all e = let same : y ≡ x = cc in subst (λ z. p z ≡ true) same (and_parts (p y) (list_all p ys) all).0
-each_of p (y ∷ ys) (suc i) x all e = each_of p ys i x (and_parts (p y) (list_all p ys) all).1 e
 
 is_alone : (plan : AgentPlan) → stays_alone plan ≡ true → IsAlone plan
 is_alone plan e =
@@ -62,10 +53,6 @@ rest_local : (cs : List Command) → IsLocal cs → IsLocal (drop 1 cs)
 rest_local [] e = refl
 rest_local (c ∷ cs) e = (or_parts (is_shared c) (list_any is_shared cs) e).1
 
-job_local : (plan : AgentPlan) → IsAlone plan → (k : ℕ) (o : Option Job) → slice_get plan.jobs (k - 1) ≡ o → IsLocal (option_map_or (λ j. j.run) o [])
-job_local plan alone k None is = refl
-job_local plan alone k (Some j) is = (alone.jobs (k - 1) j is).1
-
 no_wait : (plan : AgentPlan) → IsAlone plan → (i : ℕ) (j : Job) → slice_get plan.jobs i ≡ Some j → is_some j.on ≡ true → ⊥
 no_wait plan alone i j is on = waits_not j.on (alone.jobs i j is).0 on
   where
@@ -73,26 +60,8 @@ no_wait plan alone i j is on = waits_not j.on (alone.jobs i j is).0 on
     waits_not None e f = cc
     waits_not (Some x) e f = cc
 
-local_next : (over : Buffers) (plan : AgentPlan) → IsAlone plan → (h : History) (at : Phase) (e : Event) → Comes over (receivers plan.jobs) plan h at e → IsLocal (left plan h) → IsLocal (left plan (e ∷ h))
-local_next over plan alone h at _ (begins_job k j b none is same) before = job_local plan alone k (slice_get plan.jobs (k - 1)) refl
-local_next over plan alone h at _ (begins_handed k i same) before = job_local plan alone k (slice_get plan.jobs (k - 1)) refl
-local_next over plan alone h at _ (receives j s v b none is on room) before = refl
-local_next over plan alone h at _ (skips k j s b none is on same) before = refl
-local_next over plan alone h at _ (refuses_message j code b none is on same) before = refl
-local_next over plan alone h at _ (begins_cleanup r rs b is) before = refl
-local_next over plan alone h at _ (does d cs vs r i is) before = rest_local (left plan h) before
-local_next over plan alone h at _ (refuses d cs code i is) before = refl
-local_next over plan alone h at _ (empties_dead d cs ids i is co dead) before = rest_local (left plan h) before
-local_next over plan alone h at _ (takes m v i is next) before = of_cleanup IsLocal plan h refl alone.callbacks
-local_next over plan alone h at _ (ends i is none shut) before = refl
-local_next over plan alone h at _ (finishes ids i is next fin) before = rest_local (left plan h) before
-local_next over plan alone h at _ (finishes_stopped ids s fin) before = rest_local (left plan h) before
-local_next over plan alone h at _ (stops s shut) before = refl
-local_next over plan alone h at _ (closes b none) before = refl
-
-left_local : (over : Buffers) (plan : AgentPlan) → IsAlone plan → (h : History) → Follows over plan h → IsLocal (left plan h)
-left_local over plan alone [] f = refl
-left_local over plan alone (e ∷ h) f = local_next over plan alone h (phase h) e (comes over plan h e f.0) (left_local over plan alone h f.1)
+left_local : (plan : AgentPlan) → IsAlone plan → (h : History) → IsLocal (left plan h)
+left_local plan alone h = left_holds IsLocal plan (record { none = refl; rest = rest_local; jobs = λ i j is. (alone.jobs i j is).1; callbacks = alone.callbacks }) h
 
 -- So an event that comes next is one of the agent alone
 
@@ -111,7 +80,7 @@ own_next over plan alone h at _ (receives j s v b none is on room) before = absu
 own_next over plan alone h at _ (skips k j s b none is on same) before = absurd (no_wait plan alone (job h - 1) j is on)
 own_next over plan alone h at _ (refuses_message j code b none is on same) before = own_refusal code
 own_next over plan alone h at _ (begins_cleanup r rs b is) before = own_other (CleanupBegun r) refl (λ over other into h l. l)
-own_next over plan alone h at _ (does d cs vs r i is) before = own_command d vs r (head_local plan h d cs is before)
+own_next over plan alone h at _ (does b d cs vs r i is by) before = own_command d vs r (of_done (λ d. is_shared d ≡ false) b d by (head_local plan h b cs is before) (λ x t. refl))
 own_next over plan alone h at _ (refuses d cs code i is) before = own_refusal code
 own_next over plan alone h at _ (empties_dead d cs ids i is co dead) before = own_other (Emptied ids) refl (λ over other into h l. l)
 own_next over plan alone h at _ (takes m v i is next) before = own_other (Taken m v) refl (λ over other into h l. l)
@@ -122,7 +91,7 @@ own_next over plan alone h at _ (stops s shut) before = own_other JobEnded refl 
 own_next over plan alone h at _ (closes b none) before = own_other Closed refl (λ over other into h l. l)
 
 own : (over : Buffers) (plan : AgentPlan) → IsAlone plan → (h : History) (e : Event) → Follows over plan h → Permits over (receivers plan.jobs) h (due plan h) e → IsOwn e
-own over plan alone h e f p = own_next over plan alone h (phase h) e (comes over plan h e p) (left_local over plan alone h f)
+own over plan alone h e f p = own_next over plan alone h (phase h) e (comes over plan h e p) (left_local plan alone h)
 
 silent_by : (c : Command) (r : Answer) → is_shared c ≡ false → heard_by c r ≡ silence
 silent_by (Atomic a) r e = cc
@@ -161,41 +130,15 @@ lawful_too over other into h _ (own_refusal code) l = tt
 lawful_too over other into h _ (own_other e is too) l = too over other into h l
 
 -- what is due is a command that is left
-permits_too : (over other : Buffers) (into : Receivers) (h : History) (d : Due) (e : Event) → ((c : Command) → d ≡ run c → is_shared c ≡ false) → Permits over into h d e → Permits other into h d e
-permits_too over other into h (run c) (Refused code) local p = local_refusal over other h c (values_of into h (reads c)) (local c refl) ∙ p
+permits_too : (over other : Buffers) (into : Receivers) (h : History) (d : Due) (e : Event) → ((c : Command) → RunsNow d c → is_shared c ≡ false) → Permits over into h d e → Permits other into h d e
+permits_too over other into h (run x c) (Did (d, vs, r)) local p = p ∙ ap (λ o. done_for o x c) (sym (local_refusal over other h c (values_of into h (reads c)) (local c (x, refl))))
+permits_too over other into h (run x c) (Refused code) local p = (p.0, local_refusal over other h c (values_of into h (reads c)) (local c (x, refl)) ∙ p.1)
 permits_too over other into h d e local p = p
 
-inside_local : (h : History) (cs : List Command) (c : Command) → IsLocal cs → due_inside h cs ≡ run c → is_shared c ≡ false
-inside_local h [] c e d = absurd (after_runs_none (next_cell h) c d)
-  where
-    end_runs_none : (o : Option History) (c : Command) → due_end o ≡ run c → ⊥
-    end_runs_none None c d = cc
-    end_runs_none (Some p) c d = cc
-
-    after_runs_none : (o : Option ℕ) (c : Command) → due_after h o ≡ run c → ⊥
-    after_runs_none None c d = end_runs_none (snapshot h) c d
-    after_runs_none (Some n) c d = cc
-inside_local h (x ∷ cs) c e d = let same : x ≡ c = cc in subst (λ c. is_shared c ≡ false) same (or_parts (is_shared x) (list_any is_shared cs) e).0
-
-job_runs_none : (n : ℕ) (at : Option (Option (ℕ × List ℕ))) (c : Command) → due_job n at ≡ run c → ⊥
-job_runs_none n None c d = cc
-job_runs_none n (Some None) c d = cc
-job_runs_none n (Some (Some on)) c d = cc
-
-between_runs_none : (plan : AgentPlan) (h : History) (rs : List ℕ) (c : Command) → due_between plan h rs ≡ run c → ⊥
-between_runs_none plan h [] c d = job_runs_none (job h) _ c d
-between_runs_none plan h (r ∷ rs) c d = cc
-
-end_runs_nothing : (o : Option History) (c : Command) → due_end o ≡ run c → ⊥
-end_runs_nothing None c d = cc
-end_runs_nothing (Some p) c d = cc
-
-due_local_at : (plan : AgentPlan) (h : History) (at : Phase) (c : Command) → IsLocal (left plan h) → due_at plan h at ≡ run c → is_shared c ≡ false
-due_local_at plan h between c e d = absurd (between_runs_none plan h (queue h) c d)
-due_local_at plan h handed c e d = cc
-due_local_at plan h inside c e d = inside_local h (left plan h) c e d
-due_local_at plan h stopped c e d = absurd (end_runs_nothing (snapshot h) c d)
-due_local_at plan h ended c e d = cc
+due_local : (plan : AgentPlan) → IsAlone plan → (h : History) (c : Command) → RunsNow (due plan h) c → is_shared c ≡ false
+due_local plan alone h c is =
+    let first = is_first plan h is.0 c is.1 in
+    head_local plan h c first.others first.is_left (left_local plan alone h)
 
 -- for users of a plan's test
 
@@ -206,7 +149,7 @@ legal_too over other plan alone [] r = (tt, tt)
 legal_too over other plan alone (e ∷ h) r =
     let before = legal_too over other plan alone h (r.0.1, r.1.1) in (
       (lawful_too over other (receivers plan.jobs) h e (own over plan alone h e r.1.1 r.1.0) r.0.0, before.0),
-      (permits_too over other (receivers plan.jobs) h (due plan h) e (λ c d. due_local_at plan h (phase h) c (left_local over plan alone h r.1.1) d) r.1.0, before.1),
+      (permits_too over other (receivers plan.jobs) h (due plan h) e (due_local plan alone h) r.1.0, before.1),
     )
 
 whole_too : (over other : Buffers) (plan : AgentPlan) → IsAlone plan → (h : History) → IsWholeRunOver over plan h → IsWholeRunOver other plan h

@@ -74,7 +74,7 @@ handed_next over plan h at _ (receives j s v b none is on room) here end =
 handed_next over plan h at _ (skips k j s b none is on same) here end = let now : between ≡ handed = sym (here ∙ b) ∙ end in cc
 handed_next over plan h at _ (refuses_message j code b none is on same) here end = cc
 handed_next over plan h at _ (begins_cleanup r rs b is) here end = cc
-handed_next over plan h at _ (does d cs vs r i is) here end = let now : inside ≡ handed = sym (here ∙ i) ∙ end in cc
+handed_next over plan h at _ (does b d cs vs r i is by) here end = let now : inside ≡ handed = sym (here ∙ i) ∙ end in cc
 handed_next over plan h at _ (refuses d cs code i is) here end = cc
 handed_next over plan h at _ (empties_dead d cs ids i is co dead) here end = let now : inside ≡ handed = sym (here ∙ i) ∙ end in cc
 handed_next over plan h at _ (takes m v i is next) here end = let now : inside ≡ handed = sym (here ∙ i) ∙ end in cc
@@ -196,7 +196,7 @@ served_next over plan h at _ (receives j s v b none is on room) here l f served 
 served_next over plan h at _ (skips k j s b none is on same) here l f served n c a = served n c (awaited_before over over plan (Skipped k s) h l.0 l.1 f refl n c a)
 served_next over plan h at _ (refuses_message j code b none is on same) here l f served n c a = served n c (awaited_before over over plan (Refused code) h l.0 l.1 f refl n c a)
 served_next over plan h at _ (begins_cleanup r rs b is) here l f served n c a = served_begun r rs h c.registry (here ∙ b) is (served n c (awaited_before over over plan (CleanupBegun r) h l.0 l.1 f refl n c a))
-served_next over plan h at _ (does d cs vs r i is) here l f served n c a = served n c (awaited_before over over plan (Did (d, vs, r)) h l.0 l.1 f refl n c a)
+served_next over plan h at _ (does b d cs vs r i is by) here l f served n c a = served n c (awaited_before over over plan (Did (d, vs, r)) h l.0 l.1 f refl n c a)
 served_next over plan h at _ (refuses d cs code i is) here l f served n c a = served n c (awaited_before over over plan (Refused code) h l.0 l.1 f refl n c a)
 served_next over plan h at _ (empties_dead d cs ids i is co dead) here l f served n c a = served_emptied over (receivers plan.jobs) ids h l.1 served n c a
 served_next over plan h at _ (takes m v i is next) here l f served n c a = served n c (awaited_before over over plan (Taken m v) h l.0 l.1 f refl n c a)
@@ -223,7 +223,7 @@ closed_next over plan h at _ (receives j s v b none is on room) here end = cc
 closed_next over plan h at _ (skips k j s b none is on same) here end = cc
 closed_next over plan h at _ (refuses_message j code b none is on same) here end = cc
 closed_next over plan h at _ (begins_cleanup r rs b is) here end = cc
-closed_next over plan h at _ (does d cs vs r i is) here end = cc
+closed_next over plan h at _ (does b d cs vs r i is by) here end = cc
 closed_next over plan h at _ (refuses d cs code i is) here end = cc
 closed_next over plan h at _ (empties_dead d cs ids i is co dead) here end = cc
 closed_next over plan h at _ (takes m v i is next) here end = cc

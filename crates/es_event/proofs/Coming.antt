@@ -9,6 +9,7 @@ use Rattle.es_event.specs.declared.event.Event.TheVariants.{JobBegun, CleanupBeg
 use Rattle.es_event.specs.declared.event.Refusal.{Refusal}
 use Rattle.es_event.specs.declared.event.Refusal.TheVariants.{TooManyValues}
 use Rattle.es_event.specs.declared.command.Command.{Command}
+use Rattle.es_event.specs.declared.literal.Literal.{Literal}
 use Rattle.es_event.specs.declared.plan.AgentPlan.{AgentPlan}
 use Rattle.es_event.specs.declared.plan.Job.{Job}
 use Rattle.es_event.specs.Later.{snapshot, collects_now}
@@ -20,12 +21,28 @@ use Rattle.es_event.specs.Jobs.{Receivers, receivers, job, cleaning}
 use Rattle.es_event.specs.Registrations.{first_awaiting}
 use Rattle.es_event.specs.Sharing.{Buffers}
 use Rattle.es_event.specs.Reach.{AreDead}
-use Rattle.es_event.specs.Order.{Phase, between, handed, inside, stopped, ended, phase, left, queue, receive, run, due_after, due_inside, due_job, due_between, due_at, due}
-use Rattle.es_event.specs.Follows.{HasRoom, Permits}
+use Rattle.es_event.specs.Order.{Phase, between, handed, inside, stopped, ended, phase, left, catching, queue, receive, run, due_after, due_inside, due_job, due_between, due_at, due}
+use Rattle.es_event.specs.Report.{refusal_text}
+use Rattle.es_event.specs.Follows.{HasRoom, Permits, done_for, refused_now}
 
 -- the cell that the running cleanup job takes next
 abbrev pub next_cell : History → Option ℕ
 next_cell h = option_and_then (first_awaiting h) (cleaning h)
+
+-- the command itself is done, or where it is refused and that is caught, an assignment of a text
+pub data IsDoneFor (c : Command) : Command → Type 0 where
+  itself : IsDoneFor c c
+  caught : (x t : List ℕ) → IsDoneFor c (Command.Let x (Literal.Text t))
+
+pub done_so : (o : Option Refusal) (x : Option (List ℕ)) (c d : Command) → d ≡ done_for o x c → IsDoneFor c d
+done_so (Some code) (Some x) c d is = subst (IsDoneFor c) (sym is) (caught x (refusal_text code))
+done_so (Some code) None c d is = subst (IsDoneFor c) (sym is) itself
+done_so None x c d is = subst (IsDoneFor c) (sym is) itself
+
+-- what holds of the command and of each such assignment holds of what is done
+pub of_done : (P : Command → Type 0) (c d : Command) → IsDoneFor c d → P c → ((x t : List ℕ) → P (Command.Let x (Literal.Text t))) → P d
+of_done P c _ itself own lets = own
+of_done P c _ (caught x t) own lets = lets x t
 
 pub data Comes (over : Buffers) (into : Receivers) (plan : AgentPlan) (h : History) (at : Phase) : Event → Type 0 where
   begins_job : (k : ℕ) (j : Job) → at ≡ between → queue h ≡ [] → slice_get plan.jobs (job h - 1) ≡ Some j → k ≡ job h → Comes over into plan h at (JobBegun k)
@@ -34,7 +51,7 @@ pub data Comes (over : Buffers) (into : Receivers) (plan : AgentPlan) (h : Histo
   skips : (k : ℕ) (j : Job) (s : ℕ) → at ≡ between → queue h ≡ [] → slice_get plan.jobs (job h - 1) ≡ Some j → is_some j.on ≡ true → k ≡ job h → Comes over into plan h at (Skipped k s)
   refuses_message : (j : Job) (code : Refusal) → at ≡ between → queue h ≡ [] → slice_get plan.jobs (job h - 1) ≡ Some j → is_some j.on ≡ true → code ≡ TooManyValues → Comes over into plan h at (Refused code)
   begins_cleanup : (r : ℕ) (rs : List ℕ) → at ≡ between → queue h ≡ r ∷ rs → Comes over into plan h at (CleanupBegun r)
-  does : (c : Command) (cs : List Command) (vs : List Value) (r : Answer) → at ≡ inside → left plan h ≡ c ∷ cs → Comes over into plan h at (Did (c, vs, r))
+  does : (c d : Command) (cs : List Command) (vs : List Value) (r : Answer) → at ≡ inside → left plan h ≡ c ∷ cs → IsDoneFor c d → Comes over into plan h at (Did (d, vs, r))
   refuses : (c : Command) (cs : List Command) (code : Refusal) → at ≡ inside → left plan h ≡ c ∷ cs → Comes over into plan h at (Refused code)
   empties_dead : (c : Command) (cs : List Command) (ids : List ℕ) → at ≡ inside → left plan h ≡ c ∷ cs → collects_now h c ≡ true → AreDead into h ids → Comes over into plan h at (Emptied ids)
   takes : (n : ℕ) (v : Value) → at ≡ inside → left plan h ≡ [] → next_cell h ≡ Some n → Comes over into plan h at (Taken n v)
@@ -44,12 +61,12 @@ pub data Comes (over : Buffers) (into : Receivers) (plan : AgentPlan) (h : Histo
   finishes_stopped : (ids : List ℕ) → at ≡ stopped → IsFinish into h ids → Comes over into plan h at (Emptied ids)
   closes : at ≡ between → queue h ≡ [] → Comes over into plan h at Closed
 
-comes_command : (over : Buffers) (into : Receivers) (plan : AgentPlan) (h : History) (c : Command) (cs : List Command) (e : Event) → left plan h ≡ c ∷ cs
-    → Permits over into h (run c) e → Comes over into plan h inside e
-comes_command over into plan h c cs (Did (d, vs, r)) is p = does d cs vs r refl (subst (λ d. left plan h ≡ d ∷ cs) (sym p) is)
-comes_command over into plan h c cs (Refused code) is p = refuses c cs code refl is
-comes_command over into plan h c cs (Emptied ids) is p = empties_dead c cs ids refl is p.0 p.1
-comes_command over into plan h c cs _ is p = absurd p
+comes_command : (over : Buffers) (into : Receivers) (plan : AgentPlan) (h : History) (x : Option (List ℕ)) (c : Command) (cs : List Command) (e : Event) → left plan h ≡ c ∷ cs
+    → Permits over into h (run x c) e → Comes over into plan h inside e
+comes_command over into plan h x c cs (Did (d, vs, r)) is p = does c d cs vs r refl is (done_so (refused_now over into h c) x c d p)
+comes_command over into plan h x c cs (Refused code) is p = refuses c cs code refl is
+comes_command over into plan h x c cs (Emptied ids) is p = empties_dead c cs ids refl is p.0 p.1
+comes_command over into plan h x c cs _ is p = absurd p
 
 comes_end : (over : Buffers) (into : Receivers) (plan : AgentPlan) (h : History) (o : Option History) (e : Event) → left plan h ≡ [] → next_cell h ≡ None → snapshot h ≡ o
     → Permits over into h (due_end o) e → Comes over into plan h inside e
@@ -64,10 +81,10 @@ comes_after over into plan h None e is next p = comes_end over into plan h (snap
 comes_after over into plan h (Some n) (Taken m v) is next p = takes m v refl is (subst (λ m. next_cell h ≡ Some m) (sym p) next)
 comes_after over into plan h (Some n) _ is next p = absurd p
 
-comes_inside : (over : Buffers) (into : Receivers) (plan : AgentPlan) (h : History) (cs : List Command) (e : Event) → left plan h ≡ cs
-    → Permits over into h (due_inside h cs) e → Comes over into plan h inside e
-comes_inside over into plan h [] e is p = comes_after over into plan h (next_cell h) e is refl p
-comes_inside over into plan h (c ∷ cs) e is p = comes_command over into plan h c cs e is p
+comes_inside : (over : Buffers) (into : Receivers) (plan : AgentPlan) (h : History) (x : Option (List ℕ)) (cs : List Command) (e : Event) → left plan h ≡ cs
+    → Permits over into h (due_inside h x cs) e → Comes over into plan h inside e
+comes_inside over into plan h x [] e is p = comes_after over into plan h (next_cell h) e is refl p
+comes_inside over into plan h x (c ∷ cs) e is p = comes_command over into plan h x c cs e is p
 
 comes_message : (over : Buffers) (into : Receivers) (plan : AgentPlan) (h : History) (j : Job) (n s : ℕ) (e : Event) → queue h ≡ [] → slice_get plan.jobs (job h - 1) ≡ Some j → is_some j.on ≡ true
     → n ≡ job h → Permits over into h (receive n s) e → Comes over into plan h between e
@@ -107,7 +124,7 @@ comes_at : (over : Buffers) (into : Receivers) (plan : AgentPlan) (h : History) 
 comes_at over into plan h between e p = comes_between over into plan h (queue h) e refl p
 comes_at over into plan h handed (JobBegun k) p = begins_handed k refl p
 comes_at over into plan h handed _ p = absurd p
-comes_at over into plan h inside e p = comes_inside over into plan h (left plan h) e refl p
+comes_at over into plan h inside e p = comes_inside over into plan h (catching plan h) (left plan h) e refl p
 comes_at over into plan h stopped e p = comes_stopped over into plan h e p
 comes_at over into plan h ended e p = absurd p
 

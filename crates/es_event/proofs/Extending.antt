@@ -1,5 +1,5 @@
 -- A history stays legal, and follows its plan, over another table that says the same of the objects that were made so far.
-use Rattle.std.proofs.Common.{◌≡◌, ℕ, ◌+◌, ◌==◌, Bool, true, false, cond, ◌∙◌, ap, refl, arith, List, [], ◌∷◌, Option, Some, None, Ok, Err, inl, inr, map}
+use Rattle.std.proofs.Common.{◌≡◌, ℕ, ◌+◌, ◌==◌, Bool, true, false, cond, ◌∙◌, ap, refl, arith, List, [], ◌∷◌, Option, Some, None, Ok, Err, inl, inr, map, sym}
 use Rattle.std.specs.Prelude.{ℤ, pos, is_some}
 use Rattle.std.specs.Option.{option_map, option_map_or}
 use Rattle.std.proofs.lemmas.Bool.{cases_Bool, eqb-true}
@@ -24,7 +24,7 @@ use Rattle.es_event.specs.Numbers.{index_of, index_read, words_read}
 use Rattle.es_event.specs.Rules.{Test, is_buffer, kind_of, of_buffer, of_number, of_index, refusal, first_refusal, result, refuse_or, completion}
 use Rattle.es_event.specs.Legal.{word_in, HasWords, Arrives, Lawful, LegalBy, values_of}
 use Rattle.es_event.specs.Order.{Due, run, due}
-use Rattle.es_event.specs.Follows.{Permits, Follows}
+use Rattle.es_event.specs.Follows.{Permits, Follows, done_for}
 use Rattle.es_event.proofs.Births.{kind_within}
 
 -- Tables that agree
@@ -88,9 +88,14 @@ pub refuses_so : (f : Option Refusal) (x : Answer) (code : Refusal) → refuse_o
 refuses_so None x code e = cc
 refuses_so (Some d) x code e = cc
 
-same_refusal : (over more : Buffers) (into : Receivers) (h : History) → LegalBy over into h → AgreeSoFar h over more → (c : Command) (vs : List Value) (code : Refusal) → refusal over h c vs ≡ Some code → refusal more h c vs ≡ Some code
-same_refusal over more into h l a c vs code e =
-    refuses_so (refusal more h c vs) (result more h c vs 0) code (same_completion over more into h l a c vs 0 ∙ ap (λ f. refuse_or f (result over h c vs 0)) e)
+same_code : (f g : Option Refusal) (x y : Answer) → refuse_or f x ≡ refuse_or g y → f ≡ g
+same_code None None x y e = refl
+same_code None (Some d) x y e = cc
+same_code (Some d) None x y e = cc
+same_code (Some d) (Some b) x y e = let same : d ≡ b = cc in ap Some same
+
+pub all_refusals : (over more : Buffers) (into : Receivers) (h : History) → LegalBy over into h → AgreeSoFar h over more → (c : Command) (vs : List Value) → refusal over h c vs ≡ refusal more h c vs
+all_refusals over more into h l a c vs = same_code _ _ (result over h c vs 0) (result more h c vs 0) (sym (same_completion over more into h l a c vs 0))
 
 -- One more event
 
@@ -109,7 +114,8 @@ still_lawful over more into h (Received t v) l a x = still_arrives over more h t
 still_lawful over more into h _ l a x = x
 
 pub still_permitted : (over more : Buffers) (into : Receivers) (h : History) (d : Due) (e : Event) → LegalBy over into h → AgreeSoFar h over more → Permits over into h d e → Permits more into h d e
-still_permitted over more into h (run c) (Refused code) l a p = same_refusal over more into h l a c (values_of into h (reads c)) code p
+still_permitted over more into h (run x c) (Did (d, vs, r)) l a p = p ∙ ap (λ o. done_for o x c) (all_refusals over more into h l a c (values_of into h (reads c)))
+still_permitted over more into h (run x c) (Refused code) l a p = (p.0, sym (all_refusals over more into h l a c (values_of into h (reads c))) ∙ p.1)
 still_permitted over more into h d e l a p = p
 
 pub still_legal : (over more : Buffers) (into : Receivers) (h : History) → AgreeSoFar h over more → LegalBy over into h → LegalBy more into h

@@ -12,7 +12,7 @@ use Rattle.es_event.specs.Sharing.{Buffers}
 use Rattle.es_event.specs.Reach.{AreDead}
 use Rattle.es_event.specs.Later.{snapshot, derefed_since}
 use Rattle.es_event.specs.Late.{AreLate}
-use Rattle.es_event.specs.Order.{Phase, between, handed, inside, stopped, ended, phase, left, queue, Due, run, finish, due_end, due_after, due_inside, due_job, due_between, due_at, due}
+use Rattle.es_event.specs.Order.{Phase, between, handed, inside, stopped, ended, phase, left, catching, queue, Due, run, finish, due_end, due_after, due_inside, due_job, due_between, due_at, due}
 use Rattle.es_event.specs.Follows.{Permits}
 
 end_finishes : (o : Option History) (p : History) → due_end o ≡ finish p → o ≡ Some p
@@ -23,9 +23,9 @@ after_finishes : (h : History) (o : Option ℕ) (p : History) → due_after h o 
 after_finishes h None p e = end_finishes (snapshot h) p e
 after_finishes h (Some n) p e = cc
 
-inside_finishes : (h : History) (cs : List Command) (p : History) → due_inside h cs ≡ finish p → snapshot h ≡ Some p
-inside_finishes h [] p e = after_finishes h (option_and_then (first_awaiting h) (cleaning h)) p e
-inside_finishes h (c ∷ cs) p e = cc
+inside_finishes : (h : History) (x : Option (List ℕ)) (cs : List Command) (p : History) → due_inside h x cs ≡ finish p → snapshot h ≡ Some p
+inside_finishes h x [] p e = after_finishes h (option_and_then (first_awaiting h) (cleaning h)) p e
+inside_finishes h x (c ∷ cs) p e = cc
 
 job_not : (n : ℕ) (at : Option (Option (ℕ × List ℕ))) (p : History) → due_job n at ≡ finish p → ⊥
 job_not n None p e = cc
@@ -39,7 +39,7 @@ between_not plan h (r ∷ rs) p e = cc
 at_finishes : (plan : AgentPlan) (h : History) (at : Phase) (p : History) → due_at plan h at ≡ finish p → snapshot h ≡ Some p
 at_finishes plan h between p e = absurd (between_not plan h (queue h) p e)
 at_finishes plan h handed p e = cc
-at_finishes plan h inside p e = inside_finishes h (left plan h) p e
+at_finishes plan h inside p e = inside_finishes h (catching plan h) (left plan h) p e
 at_finishes plan h stopped p e = end_finishes (snapshot h) p e
 at_finishes plan h ended p e = cc
 
@@ -54,7 +54,7 @@ pub record IsFinish (into : Receivers) (h : History) (ids : List ℕ) : Type 0 w
   pub late : AreLate into copy (derefed_since h) ids
 
 how_at : (over : Buffers) (into : Receivers) (h : History) (d : Due) (ids : List ℕ) → ((p : History) → d ≡ finish p → snapshot h ≡ Some p) → Permits over into h d (Emptied ids) → AreDead into h ids ⊎ IsFinish into h ids
-how_at over into h (run c) ids is p = inl p.1
+how_at over into h (run x c) ids is p = inl p.1
 how_at over into h (finish q) ids is p = inr (record { copy = q; open_at = is q refl; late = p })
 how_at over into h _ ids is p = absurd p
 

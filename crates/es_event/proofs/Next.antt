@@ -25,8 +25,10 @@ use Rattle.es_event.specs.Rows.{row}
 use Rattle.es_event.specs.Sharing.{Buffers, row_at, AgreeSoFar}
 use Rattle.es_event.specs.Rules.{refusal, result, word_if, refuse_or, completion, first_refusal}
 use Rattle.es_event.specs.Legal.{word_in, HasWords, Arrives, Lawful, values_of}
-use Rattle.es_event.specs.Order.{Phase, between, handed, inside, stopped, ended, phase, left, queue, Due, begin, receive, run, clean, take_cell, due_after, due_inside, due_job, due_between, due_at, end_job, close, nothing, due}
-use Rattle.es_event.specs.Follows.{AtCommand, HasRoom, Permits}
+use Rattle.es_event.specs.Order.{Phase, between, handed, inside, stopped, ended, phase, left, catching, queue, Due, begin, receive, run, clean, take_cell, due_after, due_inside, due_job, due_between, due_at, end_job, close, nothing, due}
+use Rattle.es_event.specs.declared.literal.Literal.{Literal}
+use Rattle.es_event.specs.Report.{refusal_text}
+use Rattle.es_event.specs.Follows.{AtCommand, HasRoom, Permits, done_for, refused_now}
 use Rattle.es_event.specs.Runs.{ComesNext, silence, a_word, a_message, heard_by, heard}
 use Rattle.es_event.proofs.Accepted.{is_result}
 use Rattle.es_event.proofs.Extending.{agrees_with_itself, agrees_longer, refuses_so}
@@ -95,24 +97,53 @@ refused_not over h c vs r code e f = not_both (completion over h c vs (word_in r
 inner_code : (a b : Refusal) → ◌≡◌ {A = Option Refusal} (Some a) (Some b) → a ≡ b
 inner_code a b e = cc
 
-one_at_command : (over : Buffers) (into : Receivers) (h : History) (c : Command) (e f : Event) → Lawful over into h e → AtCommand over into h c e → Lawful over into h f → AtCommand over into h c f → heard e ≡ heard f → e ≡ f
-one_at_command over into h c (Did (d, vs, r)) (Did (b, ws, q)) l p m o s =
+one_done : (over : Buffers) (into : Receivers) (h : History) (c d b : Command) (vs ws : List Value) (r q : Answer) → Lawful over into h (Did (d, vs, r)) → d ≡ c → Lawful over into h (Did (b, ws, q)) → b ≡ c
+    → heard (Did (d, vs, r)) ≡ heard (Did (b, ws, q)) → ◌≡◌ {A = Event} (Did (d, vs, r)) (Did (b, ws, q))
+one_done over into h c d b vs ws r q l p m o s =
     let x = done over into h c d vs r l p in
     let y = done over into h c b ws q m o in
     let alike : heard_by c r ≡ heard_by c q = ap (λ c. heard_by c r) (sym p) ∙ (s ∙ ap (λ c. heard_by c q) o) in
     same_done c d b vs ws r q p o (x.0 ∙ sym y.0) (same_answer (completion over h c (values_of into h (reads c)) (word_in r)) r q x.1 (same_word over h c (values_of into h (reads c)) r q alike ∙ y.1))
-one_at_command over into h c (Did (d, vs, r)) (Refused code) l p m o s = absurd (refused_not over h c (values_of into h (reads c)) r code (done over into h c d vs r l p).1 o)
-one_at_command over into h c (Did (d, vs, r)) (Emptied ids) l p m o s = absurd (false≢true (sym (done over into h c d vs r l p).2 ∙ now_collects h c o.0))
-one_at_command over into h c (Refused code) (Did (b, ws, q)) l p m o s = absurd (refused_not over h c (values_of into h (reads c)) q code (done over into h c b ws q m o).1 p)
-one_at_command over into h c (Refused a) (Refused b) l p m o s = ap Refused (inner_code a b (sym p ∙ o))
-one_at_command over into h c (Refused code) (Emptied ids) l p m o s = absurd (never_refused over h c (values_of into h (reads c)) code o.0 p)
-one_at_command over into h c (Emptied ids) (Did (b, ws, q)) l p m o s = absurd (false≢true (sym (done over into h c b ws q m o).2 ∙ now_collects h c p.0))
-one_at_command over into h c (Emptied ids) (Refused code) l p m o s = absurd (never_refused over h c (values_of into h (reads c)) code p.0 o)
-one_at_command over into h c (Emptied ids) (Emptied jds) l p m o s = ap Emptied (one_list into h ids jds p.1 o.1 l.1 m.1)
-one_at_command over into h c (Did (d, vs, r)) _ l p m o s = absurd o
-one_at_command over into h c (Refused code) _ l p m o s = absurd o
-one_at_command over into h c (Emptied ids) _ l p m o s = absurd o
-one_at_command over into h c _ f l p m o s = absurd p
+
+-- what is done is the command itself where nothing is caught
+uncaught : (o : Option Refusal) (c : Command) → done_for o None c ≡ c
+uncaught None c = refl
+uncaught (Some code) c = refl
+
+unrefused : (o : Option Refusal) (x : Option (List ℕ)) (c : Command) → ((code : Refusal) → o ≡ Some code → ⊥) → done_for o x c ≡ c
+unrefused None x c none = refl
+unrefused (Some code) x c none = absurd (none code refl)
+
+-- a command that is not refused is done itself
+pub done_itself : (over : Buffers) (into : Receivers) (h : History) (x : Option (List ℕ)) (c : Command) → refused_now over into h c ≡ None → c ≡ done_for (refused_now over into h c) x c
+done_itself over into h x c none = ap (λ o. done_for o x c) (sym none)
+
+-- a refusal beside what is done: nothing catches it, so the command itself was done
+pub done_beside : (over : Buffers) (into : Receivers) (h : History) (x : Option (List ℕ)) (c d : Command) → x ≡ None → d ≡ done_for (refused_now over into h c) x c → d ≡ c
+done_beside over into h x c d none p = p ∙ ap (λ x. done_for (refused_now over into h c) x c) none ∙ uncaught (refused_now over into h c) c
+
+-- what empties is refused nothing
+pub empties_beside : (over : Buffers) (into : Receivers) (h : History) (x : Option (List ℕ)) (c d : Command) → collects_now h c ≡ true → d ≡ done_for (refused_now over into h c) x c → d ≡ c
+empties_beside over into h x c d now p = p ∙ unrefused (refused_now over into h c) x c (λ code is. never_refused over h c (values_of into h (reads c)) code now is)
+
+one_at_command : (over : Buffers) (into : Receivers) (h : History) (x : Option (List ℕ)) (c : Command) (e f : Event) → Lawful over into h e → AtCommand over into h x c e → Lawful over into h f → AtCommand over into h x c f → heard e ≡ heard f → e ≡ f
+one_at_command over into h x c (Did (d, vs, r)) (Did (b, ws, q)) l p m o s = one_done over into h (done_for (refused_now over into h c) x c) d b vs ws r q l p m o s
+one_at_command over into h x c (Did (d, vs, r)) (Refused code) l p m o s =
+    absurd (refused_not over h c (values_of into h (reads c)) r code (done over into h c d vs r l (done_beside over into h x c d o.0 p)).1 o.1)
+one_at_command over into h x c (Did (d, vs, r)) (Emptied ids) l p m o s =
+    absurd (false≢true (sym (done over into h c d vs r l (empties_beside over into h x c d o.0 p)).2 ∙ now_collects h c o.0))
+one_at_command over into h x c (Refused code) (Did (b, ws, q)) l p m o s =
+    absurd (refused_not over h c (values_of into h (reads c)) q code (done over into h c b ws q m (done_beside over into h x c b p.0 o)).1 p.1)
+one_at_command over into h x c (Refused a) (Refused b) l p m o s = ap Refused (inner_code a b (sym p.1 ∙ o.1))
+one_at_command over into h x c (Refused code) (Emptied ids) l p m o s = absurd (never_refused over h c (values_of into h (reads c)) code o.0 p.1)
+one_at_command over into h x c (Emptied ids) (Did (b, ws, q)) l p m o s =
+    absurd (false≢true (sym (done over into h c b ws q m (empties_beside over into h x c b p.0 o)).2 ∙ now_collects h c p.0))
+one_at_command over into h x c (Emptied ids) (Refused code) l p m o s = absurd (never_refused over h c (values_of into h (reads c)) code p.0 o.1)
+one_at_command over into h x c (Emptied ids) (Emptied jds) l p m o s = ap Emptied (one_list into h ids jds p.1 o.1 l.1 m.1)
+one_at_command over into h x c (Did (d, vs, r)) _ l p m o s = absurd o
+one_at_command over into h x c (Refused code) _ l p m o s = absurd o
+one_at_command over into h x c (Emptied ids) _ l p m o s = absurd o
+one_at_command over into h x c _ f l p m o s = absurd p
 
 -- a message, a skip, or a refusal
 a_message_of : (v w : Value) → a_message v ≡ a_message w → v ≡ w
@@ -173,7 +204,7 @@ one_finish over into h p _ f l a m b = absurd a
 one_at : (over : Buffers) (into : Receivers) (h : History) (d : Due) (e f : Event) → Lawful over into h e → Permits over into h d e → Lawful over into h f → Permits over into h d f → heard e ≡ heard f → e ≡ f
 one_at over into h (begin n) e f l p m o s = begins over into h n e p ∙ sym (begins over into h n f o)
 one_at over into h (receive n t) e f l p m o s = one_at_receive over into h n t e f p o s
-one_at over into h (run c) e f l p m o s = one_at_command over into h c e f l p m o s
+one_at over into h (run x c) e f l p m o s = one_at_command over into h x c e f l p m o s
 one_at over into h (clean r) e f l p m o s = cleans_next over into h r e p ∙ sym (cleans_next over into h r f o)
 one_at over into h (take_cell n) e f l p m o s =
     let a : Takes h n e = takes_next over into h n e l p in
@@ -224,44 +255,51 @@ its_own_word over h (Atomic a) vs r e =
     ap (refuse_or (refusal over h (Atomic a) vs)) (given_itself (is_some (given_to a.operation)) r (is_result over h (Atomic a) vs 0 r e)) ∙ e
 its_own_word over h _ vs r e = e
 
-answered : (over : Buffers) (into : Receivers) (h : History) (c : Command) → collects c ≡ false → (o : Result Answer Refusal)
-    → completion (with_block over h (opens_words c)) h c (values_of into h (reads c)) 0 ≡ o → SomeAt over into h (run c)
-answered over into h c e (Ok r) is = record {
+-- a refusal, or where it is caught the assignment of its text
+refusing : (over more : Buffers) (into : Receivers) (h : History) (x : Option (List ℕ)) (c : Command) (code : Refusal) → AgreeSoFar h over more → refused_now more into h c ≡ Some code → SomeAt over into h (run x c)
+refusing over more into h None c code agrees is = record { more = more; agrees = agrees; event = Refused code; lawful = tt; permitted = (refl, is) }
+refusing over more into h (Some x) c code agrees is = record {
+  more = more;
+  agrees = agrees;
+  event = Did (Command.Let x (Literal.Text (refusal_text code)), [], Answer.Gives (Value.Text (refusal_text code)));
+  lawful = (refl, refl, refl, tt);
+  permitted = ap (λ o. done_for o (Some x) c) (sym is);
+}
+
+answered : (over : Buffers) (into : Receivers) (h : History) (x : Option (List ℕ)) (c : Command) → collects c ≡ false → (o : Result Answer Refusal)
+    → completion (with_block over h (opens_words c)) h c (values_of into h (reads c)) 0 ≡ o → SomeAt over into h (run x c)
+answered over into h x c e (Ok r) is = record {
   more = with_block over h (opens_words c);
   agrees = block_agrees over h (opens_words c);
   event = Did (c, values_of into h (reads c), r);
   lawful = (refl, its_own_word (with_block over h (opens_words c)) h c (values_of into h (reads c)) r is, e, block_there over h (opens_words c));
-  permitted = refl;
+  permitted = sym (unrefused (refused_now (with_block over h (opens_words c)) into h c) x c (λ code refused. refused_not (with_block over h (opens_words c)) h c (values_of into h (reads c)) r code (its_own_word (with_block over h (opens_words c)) h c (values_of into h (reads c)) r is) refused));
 }
-answered over into h c e (Err code) is = record {
-  more = with_block over h (opens_words c);
-  agrees = block_agrees over h (opens_words c);
-  event = Refused code;
-  lawful = tt;
-  permitted = refuses_so (refusal (with_block over h (opens_words c)) h c (values_of into h (reads c))) _ code is;
-}
+answered over into h x c e (Err code) is =
+    refusing over (with_block over h (opens_words c)) into h x c code (block_agrees over h (opens_words c))
+    (refuses_so (refusal (with_block over h (opens_words c)) h c (values_of into h (reads c))) _ code is)
 
-emptied : (over : Buffers) (into : Receivers) (h : History) (c : Command) → collects_now h c ≡ true → SomeAt over into h (run c)
-emptied over into h c e =
+emptied : (over : Buffers) (into : Receivers) (h : History) (x : Option (List ℕ)) (c : Command) → collects_now h c ≡ true → SomeAt over into h (run x c)
+emptied over into h x c e =
     let all : TheDead into h = the_dead into h in
-    at_hand over into h (run c) (Emptied all.list) (dead_there into h all.list all.dead, all.rising) (e, all.dead)
+    at_hand over into h (run x c) (Emptied all.list) (dead_there into h all.list all.dead, all.rising) (e, all.dead)
 
 -- a collection that is refused, as a later one is open
 refused_open : (b : Bool) → b ≡ false → first_refusal ((b, CollectionOpen) ∷ []) ≡ Some CollectionOpen
 refused_open true e = cc
 refused_open false e = refl
 
-open_refuses : (over : Buffers) (into : Receivers) (h : History) (c : Command) → collects c ≡ true → is_none (snapshot h) ≡ false → SomeAt over into h (run c)
-open_refuses over into h Collect e f = at_hand over into h (run Collect) (Refused CollectionOpen) tt (refused_open (is_none (snapshot h)) f)
-open_refuses over into h _ e f = cc
+open_refuses : (over : Buffers) (into : Receivers) (h : History) (x : Option (List ℕ)) (c : Command) → collects c ≡ true → is_none (snapshot h) ≡ false → SomeAt over into h (run x c)
+open_refuses over into h x Collect e f = refusing over over into h x Collect CollectionOpen (λ o l. refl) (refused_open (is_none (snapshot h)) f)
+open_refuses over into h x _ e f = cc
 
-collecting : (over : Buffers) (into : Receivers) (h : History) (c : Command) (b : Bool) → collects c ≡ true → is_none (snapshot h) ≡ b → SomeAt over into h (run c)
-collecting over into h c true e f = emptied over into h c (and_from (collects c) (is_none (snapshot h)) e f)
-collecting over into h c false e f = open_refuses over into h c e f
+collecting : (over : Buffers) (into : Receivers) (h : History) (x : Option (List ℕ)) (c : Command) (b : Bool) → collects c ≡ true → is_none (snapshot h) ≡ b → SomeAt over into h (run x c)
+collecting over into h x c true e f = emptied over into h x c (and_from (collects c) (is_none (snapshot h)) e f)
+collecting over into h x c false e f = open_refuses over into h x c e f
 
-at_command : (over : Buffers) (into : Receivers) (h : History) (c : Command) (b : Bool) → collects c ≡ b → SomeAt over into h (run c)
-at_command over into h c true e = collecting over into h c (is_none (snapshot h)) e refl
-at_command over into h c false e = answered over into h c e (completion (with_block over h (opens_words c)) h c (values_of into h (reads c)) 0) refl
+at_command : (over : Buffers) (into : Receivers) (h : History) (x : Option (List ℕ)) (c : Command) (b : Bool) → collects c ≡ b → SomeAt over into h (run x c)
+at_command over into h x c true e = collecting over into h x c (is_none (snapshot h)) e refl
+at_command over into h x c false e = answered over into h x c e (completion (with_block over h (opens_words c)) h c (values_of into h (reads c)) 0) refl
 
 awaiting_held : (h : History) (n : ℕ) → fate h n ≡ awaiting → (v : Value) × (option_map (λ c. c.held) (cell h n) ≡ Some v)
 awaiting_held h n e = let found = awaits h n e in (found.0.held, ap (option_map (λ c. c.held)) found.1.is)
@@ -287,7 +325,7 @@ finished over into h p is =
 some_at : (over : Buffers) (into : Receivers) (h : History) (d : Due) → IsReady h d → ((p : History) → d ≡ finish p → snapshot h ≡ Some p) → (d ≡ nothing → ⊥) → SomeAt over into h d
 some_at over into h (begin n) ready is_at on = at_hand over into h (begin n) (JobBegun n) tt refl
 some_at over into h (receive n t) ready is_at on = at_hand over into h (receive n t) (Skipped n t) tt (refl, refl)
-some_at over into h (run c) ready is_at on = at_command over into h c (collects c) refl
+some_at over into h (run x c) ready is_at on = at_command over into h x c (collects c) refl
 some_at over into h (clean r) ready is_at on = at_hand over into h (clean r) (CleanupBegun r) tt refl
 some_at over into h (take_cell n) ready is_at on =
     let waits = ready n refl in
@@ -313,9 +351,9 @@ ready_after : (h : History) (o : Option ℕ) → ((n : ℕ) → o ≡ Some n →
 ready_after h None first n e = absurd (end_ready (snapshot h) n e)
 ready_after h (Some m) first n e = let same : m ≡ n = cc in first n (ap Some same)
 
-ready_inside : (h : History) (cs : List Command) → IsReady h (due_inside h cs)
-ready_inside h [] n e = ready_after h (option_and_then (first_awaiting h) (cleaning h)) (λ m is. first_awaits h (cleaning h) m is) n e
-ready_inside h (c ∷ cs) n e = cc
+ready_inside : (h : History) (x : Option (List ℕ)) (cs : List Command) → IsReady h (due_inside h x cs)
+ready_inside h x [] n e = ready_after h (option_and_then (first_awaiting h) (cleaning h)) (λ m is. first_awaits h (cleaning h) m is) n e
+ready_inside h x (c ∷ cs) n e = cc
 
 ready_job : (h : History) (k : ℕ) (at : Option (Option (ℕ × List ℕ))) → IsReady h (due_job k at)
 ready_job h k None n e = cc
@@ -329,7 +367,7 @@ ready_between plan h (r ∷ rs) n e = cc
 ready_at : (plan : AgentPlan) (h : History) (at : Phase) → IsReady h (due_at plan h at)
 ready_at plan h between n e = ready_between plan h (queue h) n e
 ready_at plan h handed n e = cc
-ready_at plan h inside n e = ready_inside h (left plan h) n e
+ready_at plan h inside n e = ready_inside h (catching plan h) (left plan h) n e
 ready_at plan h stopped n e = absurd (end_ready (snapshot h) n e)
 ready_at plan h ended n e = cc
 

@@ -21,15 +21,16 @@ use Rattle.es_event.specs.declared.command.Command.TheVariants.{Collect, Collect
 use Rattle.es_event.specs.Later.{snapshot}
 use Rattle.es_event.specs.History.{History}
 use Rattle.es_event.specs.Jobs.{receivers, job, cleans, cleaning, callbacks_collect_nothing}
-use Rattle.es_event.specs.Registrations.{callback, awaiting, fate, tally, first_awaiting}
+use Rattle.es_event.specs.Registrations.{awaiting, fate, tally, first_awaiting}
 use Rattle.es_event.specs.Sharing.{Buffers}
 use Rattle.es_event.specs.Legal.{Lawful, LegalBy}
-use Rattle.es_event.specs.Order.{Phase, between, handed, inside, stopped, ended, phase_after, phase, left, job_commands, callback_commands, cleanup_commands, is_stopped, queues_again, queue, cleans_up, is_cleaning_up}
+use Rattle.es_event.specs.Order.{Phase, between, handed, inside, stopped, ended, phase_after, phase, left, job_commands, cleanup_commands, is_stopped, queues_again, queue, cleans_up, is_cleaning_up}
 use Rattle.es_event.specs.Follows.{Follows}
 use Rattle.es_event.specs.Runs.{ComesNext}
 use Rattle.es_event.proofs.Awaiting.{awaited_before, between_clean, handed_at}
-use Rattle.es_event.proofs.Coming.{next_cell, Comes, begins_job, begins_handed, receives, skips, refuses_message, begins_cleanup, does, refuses, empties_dead, takes, ends, stops, finishes, finishes_stopped, closes, comes}
+use Rattle.es_event.proofs.Coming.{next_cell, Comes, begins_job, begins_handed, receives, skips, refuses_message, begins_cleanup, does, refuses, empties_dead, takes, ends, stops, finishes, finishes_stopped, closes, comes, of_done}
 use Rattle.es_event.proofs.Fates.{AwaitedBefore, no_more, fewer}
+use Rattle.es_event.proofs.Left.{of_cleanup}
 
 -- The work in the jobs of the plan
 
@@ -104,18 +105,6 @@ callback_short [] i c e = cc
 callback_short (x ∷ xs) zero c e = let same : x ≡ c = cc in subst (λ (c : Callback). length c.run ≤ most_commands (x ∷ xs)) same (omega arith)
 callback_short (x ∷ xs) (suc i) c e = omega (arith, callback_short xs i c e)
 
--- what holds of no commands, and of each callback's, holds of those of a cell that is taken
-of_callback : (P : List Command → Type 0) (o : Option Callback) → P [] → ((c : Callback) → o ≡ Some c → P c.run) → P (option_map_or (λ c. c.run) o [])
-of_callback P None none each = none
-of_callback P (Some c) none each = each c refl
-
-of_number : (P : List Command → Type 0) (plan : AgentPlan) (o : Option ℕ) → P [] → ((i : ℕ) (c : Callback) → slice_get plan.callbacks i ≡ Some c → P c.run) → P (option_map_or (callback_commands plan) o [])
-of_number P plan None none each = none
-of_number P plan (Some n) none each = of_callback P (slice_get plan.callbacks (n - 1)) none (each (n - 1))
-
-pub of_cleanup : (P : List Command → Type 0) (plan : AgentPlan) (h : History) → P [] → ((i : ℕ) (c : Callback) → slice_get plan.callbacks i ≡ Some c → P c.run) → P (cleanup_commands plan h)
-of_cleanup P plan h none each = of_number P plan (option_and_then (callback h) (cleaning h)) none each
-
 collects_opens : (c : Command) → collects c ≡ true → opens_or_collects c ≡ true
 collects_opens Collect e = refl
 collects_opens _ e = cc
@@ -133,7 +122,7 @@ quiet_next over plan h at _ (receives j s v b none is on room) here f all before
 quiet_next over plan h at _ (skips k j s b none is on same) here f all before r e = refl
 quiet_next over plan h at _ (refuses_message j code b none is on same) here f all before r e = refl
 quiet_next over plan h at _ (begins_cleanup q rs b is) here f all before r e = refl
-quiet_next over plan h at _ (does d cs vs a i is) here f all before r e = rest_quiet (left plan h) (before r e)
+quiet_next over plan h at _ (does b d cs vs a i is by) here f all before r e = rest_quiet (left plan h) (before r e)
 quiet_next over plan h at _ (refuses d cs code i is) here f all before r e = refl
 quiet_next over plan h at _ (empties_dead d cs ids i is co dead) here f all before r e = rest_quiet (left plan h) (before r e)
 quiet_next over plan h at _ (takes m v i is next) here f all before r e = of_cleanup (λ cs. list_any opens_or_collects cs ≡ false) plan h refl (λ i c is. callback_quiet plan.callbacks i c all is)
@@ -170,12 +159,13 @@ shut_next over plan h at (Received t v) (receives j _ _ b none is on room) here 
 shut_next over plan h at (Skipped k t) (skips _ j _ b none is on same) here s q = all_shut (Skipped k t ∷ h) (s.at_between (here ∙ b))
 shut_next over plan h at (Refused code) (refuses_message j _ b none is on same) here s q = all_shut (Refused code ∷ h) (s.at_between (here ∙ b))
 shut_next over plan h at (CleanupBegun r) (begins_cleanup _ rs b is) here s q = all_shut (CleanupBegun r ∷ h) (s.at_between (here ∙ b))
-shut_next over plan h at (Did (d, vs, a)) (does _ cs _ _ i is) here s q = record {
+shut_next over plan h at (Did (d, vs, a)) (does b _ cs _ _ i is by) here s q = record {
   at_between = λ e. let now : inside ≡ between = sym (here ∙ i) ∙ e in cc;
   at_handed = λ e. let now : inside ≡ handed = sym (here ∙ i) ∙ e in cc;
   in_cleaning = λ r e.
-      let none : list_any opens_or_collects (d ∷ cs) ≡ false = ap (list_any opens_or_collects) (sym is) ∙ q r e in
-      not_opened d vs a h (or_parts (opens_or_collects d) (list_any opens_or_collects cs) none).0 ∙ s.in_cleaning r e;
+      let none : list_any opens_or_collects (b ∷ cs) ≡ false = ap (list_any opens_or_collects) (sym is) ∙ q r e in
+      let quiet : opens_or_collects d ≡ false = of_done (λ d. opens_or_collects d ≡ false) b d by (or_parts (opens_or_collects b) (list_any opens_or_collects cs) none).0 (λ x t. refl) in
+      not_opened d vs a h quiet ∙ s.in_cleaning r e;
 }
 shut_next over plan h at _ (refuses d cs code i is) here s q = record { at_between = λ e. cc; at_handed = λ e. cc; in_cleaning = s.in_cleaning }
 shut_next over plan h at (Emptied ids) (empties_dead d cs _ i is co dead) here s q = all_shut (Emptied ids ∷ h) refl
@@ -291,10 +281,10 @@ falls_next over other plan h at _ (refuses_message j code b none is on same) her
 falls_next over other plan h at _ (begins_cleanup r rs b is) here all now l f up =
     moved plan h (CleanupBegun r) None between (between_clean h (here ∙ b)) (here ∙ b)
     (falls_begun plan h r rs is (cells_fall plan (CleanupBegun r) h (awaited_before over other plan (CleanupBegun r) h now l f refl)))
-falls_next over other plan h at _ (does c cs vs r i is) here all now l f up =
+falls_next over other plan h at _ (does b c cs vs r i is by) here all now l f up =
     let clean = in_cleanup h inside up (here ∙ i) (λ e. cc) in
     moved plan h (Did (c, vs, r)) (Some clean.0) inside clean.1 (here ∙ i)
-    (falls_did plan h clean.0 c c cs vs r is (cells_fall plan (Did (c, vs, r)) h (awaited_before over other plan (Did (c, vs, r)) h now l f refl)))
+    (falls_did plan h clean.0 c b cs vs r is (cells_fall plan (Did (c, vs, r)) h (awaited_before over other plan (Did (c, vs, r)) h now l f refl)))
 falls_next over other plan h at _ (refuses c cs code i is) here all now l f up =
     let clean = in_cleanup h inside up (here ∙ i) (λ e. cc) in
     moved plan h (Refused code) (Some clean.0) inside clean.1 (here ∙ i)
@@ -436,7 +426,7 @@ drops_next over other plan h at _ (refuses_message j code b none is on same) her
 drops_next over other plan h at _ (begins_cleanup r rs b is) here f clean up =
     let due : is_cleaning_up h ≡ true = ap (λ o. cleans_up o (phase h) (queue h)) clean ∙ (ap (λ at. cleans_up None at (queue h)) (here ∙ b) ∙ ap (cleans_up None between) is) in
     absurd (false≢true (sym up ∙ due))
-drops_next over other plan h at _ (does c cs vs r i is) here f clean up = settled plan h (Did (c, vs, r)) inside clean (here ∙ i) (drops_did plan h c c cs vs r is)
+drops_next over other plan h at _ (does b c cs vs r i is by) here f clean up = settled plan h (Did (c, vs, r)) inside clean (here ∙ i) (drops_did plan h c b cs vs r is)
 drops_next over other plan h at _ (refuses c cs code i is) here f clean up = settled plan h (Refused code) inside clean (here ∙ i) (drops_refused plan h code c cs is)
 drops_next over other plan h at _ (empties_dead c cs ids i is co dead) here f clean up = settled plan h (Emptied ids) inside clean (here ∙ i) (drops_emptied plan h ids c cs is)
 drops_next over other plan h at _ (takes n v i is next) here f clean up = let none : next_cell h ≡ None = ap (option_and_then (first_awaiting h)) clean in absurd (taken_none n (sym none ∙ next))

@@ -1,5 +1,6 @@
 -- To believe: what an answer of the code says that is due: each variant of its own type is the one of es_event's Order of that meaning.
-use Rattle.std.specs.Prelude.{List, [], ◌∷◌, Option}
+use Rattle.std.specs.Prelude.{ℕ, List, [], ◌∷◌, Option}
+use Rattle.std.specs.Option.{option_copied}
 use Rattle.es_event.specs.declared.command.Command.{Command}
 use Rattle.es_event.specs.Order.{Due as DueSaid, begin, run, clean, take_cell, close, nothing, receive, due_end}
 use Rattle.es_event.specs.History.{History}
@@ -10,7 +11,7 @@ use Rattle.es_event.specs.declared.due.Due.TheVariants.{Begin, Receive, Run, Cle
 abbrev pub shown : Option History → Due → DueSaid
 shown o (Begin n) = begin n
 shown o (Receive n s) = receive n s
-shown o (Run c) = run c.now
+shown o (Run x c) = run (option_copied x) c.now
 shown o (Clean r) = clean r
 shown o (Take n) = take_cell n
 shown o EndJob = due_end o
@@ -18,6 +19,6 @@ shown o Close = close
 shown o Nothing = nothing
 
 -- the next of these commands, or the job's end
-abbrev pub due_of : Option History → List Command → DueSaid
-due_of o [] = due_end o
-due_of o (c ∷ cs) = run c
+abbrev pub due_of : Option History → Option (List ℕ) → List Command → DueSaid
+due_of o x [] = due_end o
+due_of o x (c ∷ cs) = run x c

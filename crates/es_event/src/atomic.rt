@@ -110,7 +110,7 @@ impl Atomic {
     }
 
     /// The variables whose values the command takes, in order: the buffer's, and those of the operands.
-    #[inline]
+    #[inline(never)]
     pub(crate) fn reads(&self) -> OperandNames<'_>
         ensures { names_of result ≡ self.now.buffer ∷ variables_of (self.now.index ∷ operands_of self.now.operation) }
     {
@@ -208,6 +208,7 @@ impl Operation {
             Operation::Store { .. } => None,
         }
     }
+
     /// The variables of its operands after the index, of which there are two at most.
     fn variables(&self) -> (Option<&Name>, Option<&Name>)
         ensures { option_to_list (option_copied result.0) ++ option_to_list (option_copied result.1) ≡ variables_of (operands_of self.now) }

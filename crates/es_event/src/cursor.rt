@@ -7,17 +7,17 @@ ghost use Rattle.es_event.specs.History.{History};
 ghost use Rattle.std.specs.Option.{option_and_then};
 ghost use Rattle.es_value.specs.declared.value.Value.{Value as HeldValue};
 ghost use Rattle.es_event.specs.Jobs.{receivers, cleaning, job as job_said};
-ghost use Rattle.es_event.specs.Order.{due, due_between, job_commands, callback_commands};
+ghost use Rattle.es_event.specs.Order.{due, due_between, job_commands, callback_commands, job_catches, callback_catches};
 ghost use Rattle.es_event.specs.Registrations.{callback as callback_said};
 ghost use Rattle.es_event.specs.Follows.{Permits};
 ghost use Rattle.es_event.specs.Sharing.{Buffers};
 ghost use Rattle.es_event.specs.Later.{snapshot};
 ghost use Rattle.es_event.specs.Due.{shown};
-ghost use Rattle.es_event.specs.Cursor.{IsCursorOf, commands_of};
+ghost use Rattle.es_event.specs.Cursor.{IsCursorOf, commands_of, catches_of};
 ghost use Rattle.es_event.specs.After.{at_after, job_passed, position_after, position_stopped, position_taken};
 
 use crate::due::Due;
-use crate::{AgentPlan, Command, Event, PlanCommand, SharedList};
+use crate::{AgentPlan, Command, Event, OptionalName, PlanCommand, SharedList};
 use es_value::{Id, NoMemory};
 
 /// Where an agent is in its plan.
@@ -164,6 +164,37 @@ pub fn commands(plan: &AgentPlan, n: usize) -> &[Command]
 {
     match plan.jobs.as_slice().get(n - 1) {
         Some(job) => job.run.as_slice(),
+        None => &[],
+    }
+}
+
+/// The variables that catch refusals in the nth job, counted from 1, by the places of its commands.
+#[inline(always)]
+pub fn catches(plan: &AgentPlan, n: usize) -> &[OptionalName]
+    requires { 0 < n }
+    ensures { result.now ≡ job_catches plan.now n }
+{
+    match plan.jobs.as_slice().get(n - 1) {
+        Some(job) => job.catches.as_slice(),
+        None => &[],
+    }
+}
+
+/// The same of the callback of this number, counted from 1; none where there is no callback.
+pub fn callback_catches(plan: &AgentPlan, callback: Option<usize>) -> &[OptionalName]
+    ensures { result.now ≡ catches_of plan.now callback }
+{
+    match callback {
+        Some(n) => catches_of_callback(plan, n),
+        None => &[],
+    }
+}
+
+fn catches_of_callback(plan: &AgentPlan, n: usize) -> &[OptionalName]
+    ensures { result.now ≡ callback_catches plan.now n }
+{
+    match plan.callbacks.as_slice().get(n.saturating_sub(1)) {
+        Some(callback) => callback.catches.as_slice(),
         None => &[],
     }
 }

@@ -3,6 +3,7 @@
 
 mod access;
 mod atomic;
+mod caught;
 mod command;
 mod cursor;
 mod done;
@@ -25,9 +26,11 @@ mod shared_list;
 
 pub use access::{Access, Change, Edit, Modification, to_uint32};
 pub use atomic::{Atomic, AtomicParts, Operation};
+pub use caught::catch_refusal;
 pub use command::{Command, OperandNames};
 pub use cursor::{
-    Cleanup, Cursor, Position, callback_command, callback_commands, commands, job_command,
+    Cleanup, Cursor, Position, callback_catches, callback_command, callback_commands, catches,
+    commands, job_command,
 };
 pub use done::{AnswerRef, Done};
 pub use due::{Due, due_command};

@@ -15,7 +15,7 @@ use Rattle.es_reading.specs.declared.version.Version.{Version}
 use Rattle.es_reading.specs.declared.version.Version.TheVariants.{One}
 use Rattle.es_reading.specs.Versions.{version_of}
 use Rattle.es_reading.specs.Parts.{items_in, members_in, text_in}
-use Rattle.es_reading.specs.Forms.{OperandType, name, literal, text, callback, agent, whole, amount, words, Form, form, is_whole, fits, modification_named}
+use Rattle.es_reading.specs.Forms.{OperandType, name, literal, text, callback, agent, whole, amount, words, Form, form, is_try, is_whole, fits, modification_named}
 use Rattle.es_explain.specs.Words.{table, letters_in, nearest}
 use Rattle.es_explain.specs.Texts.{◌▸◌, quoted, letter, value_text}
 use Rattle.es_explain.specs.Misshapen.{sentence_of, plan_trouble}
@@ -161,6 +161,7 @@ is_of_three w = is_some (modification_named w) || bytes_eq w (codes "compareexch
 abbrev pub no_word : List ℕ → List ℕ
 no_word w =
     if bytes_eq w (codes "collectlater") then codes "collectlater is a command of version 2." else
+    if bytes_eq w (codes "try") then codes "try stands before a command, once, in plans of version 3." else
     if is_of_three w then w ▸ codes " is a command of version 3." else
     codes "There is no command " ▸ quoted w ▸ codes "." ▸ meant (nearest w)
 
@@ -280,9 +281,26 @@ agent_of (Agent a) = a
 agent_of (Callback a k) = a
 agent_of (Job a j) = a
 
+-- whether the variable of `try` has the fault
+abbrev pub is_misnamed : FaultCode → List ℕ → Bool
+is_misnamed Name x = not (is_name x)
+is_misnamed c x = false
+
+abbrev pub try_takes : List ℕ
+try_takes = codes "try takes a variable, and then the word of a command and its operands."
+
+-- behind `try` and its variable
+abbrev pub caught_sentence : FaultCode → Data → ℕ → List ℕ → Items → List ℕ
+caught_sentence c d a x (item (string w) ds) = if is_misnamed c x then codes "The variable of try is a name, and " ▸ no_name x else command_sentence c d a w ds
+caught_sentence c d a x ds = try_takes
+
+abbrev pub tried_sentence : FaultCode → Data → ℕ → Items → List ℕ
+tried_sentence c d a (item (string x) ds) = caught_sentence c d a x ds
+tried_sentence c d a ds = try_takes
+
 -- in a command, which is this part of the value
 abbrev pub inside : FaultCode → Data → ℕ → Data → List ℕ
-inside c d a (array (item (string w) ds)) = command_sentence c d a w ds
+inside c d a (array (item (string w) ds)) = if is_try (version_in d) w then tried_sentence c d a ds else command_sentence c d a w ds
 inside c d a part = []
 
 -- outside of commands, where this part of the value has the fault

@@ -1,6 +1,6 @@
 //! What is wrong with a command: its word, the number of its operands, or one of these.
 
-ghost use Rattle.std.specs.Prelude.{◌≡◌, codes, option_map, option_and_then, string_bytes, unwrap_or, IfOk};
+ghost use Rattle.std.specs.Prelude.{◌≡◌, ◌++◌, codes, option_map, option_and_then, string_bytes, unwrap_or, IfOk};
 ghost use Rattle.std.specs.Str.{chars};
 ghost use Rattle.serde_json.specs.View.{view, items_view, number_view};
 ghost use Rattle.serde_json.specs.Events.{items_len};
@@ -8,16 +8,16 @@ ghost use Rattle.serde_json.specs.Find.{get, as_number, as_i64};
 ghost use Rattle.es_value.specs.Spelling.{is_text_byte};
 ghost use Rattle.es_reading.specs.Versions.{version_of};
 ghost use Rattle.es_explain.specs.Words.{table, letters_in};
-ghost use Rattle.es_explain.specs.Causes.{advice, command_sentence, ill_number, ill_text, ill_words, inside, is_negative, is_of_three, meant, misfit, misnamed, named_text, no_word, operand_text, operands_here, operands_sentence, outside, type_text, unknown_name, version_in, wrong_count, wrong_operand};
+ghost use Rattle.es_explain.specs.Causes.{advice, caught_sentence, command_sentence, ill_number, ill_text, ill_words, inside, is_misnamed, is_negative, is_of_three, meant, misfit, misnamed, named_text, no_name as no_name_said, no_word, operand_text, operands_here, operands_sentence, outside, tried_sentence, try_takes as try_takes_said, type_text, unknown_name, version_in, wrong_count, wrong_operand};
 ghost use Rattle.es_explain.specs.Coded.{type_of, types_of, wrong_of};
 
 use crate::kinds::{Kind, kinds_of};
 use crate::names::{no_agent, no_callback, no_name, text_of};
-use crate::spelling::{Alphabet, first_other};
+use crate::spelling::{Alphabet, first_other, spells_name};
 use crate::text::{quoted, quoted_letter, value_text};
 use crate::words::{letters_of, nearest};
 use crate::wrong::{Wrong, first_wrong};
-use es_reading::{FaultCode, Version, modification_named};
+use es_reading::{FaultCode, Version, is_try, modification_named};
 use es_value::{LONGEST_TEXT, MOST_WORDS};
 use serde_json::{Number, Value};
 use std::alloc::{AllocError, Global};
@@ -35,12 +35,79 @@ pub(crate) fn inside(
     match part {
         Value::Array(parts) => match parts.as_slice() {
             [Value::String(word), operands @ ..] => {
-                command_sentence(alloc, code, plan, agent, word.as_str(), operands)
+                if is_try(version_in(plan), word.as_str()) {
+                    tried_sentence(alloc, code, plan, agent, operands)
+                } else {
+                    command_sentence(alloc, code, plan, agent, word.as_str(), operands)
+                }
             }
             _ => Ok(String::new(alloc)),
         },
         _ => Ok(String::new(alloc)),
     }
+}
+
+/// What is wrong behind `try`.
+fn tried_sentence(
+    alloc: Global,
+    code: FaultCode,
+    plan: &Value,
+    agent: usize,
+    operands: &[Value],
+) -> Result<String, AllocError>
+    ensures { IfOk result (λ s. string_bytes s ≡ tried_sentence code (view plan.now) agent (items_view operands.now)) }
+{
+    match operands {
+        [Value::String(to), command @ ..] => {
+            caught_sentence(alloc, code, plan, agent, to.as_str(), command)
+        }
+        _ => try_takes(alloc),
+    }
+}
+
+/// The same, behind its variable.
+fn caught_sentence(
+    alloc: Global,
+    code: FaultCode,
+    plan: &Value,
+    agent: usize,
+    to: &str,
+    command: &[Value],
+) -> Result<String, AllocError>
+    ensures { IfOk result (λ s. string_bytes s ≡ caught_sentence code (view plan.now) agent to.now (items_view command.now)) }
+{
+    match command {
+        [Value::String(word), operands @ ..] => {
+            if is_misnamed(code, to) {
+                return misnamed_variable(alloc, to);
+            }
+            command_sentence(alloc, code, plan, agent, word.as_str(), operands)
+        }
+        _ => try_takes(alloc),
+    }
+}
+
+fn misnamed_variable(alloc: Global, to: &str) -> Result<String, AllocError>
+    ensures { IfOk result (λ s. string_bytes s ≡ codes "The variable of try is a name, and " ++ no_name_said to.now) }
+{
+    let why = no_name(alloc, to)?;
+    format!(in alloc; "The variable of try is a name, and {why}")
+}
+
+fn try_takes(alloc: Global) -> Result<String, AllocError>
+    ensures { IfOk result (λ s. string_bytes s ≡ try_takes_said) }
+{
+    String::from_str(
+        alloc,
+        "try takes a variable, and then the word of a command and its operands.",
+    )
+}
+
+/// Whether the variable of `try` has the fault.
+fn is_misnamed(code: FaultCode, to: &str) -> bool
+    ensures { result ≡ is_misnamed code to.now }
+{
+    matches!(code, FaultCode::Name) && !spells_name(to)
 }
 
 fn command_sentence(
@@ -154,6 +221,12 @@ fn no_word(alloc: Global, word: &str) -> Result<String, AllocError>
 {
     if word == "collectlater" {
         return String::from_str(alloc, "collectlater is a command of version 2.");
+    }
+    if word == "try" {
+        return String::from_str(
+            alloc,
+            "try stands before a command, once, in plans of version 3.",
+        );
     }
     if is_of_three(word) {
         return format!(in alloc; "{word} is a command of version 3.");

@@ -321,7 +321,7 @@ no_such_job p = p
 
 -- a job that waits for a message
 abbrev pub waiting : AgentPlan
-waiting = record { name = codes "a"; callbacks = []; jobs = record { on = Some (0, codes "m"); run = [] } ∷ [] }
+waiting = record { name = codes "a"; callbacks = []; jobs = record { on = Some (0, codes "m"); catches = []; run = [] } ∷ [] }
 
 -- is begun without it
 begun_without_message : IsOutOfPlace waiting [] (JobBegun 1)

@@ -13,6 +13,7 @@ pub mod DecidingLate
 pub mod ExampleDeref
 pub mod ExampleProperties
 pub mod ExampleRefusals
+pub mod ExampleCaught
 pub mod ExampleKeys
 pub mod ExampleSymbols
 pub mod ExampleWeakSymbols

@@ -18,7 +18,7 @@ use Rattle.es_event.specs.Order.{Phase, between, inside, stopped, ended, phase, 
 use Rattle.es_event.specs.Follows.{Follows}
 use Rattle.es_event.specs.Runs.{IsWholeRunOver}
 use Rattle.es_event.proofs.Awaiting.{between_clean}
-use Rattle.es_event.proofs.Coming.{Comes, begins_job, begins_handed, receives, skips, refuses_message, begins_cleanup, does, refuses, empties_dead, takes, ends, stops, finishes, finishes_stopped, closes, comes}
+use Rattle.es_event.proofs.Coming.{Comes, begins_job, begins_handed, receives, skips, refuses_message, begins_cleanup, does, refuses, empties_dead, takes, ends, stops, finishes, finishes_stopped, closes, comes, of_done}
 use Rattle.es_event.proofs.Work.{quiet}
 use Rattle.es_laws.specs.Later.{is_under_way}
 
@@ -31,7 +31,7 @@ none_next : (over : Buffers) (plan : AgentPlan) (h : History) (at : Phase) (e : 
     → is_under_way (phase (e ∷ h)) ≡ false → snapshot (e ∷ h) ≡ None
 none_next over plan h at _ (receives j s v b none is on room) here before off = before (ap is_under_way b)
 none_next over plan h at _ (skips k j s b none is on same) here before off = before (ap is_under_way b)
-none_next over plan h at _ (does d cs vs a i is) here before off = absurd (still_under (phase h) inside (here ∙ i) refl off)
+none_next over plan h at _ (does b d cs vs a i is by) here before off = absurd (still_under (phase h) inside (here ∙ i) refl off)
 none_next over plan h at _ (empties_dead d cs ids i is co dead) here before off = refl
 none_next over plan h at _ (takes m v i is next) here before off = absurd (still_under (phase h) inside (here ∙ i) refl off)
 none_next over plan h at _ (ends i is none shut) here before off = shut
@@ -60,9 +60,10 @@ shut_next over plan h at _ (receives j s v b none is on room) here off calm befo
 shut_next over plan h at _ (skips k j s b none is on same) here off calm before r e = off (ap is_under_way b)
 shut_next over plan h at _ (refuses_message j code b none is on same) here off calm before r e = off (ap is_under_way b)
 shut_next over plan h at _ (begins_cleanup q rs b is) here off calm before r e = off (ap is_under_way b)
-shut_next over plan h at _ (does d cs vs a i is) here off calm before r e =
-    let none : list_any opens_or_collects (d ∷ cs) ≡ false = ap (list_any opens_or_collects) (sym is) ∙ calm r e in
-    not_opened d vs a h (or_parts (opens_or_collects d) (list_any opens_or_collects cs) none).0 ∙ before r e
+shut_next over plan h at _ (does b d cs vs a i is by) here off calm before r e =
+    let none : list_any opens_or_collects (b ∷ cs) ≡ false = ap (list_any opens_or_collects) (sym is) ∙ calm r e in
+    let itself = (or_parts (opens_or_collects b) (list_any opens_or_collects cs) none).0 in
+    not_opened d vs a h (of_done (λ d. opens_or_collects d ≡ false) b d by itself (λ x t. refl)) ∙ before r e
 shut_next over plan h at _ (refuses d cs code i is) here off calm before r e = before r e
 shut_next over plan h at _ (takes m v i is next) here off calm before r e = before r e
 shut_next over plan h at _ (ends i is none shut) here off calm before r e = shut
@@ -79,7 +80,7 @@ none_in_cleanup over plan (e ∷ h) r all f is =
 
 end_next : (over : Buffers) (plan : AgentPlan) (h : History) (at : Phase) (e : Event) → Comes over (receivers plan.jobs) plan h at e → phase h ≡ at → phase (e ∷ h) ≡ ended → (queue (e ∷ h) ≡ []) × (cleaning (e ∷ h) ≡ None)
 end_next over plan h at _ (skips k j s b none is on same) here last = let clash : between ≡ ended = sym (here ∙ b) ∙ last in cc
-end_next over plan h at _ (does d cs vs a i is) here last = let clash : inside ≡ ended = sym (here ∙ i) ∙ last in cc
+end_next over plan h at _ (does b d cs vs a i is by) here last = let clash : inside ≡ ended = sym (here ∙ i) ∙ last in cc
 end_next over plan h at _ (empties_dead d cs ids i is co dead) here last = let clash : inside ≡ ended = sym (here ∙ i) ∙ last in cc
 end_next over plan h at _ (takes m v i is next) here last = let clash : inside ≡ ended = sym (here ∙ i) ∙ last in cc
 end_next over plan h at _ (finishes ids i is none fin) here last = let clash : inside ≡ ended = sym (here ∙ i) ∙ last in cc

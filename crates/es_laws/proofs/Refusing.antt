@@ -1,13 +1,20 @@
--- A refused command changes nothing.
-use Rattle.std.proofs.Common.{◌≡◌, ℕ, true, sym, ◌∙◌, ap, refl, arith, ◌∷◌}
+-- A refused command changes nothing, and where its refusal is caught, one variable.
+use Rattle.std.proofs.Common.{◌≡◌, ℕ, Bool, true, false, cond, sym, ◌∙◌, ap, refl, arith, List, ◌∷◌, Option, Some, None}
+use Rattle.std.specs.Prelude.{unwrap_or}
+use Rattle.std.specs.Str.{bytes_eq}
+use Rattle.std.proofs.lemmas.Slice.Eq.{bytes_eq-Decides}
+use Rattle.es_value.specs.declared.value.Value.{Value}
 use Rattle.es_event.specs.declared.event.Event.TheVariants.{Refused}
 use Rattle.es_event.specs.declared.event.Refusal.{Refusal}
 use Rattle.es_event.specs.History.{History}
 use Rattle.es_event.specs.Jobs.{Receivers}
 use Rattle.es_event.specs.LookBacks.{LookAlike}
 use Rattle.es_event.specs.Registrations.{fate, is_present}
+use Rattle.es_event.specs.Report.{refusal_text}
+use Rattle.es_event.specs.Variables.{var}
 use Rattle.es_event.specs.Reach.{IsClosed}
 use Rattle.es_event.proofs.Cells.{fate_same}
+use Rattle.es_laws.specs.Caught.{ACaughtRefusalAssignsItsTextAlone, caught_by}
 
 refused_fate : (h : History) (code : Refusal) (n : ℕ) → fate (Refused code ∷ h) n ≡ fate h n
 refused_fate h code n = fate_same (Refused code) h n refl refl refl
@@ -52,3 +59,40 @@ alike_refused into h code = record {
   messages = omega arith;
   reached = λ i. (λ r m c. r m (closed_after into h code (λ j. m j ≡ true) c), λ r m c. r m (closed_before into h code (λ j. m j ≡ true) c));
 }
+
+-- Where it is caught
+
+abbrev some_text : Refusal → Option Value
+some_text code = Some (Value.Text (refusal_text code))
+
+caught_at : (into : Receivers) (h : History) (x y : List ℕ) (code : Refusal) (b : Bool) → bytes_eq x y ≡ b
+    → var into (caught_by x code ∷ h) y ≡ cond b (Value.Text (refusal_text code)) (var into h y)
+caught_at into h x y code true is = ap (λ b. unwrap_or (cond b (some_text code) None) (var into h y)) is
+caught_at into h x y code false is = ap (λ b. unwrap_or (cond b (some_text code) None) (var into h y)) is
+
+pub caught_alone : ACaughtRefusalAssignsItsTextAlone
+caught_alone into h x code = (
+  caught_at into h x x code true ((bytes_eq-Decides x x).1 refl),
+  record {
+    variables = λ y other. caught_at into h x y code false other;
+    properties = λ o k. refl;
+    keys = λ o. refl;
+    kept = refl;
+    gone = refl;
+    targets = λ w. refl;
+    entries = λ w k. refl;
+    members = λ s v. refl;
+    registered = omega arith;
+    cells = λ n. refl;
+    fates = λ n. fate_same (caught_by x code) h n refl refl refl;
+    kinds = λ o. refl;
+    made = omega arith;
+    job = omega arith;
+    cleaning = refl;
+    queue = refl;
+    later = refl;
+    blocks = omega arith;
+    messages = omega arith;
+  },
+  refl,
+)

@@ -9,7 +9,7 @@ use Rattle.es_event.specs.declared.plan.AgentPlan.{AgentPlan}
 use Rattle.es_event.specs.History.{History}
 use Rattle.es_event.specs.Jobs.{receivers, job, callbacks_collect_nothing}
 use Rattle.es_event.specs.Sharing.{Buffers, AgreeSoFar}
-use Rattle.es_event.specs.Order.{Phase, between, handed, inside, stopped, ended, phase, left, queue, nothing, due_after, due_inside, due_job, due_between, due_at, is_cleaning_up, due_end}
+use Rattle.es_event.specs.Order.{Phase, between, handed, inside, stopped, ended, phase, left, catching, queue, nothing, due_after, due_inside, due_job, due_between, due_at, is_cleaning_up, due_end}
 use Rattle.es_event.specs.Runs.{ComesNext, Heard, heard, IsRunOver, IsWholeRunOver}
 use Rattle.es_event.proofs.Coming.{next_cell}
 use Rattle.es_event.proofs.Extending.{agrees_with_itself, agrees_before, agrees_through, still_legal, still_follows}
@@ -29,9 +29,9 @@ after_some : (h : History) (o : Option ℕ) → due_after h o ≡ nothing → �
 after_some h None e = end_some (snapshot h) e
 after_some h (Some n) e = cc
 
-inside_some : (h : History) (cs : List Command) → due_inside h cs ≡ nothing → ⊥
-inside_some h [] e = after_some h (next_cell h) e
-inside_some h (c ∷ cs) e = cc
+inside_some : (h : History) (x : Option (List ℕ)) (cs : List Command) → due_inside h x cs ≡ nothing → ⊥
+inside_some h x [] e = after_some h (next_cell h) e
+inside_some h x (c ∷ cs) e = cc
 
 between_some : (plan : AgentPlan) (h : History) (rs : List ℕ) → due_between plan h rs ≡ nothing → ⊥
 between_some plan h [] e = due_job_some (job h) _ e
@@ -40,7 +40,7 @@ between_some plan h (r ∷ rs) e = cc
 due_some : (plan : AgentPlan) (h : History) (at : Phase) → (at ≡ ended → ⊥) → due_at plan h at ≡ nothing → ⊥
 due_some plan h between un e = between_some plan h (queue h) e
 due_some plan h handed un e = cc
-due_some plan h inside un e = inside_some h (left plan h) e
+due_some plan h inside un e = inside_some h (catching plan h) (left plan h) e
 due_some plan h stopped un e = end_some (snapshot h) e
 due_some plan h ended un e = un refl
 

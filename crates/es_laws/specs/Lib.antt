@@ -1,3 +1,4 @@
+pub mod Caught
 pub mod Later
 pub mod Memory
 pub mod Races

@@ -33,14 +33,14 @@ abbrev main_plan : AgentPlan
 main_plan = record {
   name = codes "main";
   callbacks = [];
-  jobs = record { on = None; run = SharedArrayBuffer (codes "b") 2 ∷ Post 1 (codes "b") ∷ [] } ∷ [];
+  jobs = record { on = None; catches = []; run = SharedArrayBuffer (codes "b") 2 ∷ Post 1 (codes "b") ∷ [] } ∷ [];
 }
 
 abbrev worker_plan : AgentPlan
 worker_plan = record {
   name = codes "worker";
   callbacks = [];
-  jobs = record { on = Some (0, codes "m"); run = load (codes "x") (codes "m") (pos 1) ∷ [] } ∷ [];
+  jobs = record { on = Some (0, codes "m"); catches = []; run = load (codes "x") (codes "m") (pos 1) ∷ [] } ∷ [];
 }
 
 abbrev plan : Plan

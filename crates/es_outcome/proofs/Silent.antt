@@ -85,7 +85,7 @@ calm_asks plan h at _ nobody legal lawful follows here none going (receives j s 
 calm_asks plan h at _ nobody legal lawful follows here none going (skips k j s b q is on same) = absurd (no_receipt plan h j nobody is on)
 calm_asks plan h at _ nobody legal lawful follows here none going (refuses_message j code b q is on same) = absurd (no_receipt plan h j nobody is on)
 calm_asks plan h at _ nobody legal lawful follows here none going (begins_cleanup r rs b is) = refl
-calm_asks plan h at _ nobody legal lawful follows here none going (does c cs vs r i is) = calm_did (receivers plan.jobs) h c vs r legal lawful none
+calm_asks plan h at _ nobody legal lawful follows here none going (does b c cs vs r i is by) = calm_did (receivers plan.jobs) h c vs r legal lawful none
 calm_asks plan h at _ nobody legal lawful follows here none going (refuses c cs code i is) = ap (λ b. is_calm (asks b (Refused code))) (inside_job [] plan h follows (here ∙ i))
 calm_asks plan h at _ nobody legal lawful follows here none going (empties_dead c cs ids i is co dead) = refl
 calm_asks plan h at _ nobody legal lawful follows here none going (takes n v i is next) = refl
@@ -103,7 +103,7 @@ not_ended over into plan h at _ (receives j s v b q is on room) = ap is_ended b
 not_ended over into plan h at _ (skips k j s b q is on same) = ap is_ended b
 not_ended over into plan h at _ (refuses_message j code b q is on same) = ap is_ended b
 not_ended over into plan h at _ (begins_cleanup r rs b is) = ap is_ended b
-not_ended over into plan h at _ (does c cs vs r i is) = ap is_ended i
+not_ended over into plan h at _ (does b c cs vs r i is by) = ap is_ended i
 not_ended over into plan h at _ (refuses c cs code i is) = ap is_ended i
 not_ended over into plan h at _ (empties_dead c cs ids i is co dead) = ap is_ended i
 not_ended over into plan h at _ (takes n v i is next) = ap is_ended i

@@ -157,6 +157,11 @@ form v w n =
     (if bytes_eq w (codes "collectlater") then later_form v else
     weak_form v w n))))))))))))
 
+-- `try` stands before a command, in plans of version 3 on
+abbrev pub is_try : Version → List ℕ → Bool
+is_try Three w = bytes_eq w (codes "try")
+is_try v w = false
+
 -- Operands in a text
 
 -- a number of the profile: within ±9007199254740991

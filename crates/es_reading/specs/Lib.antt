@@ -5,5 +5,8 @@ pub mod Parts
 pub mod Part
 pub mod Shape
 pub mod Scope
+pub mod Faults
 pub mod Forms
+pub mod Lines
 pub mod Reading
+pub mod Run

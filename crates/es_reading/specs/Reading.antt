@@ -1,5 +1,5 @@
 -- Internal: reading a plan part by part, as the code does: each function gives the part, or the first fault in it.
-use Rattle.std.specs.Prelude.{ℕ, ◌≡◌, ◌+◌, not, ⊤, Bool, true, false, ℤ, pos, negsuc, List, [], ◌∷◌, ◌++◌, Option, Some, None, Result, Ok, Err, option_and_then, codes, nat_le}
+use Rattle.std.specs.Prelude.{ℕ, ◌≡◌, ◌+◌, not, ⊤, Bool, true, false, ℤ, pos, negsuc, List, [], ◌∷◌, ◌++◌, Option, Some, None, Result, Ok, Err, option_and_then, codes, nat_le, if◌then◌else◌}
 use Rattle.std.specs.HashMap.{get_by_text}
 use Rattle.serde_json.specs.Data.{Data, null, boolean, number, string, array, Items, no_items, item, Members, no_members, member}
 use Rattle.serde_json.specs.Find.{get, as_i64}
@@ -27,7 +27,8 @@ use Rattle.es_reading.specs.declared.version.Version.TheVariants.{One}
 use Rattle.serde_json.specs.Events.{items_len, members_len}
 use Rattle.es_reading.specs.Parts.{items_in, members_in, text_in}
 use Rattle.es_reading.specs.Scope.{Numbers, Scope, number_from, agent_from, other_than, is_used}
-use Rattle.es_reading.specs.Forms.{OperandType, name, literal, text, callback, agent, whole, amount, words, Meaning, Makes, Form, form, is_allowed, is_whole, fit}
+use Rattle.es_reading.specs.Forms.{OperandType, name, literal, text, callback, agent, whole, amount, words, Meaning, Makes, Form, form, is_allowed, is_try, is_whole, fit}
+use Rattle.es_reading.specs.Lines.{Line, commands_in, catches_in}
 use Rattle.es_reading.specs.Places.{at, is_in_callback}
 
 -- what is read next, unless there is a fault
@@ -173,23 +174,39 @@ form_read scope s (Some f) ds =
     (unless_fault (is_allowed (is_in_callback s.place) f) (fault_at s Collection) (meanings_read scope s f.types ds)))
     (λ xs. Ok (made f.types f.makes xs))
 
-abbrev pub command_read : Scope → Spot → Data → Result Command ScriptFault
-command_read scope s (array (item (string w) ds)) = form_read scope s (form scope.version w (items_len ds)) ds
-command_read scope s _ = Err (fault_at s Operands)
+-- a command behind `try`: the text that names the variable is its first operand
+abbrev pub tried_form_read : Scope → Spot → Option Form → List ℕ → Items → Result Line ScriptFault
+tried_form_read scope s None e ds = Err (fault_at s Operands)
+tried_form_read scope s (Some f) e ds =
+    then_read
+    (unless_fault (fit (name ∷ f.types) (item (string e) ds)) (fault_at s Operands)
+    (unless_fault (is_allowed (is_in_callback s.place) f) (fault_at s Collection) (meanings_read scope s (name ∷ f.types) (item (string e) ds))))
+    (λ xs. Ok (Some xs.0, made f.types f.makes xs.1))
 
-abbrev pub commands_read : Scope → Place → ℕ → Items → Result (List Command) ScriptFault
-commands_read scope p n no_items = Ok []
-commands_read scope p n (item d ds) =
-    and_rest (command_read scope (record { place = p; command = n }) d) (commands_read scope p (n + 1) ds)
+abbrev pub tried_read : Scope → Spot → Items → Result Line ScriptFault
+tried_read scope s (item (string e) (item (string w) ds)) = tried_form_read scope s (form scope.version w (items_len ds)) e ds
+tried_read scope s _ = Err (fault_at s Operands)
 
-abbrev pub body_read : Scope → Place → Items → Result (List Command) ScriptFault
-body_read scope p ds = unless_fault (nat_le (items_len ds) most_commands) (at p 0 Limit) (commands_read scope p 1 ds)
+abbrev pub plain_read : Scope → Spot → List ℕ → Items → Result Line ScriptFault
+plain_read scope s w ds = then_read (form_read scope s (form scope.version w (items_len ds)) ds) (λ c. Ok (None, c))
+
+abbrev pub line_read : Scope → Spot → Data → Result Line ScriptFault
+line_read scope s (array (item (string w) ds)) = if is_try scope.version w then tried_read scope s ds else plain_read scope s w ds
+line_read scope s _ = Err (fault_at s Operands)
+
+abbrev pub lines_read : Scope → Place → ℕ → Items → Result (List Line) ScriptFault
+lines_read scope p n no_items = Ok []
+lines_read scope p n (item d ds) =
+    and_rest (line_read scope (record { place = p; command = n }) d) (lines_read scope p (n + 1) ds)
+
+abbrev pub body_read : Scope → Place → Items → Result (List Line) ScriptFault
+body_read scope p ds = unless_fault (nat_le (items_len ds) most_commands) (at p 0 Limit) (lines_read scope p 1 ds)
 
 -- Callbacks and jobs
 
 abbrev pub callback_read : Scope → Place → List ℕ → Data → Result Callback ScriptFault
 callback_read scope p n d =
-    then_read (name_read (record { place = p; command = 0 }) n) (λ n. then_read (body_read scope p (items_in (Some d))) (λ cs. Ok (record { name = n; run = cs })))
+    then_read (name_read (record { place = p; command = 0 }) n) (λ n. then_read (body_read scope p (items_in (Some d))) (λ ls. Ok (record { name = n; run = commands_in ls; catches = catches_in ls })))
 
 abbrev pub callbacks_read : Scope → ℕ → ℕ → Members → Result (List Callback) ScriptFault
 callbacks_read scope a k no_members = Ok []
@@ -203,7 +220,7 @@ on_read scope s (Some d) = then_read (operands_read scope s (agent ∷ name ∷ 
 abbrev pub job_read : Scope → Place → Data → Result Job ScriptFault
 job_read scope p d =
     then_read (on_read scope (record { place = p; command = 0 }) (get (codes "on") d))
-    (λ on. then_read (body_read scope p (items_in (get (codes "run") d))) (λ cs. Ok (record { on = on; run = cs })))
+    (λ on. then_read (body_read scope p (items_in (get (codes "run") d))) (λ ls. Ok (record { on = on; run = commands_in ls; catches = catches_in ls })))
 
 abbrev pub jobs_read : Scope → ℕ → ℕ → Items → Result (List Job) ScriptFault
 jobs_read scope a j no_items = Ok []

@@ -16,7 +16,7 @@ use crate::scope::Scope;
 use crate::spelled::name_of;
 use crate::version::Version;
 use crate::{Place, ReadFault};
-use es_event::{AgentPlan, Callback, Sequence};
+use es_event::{AgentPlan, Callback, Sequence, SharedList};
 use es_value::{MOST_CALLBACKS, MOST_JOBS, Name};
 use serde_json::{Map, Value};
 use std::alloc::Global;
@@ -181,6 +181,7 @@ fn callback_of(
     ensures { Gives (λ c. c) result (callback_read (said scope.now) place name.now (view value.now)) }
 {
     let name = name_of(names, name, Spot { place, command: 0 })?;
-    let run = callback_run(names, scope, items(Some(value)), place)?;
-    Ok(Callback { name, run })
+    let (commands, catches) = callback_run(names, scope, items(Some(value)), place)?.into_parts();
+    let run = SharedList::of(commands)?;
+    Ok(Callback { name, run, catches })
 }

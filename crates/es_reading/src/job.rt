@@ -14,7 +14,7 @@ use crate::part::Seen;
 use crate::parts::{items, taken_items};
 use crate::scope::Scope;
 use crate::{Place, ReadFault};
-use es_event::{Job, Sequence};
+use es_event::{Job, Sequence, SharedList};
 use es_value::Name;
 use serde_json::Value;
 
@@ -45,8 +45,9 @@ fn job_of(
 {
     let on = on_of(names, scope, value.get("on"), Spot { place, command: 0 })?;
     let list = taken_items(names.allocator(), value.get_mut("run"));
-    let run = job_run(names, scope, list, place)?;
-    Ok(Job { on, run })
+    let (commands, catches) = job_run(names, scope, list, place)?.into_parts();
+    let run = SharedList::of(commands)?;
+    Ok(Job { on, run, catches })
 }
 
 /// The agent whose message a job waits for, and the variable for its value, where the job has `on`.

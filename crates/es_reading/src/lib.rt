@@ -13,11 +13,13 @@ mod operand;
 mod operands;
 mod part;
 mod parts;
+mod run;
 mod scope;
 mod spelled;
 mod version;
 
 pub use agent::{agents_of, check_names};
+pub use command::is_try;
 pub use fault::{FaultCode, Place, ReadFault, ScriptFault, Spot, fault_in};
 pub use job::awaited_of;
 pub use known_names::KnownNames;

@@ -1,15 +1,13 @@
 -- What is due where an agent stands between two jobs, and at its closing.
-use Rattle.std.proofs.Common.{◌≡◌, ℕ, ◌+◌, ◌&&◌, not, nat_lt, nat_le, sym, ◌∙◌, ap, refl, subst, arith, [], ◌∷◌, Some, None, if◌then◌else◌}
-use Rattle.std.specs.Option.{option_and_then}
+use Rattle.std.proofs.Common.{◌≡◌, ℕ, ◌+◌, ◌&&◌, not, nat_lt, nat_le, sym, ◌∙◌, ap, refl, subst, arith, ◌∷◌, Some, None, if◌then◌else◌}
 use Rattle.es_event.specs.declared.event.Event.TheVariants.{Closed}
 use Rattle.es_event.specs.declared.plan.AgentPlan.{AgentPlan}
 use Rattle.es_event.specs.History.{History}
 use Rattle.es_event.specs.Identities.{made, is_gone, kind}
-use Rattle.es_event.specs.Jobs.{Receivers, receivers, cleaning}
-use Rattle.es_event.specs.Order.{close, due, due_inside, due_after, queue, phase}
+use Rattle.es_event.specs.Jobs.{Receivers, receivers}
+use Rattle.es_event.specs.Order.{close, due, queue}
 use Rattle.es_event.specs.Sharing.{Buffers}
 use Rattle.es_event.specs.Follows.{Permits}
-use Rattle.es_event.specs.Registrations.{first_awaiting}
 use Rattle.es_event.proofs.Alive.{there_after}
 use Rattle.es_event.proofs.Coming.{comes}
 use Rattle.es_tables.proofs.Slots.{slots_same}
@@ -19,12 +17,6 @@ use Rattle.es_event.specs.declared.cursor.Position.TheVariants.{Ended as EndPosi
 use Rattle.es_tables.specs.Tags.{tag_of, tag_said}
 use Rattle.es_tables.specs.Tables.{TablesView, Says}
 use Rattle.es_record.specs.Ties.{RecordTies}
-
--- what is due by the phase
-
--- in a cleanup job, where no command is left
-pub due_cell : (h : History) (r : ℕ) → cleaning h ≡ Some r → due_after h (first_awaiting h r) ≡ due_inside h []
-due_cell h r is = sym (ap (λ o. due_after h (option_and_then (first_awaiting h) o)) is)
 
 -- the closing leaves the tables as they are
 

@@ -31,7 +31,8 @@ use crate::buffers::BufferTable;
 use crate::counts::{blocks_in, open_after, posts_in};
 use es_event::{
     AgentPlan, Cleanup, Cursor, Done, Due, Event, Log, PlanCommand, Position, Row, Sequence,
-    callback_command, callback_commands, commands, due_command, job_command,
+    callback_catches, callback_command, callback_commands, catches, commands, due_command,
+    job_command,
 };
 use es_tables::{Tables, is_plain};
 use es_value::{Id, Name, NameFault, NoMemory, Value};
@@ -164,7 +165,7 @@ impl AgentRecord {
         match self.cursor.position {
             Position::Between => self.due_between(),
             Position::Handed => Due::Begin(self.cursor.job),
-            Position::Inside(at) => due_command(commands(&self.plan, self.cursor.job), at),
+            Position::Inside(at) => self.due_inside(at),
             Position::Cleaning(cleanup) => self.due_cleaning(cleanup),
             Position::Stopped | Position::CleanupStopped(_) => Due::EndJob,
             Position::Ended => Due::Nothing,
@@ -175,7 +176,7 @@ impl AgentRecord {
     /// memory alone.
     #[inline(always)]
     pub fn due_command(&self) -> Result<Option<PlanCommand>, NoMemory>
-        ensures { IfOk result (λ o. (c : CommandSaid) → due self.now.plan self.now.history ≡ run c → o ≡ Some c) }
+        ensures { IfOk result (λ o. (c : CommandSaid) (x : Option (List ℕ)) → due self.now.plan self.now.history ≡ run x c → o ≡ Some c) }
     {
         match self.cursor.position {
             Position::Inside(at) => job_command(&self.plan, self.cursor.job, at),
@@ -201,15 +202,30 @@ impl AgentRecord {
         }
     }
 
+    /// What comes next in a job of the plan: the next command, or else its end.
+    fn due_inside(&self, at: usize) -> Due<'_>
+        requires { IsAt self.now.plan self.now.history (Position.Inside at) }
+        ensures { shown (snapshot self.now.history) result ≡ due self.now.plan self.now.history }
+    {
+        let job = self.cursor.job;
+        due_command(commands(&self.plan, job), catches(&self.plan, job), at)
+    }
+
     /// What comes next in a cleanup job: the next command of its callback, or else the oldest cell that
     /// awaits it, or else its end.
     fn due_cleaning(&self, cleanup: Cleanup) -> Due<'_>
         requires { IsAt self.now.plan self.now.history (Position.Cleaning cleanup) }
         ensures { shown (snapshot self.now.history) result ≡ due self.now.plan self.now.history }
     {
-        match callback_commands(&self.plan, cleanup.callback).get(cleanup.at) {
-            Some(command) => Due::Run(command),
-            None => self.due_cell(),
+        let commands = callback_commands(&self.plan, cleanup.callback);
+        if cleanup.at < commands.len() {
+            due_command(
+                commands,
+                callback_catches(&self.plan, cleanup.callback),
+                cleanup.at,
+            )
+        } else {
+            self.due_cell()
         }
     }
 

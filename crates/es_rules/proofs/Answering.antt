@@ -7,13 +7,15 @@ use Rattle.es_value.specs.declared.value.Value.TheVariants.{Number, Object, Symb
 use Rattle.es_value.specs.Limits.{most_identities}
 use Rattle.es_event.specs.declared.atomic.AtomicParts.{AtomicParts}
 use Rattle.es_event.specs.declared.command.Command.{Command}
-use Rattle.es_event.specs.declared.command.Command.TheVariants.{SharedArrayBuffer, Atomic, Post, Collect, CollectLater}
+use Rattle.es_event.specs.declared.command.Command.TheVariants.{Let, SharedArrayBuffer, Atomic, Post, Collect, CollectLater}
 use Rattle.es_event.specs.declared.event.Answer.{Answer}
 use Rattle.es_event.specs.declared.event.Answer.TheVariants.{Nothing, Gives}
 use Rattle.es_event.specs.declared.event.Event.TheVariants.{Received, Did, Refused, Skipped}
 use Rattle.es_event.specs.declared.event.Refusal.{Refusal}
 use Rattle.es_event.specs.declared.event.Refusal.TheVariants.{TooManyValues, CollectionOpen}
+use Rattle.es_event.specs.declared.literal.Literal.{Literal}
 use Rattle.es_event.specs.declared.row.Row.{Row}
+use Rattle.es_event.specs.Report.{refusal_text}
 use Rattle.es_event.specs.Commands.{reads, first, makes, collects, opens_words}
 use Rattle.es_event.specs.History.{History}
 use Rattle.es_event.specs.Identities.{identity, object_of, made}
@@ -23,10 +25,10 @@ use Rattle.es_event.specs.Sharing.{Buffers, row_at}
 use Rattle.es_event.specs.Later.{snapshot, collects_now}
 use Rattle.es_event.specs.Rules.{refusal, first_refusal, result, refuse_or, completion, word_if}
 use Rattle.es_event.specs.Legal.{values_of, word_in, HasWords, Arrives}
-use Rattle.es_event.specs.Order.{receive, run, due}
-use Rattle.es_event.specs.Follows.{HasRoom, Permits}
+use Rattle.es_event.specs.Order.{receive, run, due, RunsNow}
+use Rattle.es_event.specs.Follows.{HasRoom, Permits, done_for, refused_now}
 use Rattle.es_event.proofs.Extending.{refuses_so}
-use Rattle.es_event.proofs.Next.{its_own_word}
+use Rattle.es_event.proofs.Next.{its_own_word, done_itself}
 use Rattle.es_record.specs.AgentView.{AgentView, IsNext, with_buffer}
 use Rattle.es_rules.specs.Needs.{Request, for_block, for_post, for_buffer_post, for_access, posts_to, asked, unless_refused, request, Need, asks_copy, asks_ledger, asks_message, need_of, need, TakesTicket, TakesWord, TakesDone}
 use Rattle.es_rules.specs.Giving.{MayGive}
@@ -51,19 +53,37 @@ no_collection : (over : Buffers) (h : History) (c : Command) (vs : List Value) (
 no_collection over h Collect vs r e done = absurd (none_done (snapshot h) Nothing r e done)
 no_collection over h _ vs r e done = refl
 
-pub local_done : (b : AgentView) (c : Command) (vs : List Value) (r : Answer) → due b.plan b.history ≡ run c → collects_now b.history c ≡ false → request b c ≡ None
+not_refused_so : (f : Option Refusal) (a r : Answer) → refuse_or f a ≡ Ok r → f ≡ None
+not_refused_so None a r e = refl
+not_refused_so (Some code) a r e = cc
+
+-- the due command, which is not refused, is what is done
+permits_done : (b : AgentView) (over : Buffers) (c : Command) (vs : List Value) (r : Answer) → RunsNow (due b.plan b.history) c → refused_now over (receivers b.plan.jobs) b.history c ≡ None
+    → Permits over (receivers b.plan.jobs) b.history (due b.plan b.history) (Did (c, vs, r))
+permits_done b over c vs r is none = subst (λ d. Permits over (receivers b.plan.jobs) b.history d (Did (c, vs, r))) (sym is.1) (done_itself over (receivers b.plan.jobs) b.history is.0 c none)
+
+pub local_done : (b : AgentView) (c : Command) (vs : List Value) (r : Answer) → RunsNow (due b.plan b.history) c → collects_now b.history c ≡ false → request b c ≡ None
     → vs ≡ values_of (receivers b.plan.jobs) b.history (reads c) → completion b.over b.history c vs 0 ≡ Ok r → IsNext b (Did (c, vs, r))
 local_done b c vs r is empties_nothing none said e = record {
   lawful = (said, its_own_word b.over b.history c vs r e, no_collection b.over b.history c vs r empties_nothing e, no_words b c r none (subst (λ vs. completion b.over b.history c vs 0 ≡ Ok r) said e));
-  permitted = subst (λ d. Permits b.over (receivers b.plan.jobs) b.history d (Did (c, vs, r))) (sym is) refl;
+  permitted = permits_done b b.over c vs r is (subst (λ vs. refusal b.over b.history c vs ≡ None) said (not_refused_so (refusal b.over b.history c vs) (result b.over b.history c vs 0) r e));
 }
 
-pub local_refused : (b : AgentView) (c : Command) (vs : List Value) (code : Refusal) → due b.plan b.history ≡ run c → vs ≡ values_of (receivers b.plan.jobs) b.history (reads c)
-    → completion b.over b.history c vs 0 ≡ Err code → IsNext b (Refused code)
-local_refused b c vs code is said e = record {
-  lawful = tt;
-  permitted = subst (λ d. Permits b.over (receivers b.plan.jobs) b.history d (Refused code)) (sym is)
-      (subst (λ vs. refusal b.over b.history c vs ≡ Some code) said (refuses_so (refusal b.over b.history c vs) (result b.over b.history c vs 0) code e));
+pub refuses_due : (b : AgentView) (c : Command) (vs : List Value) (code : Refusal) → vs ≡ values_of (receivers b.plan.jobs) b.history (reads c)
+    → completion b.over b.history c vs 0 ≡ Err code → refused_now b.over (receivers b.plan.jobs) b.history c ≡ Some code
+refuses_due b c vs code said e = subst (λ vs. refusal b.over b.history c vs ≡ Some code) said (refuses_so (refusal b.over b.history c vs) (result b.over b.history c vs 0) code e)
+
+-- a refusal that nothing catches
+pub refused_next : (b : AgentView) (c : Command) (code : Refusal) → due b.plan b.history ≡ run None c → refused_now b.over (receivers b.plan.jobs) b.history c ≡ Some code → IsNext b (Refused code)
+refused_next b c code is refused = record { lawful = tt; permitted = subst (λ d. Permits b.over (receivers b.plan.jobs) b.history d (Refused code)) (sym is) (refl, refused) }
+
+-- one that is caught: its text is assigned
+pub caught_next : (b : AgentView) (x : List ℕ) (c : Command) (code : Refusal) → due b.plan b.history ≡ run (Some x) c → refused_now b.over (receivers b.plan.jobs) b.history c ≡ Some code
+    → IsNext b (Did (Let x (Literal.Text (refusal_text code)), [], Gives (Value.Text (refusal_text code))))
+caught_next b x c code is refused = record {
+  lawful = (refl, refl, refl, tt);
+  permitted = subst (λ d. Permits b.over (receivers b.plan.jobs) b.history d (Did (Let x (Literal.Text (refusal_text code)), [], Gives (Value.Text (refusal_text code))))) (sym is)
+      (ap (λ o. done_for o (Some x) c) (sym refused));
 }
 
 -- A word
@@ -153,13 +173,14 @@ pub may_give_nothing : (b : AgentView) → TakesDone (need b) → MayGive b Noth
 may_give_nothing b takes = done_at b (need b) refl takes
 
 -- the due command done with an answer that it may give comes next
-pub done_next : (b : AgentView) (r : Answer) (c : Command) → MayGive b r → due b.plan b.history ≡ run c → IsNext b (Did (c, values_of (receivers b.plan.jobs) b.history (reads c), r))
+pub done_next : (b : AgentView) (r : Answer) (c : Command) → MayGive b r → RunsNow (due b.plan b.history) c → IsNext b (Did (c, values_of (receivers b.plan.jobs) b.history (reads c), r))
 done_next b r c may is =
-    let same_due : run may.command ≡ run c = sym may.is_due ∙ is in
+    let same_due : run may.is_due.0 may.command ≡ run is.0 c = sym may.is_due.1 ∙ is.1 in
     let same : may.command ≡ c = cc in
     subst (λ c. IsNext b (Did (c, values_of (receivers b.plan.jobs) b.history (reads c), r))) same (record {
       lawful = (refl, may.gives, may.no_collection, subst (λ o. HasWords b.over (made b.history + 1) o) (sym may.no_block) tt);
-      permitted = subst (λ d. Permits b.over (receivers b.plan.jobs) b.history d (Did (may.command, values_of (receivers b.plan.jobs) b.history (reads may.command), r))) (sym may.is_due) refl;
+      permitted = permits_done b b.over may.command (values_of (receivers b.plan.jobs) b.history (reads may.command)) r may.is_due
+          (not_refused_so (refused_now b.over (receivers b.plan.jobs) b.history may.command) (result b.over b.history may.command (values_of (receivers b.plan.jobs) b.history (reads may.command)) (word_in r)) r may.gives);
     })
 
 -- A ticket
@@ -181,41 +202,41 @@ block_asked (Atomic a) n vs e = absurd (both_ways true refl (access_is is_block 
 block_asked (Post a y) n vs e = absurd (both_ways true refl (some_is is_block (posts_to a (first vs)) (for_block n) false (posts_no_block a (first vs)) e))
 block_asked _ n vs e = cc
 
-buffer_next : (b : AgentView) (to : List ℕ) (n : ℕ) (row : Row) → due b.plan b.history ≡ run (SharedArrayBuffer to n) → refusal b.over b.history (SharedArrayBuffer to n) [] ≡ None → row.words ≡ n
+buffer_next : (b : AgentView) (to : List ℕ) (n : ℕ) (row : Row) → RunsNow (due b.plan b.history) (SharedArrayBuffer to n) → refusal b.over b.history (SharedArrayBuffer to n) [] ≡ None → row.words ≡ n
     → IsNext (with_buffer row b) (Did (SharedArrayBuffer to n, [], Gives (Object (made b.history + 1))))
 buffer_next b to n row is none words = record {
   lawful = (refl, ap (λ f. refuse_or f (Gives (Object (made b.history + 1)))) none, refl, ap (λ t. option_map (λ r. r.words) (cond t (Some row) (row_at b.over (made b.history + 1)))) (eq-eqb (made b.history + 1) (made b.history + 1) refl) ∙ ap Some words);
-  permitted = subst (λ d. Permits (with_buffer row b).over (receivers b.plan.jobs) b.history d (Did (SharedArrayBuffer to n, [], Gives (Object (made b.history + 1))))) (sym is) refl;
+  permitted = permits_done b (with_buffer row b).over (SharedArrayBuffer to n) [] (Gives (Object (made b.history + 1))) is none;
 }
 
-buffer_of : (b : AgentView) (c : Command) (n : ℕ) (row : Row) → due b.plan b.history ≡ run c → request b c ≡ Some (for_block n) → row.words ≡ n → IsNext (with_buffer row b) (Did (c, [], Gives (Object (made b.history + 1))))
+buffer_of : (b : AgentView) (c : Command) (n : ℕ) (row : Row) → RunsNow (due b.plan b.history) c → request b c ≡ Some (for_block n) → row.words ≡ n → IsNext (with_buffer row b) (Did (c, [], Gives (Object (made b.history + 1))))
 buffer_of b c n row is asks words =
     let vs = values_of (receivers b.plan.jobs) b.history (reads c) in
     let open' = not_refused (refusal b.over b.history c vs) (asked c vs) (for_block n) asks in
     let from = block_asked c n vs open'.1 in
     subst (λ c. IsNext (with_buffer row b) (Did (c, [], Gives (Object (made b.history + 1))))) (sym from.1)
-    (buffer_next b from.0 n row (subst (λ c. due b.plan b.history ≡ run c) from.1 is) (subst (λ c. refusal b.over b.history c (values_of (receivers b.plan.jobs) b.history (reads c)) ≡ None) from.1 open'.0) words)
+    (buffer_next b from.0 n row (subst (λ c. RunsNow (due b.plan b.history) c) from.1 is) (subst (λ c. refusal b.over b.history c (values_of (receivers b.plan.jobs) b.history (reads c)) ≡ None) from.1 open'.0) words)
 
-ticket_at : (b : AgentView) (c : Command) (row : Row) (n : Need) → need_of b (run c) ≡ n → TakesTicket n row → due b.plan b.history ≡ run c → IsNext (with_buffer row b) (Did (c, [], Gives (Object (made b.history + 1))))
-ticket_at b c row (asks_ledger (for_block n)) asks takes is = buffer_of b c n row is (ledger_command b c (for_block n) asks).1 takes
-ticket_at b c row (asks_message s) asks takes is = let f = message_due b (run c) s asks in let g : run c ≡ receive f.0 s = f.1 in cc
-ticket_at b c row _ asks takes is = absurd takes
+ticket_at : (b : AgentView) (x : Option (List ℕ)) (c : Command) (row : Row) (n : Need) → need_of b (run x c) ≡ n → TakesTicket n row → RunsNow (due b.plan b.history) c → IsNext (with_buffer row b) (Did (c, [], Gives (Object (made b.history + 1))))
+ticket_at b x c row (asks_ledger (for_block n)) asks takes is = buffer_of b c n row is (ledger_command b x c (for_block n) asks).1 takes
+ticket_at b x c row (asks_message s) asks takes is = let f = message_due b (run x c) s asks in let g : run x c ≡ receive f.0 s = f.1 in cc
+ticket_at b x c row _ asks takes is = absurd takes
 
 -- the command that asked for the block, done with the new buffer object, comes next over a table that has it
-pub block_next : (b : AgentView) (c : Command) (row : Row) → TakesTicket (need b) row → due b.plan b.history ≡ run c → IsNext (with_buffer row b) (Did (c, [], Gives (Object (made b.history + 1))))
-block_next b c row takes is = ticket_at b c row (need_of b (run c)) refl (subst (λ d. TakesTicket (need_of b d) row) is takes) is
+pub block_next : (b : AgentView) (c : Command) (row : Row) → TakesTicket (need b) row → RunsNow (due b.plan b.history) c → IsNext (with_buffer row b) (Did (c, [], Gives (Object (made b.history + 1))))
+block_next b c row takes is = ticket_at b is.0 c row (need_of b (run is.0 c)) refl (subst (λ d. TakesTicket (need_of b d) row) is.1 takes) is
 
-makes_at : (b : AgentView) (c : Command) (row : Row) (n : Need) → need_of b (run c) ≡ n → TakesTicket n row → makes c ≡ 1
-makes_at b c row (asks_ledger (for_block n)) asks takes =
+makes_at : (b : AgentView) (x : Option (List ℕ)) (c : Command) (row : Row) (n : Need) → need_of b (run x c) ≡ n → TakesTicket n row → makes c ≡ 1
+makes_at b x c row (asks_ledger (for_block n)) asks takes =
     let vs = values_of (receivers b.plan.jobs) b.history (reads c) in
-    let from = block_asked c n vs (not_refused (refusal b.over b.history c vs) (asked c vs) (for_block n) (ledger_command b c (for_block n) asks).1).1 in
+    let from = block_asked c n vs (not_refused (refusal b.over b.history c vs) (asked c vs) (for_block n) (ledger_command b x c (for_block n) asks).1).1 in
     subst (λ c. makes c ≡ 1) (sym from.1) refl
-makes_at b c row (asks_message s) asks takes = let f = message_due b (run c) s asks in let g : run c ≡ receive f.0 s = f.1 in cc
-makes_at b c row _ asks takes = absurd takes
+makes_at b x c row (asks_message s) asks takes = let f = message_due b (run x c) s asks in let g : run x c ≡ receive f.0 s = f.1 in cc
+makes_at b x c row _ asks takes = absurd takes
 
 -- which makes one identity
-pub block_makes : (b : AgentView) (c : Command) (row : Row) → TakesTicket (need b) row → due b.plan b.history ≡ run c → makes c ≡ 1
-block_makes b c row takes is = makes_at b c row (need_of b (run c)) refl (subst (λ d. TakesTicket (need_of b d) row) is takes)
+pub block_makes : (b : AgentView) (c : Command) (row : Row) → TakesTicket (need b) row → RunsNow (due b.plan b.history) c → makes c ≡ 1
+block_makes b c row takes is = makes_at b is.0 c row (need_of b (run is.0 c)) refl (subst (λ d. TakesTicket (need_of b d) row) is.1 takes)
 
 -- and so does a receipt of a buffer object, where there is room
 pub buffer_received : (b : AgentView) (n s : ℕ) (row : Row) → due b.plan b.history ≡ receive n s → nat_lt (made b.history) most_identities ≡ true → IsNext (with_buffer row b) (Received s (Object (made b.history + 1)))
@@ -259,10 +280,10 @@ unopened_done : (o : Option History) → o ≡ None → refuse_or (first_refusal
 unopened_done None e = refl
 unopened_done (Some p) e = cc
 
-pub opening_is : (b : AgentView) (c : Command) → need b ≡ asks_copy → due b.plan b.history ≡ run c → c ≡ CollectLater
+pub opening_is : (b : AgentView) (c : Command) → need b ≡ asks_copy → RunsNow (due b.plan b.history) c → c ≡ CollectLater
 opening_is b c asks is =
     let at = copy_due b (due b.plan b.history) asks in
-    let same : run c ≡ run CollectLater = sym is ∙ at.0 in
+    let same : run is.0 c ≡ run at.0.0 CollectLater = sym is.1 ∙ at.0.1 in
     cc
 
 pub opening_next : (b : AgentView) → need b ≡ asks_copy → IsNext b (Did (CollectLater, [], Nothing))
@@ -270,5 +291,5 @@ opening_next b asks =
     let at = copy_due b (due b.plan b.history) asks in
     record {
       lawful = (refl, unopened_done (snapshot b.history) at.1, refl, tt);
-      permitted = subst (λ d. Permits b.over (receivers b.plan.jobs) b.history d (Did (CollectLater, [], Nothing))) (sym at.0) refl;
+      permitted = permits_done b b.over CollectLater [] Nothing at.0 (not_refused_so (first_refusal ((is_none (snapshot b.history), CollectionOpen) ∷ [])) Nothing Nothing (unopened_done (snapshot b.history) at.1));
     }

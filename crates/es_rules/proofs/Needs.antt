@@ -14,7 +14,7 @@ use Rattle.es_event.specs.Later.{is_later, snapshot, collects_now}
 use Rattle.es_event.specs.Legal.{values_of}
 use Rattle.es_event.specs.Rules.{refusal}
 use Rattle.es_event.specs.Sharing.{Buffers}
-use Rattle.es_event.specs.Order.{Due, begin, receive, run, clean, take_cell, finish, end_job, close, nothing, due}
+use Rattle.es_event.specs.Order.{Due, begin, receive, run, clean, take_cell, finish, end_job, close, nothing, due, RunsNow}
 use Rattle.es_event.specs.Follows.{Permits}
 use Rattle.es_tables.specs.Effects.{IsQuiet}
 use Rattle.es_record.specs.AgentView.{AgentView, IsNext}
@@ -33,8 +33,8 @@ asks false true q n e = for_copy refl refl (sym e)
 asks false false None n e = nobody refl refl refl (sym e)
 asks false false (Some r) n e = the_ledger r refl refl refl (sym e)
 
-of_command : (b : AgentView) (c : Command) (n : Need) → need_of b (run c) ≡ n → Asks (collects_now b.history c) (opens_now b.history c) (request b c) n
-of_command b c n e = asks (collects_now b.history c) (opens_now b.history c) (request b c) n e
+of_command : (b : AgentView) (x : Option (List ℕ)) (c : Command) (n : Need) → need_of b (run x c) ≡ n → Asks (collects_now b.history c) (opens_now b.history c) (request b c) n
+of_command b x c n e = asks (collects_now b.history c) (opens_now b.history c) (request b c) n e
 
 no_closing : {b o : Bool} {q : Option Request} → Asks b o q asks_closing → ⊥
 no_closing (for_marks is f) = cc
@@ -47,7 +47,7 @@ pub closes : (b : AgentView) (d : Due) → need_of b d ≡ asks_closing → d �
 closes b close e = refl
 closes b (begin n) e = cc
 closes b (receive n s) e = cc
-closes b (run c) e = absurd (no_closing (of_command b c asks_closing e))
+closes b (run x c) e = absurd (no_closing (of_command b x c asks_closing e))
 closes b (finish p) e = cc
 closes b end_job e = cc
 closes b (clean r) e = cc
@@ -55,8 +55,8 @@ closes b (take_cell n) e = cc
 closes b nothing e = cc
 
 -- it asks for marks only where a collection is due
-pub collects_due : (b : AgentView) (d : Due) → need_of b d ≡ asks_marks → (c : Command) × (d ≡ run c) × (collects_now b.history c ≡ true)
-collects_due b (run c) e = (c, refl, of_marks (of_command b c asks_marks e))
+pub collects_due : (b : AgentView) (d : Due) → need_of b d ≡ asks_marks → (c : Command) × RunsNow d c × (collects_now b.history c ≡ true)
+collects_due b (run x c) e = (c, (x, refl), of_marks (of_command b x c asks_marks e))
   where
     of_marks : {b o : Bool} {q : Option Request} → Asks b o q asks_marks → b ≡ true
     of_marks (for_marks is f) = is
@@ -78,8 +78,8 @@ opens_by CollectLater None e = (refl, refl)
 opens_by CollectLater (Some p) e = cc
 opens_by _ o e = cc
 
-pub copy_due : (b : AgentView) (d : Due) → need_of b d ≡ asks_copy → (d ≡ run CollectLater) × (snapshot b.history ≡ None)
-copy_due b (run c) e = let is = opens_by c (snapshot b.history) (of_copy (of_command b c asks_copy e)) in (ap run is.0, is.1)
+pub copy_due : (b : AgentView) (d : Due) → need_of b d ≡ asks_copy → RunsNow d CollectLater × (snapshot b.history ≡ None)
+copy_due b (run x c) e = let is = opens_by c (snapshot b.history) (of_copy (of_command b x c asks_copy e)) in ((x, ap (run x) is.0), is.1)
   where
     of_copy : {b o : Bool} {q : Option Request} → Asks b o q asks_copy → o ≡ true
     of_copy (for_marks is f) = cc
@@ -98,7 +98,7 @@ copy_due b nothing e = cc
 -- it asks for the marks of the copy only where the open collection is to be finished
 pub finish_due : (b : AgentView) (d : Due) → need_of b d ≡ asks_late_marks → (p : History) × (d ≡ finish p)
 finish_due b (finish p) e = (p, refl)
-finish_due b (run c) e = absurd (no_finish (of_command b c asks_late_marks e))
+finish_due b (run x c) e = absurd (no_finish (of_command b x c asks_late_marks e))
   where
     no_finish : {b o : Bool} {q : Option Request} → Asks b o q asks_late_marks → ⊥
     no_finish (for_marks is f) = cc
@@ -114,8 +114,8 @@ finish_due b close e = cc
 finish_due b nothing e = cc
 
 -- it asks nobody where its command empties nothing, opens nothing and asks the ledger for nothing
-pub local_command : (b : AgentView) (c : Command) → need_of b (run c) ≡ asks_nobody → (collects_now b.history c ≡ false) × (request b c ≡ None)
-local_command b c e = of_nobody (of_command b c asks_nobody e)
+pub local_command : (b : AgentView) (x : Option (List ℕ)) (c : Command) → need_of b (run x c) ≡ asks_nobody → (collects_now b.history c ≡ false) × (request b c ≡ None)
+local_command b x c e = of_nobody (of_command b x c asks_nobody e)
   where
     of_nobody : {b o : Bool} {q : Option Request} → Asks b o q asks_nobody → (b ≡ false) × (q ≡ None)
     of_nobody (for_marks is f) = cc
@@ -133,9 +133,9 @@ request_collects None c vs r e = asks_collects c vs r e
 request_collects (Some code) c vs r e = cc
 
 -- it asks the ledger only where a command is due that asks for this
-pub ledger_command : (b : AgentView) (c : Command) (r : Request) → need_of b (run c) ≡ asks_ledger r → (collects c ≡ false) × (request b c ≡ Some r)
-ledger_command b c r e =
-    let some = of_ledger (of_command b c (asks_ledger r) e) in
+pub ledger_command : (b : AgentView) (x : Option (List ℕ)) (c : Command) (r : Request) → need_of b (run x c) ≡ asks_ledger r → (collects c ≡ false) × (request b c ≡ Some r)
+ledger_command b x c r e =
+    let some = of_ledger (of_command b x c (asks_ledger r) e) in
     let vs = values_of (receivers b.plan.jobs) b.history (reads c) in
     (request_collects (refusal b.over b.history c vs) c vs r some, some)
   where
@@ -145,8 +145,8 @@ ledger_command b c r e =
     of_ledger (the_ledger s is opens some f) = cc
     of_ledger (nobody is opens none f) = cc
 
-pub ledger_due : (b : AgentView) (d : Due) (r : Request) → need_of b d ≡ asks_ledger r → (c : Command) × (d ≡ run c) × (collects c ≡ false) × (request b c ≡ Some r)
-ledger_due b (run c) r e = let asked = ledger_command b c r e in (c, refl, asked.0, asked.1)
+pub ledger_due : (b : AgentView) (d : Due) (r : Request) → need_of b d ≡ asks_ledger r → (c : Command) × RunsNow d c × (collects c ≡ false) × (request b c ≡ Some r)
+ledger_due b (run x c) r e = let asked = ledger_command b x c r e in (c, (x, refl), asked.0, asked.1)
 ledger_due b (begin n) r e = cc
 ledger_due b (receive n s) r e = cc
 ledger_due b (finish p) r e = cc
@@ -159,7 +159,7 @@ ledger_due b nothing r e = cc
 -- it asks for a message only where a job waits for one
 pub message_due : (b : AgentView) (d : Due) (s : ℕ) → need_of b d ≡ asks_message s → (n : ℕ) × (d ≡ receive n s)
 message_due b (receive n t) s e = let same : t ≡ s = cc in (n, subst (λ s. receive n t ≡ receive n s) same refl)
-message_due b (run c) s e = absurd (no_message (of_command b c (asks_message s) e))
+message_due b (run x c) s e = absurd (no_message (of_command b x c (asks_message s) e))
   where
     no_message : {b o : Bool} {q : Option Request} {s : ℕ} → Asks b o q (asks_message s) → ⊥
     no_message (for_marks is f) = cc
@@ -181,7 +181,7 @@ not_refused (Some code) q r e = cc
 
 -- a step that asks nobody empties nothing
 local_at : (b : AgentView) (over : Buffers) (into : Receivers) (d : Due) (ids : List ℕ) → need_of b d ≡ asks_nobody → Permits over into b.history d (Emptied ids) → ⊥
-local_at b over into (run c) ids e p = let none : collects_now b.history c ≡ false = (local_command b c e).0 in cc
+local_at b over into (run x c) ids e p = let none : collects_now b.history c ≡ false = (local_command b x c e).0 in cc
 local_at b over into (finish q) ids e p = cc
 local_at b over into _ ids e p = absurd p
 

@@ -20,7 +20,7 @@ use Rattle.es_event.specs.Jobs.{receivers}
 use Rattle.es_event.specs.Later.{is_later, snapshot, collects_now}
 use Rattle.es_event.specs.Rules.{refusal}
 use Rattle.es_event.specs.Legal.{values_of}
-use Rattle.es_event.specs.Order.{Due, begin, receive, run, clean, take_cell, finish, end_job, close, nothing, due}
+use Rattle.es_event.specs.Order.{Due, begin, receive, run, clean, take_cell, finish, end_job, close, nothing, due, RunsNow}
 use Rattle.es_record.specs.AgentView.{AgentView}
 
 -- what the ledger is asked for: a new block of so many words; to post to a receiver a value, or the block of a buffer object; or
@@ -80,7 +80,7 @@ opens_now h c = is_later c && is_none (snapshot h)
 abbrev pub need_of : AgentView → Due → Need
 need_of b (begin n) = asks_nobody
 need_of b (receive n s) = asks_message s
-need_of b (run c) = if collects_now b.history c then asks_marks else if opens_now b.history c then asks_copy else ledger_or_nobody (request b c)
+need_of b (run x c) = if collects_now b.history c then asks_marks else if opens_now b.history c then asks_copy else ledger_or_nobody (request b c)
 need_of b (clean r) = asks_nobody
 need_of b (take_cell n) = asks_nobody
 need_of b (finish p) = asks_late_marks
@@ -138,13 +138,13 @@ TakesDone asks_nothing = ⊥
 
 -- the event is the due command, done with this answer
 abbrev pub IsDone : AgentView → Answer → Event → Type 0
-IsDone b r e = (c : Command) × (due b.plan b.history ≡ run c) × (e ≡ Did (c, values_of (receivers b.plan.jobs) b.history (reads c), r))
+IsDone b r e = (c : Command) × RunsNow (due b.plan b.history) c × (e ≡ Did (c, values_of (receivers b.plan.jobs) b.history (reads c), r))
 
 -- the event brings the object o: it is the answer of the due command, or a receipt
 abbrev pub Brings : Due → ℕ → Event → Type 0
 Brings (begin n) o e = ⊥
 Brings (receive n s) o e = e ≡ Received s (Object o)
-Brings (run c) o e = e ≡ Did (c, [], Gives (Object o))
+Brings (run x c) o e = e ≡ Did (c, [], Gives (Object o))
 Brings (clean r) o e = ⊥
 Brings (take_cell n) o e = ⊥
 Brings (finish p) o e = ⊥

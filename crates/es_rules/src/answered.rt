@@ -4,7 +4,7 @@ ghost use Rattle.std.specs.Prelude.{◌≡◌, ◌+◌, ◌∷◌, [], ℕ, true
 ghost use Rattle.es_value.specs.Limits.{most_identities};
 ghost use Rattle.es_value.specs.Values.{identity};
 ghost use Rattle.es_event.specs.Identities.{made};
-ghost use Rattle.es_event.specs.Order.{due, receive, run};
+ghost use Rattle.es_event.specs.Order.{due, receive, RunsNow};
 ghost use Rattle.es_event.specs.Commands.{reads};
 ghost use Rattle.es_event.specs.Jobs.{receivers};
 ghost use Rattle.es_event.specs.Legal.{values_of};
@@ -42,7 +42,7 @@ fn done(agent: &AgentRecord, answer: Answer) -> Result<Done, NoMemory>
     ensures next { IfOk result (λ d. IsNext agent.now (Event.Did d)) }
 {
     match agent.due() {
-        Due::Run(command) => {
+        Due::Run(_, command) => {
             let mut done = begun(agent, command)?;
             done.give(agent.alloc(), answer)?;
             Ok(done)
@@ -63,7 +63,7 @@ pub fn brought(agent: &AgentRecord, row: Row) -> Result<Event, NoMemory>
 {
     let object = Value::Object(agent.next_identity());
     match agent.due() {
-        Due::Run(command) => giving(agent, command, Answer::Gives(object)),
+        Due::Run(_, command) => giving(agent, command, Answer::Gives(object)),
         Due::Receive { sender, .. } => Ok(Event::Received {
             sender,
             value: object,
@@ -116,14 +116,14 @@ pub fn opened(agent: &AgentRecord) -> Result<Event, NoMemory>
     ensures next { IfOk result (IsNext agent.now) }
 {
     match agent.due() {
-        Due::Run(command) => giving(agent, command, Answer::Nothing),
+        Due::Run(_, command) => giving(agent, command, Answer::Nothing),
         _ => unreachable!(),
     }
 }
 
 /// The event of the due command, which read nothing and gave this. It fails for want of memory alone.
 fn giving(agent: &AgentRecord, command: &Command, answer: Answer) -> Result<Event, NoMemory>
-    requires { due agent.now.plan agent.now.history ≡ run command.now }
+    requires { RunsNow (due agent.now.plan agent.now.history) command.now }
     ensures { IfOk result (λ e. e ≡ Event.Did (command.now, [], answer)) }
 {
     let mut done = Done::of(planned(agent, command)?);
@@ -134,7 +134,7 @@ fn giving(agent: &AgentRecord, command: &Command, answer: Answer) -> Result<Even
 /// The due command, done as far as that it read its variables. It fails for want of memory alone.
 #[inline(always)]
 pub fn begun(agent: &AgentRecord, command: &Command) -> Result<Done, NoMemory>
-    requires { due agent.now.plan agent.now.history ≡ run command.now }
+    requires { RunsNow (due agent.now.plan agent.now.history) command.now }
     ensures read { IfOk result (λ d. d ≡ (command.now, values_of (receivers agent.now.plan.jobs) agent.now.history (reads command.now), Answer.Nothing)) }
     ensures there { IfOk result (λ d. AreThere agent.now d.1) }
 {
@@ -145,7 +145,7 @@ pub fn begun(agent: &AgentRecord, command: &Command) -> Result<Done, NoMemory>
 /// The due command, as its event has it. It fails for want of memory alone.
 #[inline(always)]
 fn planned(agent: &AgentRecord, command: &Command) -> Result<PlanCommand, NoMemory>
-    requires { due agent.now.plan agent.now.history ≡ run command.now }
+    requires { RunsNow (due agent.now.plan agent.now.history) command.now }
     ensures { IfOk result (λ c. c ≡ command.now) }
 {
     match agent.due_command()? {

@@ -1,6 +1,6 @@
 //! The next event of an agent, decided from its record alone.
 
-ghost use Rattle.std.specs.Prelude.{◌≡◌, ◌+◌, ◌∷◌, ◌↔◌, [], false, None, Ok, Err, nat_lt, IfOk, IfErr, OnOk, IsTrue, if◌then◌else◌};
+ghost use Rattle.std.specs.Prelude.{◌≡◌, ◌+◌, ◌∷◌, ◌↔◌, [], false, None, Some, Ok, Err, Option, List, ℕ, nat_lt, IfOk, IfErr, OnOk, IsTrue, if◌then◌else◌};
 ghost use Rattle.es_event.specs.declared.command.Command.{Command as CommandSaid};
 ghost use Rattle.es_event.specs.declared.event.Refusal.{Refusal as RefusalSaid};
 ghost use Rattle.es_value.specs.Limits.{most_identities};
@@ -10,7 +10,8 @@ ghost use Rattle.es_event.specs.Identities.{gone, has_identity_in, made};
 ghost use Rattle.es_event.specs.Jobs.{receivers};
 ghost use Rattle.es_event.specs.Rules.{completion, refuse_or, first_refusal, none_open, room, of_object, of_weakref, of_held_weakly, or_undefined, prop_of, keys_of, target_of};
 ghost use Rattle.es_event.specs.Legal.{values_of};
-ghost use Rattle.es_event.specs.Order.{due, run};
+ghost use Rattle.es_event.specs.Order.{due, run, RunsNow};
+ghost use Rattle.es_event.specs.Follows.{refused_now};
 ghost use Rattle.es_record.specs.AgentView.{IsNext, AreThere};
 ghost use Rattle.es_rules.specs.Completion.{Completes};
 ghost use Rattle.es_rules.specs.Needs.{asks_nobody, need, request};
@@ -30,7 +31,7 @@ pub fn asks_nobody(agent: &AgentRecord) -> bool
     ensures { IsTrue result ↔ (need agent.now ≡ asks_nobody) }
 {
     match agent.due() {
-        Due::Run(command) => !asks_somebody(agent, command),
+        Due::Run(_, command) => !asks_somebody(agent, command),
         Due::Begin(_) | Due::Clean(_) | Due::Take(_) => true,
         Due::EndJob => !agent.is_open(),
         Due::Receive { .. } | Due::Close | Due::Nothing => false,
@@ -41,7 +42,7 @@ pub fn asks_nobody(agent: &AgentRecord) -> bool
 /// Operations to Enqueue Jobs). It fails for want of memory alone.
 pub fn next_event(agent: &AgentRecord) -> Result<Event, NoMemory>
     requires alone { need agent.now ≡ asks_nobody }
-    requires idle { (c : CommandSaid) → due agent.now.plan agent.now.history ≡ run c → ⊥ }
+    requires idle { (x : Option (List ℕ)) (c : CommandSaid) → due agent.now.plan agent.now.history ≡ run x c → ⊥ }
     ensures { IfOk result (IsNext agent.now) }
 {
     match agent.due() {
@@ -49,7 +50,7 @@ pub fn next_event(agent: &AgentRecord) -> Result<Event, NoMemory>
         Due::Clean(_) => registries::cleaning(agent),
         Due::Take(registration) => registries::taking(agent, registration),
         Due::EndJob => Ok(Event::JobEnded),
-        Due::Run(_) | Due::Receive { .. } | Due::Close | Due::Nothing => unreachable!(),
+        Due::Run(..) | Due::Receive { .. } | Due::Close | Due::Nothing => unreachable!(),
     }
 }
 
@@ -57,13 +58,13 @@ pub fn next_event(agent: &AgentRecord) -> Result<Event, NoMemory>
 /// empties nothing. It fails where a rule refuses it, and for want of memory.
 #[inline(always)]
 pub fn do_alone(agent: &AgentRecord, command: &Command, done: &mut Done) -> Result<(), Stop>
-    requires due { due agent.now.plan agent.now.history ≡ run command.now }
+    requires due { RunsNow (due agent.now.plan agent.now.history) command.now }
     requires here { collects_now agent.now.history command.now ≡ false }
     requires local { request agent.now command.now ≡ None }
     requires read { done.old ≡ (command.now, values_of (receivers agent.now.plan.jobs) agent.now.history (reads command.now), Answer.Nothing) }
     requires there { AreThere agent.now done.old.1 }
     ensures next { OnOk result (IsNext agent.now (Event.Did done.new)) }
-    ensures refused { IfErr result (λ why. (code : RefusalSaid) → why ≡ Stop.Refused code → IsNext agent.now (Event.Refused code)) }
+    ensures refused { IfErr result (λ why. (code : RefusalSaid) → why ≡ Stop.Refused code → refused_now agent.now.over (receivers agent.now.plan.jobs) agent.now.history command.now ≡ Some code) }
 {
     let answer = completion(agent, command, done.values())?;
     done.give(agent.alloc(), answer)?;

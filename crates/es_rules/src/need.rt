@@ -66,7 +66,7 @@ pub fn asks(agent: &AgentRecord) -> Need<'_>
     ensures { shown result ≡ need agent.now }
 {
     match agent.due() {
-        Due::Run(command) => for_command(agent, command),
+        Due::Run(_, command) => for_command(agent, command),
         Due::Receive { sender, .. } => Need::Message(sender),
         Due::Begin(_) | Due::Clean(_) | Due::Take(_) => Need::Local,
         Due::EndJob => for_end(agent),
@@ -77,7 +77,7 @@ pub fn asks(agent: &AgentRecord) -> Need<'_>
 
 /// What the agent asks for where this command is due. While a later collection is open, another is refused.
 fn for_command<'a>(agent: &'a AgentRecord, command: &Command) -> Need<'a>
-    ensures { shown result ≡ need_of agent.now (run command.now) }
+    ensures { shown result ≡ need_of agent.now (run None command.now) }
 {
     match command {
         Command::Collect => for_collection(agent),
@@ -91,7 +91,7 @@ fn for_command<'a>(agent: &'a AgentRecord, command: &Command) -> Need<'a>
 
 /// What the agent asks for where it is to collect.
 fn for_collection<'a>(agent: &'a AgentRecord) -> Need<'a>
-    ensures { shown result ≡ need_of agent.now (run Command.Collect) }
+    ensures { shown result ≡ need_of agent.now (run None Command.Collect) }
 {
     if agent.is_open() {
         Need::Local
@@ -102,7 +102,7 @@ fn for_collection<'a>(agent: &'a AgentRecord) -> Need<'a>
 
 /// What the agent asks for where it is to open a later collection.
 fn for_opening<'a>(agent: &'a AgentRecord) -> Need<'a>
-    ensures { shown result ≡ need_of agent.now (run Command.CollectLater) }
+    ensures { shown result ≡ need_of agent.now (run None Command.CollectLater) }
 {
     if agent.is_open() {
         Need::Local
@@ -126,7 +126,7 @@ fn for_end<'a>(agent: &'a AgentRecord) -> Need<'a>
 /// ledger.
 #[inline(always)]
 pub fn asks_somebody(agent: &AgentRecord, command: &Command) -> bool
-    ensures asks { (result ≡ false) ↔ (need_of agent.now (run command.now) ≡ asks_nobody) }
+    ensures asks { (result ≡ false) ↔ (need_of agent.now (run None command.now) ≡ asks_nobody) }
     ensures here { result ≡ false → collects_now agent.now.history command.now ≡ false }
     ensures local { result ≡ false → request agent.now command.now ≡ None }
 {

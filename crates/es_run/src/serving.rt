@@ -289,7 +289,7 @@ fn turn_with<L: Planned>(
 // Whether the agent's next command is one on a word of shared memory.
 fn is_at_word<L: Planned>(member: &Member<L>) -> bool {
     match member.core().record().due() {
-        Due::Run(command) => matches!(command, Command::Atomic(_)),
+        Due::Run(_, command) => matches!(command, Command::Atomic(_)),
         _ => false,
     }
 }

@@ -1,6 +1,6 @@
 -- What is read well is read as well at any other place of its kind.
 use Rattle.std.proofs.Common.{◌≡◌, ℕ, ◌+◌, Bool, true, false, List, [], ◌∷◌, Option, Some, None, Result, Ok, Err, refl, sym, ap, ◌∙◌, subst}
-use Rattle.std.specs.Prelude.{ℤ, pos, negsuc, nat_le}
+use Rattle.std.specs.Prelude.{ℤ, pos, negsuc, nat_le, if◌then◌else◌}
 use Rattle.serde_json.specs.Data.{Data, null, boolean, number, string, array, object, Items, no_items, item}
 use Rattle.serde_json.specs.Find.{as_i64}
 use Rattle.serde_json.specs.Events.{items_len}
@@ -8,15 +8,15 @@ use Rattle.es_value.specs.Limits.{most_commands, most_words}
 use Rattle.es_value.specs.Spelling.{is_name, is_text}
 use Rattle.es_event.specs.declared.operand.Operand.{Operand}
 use Rattle.es_event.specs.declared.literal.Literal.TheVariants.{Number, Text}
-use Rattle.es_event.specs.declared.command.Command.{Command}
+use Rattle.es_reading.specs.Lines.{Line}
 use Rattle.es_reading.specs.declared.fault.FaultCode.TheVariants.{Name, Operands, Profile, Collection, Limit}
 use Rattle.es_reading.specs.declared.fault.Place.{Place}
 use Rattle.es_reading.specs.declared.fault.Spot.{Spot}
 use Rattle.es_reading.specs.declared.fault.ScriptFault.{ScriptFault}
 use Rattle.es_reading.specs.Scope.{Numbers, Scope}
-use Rattle.es_reading.specs.Forms.{OperandType, name, literal, text, callback, agent, whole, amount, words, Form, form, is_allowed, is_whole, fit}
+use Rattle.es_reading.specs.Forms.{OperandType, name, literal, text, callback, agent, whole, amount, words, Form, form, is_allowed, is_try, is_whole, fit}
 use Rattle.es_reading.specs.Places.{at, is_in_callback}
-use Rattle.es_reading.specs.Reading.{then_read, unless_fault, fault_at, name_read, text_read, whole_read, size_found, words_read, literal_read, number_found, reference_read, operand_read, made, meanings_read, form_read, command_read, commands_read, body_read}
+use Rattle.es_reading.specs.Reading.{then_read, unless_fault, fault_at, name_read, text_read, whole_read, size_found, words_read, literal_read, number_found, reference_read, operand_read, Meanings, made, meanings_read, form_read, tried_form_read, tried_read, plain_read, line_read, lines_read, body_read}
 
 -- the same is read well, whatever the faults
 abbrev pub IsAlike : {A : Type 0} → Result A ScriptFault → Result A ScriptFault → Type 0
@@ -125,39 +125,53 @@ module _ (scope : Scope) (s t : Spot) where
       alike_then (operand_read scope s k d) (operand_read scope t k d) (λ x. then_read (meanings_read scope s ks ds) (λ xs. Ok (x, xs))) (λ x. then_read (meanings_read scope t ks ds) (λ xs. Ok (x, xs))) (operand_alike k d)
       (λ x. alike_then (meanings_read scope s ks ds) (meanings_read scope t ks ds) (λ xs. Ok (x, xs)) (λ xs. Ok (x, xs)) (meanings_alike ks ds) (λ xs. refl))
 
+  -- operands of these types, which a command may have where it stands or not
+  abbrev types_read : Spot → (Bool → Bool) → (ks : List OperandType) → Items → Result (Meanings ks) ScriptFault
+  types_read s allowed ks ds = unless_fault (fit ks ds) (fault_at s Operands) (unless_fault (allowed (is_in_callback s.place)) (fault_at s Collection) (meanings_read scope s ks ds))
+
+  types_alike : is_in_callback s.place ≡ is_in_callback t.place → (allowed : Bool → Bool) (ks : List OperandType) (ds : Items) → IsAlike (types_read s allowed ks ds) (types_read t allowed ks ds)
+  types_alike kind allowed ks ds =
+      let inner = alike_unless (allowed (is_in_callback s.place)) (fault_at s Collection) (fault_at t Collection) (meanings_read scope s ks ds) (meanings_read scope t ks ds) (meanings_alike ks ds) in
+      let both = subst (λ b. IsAlike (unless_fault (allowed (is_in_callback s.place)) (fault_at s Collection) (meanings_read scope s ks ds)) (unless_fault (allowed b) (fault_at t Collection) (meanings_read scope t ks ds))) kind inner in
+      alike_unless (fit ks ds) (fault_at s Operands) (fault_at t Operands) _ _ both
+
   form_alike : is_in_callback s.place ≡ is_in_callback t.place → (o : Option Form) (ds : Items) → IsAlike (form_read scope s o ds) (form_read scope t o ds)
   form_alike kind None ds = tt
   form_alike kind (Some f) ds =
-      let inner = alike_unless (is_allowed (is_in_callback s.place) f) (fault_at s Collection) (fault_at t Collection) (meanings_read scope s f.types ds) (meanings_read scope t f.types ds) (meanings_alike f.types ds) in
-      let allowed = subst (λ b. IsAlike (unless_fault (is_allowed (is_in_callback s.place) f) (fault_at s Collection) (meanings_read scope s f.types ds)) (unless_fault (is_allowed b f) (fault_at t Collection) (meanings_read scope t f.types ds))) kind inner in
-      alike_then (unless_fault (fit f.types ds) (fault_at s Operands) (unless_fault (is_allowed (is_in_callback s.place) f) (fault_at s Collection) (meanings_read scope s f.types ds)))
-      (unless_fault (fit f.types ds) (fault_at t Operands) (unless_fault (is_allowed (is_in_callback t.place) f) (fault_at t Collection) (meanings_read scope t f.types ds)))
-      (λ xs. Ok (made f.types f.makes xs)) (λ xs. Ok (made f.types f.makes xs))
-      (alike_unless (fit f.types ds) (fault_at s Operands) (fault_at t Operands) _ _ allowed) (λ xs. refl)
+      let allowed : Bool → Bool = λ b. is_allowed b f in
+      alike_then (types_read s allowed f.types ds) (types_read t allowed f.types ds) (λ xs. Ok (made f.types f.makes xs)) (λ xs. Ok (made f.types f.makes xs)) (types_alike kind allowed f.types ds) (λ xs. refl)
 
-  command_alike : is_in_callback s.place ≡ is_in_callback t.place → (d : Data) → IsAlike (command_read scope s d) (command_read scope t d)
-  command_alike kind (array (item (string w) ds)) = form_alike kind (form scope.version w (items_len ds)) ds
-  command_alike kind (array (item null ds)) = tt
-  command_alike kind (array (item (boolean b) ds)) = tt
-  command_alike kind (array (item (number n) ds)) = tt
-  command_alike kind (array (item (array es) ds)) = tt
-  command_alike kind (array (item (object ms) ds)) = tt
-  command_alike kind (array no_items) = tt
-  command_alike kind null = tt
-  command_alike kind (boolean b) = tt
-  command_alike kind (number n) = tt
-  command_alike kind (string u) = tt
-  command_alike kind (object ms) = tt
+  tried_form_alike : is_in_callback s.place ≡ is_in_callback t.place → (o : Option Form) (x : List ℕ) (ds : Items) → IsAlike (tried_form_read scope s o x ds) (tried_form_read scope t o x ds)
+  tried_form_alike kind None x ds = tt
+  tried_form_alike kind (Some f) x ds =
+      let allowed : Bool → Bool = λ b. is_allowed b f in
+      let ks = name ∷ f.types in
+      alike_then (types_read s allowed ks (item (string x) ds)) (types_read t allowed ks (item (string x) ds))
+      (λ xs. Ok (Some xs.0, made f.types f.makes xs.1)) (λ xs. Ok (Some xs.0, made f.types f.makes xs.1)) (types_alike kind allowed ks (item (string x) ds)) (λ xs. refl)
 
-commands_alike : (scope : Scope) (p q : Place) → is_in_callback p ≡ is_in_callback q → (n : ℕ) (ds : Items) → IsAlike (commands_read scope p n ds) (commands_read scope q n ds)
-commands_alike scope p q kind n no_items = refl
-commands_alike scope p q kind n (item d ds) =
-    alike_then (command_read scope (record { place = p; command = n }) d) (command_read scope (record { place = q; command = n }) d)
-    (λ x. then_read (commands_read scope p (n + 1) ds) (λ xs. Ok (x ∷ xs))) (λ x. then_read (commands_read scope q (n + 1) ds) (λ xs. Ok (x ∷ xs)))
-    (command_alike scope (record { place = p; command = n }) (record { place = q; command = n }) kind d)
-    (λ x. alike_then (commands_read scope p (n + 1) ds) (commands_read scope q (n + 1) ds) (λ xs. Ok (x ∷ xs)) (λ xs. Ok (x ∷ xs)) (commands_alike scope p q kind (n + 1) ds) (λ xs. refl))
+  tried_alike : is_in_callback s.place ≡ is_in_callback t.place → (ds : Items) → IsAlike (tried_read scope s ds) (tried_read scope t ds)
+  tried_alike kind (item (string x) (item (string w) ds)) = tried_form_alike kind (form scope.version w (items_len ds)) x ds
+  tried_alike kind _ = tt
+
+  line_alike : is_in_callback s.place ≡ is_in_callback t.place → (d : Data) → IsAlike (line_read scope s d) (line_read scope t d)
+  line_alike kind (array (item (string w) ds)) = by_try (is_try scope.version w)
+    where
+      by_try : (b : Bool) → IsAlike (if b then tried_read scope s ds else plain_read scope s w ds) (if b then tried_read scope t ds else plain_read scope t w ds)
+      by_try true = tried_alike kind ds
+      by_try false =
+          let o = form scope.version w (items_len ds) in
+          alike_then (form_read scope s o ds) (form_read scope t o ds) (λ c. Ok (None, c)) (λ c. Ok (None, c)) (form_alike kind o ds) (λ c. refl)
+  line_alike kind _ = tt
+
+lines_alike : (scope : Scope) (p q : Place) → is_in_callback p ≡ is_in_callback q → (n : ℕ) (ds : Items) → IsAlike (lines_read scope p n ds) (lines_read scope q n ds)
+lines_alike scope p q kind n no_items = refl
+lines_alike scope p q kind n (item d ds) =
+    alike_then (line_read scope (record { place = p; command = n }) d) (line_read scope (record { place = q; command = n }) d)
+    (λ x. then_read (lines_read scope p (n + 1) ds) (λ xs. Ok (x ∷ xs))) (λ x. then_read (lines_read scope q (n + 1) ds) (λ xs. Ok (x ∷ xs)))
+    (line_alike scope (record { place = p; command = n }) (record { place = q; command = n }) kind d)
+    (λ x. alike_then (lines_read scope p (n + 1) ds) (lines_read scope q (n + 1) ds) (λ xs. Ok (x ∷ xs)) (λ xs. Ok (x ∷ xs)) (lines_alike scope p q kind (n + 1) ds) (λ xs. refl))
 
 -- a body
-pub body_anywhere : (scope : Scope) (p q : Place) (ds : Items) (cs : List Command) → is_in_callback p ≡ is_in_callback q → body_read scope p ds ≡ Ok cs → body_read scope q ds ≡ Ok cs
-body_anywhere scope p q ds cs kind e =
-    alike_ok (body_read scope p ds) (body_read scope q ds) cs (alike_unless (nat_le (items_len ds) most_commands) (at p 0 Limit) (at q 0 Limit) (commands_read scope p 1 ds) (commands_read scope q 1 ds) (commands_alike scope p q kind 1 ds)) e
+pub body_anywhere : (scope : Scope) (p q : Place) (ds : Items) (ls : List Line) → is_in_callback p ≡ is_in_callback q → body_read scope p ds ≡ Ok ls → body_read scope q ds ≡ Ok ls
+body_anywhere scope p q ds ls kind e =
+    alike_ok (body_read scope p ds) (body_read scope q ds) ls (alike_unless (nat_le (items_len ds) most_commands) (at p 0 Limit) (at q 0 Limit) (lines_read scope p 1 ds) (lines_read scope q 1 ds) (lines_alike scope p q kind 1 ds)) e

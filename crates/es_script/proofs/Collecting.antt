@@ -25,8 +25,8 @@ none_collects (c ∷ cs) h =
     let parts = and_parts (not (opens_or_collects c)) (list_all (λ c. not (opens_or_collects c)) cs) h in
     neither (opens_or_collects c) (list_any opens_or_collects cs) parts.0 (none_collects cs parts.1)
 
-body_harmless : (scope : Scope) (o : Option Data) (cs : List Command) → IsBody scope true o cs → not (list_any opens_or_collects cs) ≡ true
-body_harmless scope o cs h = none_collects cs (body_passes (λ c. not (opens_or_collects c)) scope true (λ d c k. ap not (command_harmless scope d c k)) o cs h)
+body_harmless : (scope : Scope) (o : Option Data) (cs : List Command) (xs : List (Option (List ℕ))) → IsBody scope true o cs xs → not (list_any opens_or_collects cs) ≡ true
+body_harmless scope o cs xs h = none_collects cs (body_passes (λ c. not (opens_or_collects c)) scope true (λ d c k. ap not (command_harmless scope d c k)) o cs xs h)
 
 agents_harmless : (v : Version) (agents : Items) (a : ℕ) (ds : Items) (ps : List AgentPlan) → AreAgents v agents a ds ps → list_all callbacks_collect_nothing ps ≡ true
 agents_harmless v agents a no_items [] h = refl

@@ -62,7 +62,7 @@ jobs_pass test scope pass no_items (j ∷ js) h = absurd h
 jobs_pass test scope pass (item d ds) [] h = absurd h
 jobs_pass test scope pass (item d ds) (j ∷ js) h =
     let on = on_passes test scope pass (get (codes "on") d) j.on h.0.on in
-    let run = body_passes (posts_where test) scope false (command_posts test scope false pass) (get (codes "run") d) j.run h.0.run in
+    let run = body_passes (posts_where test) scope false (command_posts test scope false pass) (get (codes "run") d) j.run j.catches h.0.run in
     both_true _ _ (both_true _ _ on run) (jobs_pass test scope pass ds js h.1)
 
 jobs_pass_at : (test : ℕ → Bool) (scope : Scope) → AllPass test scope.agents → (o : Option Data) (js : List Job) → HasJobs scope o js → list_all (speaks_where test) js ≡ true

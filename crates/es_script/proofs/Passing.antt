@@ -11,7 +11,8 @@ use Rattle.es_event.specs.Commands.{opens_or_collects}
 use Rattle.es_event.specs.Others.{posts_where}
 use Rattle.es_reading.specs.Scope.{Numbers, Scope}
 use Rattle.es_reading.specs.Forms.{OperandType, name, literal, text, callback, agent, whole, amount, words, Meaning, Makes, Form, form, later_form, load_form, store_form, modify_form, compare_form, modify_or, weak_form, shared_form, registry_form, is_allowed, takes, takes_in_jobs}
-use Rattle.es_script.specs.Grammar.{IsReference, Means, AreOperands, IsCommand, AreCommands, IsBody, AreCallbacks, HasCallbacks}
+use Rattle.es_script.specs.Grammar.{IsReference, Means, AreOperands, IsCommand, IsLine, AreLines, IsBody, AreCallbacks, HasCallbacks}
+use Rattle.es_reading.specs.Lines.{Line, commands_in}
 use Rattle.es_reading.specs.Reading.{Meanings, made}
 use Rattle.es_script.proofs.Sound.{both_true}
 use Rattle.es_reading.specs.declared.version.Version.{Version}
@@ -136,26 +137,33 @@ command_posts test scope in_callback pass _ c h = absurd h
 
 -- All commands
 
-commands_pass : (test : Command → Bool) (scope : Scope) (in_callback : Bool) → ((d : Data) (c : Command) → IsCommand scope in_callback d c → test c ≡ true)
-    → (ds : Items) (cs : List Command) → AreCommands scope in_callback ds cs → list_all test cs ≡ true
-commands_pass test scope in_callback each no_items [] h = refl
-commands_pass test scope in_callback each no_items (c ∷ cs) h = absurd h
-commands_pass test scope in_callback each (item d ds) [] h = absurd h
-commands_pass test scope in_callback each (item d ds) (c ∷ cs) h = both_true _ _ (each d c h.0) (commands_pass test scope in_callback each ds cs h.1)
+-- each command of a line is one, behind `try` or not
+line_passes : (test : Command → Bool) (scope : Scope) (in_callback : Bool) → ((d : Data) (c : Command) → IsCommand scope in_callback d c → test c ≡ true)
+    → (d : Data) (l : Line) → IsLine scope in_callback d l → test l.1 ≡ true
+line_passes test scope in_callback each d (None, c) h = each d c h
+line_passes test scope in_callback each (array (item (string w) (item d ds))) (Some x, c) h = each (array ds) c h.2
+line_passes test scope in_callback each _ (Some x, c) h = absurd h
+
+lines_pass : (test : Command → Bool) (scope : Scope) (in_callback : Bool) → ((d : Data) (c : Command) → IsCommand scope in_callback d c → test c ≡ true)
+    → (ds : Items) (ls : List Line) → AreLines scope in_callback ds ls → list_all test (commands_in ls) ≡ true
+lines_pass test scope in_callback each no_items [] h = refl
+lines_pass test scope in_callback each no_items (l ∷ ls) h = absurd h
+lines_pass test scope in_callback each (item d ds) [] h = absurd h
+lines_pass test scope in_callback each (item d ds) (l ∷ ls) h = both_true _ _ (line_passes test scope in_callback each d l h.0) (lines_pass test scope in_callback each ds ls h.1)
 
 pub body_passes : (test : Command → Bool) (scope : Scope) (in_callback : Bool) → ((d : Data) (c : Command) → IsCommand scope in_callback d c → test c ≡ true)
-    → (o : Option Data) (cs : List Command) → IsBody scope in_callback o cs → list_all test cs ≡ true
-body_passes test scope in_callback each (Some (array ds)) cs h = commands_pass test scope in_callback each ds cs h.0
-body_passes test scope in_callback each _ cs h = absurd h
+    → (o : Option Data) (cs : List Command) (xs : List (Option (List ℕ))) → IsBody scope in_callback o cs xs → list_all test cs ≡ true
+body_passes test scope in_callback each (Some (array ds)) cs xs h = rw h.3 (lines_pass test scope in_callback each ds h.0 h.1)
+body_passes test scope in_callback each _ cs xs h = absurd h
 
-callbacks_pass : (test : List Command → Bool) (scope : Scope) → ((o : Option Data) (cs : List Command) → IsBody scope true o cs → test cs ≡ true)
+callbacks_pass : (test : List Command → Bool) (scope : Scope) → ((o : Option Data) (cs : List Command) (xs : List (Option (List ℕ))) → IsBody scope true o cs xs → test cs ≡ true)
     → (ms : Members) (cs : List Callback) → AreCallbacks scope ms cs → list_all (λ c. test c.run) cs ≡ true
 callbacks_pass test scope each no_members [] h = refl
 callbacks_pass test scope each no_members (c ∷ cs) h = absurd h
 callbacks_pass test scope each (member n d ms) [] h = absurd h
-callbacks_pass test scope each (member n d ms) (c ∷ cs) h = both_true _ _ (each (Some d) c.run h.2) (callbacks_pass test scope each ms cs h.3)
+callbacks_pass test scope each (member n d ms) (c ∷ cs) h = both_true _ _ (each (Some d) c.run c.catches h.2) (callbacks_pass test scope each ms cs h.3)
 
-pub callbacks_pass_at : (test : List Command → Bool) (scope : Scope) → ((o : Option Data) (cs : List Command) → IsBody scope true o cs → test cs ≡ true)
+pub callbacks_pass_at : (test : List Command → Bool) (scope : Scope) → ((o : Option Data) (cs : List Command) (xs : List (Option (List ℕ))) → IsBody scope true o cs xs → test cs ≡ true)
     → (o : Option Data) (cs : List Callback) → HasCallbacks scope o cs → list_all (λ c. test c.run) cs ≡ true
 callbacks_pass_at test scope each (Some (object ms)) cs h = callbacks_pass test scope each ms cs h.0
 callbacks_pass_at test scope each _ cs h = absurd h

@@ -15,7 +15,7 @@ use Rattle.json.specs.Json.{read_key}
 use Rattle.serde_json.specs.Data.{Data, Members, no_members, member, put}
 use Rattle.es_value.specs.Limits.{most_callbacks}
 use Rattle.es_value.specs.Spelling.{is_name}
-use Rattle.es_event.specs.declared.command.Command.{Command}
+use Rattle.es_reading.specs.Lines.{Line, commands_in, catches_in}
 use Rattle.es_event.specs.declared.plan.Callback.{Callback}
 use Rattle.es_reading.specs.declared.fault.ScriptFault.{ScriptFault}
 use Rattle.es_reading.specs.declared.fault.Place.TheVariants.{Callback as CallbackPlace}
@@ -23,19 +23,23 @@ use Rattle.es_reading.specs.Parts.{items_in}
 use Rattle.es_reading.specs.Scope.{Scope, number_from, number_in}
 use Rattle.es_reading.specs.Shape.{each_member, is_callback}
 use Rattle.es_reading.specs.Reading.{then_read, unless_fault, body_read, callback_read, callbacks_read}
-use Rattle.es_script.specs.Taking.{Took, TookMembers}
+use Rattle.es_script.specs.Taking.{plain, Took, TookMembers}
 use Rattle.es_script.specs.Drafts.{IsRun, IsCallback, AreCallbacks}
 use Rattle.es_script.proofs.Counted.{some_read, none_left, rest_parts}
 use Rattle.es_script.proofs.Objects.{took_none, took_put, took_object}
 use Rattle.es_script.proofs.Anywhere.{body_anywhere}
+use Rattle.es_script.proofs.Plain.{plain_commands, plain_catches}
 
 -- one callback, from its commands
-pub took_callback : (scope : Scope) (a : ℕ) (k : List ℕ) (c : Callback) (ts r : List Token) → c.name ≡ k → is_name k ≡ true → Took 2 (IsRun scope (CallbackPlace a 1)) ts c.run r → Took 2 (IsCallback scope a k) ts c r
-took_callback scope a k c ts r named spelled took =
+pub took_callback : (scope : Scope) (a : ℕ) (k : List ℕ) (c : Callback) (ts r : List Token) → c.name ≡ k → c.catches ≡ [] → is_name k ≡ true → Took 2 (IsRun scope (CallbackPlace a 1)) ts c.run r → Took 2 (IsCallback scope a k) ts c r
+took_callback scope a k c ts r named none spelled took =
     record {
       value = took.value;
       taken = took.taken;
-      is = (took.is.0, λ n. rw (spelled, body_anywhere scope (CallbackPlace a 1) (CallbackPlace a n) (items_in (Some took.value)) c.run refl took.is.1) (ap (λ m. some_read (record { name = m; run = c.run })) (sym named)));
+      is = (
+        took.is.0,
+        λ n. rw (spelled, body_anywhere scope (CallbackPlace a 1) (CallbackPlace a n) (items_in (Some took.value)) (plain c.run) refl took.is.1, plain_commands c.run, plain_catches c.run) (rw (← named, ← none) refl),
+      );
       shorter = took.shorter;
     }
 
@@ -137,8 +141,8 @@ abbrev name_in : Result Callback ScriptFault → List ℕ
 name_in (Ok c) = c.name
 name_in (Err f) = []
 
-named_so : (b : Bool) (f : ScriptFault) (k : List ℕ) (run : Result (List Command) ScriptFault) (c : Callback) → then_read (unless_fault b f (Ok k)) (λ n. then_read run (λ cs. Ok (record { name = n; run = cs }))) ≡ Ok c → k ≡ c.name
-named_so true f k (Ok cs) c e = ap name_in e
+named_so : (b : Bool) (f : ScriptFault) (k : List ℕ) (run : Result (List Line) ScriptFault) (c : Callback) → then_read (unless_fault b f (Ok k)) (λ n. then_read run (λ ls. Ok (record { name = n; run = commands_in ls; catches = catches_in ls }))) ≡ Ok c → k ≡ c.name
+named_so true f k (Ok ls) c e = ap name_in e
 named_so true f k (Err x) c e = cc
 named_so false f k run c e = cc
 

@@ -21,6 +21,7 @@ use Rattle.es_script.specs.Taking.{TakesItems, IsRead, Took, TookItems, TookMemb
 use Rattle.es_script.specs.Drafts.{IsKept, IsRun, IsAwaited, job_members, IsJobDraft, AreJobs}
 use Rattle.es_script.proofs.Taking.{takes_array}
 use Rattle.es_script.proofs.Objects.{took_none, took_put, took_object, kept_some}
+use Rattle.es_script.proofs.Plain.{plain_commands, plain_catches}
 
 unless_ok : {A : Type 0} (b : Bool) (d : ScriptFault) (r : Result A ScriptFault) (y : A) → unless_fault b d r ≡ Ok y → b ≡ true
 unless_ok true d r y e = refl
@@ -106,19 +107,20 @@ module _ (scope : Scope) (p : Place) where
 
   -- a job whose commands were read, with or without a message that it waits for
   whole_job : (on_value : Option Data) (d : Data) (on : Option (ℕ × List ℕ)) (cs : List Command) → IsKept (IsAwaited scope (record { place = p; command = 0 })) on_value on → IsRun scope p d cs
-      → IsRead is_job (job_read scope p) (object (job_members on_value (Some d))) (record { on = on; run = cs })
-  whole_job None d None cs kept run = (rw run.0 refl, rw run.1 refl)
+      → IsRead is_job (job_read scope p) (object (job_members on_value (Some d))) (record { on = on; run = cs; catches = [] })
+  whole_job None d None cs kept run = (rw run.0 refl, rw (run.1, plain_commands cs, plain_catches cs) refl)
   whole_job None d (Some on) cs kept run = absurd kept
   whole_job (Some c) d None cs kept run = absurd kept
-  whole_job (Some c) d (Some on) cs kept run = (rw (run.0, kept.0) refl, rw (kept.1, run.1) refl)
+  whole_job (Some c) d (Some on) cs kept run = (rw (run.0, kept.0) refl, rw (kept.1, run.1, plain_commands cs, plain_catches cs) refl)
 
-  pub took_job : (old now new : List Token) (draft : JobDraft) (job : Job) → IsJobDraft scope p old now draft → read_key now ≡ Some (None, new) → draft.on ≡ job.on → draft.run ≡ Some job.run → Took 3 (IsRead is_job (job_read scope p)) old job new
-  took_job old now new draft job all closed on run =
+  pub took_job : (old now new : List Token) (draft : JobDraft) (job : Job) → IsJobDraft scope p old now draft → read_key now ≡ Some (None, new) → draft.on ≡ job.on → draft.run ≡ Some job.run → job.catches ≡ [] → Took 3 (IsRead is_job (job_read scope p)) old job new
+  took_job old now new draft job all closed on run none =
       let kept : IsKept (IsRun scope p) all.run_value (Some job.run) = rw run at all.run_kept in
       let ran = kept_some (IsRun scope p) all.run_value job.run kept in
       let members : TookMembers 2 (job_members all.on_value (Some ran.0)) old now = rw ran.1 at all.members in
+      let is : record { on = job.on; run = job.run; catches = [] } ≡ job = rw none refl in
       took_object 2 (IsRead is_job (job_read scope p)) job (job_members all.on_value (Some ran.0)) old now new members closed
-      (whole_job all.on_value ran.0 job.on job.run (rw on at all.on_kept) ran.2)
+      (subst (IsRead is_job (job_read scope p) (object (job_members all.on_value (Some ran.0)))) is (whole_job all.on_value ran.0 job.on job.run (rw on at all.on_kept) ran.2))
 
 -- an array of jobs
 pub took_jobs : (scope : Scope) (a : ℕ) (js : List Job) (ts s r : List Token) → ts ≡ Token.begin_array ∷ s → TookItems 3 is_job (jobs_read scope a 1) s js r → length js ≤ most_jobs → Took 4 (AreJobs scope a) ts js r

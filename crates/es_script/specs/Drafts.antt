@@ -21,7 +21,7 @@ use Rattle.es_reading.specs.Reading.{on_read, body_read, callback_read, callback
 use Rattle.es_script.specs.declared.job.JobDraft.{JobDraft}
 use Rattle.es_script.specs.declared.agent.AgentDraft.{AgentDraft}
 use Rattle.es_script.specs.declared.by_tokens.PlanDraft.{PlanDraft}
-use Rattle.es_script.specs.Taking.{IsRead, TookMembers}
+use Rattle.es_script.specs.Taking.{plain, IsRead, TookMembers}
 
 -- what is kept of a member's value, where it is there
 abbrev pub IsKept : {A : Type 0} → (Data → A → Type 0) → Option Data → Option A → Type 0
@@ -38,7 +38,7 @@ with_member k (Some d) ms = member k d ms
 -- Jobs
 
 abbrev pub IsRun : Scope → Place → Data → List Command → Type 0
-IsRun scope p = IsRead is_callback (λ d. body_read scope p (items_in (Some d)))
+IsRun scope p d cs = IsRead is_callback (λ d. body_read scope p (items_in (Some d))) d (plain cs)
 
 abbrev pub IsAwaited : Scope → Spot → Data → (ℕ × List ℕ) → Type 0
 IsAwaited scope s d on = IsRead (λ d. is_text_pair (Some d)) (λ d. on_read scope s (Some d)) d (Some on)

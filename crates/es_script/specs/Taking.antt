@@ -1,11 +1,17 @@
 -- Internal: what is taken from the front of a reader's tokens.
-use Rattle.std.specs.Prelude.{ℕ, ◌≡◌, ◌≤◌, ◌<◌, ◌+◌, Bool, true, List, length, Result, Ok, Some}
+use Rattle.std.specs.Prelude.{ℕ, ◌≡◌, ◌≤◌, ◌<◌, ◌+◌, Bool, true, List, length, map, Result, Ok, Some, None}
 use Rattle.json.specs.Token.{Token}
 use Rattle.json.specs.Json.{value, items, members}
 use Rattle.serde_json.specs.Data.{Data, object, Items, Members}
 use Rattle.serde_json.specs.Read.{of_json, of_items, of_members, converted}
+use Rattle.es_event.specs.declared.command.Command.{Command}
+use Rattle.es_reading.specs.Lines.{Line}
 use Rattle.es_reading.specs.Shape.{each}
 use Rattle.es_reading.specs.declared.fault.ScriptFault.{ScriptFault}
+
+-- commands that stand behind no `try`
+abbrev pub plain : List Command → List Line
+plain cs = map (λ c. (None, c)) cs
 
 -- the value comes first, in which arrays and objects nest no deeper than the number, and then the rest
 abbrev pub TakesValue : ℕ → List Token → Data → List Token → Type 0

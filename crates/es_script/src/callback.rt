@@ -53,7 +53,8 @@ fn callback_in<'a>(
 {
     let name = names.read(name)?;
     let run = run_in(names, scope, reader, parts, Place::Callback(agent, 1))?;
-    Ok(Callback { name, run })
+    let catches = Sequence::new(names.allocator());
+    Ok(Callback { name, run, catches })
 }
 
 /// Puts an entry into a map, in the place of one with the same key.

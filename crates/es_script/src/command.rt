@@ -1,12 +1,12 @@
 //! Commands, from their tokens.
 
-ghost use Rattle.std.specs.Prelude.{◌≡◌, ◌≤◌, ◌<◌, IfOk, map, length, ℕ};
+ghost use Rattle.std.specs.Prelude.{◌≡◌, ◌≤◌, ◌<◌, IfOk, None, map, length, ℕ};
 ghost use Rattle.serde_json.specs.View.{items_of};
 ghost use Rattle.es_value.specs.Limits.{most_commands};
 ghost use Rattle.es_reading.specs.Part.{part_data};
-ghost use Rattle.es_reading.specs.Reading.{said, command_read, commands_read};
+ghost use Rattle.es_reading.specs.Reading.{said, line_read, lines_read};
 ghost use Rattle.es_reading.specs.Shape.{is_command};
-ghost use Rattle.es_script.specs.Taking.{TakesValue, TakesItems, IsRead, Took, TookItems};
+ghost use Rattle.es_script.specs.Taking.{plain, TakesValue, TakesItems, IsRead, Took, TookItems};
 ghost use Rattle.es_script.specs.Drafts.{IsRun};
 
 use crate::marks;
@@ -50,7 +50,7 @@ pub(crate) fn parts_in<'a>(reader: &mut Reader<'a>, parts: &mut Vec<Part<'a>>) -
     Ok(())
 }
 
-/// The command that comes next.
+/// The command that comes next. One behind `try` is left to the other reader.
 fn command_in<'a>(
     names: &mut KnownNames,
     scope: &Scope,
@@ -58,7 +58,7 @@ fn command_in<'a>(
     parts: &mut Vec<Part<'a>>,
     spot: Spot,
 ) -> Result<Command, Quit>
-    ensures { IfOk result (λ c. Took 1 (IsRead is_command (command_read (said scope.now) spot)) reader.old c reader.new) }
+    ensures { IfOk result (λ c. Took 1 (IsRead is_command (line_read (said scope.now) spot)) reader.old (None, c) reader.new) }
 {
     marks::open_array(reader)?;
     let word = marks::text(reader)?;
@@ -77,7 +77,7 @@ fn commands_in<'a>(
     parts: &mut Vec<Part<'a>>,
     place: Place,
 ) -> Result<Sequence<Command>, Quit>
-    ensures taken { IfOk result (λ cs. TookItems 1 is_command (commands_read (said scope.now) place 1) reader.old cs reader.new) }
+    ensures taken { IfOk result (λ cs. TookItems 1 is_command (lines_read (said scope.now) place 1) reader.old (plain cs) reader.new) }
     ensures few { IfOk result (λ cs. length cs ≤ most_commands) }
 {
     let mut commands = Sequence::new(names.allocator());

@@ -1,6 +1,6 @@
 //! Jobs, from their tokens.
 
-ghost use Rattle.std.specs.Prelude.{◌≡◌, ◌≤◌, ◌<◌, IfOk, Some, length, List};
+ghost use Rattle.std.specs.Prelude.{◌≡◌, ◌≤◌, ◌<◌, IfOk, Some, [], length, List};
 ghost use Rattle.json.specs.Token.{Token as SpecToken};
 ghost use Rattle.json.specs.Json.{read_key};
 ghost use Rattle.es_value.specs.Limits.{most_jobs};
@@ -16,6 +16,7 @@ use es_event::{Command, Job, Sequence, SharedList};
 use es_reading::{KnownNames, Part, Place, Scope, Spot, awaited_of};
 use es_value::{MOST_JOBS, Name};
 use json::Reader;
+use std::alloc::Global;
 
 /// What was read of a job so far.
 #[derive(Drop)]
@@ -26,13 +27,18 @@ pub(crate) struct JobDraft {
 
 impl JobDraft {
     /// The job, where its commands were read.
-    fn into_job(self) -> Result<Job, Quit>
+    fn into_job(self, alloc: Global) -> Result<Job, Quit>
         ensures on { IfOk result (λ j. self.on ≡ j.on) }
         ensures run { IfOk result (λ j. self.run ≡ Some j.run) }
+        ensures catches { IfOk result (λ j. j.catches ≡ []) }
     {
         let JobDraft { on, run } = self;
         match run {
-            Some(run) => Ok(Job { on, run }),
+            Some(run) => Ok(Job {
+                on,
+                run,
+                catches: Sequence::new(alloc),
+            }),
             None => Err(Quit::Unusual),
         }
     }
@@ -95,7 +101,7 @@ fn job_in<'a>(
     'members: while let Some(key) = reader.next_key()? {
         member_in(names, scope, reader, parts, place, key, &mut draft)?;
     }
-    let job = draft.into_job()?;
+    let job = draft.into_job(names.allocator())?;
     Ok(job)
 }
 

@@ -9,17 +9,18 @@ use Rattle.es_event.specs.declared.command.Command.TheVariants.{SharedArrayBuffe
 use Rattle.es_event.specs.declared.event.Answer.{Answer}
 use Rattle.es_event.specs.declared.event.Event.{Event}
 use Rattle.es_event.specs.declared.event.Event.TheVariants.{Received, Did, Refused}
+use Rattle.es_event.specs.declared.event.Refusal.{Refusal}
 use Rattle.es_event.specs.declared.event.Refusal.TheVariants.{TooManyValues}
 use Rattle.es_event.specs.declared.plan.AgentPlan.{AgentPlan}
 use Rattle.es_event.specs.declared.row.Row.{Row}
 use Rattle.es_event.specs.Access.{change_by}
 use Rattle.es_event.specs.Commands.{opens_words}
-use Rattle.es_event.specs.Follows.{Permits}
+use Rattle.es_event.specs.Follows.{Permits, done_for, refused_now}
 use Rattle.es_event.specs.History.{History}
 use Rattle.es_event.specs.Identities.{made}
 use Rattle.es_event.specs.Jobs.{Receivers, receivers}
 use Rattle.es_event.specs.Legal.{HasWords, Lawful, LegalBy, word_in}
-use Rattle.es_event.specs.Order.{Due, receive, run, due}
+use Rattle.es_event.specs.Order.{Due, receive, run, due, RunsNow}
 use Rattle.es_event.specs.Rows.{row}
 use Rattle.es_event.specs.Runs.{ComesNext, IsRunOver, heard}
 use Rattle.es_event.specs.Sharing.{Buffers, blocks_opened}
@@ -66,9 +67,15 @@ opens_this : (n i : ℕ) (h : History) (e : Event) (q : Row) → opened_row n i 
 opens_this n i h (Did (c, vs, r)) q is = opens_did n i h c vs r q is
 opens_this n i h _ q is = cc
 
-is_due : (over : Buffers) (into : Receivers) (h : History) (d : Due) (c : Command) (vs : List Value) (r : Answer) → Permits over into h d (Did (c, vs, r)) → d ≡ run c
-is_due over into h (run k) c vs r p = ap run (sym p)
-is_due over into h _ c vs r p = absurd p
+-- a block is opened by the due command itself, never by an assignment in its place
+opens_itself : (o : Option Refusal) (x : Option (List ℕ)) (c : Command) (to : List ℕ) (w : ℕ) → SharedArrayBuffer to w ≡ done_for o x c → c ≡ SharedArrayBuffer to w
+opens_itself None x c to w is = sym is
+opens_itself (Some code) None c to w is = sym is
+opens_itself (Some code) (Some y) c to w is = cc
+
+is_due : (over : Buffers) (into : Receivers) (h : History) (d : Due) (to : List ℕ) (w : ℕ) (vs : List Value) (r : Answer) → Permits over into h d (Did (SharedArrayBuffer to w, vs, r)) → RunsNow d (SharedArrayBuffer to w)
+is_due over into h (run x c) to w vs r p = (x, ap (run x) (opens_itself (refused_now over into h c) x c to w p))
+is_due over into h _ to w vs r p = absurd p
 
 -- An event that hears nobody
 
@@ -82,15 +89,15 @@ one_of n i m a ran e f None (Some q) rows cols alike quiet still x y =
 one_of n i m a ran e f (Some r) (Some q) rows cols alike quiet still x y =
     let u = opens_this n i a.history e r (sym rows) in
     let v = opens_this n i a.history f q (sym cols) in
-    let here : due a.plan a.history ≡ run (SharedArrayBuffer u.to u.words) = due_of r e u.to u.words u.values u.answer u.event x in
-    let there : due a.plan a.history ≡ run (SharedArrayBuffer v.to v.words) = due_of q f v.to v.words v.values v.answer v.event y in
-    let sizes : u.words ≡ v.words = (let both = sym here ∙ there in cc) in
+    let here : RunsNow (due a.plan a.history) (SharedArrayBuffer u.to u.words) = due_of r e u.to u.words u.values u.answer u.event x in
+    let there : RunsNow (due a.plan a.history) (SharedArrayBuffer v.to v.words) = due_of q f v.to v.words v.values v.answer v.event y in
+    let sizes : u.words ≡ v.words = (let both = sym here.1 ∙ there.1 in cc) in
     let same : q ≡ r = v.row ∙ ap (λ w. row 0 (named n i (blocks_opened a.history)) w) (sym sizes) ∙ sym u.row in
     one_next ((made a.history + 1, r) ∷ a.over) a.plan a.history e f x (subst (λ r. ComesNext ((made a.history + 1, r) ∷ a.over) a.plan a.history f) same y) alike
   where
-    due_of : (r : Row) (e : Event) (to : List ℕ) (w : ℕ) (vs : List Value) (z : Answer) → e ≡ Did (SharedArrayBuffer to w, vs, z) → ComesNext ((made a.history + 1, r) ∷ a.over) a.plan a.history e → due a.plan a.history ≡ run (SharedArrayBuffer to w)
+    due_of : (r : Row) (e : Event) (to : List ℕ) (w : ℕ) (vs : List Value) (z : Answer) → e ≡ Did (SharedArrayBuffer to w, vs, z) → ComesNext ((made a.history + 1, r) ∷ a.over) a.plan a.history e → RunsNow (due a.plan a.history) (SharedArrayBuffer to w)
     due_of r e to w vs z is x =
-        is_due ((made a.history + 1, r) ∷ a.over) (receivers a.plan.jobs) a.history (due a.plan a.history) (SharedArrayBuffer to w) vs z
+        is_due ((made a.history + 1, r) ∷ a.over) (receivers a.plan.jobs) a.history (due a.plan a.history) to w vs z
         (subst (λ e. Permits ((made a.history + 1, r) ∷ a.over) (receivers a.plan.jobs) a.history (due a.plan a.history) e) is x.1)
 
 -- two ways to go on are one

@@ -15,7 +15,7 @@ use Rattle.es_event.specs.declared.ledger_event.Body.{Body}
 use Rattle.es_event.specs.declared.ledger_event.Body.TheVariants.{Plain, Block}
 use Rattle.es_event.specs.declared.row.Row.{Row}
 use Rattle.es_event.specs.Commands.{collects, reads}
-use Rattle.es_event.specs.Follows.{AtCommand, HasRoom, Permits}
+use Rattle.es_event.specs.Follows.{AtCommand, HasRoom, Permits, done_for, refused_now}
 use Rattle.es_event.specs.Identities.{made, object_of}
 use Rattle.es_event.specs.Jobs.{job, receivers}
 use Rattle.es_event.specs.Legal.{values_of, word_in}
@@ -25,8 +25,8 @@ use Rattle.es_event.specs.Order.{Due, begin, receive, run, clean, take_cell, fin
 use Rattle.es_event.specs.Rules.{completion, refusal, refuse_or, result}
 use Rattle.es_event.specs.Runs.{ComesNext, IsRunOver, a_message, heard, heard_by}
 use Rattle.es_event.specs.Sharing.{AgreeSoFar}
-use Rattle.es_event.proofs.Extending.{agrees_longer, agrees_with_itself, same_completion}
-use Rattle.es_event.proofs.Next.{one_next}
+use Rattle.es_event.proofs.Extending.{agrees_longer, agrees_with_itself, all_refusals, same_completion}
+use Rattle.es_event.proofs.Next.{done_beside, empties_beside, one_next}
 use Rattle.es_match.specs.Asks.{asks_did, between_jobs, nothing as asks_nothing, to_refuse, wants_room}
 use Rattle.es_match.specs.Cluster.{awaited, is_refusal_asked}
 use Rattle.es_match.specs.Deeds.{Deed, Spends}
@@ -100,8 +100,16 @@ not_refused b history r q c d vs a code same read done refused =
     let fails : completion (with_row q b).over b.history d vs (word_in a) ≡ Err code = ap (λ f. refuse_or f (result (with_row q b).over b.history d vs (word_in a))) now in
     let clash = sym done ∙ same_done b history r q d vs (word_in a) ∙ fails in cc
 
-refused_quiet : (b : AgentView) (c : Command) (code : Refusal) → due b.plan b.history ≡ run c → asked_by b (Refused code) ≡ asks_nothing
-refused_quiet b c code at = ap (λ t. cond (t && wants_room code) to_refuse asks_nothing) (at_command b.plan b.history c at)
+-- a refusal is the same, whatever ticket comes
+same_refusal : (b : AgentView) → IsRunOver b.over b.plan b.history → (r q : Option Row) (c : Command)
+    → refused_now (with_row r b).over (receivers b.plan.jobs) b.history c ≡ refused_now (with_row q b).over (receivers b.plan.jobs) b.history c
+same_refusal b history r q c =
+    let vs = values_of (receivers b.plan.jobs) b.history (reads c) in
+    sym (all_refusals b.over (with_row r b).over (receivers b.plan.jobs) b.history history.0 (agrees_row b r) c vs)
+    ∙ all_refusals b.over (with_row q b).over (receivers b.plan.jobs) b.history history.0 (agrees_row b q) c vs
+
+refused_quiet : (b : AgentView) (x : Option (List ℕ)) (c : Command) (code : Refusal) → due b.plan b.history ≡ run x c → asked_by b (Refused code) ≡ asks_nothing
+refused_quiet b x c code at = ap (λ t. cond (t && wants_room code) to_refuse asks_nothing) (at_command b.plan b.history x c at)
 
 both_done : (n : ℕ) (l : Ledger) (b : AgentView) (c d k : Command) (vs us : List Value) (a z : Answer) (r q : Option Row) (ds es : List Deed) → d ≡ c → k ≡ c → Move n l b (Did (d, vs, a)) r ds → Move n l b (Did (k, us, z)) q es
     → Agree n l (Did (d, vs, a)) (Did (k, us, z)) r q ds es
@@ -136,26 +144,30 @@ both_emptied n l b ids jds r q ds es x y =
     }
 
 -- what is refused is not emptied
-not_emptied : (n : ℕ) (l : Ledger) (b : AgentView) (c : Command) (code : Refusal) (ids : List ℕ) (r q : Option Row) (ds es : List Deed) → due b.plan b.history ≡ run c → Move n l b (Refused code) r ds → Move n l b (Emptied ids) q es → ⊥
-not_emptied n l b c code ids r q ds es at x y =
-    let rows : r ≡ q = (is_quiet n l b (Refused code) r ds (refused_quiet b c code at) x).row ∙ sym (no_ticket_emptied n l b ids q es y) in
+not_emptied : (n : ℕ) (l : Ledger) (b : AgentView) (x : Option (List ℕ)) (c : Command) (code : Refusal) (ids : List ℕ) (r q : Option Row) (ds es : List Deed) → due b.plan b.history ≡ run x c → Move n l b (Refused code) r ds → Move n l b (Emptied ids) q es → ⊥
+not_emptied n l b k c code ids r q ds es at x y =
+    let rows : r ≡ q = (is_quiet n l b (Refused code) r ds (refused_quiet b k c code at) x).row ∙ sym (no_ticket_emptied n l b ids q es y) in
     let event : ◌≡◌ {A = Event} (Refused code) (Emptied ids) = one_event n l b (Refused code) (Emptied ids) r q ds es x y rows refl in cc
 
-commanded : (n : ℕ) (l : Ledger) (b : AgentView) → IsRunOver b.over b.plan b.history → (c : Command) → due b.plan b.history ≡ run c → (e f : Event) (r q : Option Row) (ds es : List Deed)
-    → AtCommand (with_row r b).over (receivers b.plan.jobs) b.history c e → AtCommand (with_row q b).over (receivers b.plan.jobs) b.history c f → Move n l b e r ds → Move n l b f q es → Agree n l e f r q ds es
-commanded n l b history c at (Did (d, vs, a)) (Did (k, us, z)) r q ds es p o x y = both_done n l b c d k vs us a z r q ds es p o x y
-commanded n l b history c at (Did (d, vs, a)) (Refused code) r q ds es p o x y = absurd (not_refused b history r q c d vs a code p x.next.lawful.0 x.next.lawful.1 o)
-commanded n l b history c at (Did (d, vs, a)) (Emptied ids) r q ds es p o x y = absurd (false≢true (sym x.next.lawful.2 ∙ ap collects p ∙ (and_parts (collects c) (is_none (snapshot b.history)) o.0).0))
-commanded n l b history c at (Refused code) (Did (k, us, z)) r q ds es p o x y = absurd (not_refused b history q r c k us z code o y.next.lawful.0 y.next.lawful.1 p)
-commanded n l b history c at (Refused code) (Refused other) r q ds es p o x y = both_quiet n l b (Refused code) (Refused other) r q ds es (refused_quiet b c code at) (refused_quiet b c other at) refl x y
-commanded n l b history c at (Refused code) (Emptied ids) r q ds es p o x y = absurd (not_emptied n l b c code ids r q ds es at x y)
-commanded n l b history c at (Emptied ids) (Did (k, us, z)) r q ds es p o x y = absurd (false≢true (sym y.next.lawful.2 ∙ ap collects o ∙ (and_parts (collects c) (is_none (snapshot b.history)) p.0).0))
-commanded n l b history c at (Emptied ids) (Refused code) r q ds es p o x y = absurd (not_emptied n l b c code ids q r es ds at y x)
-commanded n l b history c at (Emptied ids) (Emptied jds) r q ds es p o x y = both_emptied n l b ids jds r q ds es x y
-commanded n l b history c at (Did (d, vs, a)) _ r q ds es p o x y = absurd o
-commanded n l b history c at (Refused code) _ r q ds es p o x y = absurd o
-commanded n l b history c at (Emptied ids) _ r q ds es p o x y = absurd o
-commanded n l b history c at _ f r q ds es p o x y = absurd p
+commanded : (n : ℕ) (l : Ledger) (b : AgentView) → IsRunOver b.over b.plan b.history → (w : Option (List ℕ)) (c : Command) → due b.plan b.history ≡ run w c → (e f : Event) (r q : Option Row) (ds es : List Deed)
+    → AtCommand (with_row r b).over (receivers b.plan.jobs) b.history w c e → AtCommand (with_row q b).over (receivers b.plan.jobs) b.history w c f → Move n l b e r ds → Move n l b f q es → Agree n l e f r q ds es
+commanded n l b history w c at (Did (d, vs, a)) (Did (k, us, z)) r q ds es p o x y =
+    both_done n l b (done_for (refused_now (with_row q b).over (receivers b.plan.jobs) b.history c) w c) d k vs us a z r q ds es (p ∙ ap (λ o. done_for o w c) (same_refusal b history r q c)) o x y
+commanded n l b history w c at (Did (d, vs, a)) (Refused code) r q ds es p o x y =
+    absurd (not_refused b history r q c d vs a code (done_beside (with_row r b).over (receivers b.plan.jobs) b.history w c d o.0 p) x.next.lawful.0 x.next.lawful.1 o.1)
+commanded n l b history w c at (Did (d, vs, a)) (Emptied ids) r q ds es p o x y =
+    absurd (false≢true (sym x.next.lawful.2 ∙ ap collects (empties_beside (with_row r b).over (receivers b.plan.jobs) b.history w c d o.0 p) ∙ (and_parts (collects c) (is_none (snapshot b.history)) o.0).0))
+commanded n l b history w c at (Refused code) (Did (k, us, z)) r q ds es p o x y =
+    absurd (not_refused b history q r c k us z code (done_beside (with_row q b).over (receivers b.plan.jobs) b.history w c k p.0 o) y.next.lawful.0 y.next.lawful.1 p.1)
+commanded n l b history w c at (Refused code) (Refused other) r q ds es p o x y = both_quiet n l b (Refused code) (Refused other) r q ds es (refused_quiet b w c code at) (refused_quiet b w c other at) refl x y
+commanded n l b history w c at (Refused code) (Emptied ids) r q ds es p o x y = absurd (not_emptied n l b w c code ids r q ds es at x y)
+commanded n l b history w c at (Emptied ids) (Did (k, us, z)) r q ds es p o x y = absurd (false≢true (sym y.next.lawful.2 ∙ ap collects (empties_beside (with_row q b).over (receivers b.plan.jobs) b.history w c k p.0 o) ∙ (and_parts (collects c) (is_none (snapshot b.history)) p.0).0))
+commanded n l b history w c at (Emptied ids) (Refused code) r q ds es p o x y = absurd (not_emptied n l b w c code ids q r es ds at y x)
+commanded n l b history w c at (Emptied ids) (Emptied jds) r q ds es p o x y = both_emptied n l b ids jds r q ds es x y
+commanded n l b history w c at (Did (d, vs, a)) _ r q ds es p o x y = absurd o
+commanded n l b history w c at (Refused code) _ r q ds es p o x y = absurd o
+commanded n l b history w c at (Emptied ids) _ r q ds es p o x y = absurd o
+commanded n l b history w c at _ f r q ds es p o x y = absurd p
 
 -- A message
 
@@ -237,7 +249,7 @@ both_closed n l b r q ds es x y = record {
 
 by_due : (n : ℕ) (l : Ledger) (b : AgentView) → IsRunOver b.over b.plan b.history → (d : Due) → due b.plan b.history ≡ d → (e f : Event) (r q : Option Row) (ds es : List Deed)
     → Permits (with_row r b).over (receivers b.plan.jobs) b.history d e → Permits (with_row q b).over (receivers b.plan.jobs) b.history d f → Move n l b e r ds → Move n l b f q es → Agree n l e f r q ds es
-by_due n l b history (run c) at e f r q ds es p o x y = commanded n l b history c at e f r q ds es p o x y
+by_due n l b history (run w c) at e f r q ds es p o x y = commanded n l b history w c at e f r q ds es p o x y
 by_due n l b history (receive j s) at e f r q ds es p o x y = messaged n l b history j s at e f r q ds es p o x y
 by_due n l b history (begin k) at (JobBegun i) (JobBegun j) r q ds es p o x y = both_quiet n l b (JobBegun i) (JobBegun j) r q ds es refl refl refl x y
 by_due n l b history (clean k) at (CleanupBegun i) (CleanupBegun j) r q ds es p o x y = both_quiet n l b (CleanupBegun i) (CleanupBegun j) r q ds es refl refl refl x y

@@ -278,18 +278,18 @@ quiet n c words i m b e r ds x asks opens sent touch still =
     (no_deeds ds (none_more ds (some_if_true _ (tickets b) x.moved.left (ap (λ q. after (tickets b) q ds) (sym asks) ∙ x.moved.met)))) opens sent touch still
 
 refused_at : (b : AgentView) (over : Buffers) (d : Due) (code : Refusal) → due b.plan b.history ≡ d → ((k s : ℕ) → d ≡ receive k s → ⊥) → Permits over (receivers b.plan.jobs) b.history d (Refused code) → asked_by b (Refused code) ≡ asks_nothing
-refused_at b over (run c) code at none p = ap (λ t. cond (t && wants_room code) to_refuse asks_nothing) (at_command b.plan b.history c at)
+refused_at b over (run x c) code at none p = ap (λ t. cond (t && wants_room code) to_refuse asks_nothing) (at_command b.plan b.history x c at)
 refused_at b over (receive k s) code at none p = absurd (none k s refl)
 refused_at b over _ code at none p = absurd p
 
 never : (over : Buffers) (b : AgentView) (d : Due) (t : ℕ) (v : Value) → ((k s : ℕ) → d ≡ receive k s → ⊥) → Permits over (receivers b.plan.jobs) b.history d (Received t v) → ⊥
 never over b (receive k s) t v none p = none k s refl
-never over b (run c) t v none p = p
+never over b (run x c) t v none p = p
 never over b _ t v none p = p
 
 never_skips : (over : Buffers) (b : AgentView) (d : Due) (j t : ℕ) → ((k s : ℕ) → d ≡ receive k s → ⊥) → Permits over (receivers b.plan.jobs) b.history d (Skipped j t) → ⊥
 never_skips over b (receive k s) j t none p = none k s refl
-never_skips over b (run c) j t none p = p
+never_skips over b (run x c) j t none p = p
 never_skips over b _ j t none p = p
 
 says : (n : ℕ) (c : ClusterView) (words : Words) (i : ℕ) (m : Ledger) (b : AgentView) (e : Event) (r : Option Row) (ds : List Deed) → HasWords n c.ledger.history words → AtTurn n c i m b e r ds → ((k s : ℕ) → due b.plan b.history ≡ receive k s → ⊥) → Says n c words i m b e r ds

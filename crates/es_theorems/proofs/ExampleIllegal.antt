@@ -34,7 +34,7 @@ cluster n bs l = record { agents = bs; ledger = record { agents = n; history = l
 -- A block and a ticket with made-up numbers
 
 abbrev opens_one : AgentPlan
-opens_one = record { name = codes "a"; callbacks = []; jobs = record { on = None; run = SharedArrayBuffer (codes "b") 2 ∷ [] } ∷ [] }
+opens_one = record { name = codes "a"; callbacks = []; jobs = record { on = None; catches = []; run = SharedArrayBuffer (codes "b") 2 ∷ [] } ∷ [] }
 
 abbrev begun : AgentView
 begun = record { plan = opens_one; number = 0; agents = 1; over = []; history = JobBegun 1 ∷ [] }
@@ -78,7 +78,7 @@ abbrev load : Command
 load = atomic (codes "b") (Operand.Number (pos 0)) (Operation.Load (codes "x"))
 
 abbrev loads : AgentPlan
-loads = record { name = codes "a"; callbacks = []; jobs = record { on = None; run = SharedArrayBuffer (codes "b") 1 ∷ load ∷ [] } ∷ [] }
+loads = record { name = codes "a"; callbacks = []; jobs = record { on = None; catches = []; run = SharedArrayBuffer (codes "b") 1 ∷ load ∷ [] } ∷ [] }
 
 abbrev with_buffer : AgentView
 with_buffer = record { plan = loads; number = 0; agents = 1; over = (1, row 1 1 1) ∷ []; history = Did (SharedArrayBuffer (codes "b") 1, [], Gives (Object 1)) ∷ JobBegun 1 ∷ [] }
@@ -131,10 +131,10 @@ no_invented_word t = let legal : LegalLedger 1 five = t.legal in let word : ◌�
 -- A skip where a message lies
 
 abbrev sends : AgentPlan
-sends = record { name = codes "a"; callbacks = []; jobs = record { on = None; run = Let (codes "x") (Literal.Number (pos 1)) ∷ Post 1 (codes "x") ∷ [] } ∷ [] }
+sends = record { name = codes "a"; callbacks = []; jobs = record { on = None; catches = []; run = Let (codes "x") (Literal.Number (pos 1)) ∷ Post 1 (codes "x") ∷ [] } ∷ [] }
 
 abbrev hears : AgentPlan
-hears = record { name = codes "b"; callbacks = []; jobs = record { on = Some (0, codes "m"); run = Say (codes "m") ∷ [] } ∷ [] }
+hears = record { name = codes "b"; callbacks = []; jobs = record { on = Some (0, codes "m"); catches = []; run = Say (codes "m") ∷ [] } ∷ [] }
 
 abbrev sender : AgentView
 sender = record { plan = sends; number = 0; agents = 2; over = []; history = Closed ∷ [] }

@@ -11,7 +11,7 @@ use Rattle.es_cluster.specs.Watched.{AreMoves, FitsIn, TakenTurn, busy, busy_aft
 use Rattle.es_theorems.specs.Moving.{moves_of}
 
 abbrev idle : List ℕ → AgentPlan
-idle name = record { name = name; callbacks = []; jobs = record { on = None; run = [] } ∷ [] }
+idle name = record { name = name; callbacks = []; jobs = record { on = None; catches = []; run = [] } ∷ [] }
 
 abbrev agent : ℕ → List ℕ → History → AgentView
 agent n name h = record { plan = idle name; number = n; agents = 2; over = []; history = h }

@@ -11,7 +11,7 @@ use Rattle.es_cluster.specs.State.{ClusterView, first_state}
 use Rattle.es_cluster.specs.Turns.{Turned}
 
 abbrev waits_for : List ℕ → ℕ → AgentPlan
-waits_for name s = record { name = name; callbacks = []; jobs = record { on = Some (s, codes "m"); run = [] } ∷ [] }
+waits_for name s = record { name = name; callbacks = []; jobs = record { on = Some (s, codes "m"); catches = []; run = [] } ∷ [] }
 
 abbrev each_for_the_other : Plan
 each_for_the_other = record { agents = waits_for (codes "a") 1 ∷ waits_for (codes "b") 0 ∷ [] }

@@ -29,7 +29,7 @@ abbrev plan : AgentPlan
 plan = record {
   name = codes "a";
   callbacks = [];
-  jobs = record { on = None; run = SharedArrayBuffer (codes "b") 2 ∷ [] } ∷ [];
+  jobs = record { on = None; catches = []; run = SharedArrayBuffer (codes "b") 2 ∷ [] } ∷ [];
 }
 
 -- a cluster of one agent

@@ -141,12 +141,12 @@ did_none _ vs a t left d ds s e = cc
 -- where an event may come that takes a message or skips one
 received_due : (over : Buffers) (into : Receivers) (h : History) (d : Due) (t : ℕ) (v : Value) → Permits over into h d (Received t v) → (n : ℕ) × (d ≡ receive n t)
 received_due over into h (receive n s) t v may = (n, ap (receive n) (sym may.0))
-received_due over into h (run_due c) t v may = absurd may
+received_due over into h (run_due x c) t v may = absurd may
 received_due over into h _ t v may = absurd may
 
 skipped_due : (over : Buffers) (into : Receivers) (h : History) (d : Due) (j t : ℕ) → Permits over into h d (Skipped j t) → (n : ℕ) × (d ≡ receive n t)
 skipped_due over into h (receive n s) j t may = (n, ap (receive n) (sym may.1))
-skipped_due over into h (run_due c) j t may = absurd may
+skipped_due over into h (run_due x c) j t may = absurd may
 skipped_due over into h _ j t may = absurd may
 
 two_same : (s t : ℕ) (d : Deed) → ends_wait s d ≡ true → ends_wait t d ≡ true → s ≡ t

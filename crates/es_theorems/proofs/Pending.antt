@@ -11,12 +11,12 @@ use Rattle.es_event.specs.declared.event.Event.TheVariants.{JobBegun, CleanupBeg
 use Rattle.es_event.specs.declared.event.Refusal.{Refusal}
 use Rattle.es_event.specs.declared.row.Row.{Row}
 use Rattle.es_event.specs.Commands.{reads}
-use Rattle.es_event.specs.Follows.{AtCommand, Permits}
+use Rattle.es_event.specs.Follows.{AtCommand, Permits, done_for, refused_now}
 use Rattle.es_event.specs.History.{History}
 use Rattle.es_event.specs.Jobs.{Receivers, receivers}
 use Rattle.es_event.specs.Later.{collects_now}
 use Rattle.es_event.specs.Legal.{Lawful, values_of, word_in}
-use Rattle.es_event.specs.Order.{Due, begin, receive, run, clean, take_cell, finish, end_job, close, due}
+use Rattle.es_event.specs.Order.{Due, begin, receive, run, clean, take_cell, finish, end_job, close, due, RunsNow}
 use Rattle.es_event.specs.Rules.{refusal}
 use Rattle.es_event.specs.Runs.{ComesNext}
 use Rattle.es_event.specs.Sharing.{Buffers}
@@ -37,7 +37,7 @@ command_touch over into h (Atomic c) = if_none (refusal over h (Atomic c) (value
 command_touch over into h _ = None
 
 abbrev pub due_touch : Buffers → Receivers → History → Due → Option Touch
-due_touch over into h (run c) = command_touch over into h c
+due_touch over into h (run x c) = command_touch over into h c
 due_touch over into h _ = None
 
 did_touch : (n i : ℕ) (over : Buffers) (r : Option Row) (into : Receivers) (h : History) (c : Command) (vs : List Value) (a : Answer) → r ≡ opened_row n i h (Did (c, vs, a)) → Lawful (with_new r h over) into h (Did (c, vs, a)) → touch_by over (Did (c, vs, a)) ≡ command_touch over into h c
@@ -56,16 +56,27 @@ emptied_touch : (over : Buffers) (into : Receivers) (h : History) (c : Command) 
 emptied_touch over into h (Atomic c) is = absurd (false≢true is)
 emptied_touch over into h _ is = refl
 
-at_command : (n i : ℕ) (over : Buffers) (r : Option Row) (into : Receivers) (h : History) (c : Command) (e : Event) → r ≡ opened_row n i h e → Lawful (with_new r h over) into h e → AtCommand (with_new r h over) into h c e → touch_by over e ≡ command_touch over into h c
-at_command n i over r into h c (Did (d, vs, a)) rows l p =
-    ap (λ d. touch_by over (Did (d, vs, a))) p
-    ∙ did_touch n i over r into h c vs a (rows ∙ ap (λ d. opened_row n i h (Did (d, vs, a))) p) (subst (λ d. Lawful (with_new r h over) into h (Did (d, vs, a))) p l)
-at_command n i over r into h c (Refused code) rows l p = refused_touch over into h c code (subst (λ r. refusal (with_new r h over) h c (values_of into h (reads c)) ≡ Some code) rows p)
-at_command n i over r into h c (Emptied ids) rows l p = emptied_touch over into h c p.0
-at_command n i over r into h c _ rows l p = absurd p
+at_command : (n i : ℕ) (over : Buffers) (r : Option Row) (into : Receivers) (h : History) (x : Option (List ℕ)) (c : Command) (e : Event) → r ≡ opened_row n i h e → Lawful (with_new r h over) into h e → AtCommand (with_new r h over) into h x c e → touch_by over e ≡ command_touch over into h c
+at_command n i over r into h x c (Did (d, vs, a)) rows l p = by_refusal (refused_now (with_new r h over) into h c) x refl p
+  where
+    rows_of : (k : Command) → d ≡ k → r ≡ opened_row n i h (Did (k, vs, a))
+    rows_of k same = rows ∙ ap (λ d. opened_row n i h (Did (d, vs, a))) same
 
-at_due : (n i : ℕ) (over : Buffers) (r : Option Row) (into : Receivers) (h : History) (d : Due) (e : Event) → ((c : Command) → d ≡ run c → r ≡ opened_row n i h e) → Lawful (with_new r h over) into h e → Permits (with_new r h over) into h d e → touch_by over e ≡ due_touch over into h d
-at_due n i over r into h (run c) e rows l p = at_command n i over r into h c e (rows c refl) l p
+    itself : d ≡ c → touch_by over (Did (d, vs, a)) ≡ command_touch over into h c
+    itself same = ap (λ d. touch_by over (Did (d, vs, a))) same ∙ did_touch n i over r into h c vs a (rows_of c same) (subst (λ d. Lawful (with_new r h over) into h (Did (d, vs, a))) same l)
+
+    by_refusal : (o : Option Refusal) (x : Option (List ℕ)) → refused_now (with_new r h over) into h c ≡ o → d ≡ done_for o x c → touch_by over (Did (d, vs, a)) ≡ command_touch over into h c
+    by_refusal None x is p = itself p
+    by_refusal (Some code) None is p = itself p
+    by_refusal (Some code) (Some y) is p =
+        ap (λ d. touch_by over (Did (d, vs, a))) p
+        ∙ refused_touch over into h c code (subst (λ r. refused_now (with_new r h over) into h c ≡ Some code) (rows_of (done_for (Some code) (Some y) c) p) is)
+at_command n i over r into h x c (Refused code) rows l p = refused_touch over into h c code (subst (λ r. refused_now (with_new r h over) into h c ≡ Some code) rows p.1)
+at_command n i over r into h x c (Emptied ids) rows l p = emptied_touch over into h c p.0
+at_command n i over r into h x c _ rows l p = absurd p
+
+at_due : (n i : ℕ) (over : Buffers) (r : Option Row) (into : Receivers) (h : History) (d : Due) (e : Event) → ((c : Command) → RunsNow d c → r ≡ opened_row n i h e) → Lawful (with_new r h over) into h e → Permits (with_new r h over) into h d e → touch_by over e ≡ due_touch over into h d
+at_due n i over r into h (run x c) e rows l p = at_command n i over r into h x c e (rows c (x, refl)) l p
 at_due n i over r into h (receive k s) (Received t v) rows l p = refl
 at_due n i over r into h (receive k s) (Skipped j t) rows l p = refl
 at_due n i over r into h (receive k s) (Refused code) rows l p = refl
@@ -77,9 +88,9 @@ at_due n i over r into h end_job JobEnded rows l p = refl
 at_due n i over r into h close Closed rows l p = refl
 at_due n i over r into h _ e rows l p = absurd p
 
-found_row : (n : ℕ) (all : Locals) (m : Words) (i : ℕ) (a : Local) (d : Due) (e : Event) (r : Option Row) (got : List ℕ) → Finds n all m i a d e r got → (c : Command) → d ≡ run c → r ≡ opened_row n i a.history e
-found_row n all m i a (run k) e r got f c is = f.0
-found_row n all m i a _ e r got f c is = cc
+found_row : (n : ℕ) (all : Locals) (m : Words) (i : ℕ) (a : Local) (d : Due) (e : Event) (r : Option Row) (got : List ℕ) → Finds n all m i a d e r got → (c : Command) → RunsNow d c → r ≡ opened_row n i a.history e
+found_row n all m i a (run x k) e r got f c is = f.0
+found_row n all m i a _ e r got f c is = let clash = is.1 in cc
 
 pub touch_due : (n : ℕ) (all : Locals) (m : Words) (i : ℕ) (a : Local) (e : Event) (r : Option Row) (got : List ℕ) → ComesNext (with_new r a.history a.over) a.plan a.history e → Finds n all m i a (due a.plan a.history) e r got
     → touch_by a.over e ≡ due_touch a.over (receivers a.plan.jobs) a.history (due a.plan a.history)

@@ -16,7 +16,7 @@ use Rattle.es_event.specs.declared.event.Refusal.TheVariants.{IndexOutOfRange}
 use Rattle.es_event.specs.declared.plan.AgentPlan.{AgentPlan}
 use Rattle.es_event.specs.declared.row.Row.{Row}
 use Rattle.es_event.specs.Commands.{first, opens_words, reads, second}
-use Rattle.es_event.specs.Follows.{Follows, Permits}
+use Rattle.es_event.specs.Follows.{Follows, Permits, done_for}
 use Rattle.es_event.specs.History.{History}
 use Rattle.es_event.specs.Identities.{made, object_of}
 use Rattle.es_event.specs.Jobs.{Receivers, receivers}
@@ -102,7 +102,8 @@ lawful f over into h a (Received t v) x = arrives f over h v x
 lawful f over into h a _ x = x
 
 permitted : (f : ℕ → ℕ) (over : Buffers) (into : Receivers) (h : History) (d : Due) (e : Event) → Permits over into h d e → Permits (renamed f over) into h d e
-permitted f over into h (run c) (Refused code) p = refused f over h c (values_of into h (reads c)) ∙ p
+permitted f over into h (run x c) (Did (d, vs, r)) p = p ∙ ap (λ o. done_for o x c) (sym (refused f over h c (values_of into h (reads c))))
+permitted f over into h (run x c) (Refused code) p = (p.0, refused f over h c (values_of into h (reads c)) ∙ p.1)
 permitted f over into h d e p = p
 
 pub comes_renamed : (f : ℕ → ℕ) (over : Buffers) (plan : AgentPlan) (h : History) (e : Event) → TellsApart f over → ComesNext over plan h e → ComesNext (renamed f over) plan h e

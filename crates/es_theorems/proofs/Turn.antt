@@ -13,7 +13,7 @@ use Rattle.es_event.specs.declared.access.Edit.{Edit}
 use Rattle.es_event.specs.declared.access.Modification.{Modification}
 use Rattle.es_event.specs.declared.atomic.Operation.{Operation}
 use Rattle.es_event.specs.declared.command.Command.{Command}
-use Rattle.es_event.specs.declared.command.Command.TheVariants.{Atomic, Post}
+use Rattle.es_event.specs.declared.command.Command.TheVariants.{Atomic, Let, Post}
 use Rattle.es_event.specs.declared.event.Answer.{Answer}
 use Rattle.es_event.specs.declared.event.Answer.TheVariants.{Nothing, Gives}
 use Rattle.es_event.specs.declared.event.Event.{Event}
@@ -24,6 +24,7 @@ use Rattle.es_event.specs.declared.ledger_event.Body.{Body}
 use Rattle.es_event.specs.declared.ledger_event.Body.TheVariants.{Plain, Block}
 use Rattle.es_event.specs.declared.ledger_event.LedgerEvent.{LedgerEvent}
 use Rattle.es_event.specs.declared.ledger_event.LedgerEvent.TheVariants.{Opened, Posted, Taken, Spent, Accessed, Waiting as WaitingEvent, Passed, Ended as EndedEvent}
+use Rattle.es_event.specs.declared.literal.Literal.{Literal}
 use Rattle.es_event.specs.declared.row.Row.{Row}
 use Rattle.es_event.specs.Access.{to_uint32, IsStorable, change_by, edit_of}
 use Rattle.es_event.specs.Commands.{reads, first}
@@ -38,6 +39,7 @@ use Rattle.es_event.specs.Later.{derefed_since}
 use Rattle.es_event.specs.Legal.{is_rising, values_of, Lawful}
 use Rattle.es_event.specs.Order.{Due, begin, receive, run, clean, take_cell, finish, end_job, close, nothing, due}
 use Rattle.es_event.specs.Follows.{Permits}
+use Rattle.es_event.specs.Report.{refusal_text}
 use Rattle.es_event.specs.Rows.{row}
 use Rattle.es_event.specs.Rules.{completion, refusal}
 use Rattle.es_event.proofs.Entries.{inner}
@@ -55,7 +57,7 @@ use Rattle.es_ledger.proofs.Tying.{next_legal}
 use Rattle.es_record.specs.AgentView.{AgentView, IsNext, with_buffer}
 use Rattle.es_rules.specs.Giving.{MayGive}
 use Rattle.es_rules.specs.Needs.{Need, Request, for_block, for_post, for_buffer_post, for_access, asked as asked_of, asks_nobody, asks_marks, asks_copy, asks_late_marks, asks_ledger, asks_message, asks_closing, asks_nothing, need, need_of, access_at, posts_to, Brings, TakesDone, TakesTicket, TakesWord}
-use Rattle.es_rules.proofs.Answering.{block_makes, block_next, buffer_received, done_next, job_skipped, local_done, local_refused, may_give_nothing, may_give_word, message_refused, value_received}
+use Rattle.es_rules.proofs.Answering.{block_makes, block_next, buffer_received, done_next, job_skipped, caught_next, local_done, may_give_nothing, may_give_word, message_refused, refused_next, refuses_due, value_received}
 use Rattle.es_rules.proofs.Needs.{finish_due, ledger_due, local_command, message_due, not_refused}
 use Rattle.es_agent.specs.Later.{opening}
 use Rattle.es_agent.specs.Tickets.{Admits, AreLateNow, Collects, DoesWith, Finishes, Receives, RefusesMessage, Skips, tickets, Empties}
@@ -175,19 +177,19 @@ unasked b l m d is other s asks = absurd (other s (sym is ∙ asks))
 permitted_at : (b : AgentView) (d : Due) (e : Event) → due b.plan b.history ≡ d → Lawful b.over (receivers b.plan.jobs) b.history e → Permits b.over (receivers b.plan.jobs) b.history d e → IsNext b e
 permitted_at b d e is lawful permits = record { lawful = lawful; permitted = subst (λ d. Permits b.over (receivers b.plan.jobs) b.history d e) (sym is) permits }
 
-local_command_next : (b : AgentView) (c : Command) (o : Result Answer Refusal) → due b.plan b.history ≡ run c → need_of b (run c) ≡ asks_nobody → completion b.over b.history c (values_of (receivers b.plan.jobs) b.history (reads c)) 0 ≡ o → (e : Event) × IsNext b e
-local_command_next b c (Ok r) is asks gives =
-    let alone = local_command b c asks in
+local_command_next : (b : AgentView) (x : Option (List ℕ)) (c : Command) (o : Result Answer Refusal) → due b.plan b.history ≡ run x c → need_of b (run x c) ≡ asks_nobody → completion b.over b.history c (values_of (receivers b.plan.jobs) b.history (reads c)) 0 ≡ o → (e : Event) × IsNext b e
+local_command_next b x c (Ok r) is asks gives =
+    let alone = local_command b x c asks in
     let vs = values_of (receivers b.plan.jobs) b.history (reads c) in
-    (Did (c, vs, r), local_done b c vs r is alone.0 alone.1 refl gives)
-local_command_next b c (Err code) is asks gives =
-    let vs = values_of (receivers b.plan.jobs) b.history (reads c) in
-    (Refused code, local_refused b c vs code is refl gives)
+    (Did (c, vs, r), local_done b c vs r (x, is) alone.0 alone.1 refl gives)
+local_command_next b None c (Err code) is asks gives = (Refused code, refused_next b c code is (refuses_due b c (values_of (receivers b.plan.jobs) b.history (reads c)) code refl gives))
+local_command_next b (Some x) c (Err code) is asks gives =
+    (Did (Let x (Literal.Text (refusal_text code)), [], Answer.Gives (Value.Text (refusal_text code))), caught_next b x c code is (refuses_due b c (values_of (receivers b.plan.jobs) b.history (reads c)) code refl gives))
 
 local_at : (b : AgentView) (d : Due) → due b.plan b.history ≡ d → need_of b d ≡ asks_nobody → (e : Event) × IsNext b e
 local_at b (begin n) is asks = (JobBegun n, permitted_at b (begin n) (JobBegun n) is tt refl)
 local_at b (receive n s) is asks = cc
-local_at b (run c) is asks = local_command_next b c (completion b.over b.history c (values_of (receivers b.plan.jobs) b.history (reads c)) 0) is asks refl
+local_at b (run x c) is asks = local_command_next b x c (completion b.over b.history c (values_of (receivers b.plan.jobs) b.history (reads c)) 0) is asks refl
 local_at b (clean r) is asks = (CleanupBegun r, permitted_at b (clean r) (CleanupBegun r) is tt refl)
 local_at b (take_cell n) is asks =
     let some : SomeAt b.over (receivers b.plan.jobs) b.history (take_cell n) = subst (SomeAt b.over (receivers b.plan.jobs) b.history) is (some_next b.over b.plan b.history (λ none. let clash : nothing ≡ take_cell n = sym none ∙ is in cc)) in
@@ -295,7 +297,7 @@ opened_block b l n x is =
     let e = Did (at.0, [], Gives (Object (made b.history + 1))) in
     let new = record (with_buffer r b) { history = e ∷ b.history } in
     let m = Opened (opened l.history + 1) n (serials l.history + 1) b.number ∷ l.history in
-    let admits : Admits b r new = (e, subst (λ d. Brings d (made b.history + 1) e) (sym at.1) refl, block_next b at.0 r fits at.1, refl) in
+    let admits : Admits b r new = (e, subst (λ d. Brings d (made b.history + 1) e) (sym at.1.1) refl, block_next b at.0 r fits at.1, refl) in
     let grows = opening_grows b l.history m b.number (opened l.history + 1) n (serials l.history + 1) refl refl in
     let fetched = opens b (stake b) l m n r (ready b l x) is refl refl in
     let one = block_makes b at.0 r fits at.1 in

@@ -120,7 +120,7 @@ refused_one t left now met = at (option_map_or (λ p. is_refusal p.0 p.1) (pair 
 
 -- what is refused between two jobs is a message
 pub refused_between : (over : Buffers) (into : Receivers) (plan : AgentPlan) (h : History) (code : Refusal) (d : Due) → due plan h ≡ d → Permits over into h d (Refused code) → between_jobs h ≡ true → (n s : ℕ) × (due plan h ≡ receive n s)
-refused_between over into plan h code (run c) is may between = absurd (false≢true (sym (at_command plan h c is) ∙ between))
+refused_between over into plan h code (run x c) is may between = absurd (false≢true (sym (at_command plan h x c is) ∙ between))
 refused_between over into plan h code (receive n s) is may between = (n, s, is)
 refused_between over into plan h code _ is may between = absurd may
 

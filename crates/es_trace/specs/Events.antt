@@ -1,5 +1,5 @@
 -- To believe: the rows of an event of an agent, and what it answered.
-use Rattle.std.specs.Prelude.{ℕ, Bool, true, false, List, [], ◌++◌, Option, Some, None, codes, decimal, slice_get}
+use Rattle.std.specs.Prelude.{ℕ, Bool, true, false, List, [], ◌++◌, Option, Some, None, codes, decimal, slice_get, if◌then◌else◌}
 use Rattle.std.specs.List.{flat_map}
 use Rattle.es_value.specs.declared.value.Value.{Value}
 use Rattle.es_value.specs.Printed.{value_text}
@@ -28,12 +28,27 @@ abbrev pub or_else : List ℕ → List (List ℕ) → AgentPlan → Option Comma
 or_else text names plan None = text
 or_else text names plan (Some c) = command_text names plan c
 
+-- a refusal that is caught is done as the `let` of its text, in the place of the command at hand; a `let` is never refused
+abbrev pub is_let : Command → Bool
+is_let (Command.Let x l) = true
+is_let c = false
+
+-- the variable and the command that was refused, where the command that was done is such a `let`
+abbrev pub caught : Option Command → Command → Option (List ℕ × Command)
+caught None c = None
+caught (Some d) (Command.Let x l) = if is_let d then None else Some (x, d)
+caught (Some d) c = None
+
+abbrev pub did_text : List (List ℕ) → AgentPlan → Option (List ℕ × Command) → Command → List ℕ
+did_text names plan None c = command_text names plan c
+did_text names plan (Some p) c = codes "try " ++ p.0 ++ codes " " ++ command_text names plan p.1
+
 -- the event, where this command was at hand
 abbrev pub event_text : List (List ℕ) → AgentPlan → Option Command → Event → List ℕ
 event_text names plan o (JobBegun j) = codes "job " ++ decimal j
 event_text names plan o (CleanupBegun q) = codes "cleanup job of object " ++ decimal q
 event_text names plan o (Received t v) = codes "message of " ++ name_at names t
-event_text names plan o (Did (c, vs, r)) = command_text names plan c
+event_text names plan o (Did (c, vs, r)) = did_text names plan (caught o c) c
 event_text names plan o (Refused code) = or_else (codes "message") names plan o
 event_text names plan o (Emptied ids) = or_else (codes "later collection ends") names plan o
 event_text names plan o (Taken n held) = codes "registration " ++ decimal n ++ codes " taken"

@@ -4,8 +4,9 @@ ghost use Rattle.std.specs.Prelude.{◌≡◌, ◌++◌, codes, decimal, IfOk, O
 ghost use Rattle.std.specs.Option.{option_copied};
 ghost use Rattle.std.specs.Io.KnownBytes.{Appends};
 ghost use Rattle.es_trace.specs.Commands.{name_at as name_said};
-ghost use Rattle.es_trace.specs.Events.{event_text, or_else};
+ghost use Rattle.es_trace.specs.Events.{caught as caught_said, did_text, event_text, or_else};
 
+use crate::caught_refusal::caught;
 use crate::command::write_command;
 use crate::naming::name_at;
 use crate::row::empty_text;
@@ -44,7 +45,7 @@ fn write_event<W: Write>(
         Event::JobBegun { job } => write_job(*job, writer),
         Event::CleanupBegun { registry } => write_cleanup(*registry, writer),
         Event::Received { sender, .. } => write_message(names, *sender, writer),
-        Event::Did(done) => write_command(Style::Words, done.command(), names, plan, writer),
+        Event::Did(done) => write_did(at_hand, done.command(), names, plan, writer),
         Event::Refused { .. } => write_or_else(at_hand, "message", names, plan, writer),
         Event::Emptied { .. } => {
             write_or_else(at_hand, "later collection ends", names, plan, writer)
@@ -54,6 +55,32 @@ fn write_event<W: Write>(
         Event::Skipped { sender, .. } => write_no_message(names, *sender, writer),
         Event::Closed => writer.write_all(b"agent ends"),
     }
+}
+
+/// Writes the command that was done, or the one that was refused behind its `try`.
+fn write_did<W: Write>(
+    at_hand: Option<&Command>,
+    done: &Command,
+    names: &[Name],
+    plan: &AgentPlan,
+    writer: &mut W,
+) -> Result<(), io::Error>
+    ensures { OnOk result (Appends (W.contents writer.old) (W.contents writer.new) (did_text names.now plan.now (caught_said (option_copied at_hand.entry) done.now) done.now)) }
+{
+    match caught(at_hand, done) {
+        Some((to, refused)) => {
+            write_try(to, writer)?;
+            write_command(Style::Words, refused, names, plan, writer)
+        }
+        None => write_command(Style::Words, done, names, plan, writer),
+    }
+}
+
+fn write_try<W: Write>(to: &Name, writer: &mut W) -> Result<(), io::Error>
+    ensures { OnOk result (Appends (W.contents writer.old) (W.contents writer.new) (codes "try " ++ to.now ++ codes " ")) }
+{
+    let to = to.as_str();
+    write!(writer, "try {to} ")
 }
 
 /// Writes a command, or this text where there is none.

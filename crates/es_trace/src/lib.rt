@@ -4,6 +4,7 @@
 
 mod answer;
 mod callbacks;
+mod caught_refusal;
 mod command;
 mod event;
 mod kept;
@@ -18,6 +19,7 @@ mod style;
 mod told;
 mod words;
 
+pub use caught_refusal::caught;
 pub use command::write_command;
 pub use ledger::write_ledger;
 pub use naming::name_at;

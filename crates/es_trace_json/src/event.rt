@@ -7,15 +7,16 @@ ghost use Rattle.es_value.specs.Printed.{quoted};
 ghost use Rattle.es_event.specs.Report.{refusal_text as refusal_said};
 ghost use Rattle.es_event.specs.Answers.{answer_said};
 ghost use Rattle.es_trace.specs.Commands.{command_json, name_at as name_said};
-ghost use Rattle.es_trace_json.specs.Events.{answer_json, command_if, event_line, members};
+ghost use Rattle.es_trace.specs.Events.{caught as caught_said};
+ghost use Rattle.es_trace_json.specs.Events.{answer_json, command_if, did_members, error_json, event_line, members};
 ghost use Rattle.es_trace_json.specs.Values.{array_json, value_json};
 
 use crate::array::write_array;
 use crate::command::{write_array_of, write_if_any};
 use crate::member::{begin_line, write_agent};
-use crate::value::write_value;
+use crate::value::{write_quoted, write_value};
 use es_event::{AgentPlan, AnswerRef, Command, Event, Refusal};
-use es_report::refusal_text;
+use es_trace::caught;
 use es_value::{Id, Name, Value};
 use std::io;
 use std::io::Write;
@@ -52,9 +53,10 @@ fn write_members<W: Write>(
         Event::JobBegun { job } => write_job(*job, writer),
         Event::CleanupBegun { registry } => write_cleanup(*registry, writer),
         Event::Received { sender, value } => write_message(names, *sender, value, writer),
-        Event::Did(done) => write_did(
+        Event::Did(done) => write_done(
             names,
             plan,
+            at_hand,
             done.command(),
             done.values(),
             done.answer(),
@@ -94,6 +96,58 @@ fn write_message<W: Write>(
     write_agent("sender", names, sender, writer)?;
     writer.write_all(b",\"value\":")?;
     write_value(value, writer)
+}
+
+/// Writes what was done: the command, or that its refusal was caught.
+fn write_done<W: Write>(
+    names: &[Name],
+    plan: &AgentPlan,
+    at_hand: Option<&Command>,
+    command: &Command,
+    values: &[Value],
+    answer: AnswerRef<'_>,
+    writer: &mut W,
+) -> Result<(), io::Error>
+    ensures { OnOk result (Appends (W.contents writer.old) (W.contents writer.new) (did_members names.now plan.now (caught_said (option_copied at_hand.entry) command.now) command.now values.now (answer_said answer.entry))) }
+{
+    match caught(at_hand, command) {
+        Some((to, refused)) => write_caught(names, plan, to, refused, answer, writer),
+        None => write_did(names, plan, command, values, answer, writer),
+    }
+}
+
+fn write_caught<W: Write>(
+    names: &[Name],
+    plan: &AgentPlan,
+    to: &Name,
+    refused: &Command,
+    answer: AnswerRef<'_>,
+    writer: &mut W,
+) -> Result<(), io::Error>
+    ensures { OnOk result (Appends (W.contents writer.old) (W.contents writer.new) (codes "\"event\":\"caught\",\"variable\":" ++ (quoted to.now ++ (codes ",\"command\":" ++ (command_json names.now plan.now refused.now ++ (codes ",\"error\":" ++ error_json (answer_said answer.entry))))))) }
+{
+    writer.write_all(b"\"event\":\"caught\",\"variable\":")?;
+    write_variable(to, writer)?;
+    writer.write_all(b",\"command\":")?;
+    write_array_of(refused, names, plan, writer)?;
+    writer.write_all(b",\"error\":")?;
+    write_caught_error(answer, writer)
+}
+
+fn write_variable<W: Write>(to: &Name, writer: &mut W) -> Result<(), io::Error>
+    ensures { OnOk result (Appends (W.contents writer.old) (W.contents writer.new) (quoted to.now)) }
+{
+    write_quoted(to.as_str(), writer)
+}
+
+/// Writes the text that a refusal gave the variable that catches it.
+fn write_caught_error<W: Write>(answer: AnswerRef<'_>, writer: &mut W) -> Result<(), io::Error>
+    ensures { OnOk result (Appends (W.contents writer.old) (W.contents writer.new) (error_json (answer_said answer.entry))) }
+{
+    match answer {
+        AnswerRef::Gives(value) => write_value(value, writer),
+        AnswerRef::Nothing | AnswerRef::Listed(_) => writer.write_all(b"null"),
+    }
 }
 
 fn write_did<W: Write>(
@@ -158,7 +212,7 @@ fn write_refused<W: Write>(
 fn write_error<W: Write>(code: Refusal, writer: &mut W) -> Result<(), io::Error>
     ensures { OnOk result (Appends (W.contents writer.old) (W.contents writer.new) (codes ",\"error\":" ++ quoted (refusal_said code))) }
 {
-    let text = refusal_text(code);
+    let text = code.text();
     write!(writer, ",\"error\":\"{text}\"")
 }
 

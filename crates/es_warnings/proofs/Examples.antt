@@ -29,7 +29,7 @@ abbrev held : List ℕ
 held = codes "held"
 
 abbrev job : List Command → JobPlan
-job run = record { on = None; run = run }
+job run = record { on = None; catches = []; run = run }
 
 abbrev agent : List CallbackPlan → List JobPlan → AgentPlan
 agent callbacks jobs = record { name = codes "m"; callbacks = callbacks; jobs = jobs }
@@ -49,7 +49,7 @@ warned_of = refl
 
 -- a callback may have assigned a before the job reads it, and the host assigns held; without a callback nothing does
 abbrev called : List CallbackPlan
-called = record { name = codes "f"; run = Say held ∷ New a ∷ [] } ∷ []
+called = record { name = codes "f"; catches = []; run = Say held ∷ New a ∷ [] } ∷ []
 
 given : warnings (alone called (job (Say a ∷ Say held ∷ []) ∷ [])) ≡ []
 given = refl
@@ -58,11 +58,11 @@ not_given : warnings (alone [] (job (Say held ∷ []) ∷ [])) ≡ warning 0 hel
 not_given = refl
 
 -- what a callback reads and only a job assigns is assigned by then, or not: nobody is warned
-in_callback : warnings (alone (record { name = codes "f"; run = Say a ∷ [] } ∷ []) (job (New a ∷ []) ∷ [])) ≡ []
+in_callback : warnings (alone (record { name = codes "f"; catches = []; run = Say a ∷ [] } ∷ []) (job (New a ∷ []) ∷ [])) ≡ []
 in_callback = refl
 
 -- a message assigns a; what is copied into b lives on in it; undefined lets go what c held
-kept : warnings (alone [] (record { on = Some (1, a); run = Copy b a ∷ New c ∷ Say c ∷ Let c Undefined ∷ [] } ∷ [])) ≡ []
+kept : warnings (alone [] (record { on = Some (1, a); catches = []; run = Copy b a ∷ New c ∷ Say c ∷ Let c Undefined ∷ [] } ∷ [])) ≡ []
 kept = refl
 
 let_go : warnings (alone [] (job (Let a Undefined ∷ []) ∷ [])) ≡ []
@@ -72,7 +72,7 @@ let_go = refl
 abbrev registers : List Command
 registers = FinalizationRegistry a 1 ∷ New b ∷ New c ∷ Register a b c None ∷ Register a b b (Some c) ∷ []
 
-registered : warnings (alone (record { name = codes "f"; run = Register a b b None ∷ [] } ∷ []) (job registers ∷ []))
+registered : warnings (alone (record { name = codes "f"; catches = []; run = Register a b b None ∷ [] } ∷ []) (job registers ∷ []))
     ≡ warning 0 b (at (Job 0) 4) HeldTarget ∷ warning 0 b (at (Callback 0) 0) HeldTarget ∷ []
 registered = refl
 

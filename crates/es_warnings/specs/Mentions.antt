@@ -73,12 +73,22 @@ module _ {A : Type 0} where
 abbrev pub awaited : Section → Option (ℕ × List ℕ) → List Mention
 awaited s on = map (λ p. mention (record { section = s; index = 0 }) Assigned p.1) (option_to_list on)
 
+-- the variable that catches the refusal of the command there
+abbrev pub caught_at : Place → Option (List ℕ) → List Mention
+caught_at place x = map (mention place Assigned) (option_to_list x)
+
+-- those that catch refusals, of which the first stands at index i
+abbrev pub caught : Section → ℕ → List (Option (List ℕ)) → List Mention
+caught s i [] = []
+caught s i (x ∷ xs) = caught_at (record { section = s; index = i }) x ++ caught s (i + 1) xs
+
+-- a plan does not tell whether a refusal is caught, so what may be assigned then is mentioned before the commands
 abbrev pub in_job : Section → JobPlan → List Mention
-in_job s job = awaited s job.on ++ each_command mentions s 0 job.run
+in_job s job = awaited s job.on ++ (caught s 0 job.catches ++ each_command mentions s 0 job.run)
 
 -- the host assigns `held` before it calls a callback
 abbrev pub in_callback : Section → CallbackPlan → List Mention
-in_callback s c = mention (record { section = s; index = 0 }) Assigned (codes "held") ∷ each_command mentions s 0 c.run
+in_callback s c = mention (record { section = s; index = 0 }) Assigned (codes "held") ∷ (caught s 0 c.catches ++ each_command mentions s 0 c.run)
 
 -- all, in the order of the jobs, and then of the callbacks, which may run between any two jobs
 abbrev pub mentioned : AgentPlan → List Mention

@@ -4,11 +4,11 @@ ghost use Rattle.std.specs.Prelude.{◌≡◌, [], ◌∷◌, Some, codes, lengt
 ghost use Rattle.std.specs.Option.{option_copied};
 ghost use Rattle.es_event.specs.Reading.{names_of};
 ghost use Rattle.es_warnings.specs.Known.{IsEntry, Knows, Notes, noted as noted_said};
-ghost use Rattle.es_warnings.specs.Mentions.{awaited, each_callback, each_command, each_job, in_callback, in_job, mention, mentioned, mentions, read_all};
+ghost use Rattle.es_warnings.specs.Mentions.{awaited, caught, caught_at, each_callback, each_command, each_job, in_callback, in_job, mention, mentioned, mentions, read_all};
 ghost use Rattle.es_warnings.specs.Warnings.{is_answer as is_answer_said, is_in_callback as is_in_callback_said, is_reading as is_reading_said, newest_first};
 
 use crate::mention::{Manner, Place, Section, manner_of};
-use es_event::{AgentPlan, Callback, Command, Job, OperandNames};
+use es_event::{AgentPlan, Callback, Command, Job, OperandNames, OptionalName};
 use es_value::{Name, NameFault, NoMemory};
 use indexmap::IndexMap;
 use std::alloc::Global;
@@ -63,6 +63,7 @@ impl Variables {
         for (number, job) in jobs.iter().enumerate() {
             let section = Section::Job(number);
             self.note_awaited(section, job)?;
+            self.note_caught(section, job.catches.as_slice())?;
             self.note_commands(section, job.run.as_slice())?;
         }
         Ok(())
@@ -86,9 +87,29 @@ impl Variables {
         for (number, callback) in callbacks.iter().enumerate() {
             let section = Section::Callback(number);
             self.note(held, Manner::Assigned, Place { section, index: 0 })?;
+            self.note_caught(section, callback.catches.as_slice())?;
             self.note_commands(section, callback.run.as_slice())?;
         }
         Ok(())
+    }
+
+    /// The variables that catch refusals.
+    fn note_caught(&mut self, section: Section, catches: &[OptionalName]) -> Result<(), NoMemory>
+        ensures { OnOk result (Notes self.old self.new (caught section 0 catches.now)) }
+    {
+        for (index, to) in catches.iter().enumerate() {
+            self.note_catch(to, Place { section, index })?;
+        }
+        Ok(())
+    }
+
+    fn note_catch(&mut self, to: &OptionalName, place: Place) -> Result<(), NoMemory>
+        ensures { OnOk result (Notes self.old self.new (caught_at place to.now)) }
+    {
+        match to.get() {
+            Some(name) => self.note(name, Manner::Assigned, place),
+            None => Ok(()),
+        }
     }
 
     fn note_commands(&mut self, section: Section, commands: &[Command]) -> Result<(), NoMemory>

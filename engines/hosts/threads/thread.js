@@ -54,7 +54,8 @@ globalThis.threadOf = function ({ place, how, words, link, host }) {
       own.add(words, ofPort(POSTED, place, receiver), 1);
     }
     perform(c) {
-      if (how === "command") wait(this.job, this.job && (this.command += 1));
+      // What stands behind `try` takes the turn for both.
+      if (how === "command" && c[0] !== "try") wait(this.job, this.job && (this.command += 1));
       super.perform(c);
     }
     async runNow(job, message) {

@@ -4,7 +4,7 @@ import { isFloat } from "../json.mjs";
 import { noAgent, noCallback } from "./absent.mjs";
 import { illText, isName, isText, noName } from "./names.mjs";
 import { quoted, valueText } from "./texts.mjs";
-import { lettersOf, nearest, sinceOf, typesOf } from "./words.mjs";
+import { lettersOf, nearest, sinceOf, TRY, typesOf } from "./words.mjs";
 
 const MOST_WORDS = 16384;
 /** What an operand of a type has to be. */
@@ -16,8 +16,18 @@ const WANTED = {
 const isString = ({ content }) => typeof content === "string";
 const isNumber = ({ content }) => typeof content === "number";
 
-/** The sentence on a command of an agent, by its number. */
-export function commandSentence(code, plan, agent, [{ content: word }, ...operands]) {
+const TRY_TAKES = "try takes a variable, and then the word of a command and its operands.";
+
+/** The sentence on a command of an agent, by its number, which may stand behind `try` and a variable. */
+export function commandSentence(code, plan, agent, command) {
+  if (command[0].content !== TRY || versionOf(plan) < 3) return bareSentence(code, plan, agent, command);
+  const [, variable, ...tried] = command;
+  if (tried.length === 0 || !isString(variable) || !isString(tried[0])) return TRY_TAKES;
+  if (code === "S5" && !isName(variable.content)) return `The variable of try is a name, and ${noName(variable.content)}`;
+  return bareSentence(code, plan, agent, tried);
+}
+
+function bareSentence(code, plan, agent, [{ content: word }, ...operands]) {
   if (code === "S9") return `${word} can't stand in a callback: collect in a job.`;
   const types = typesOf(word, operands.length, versionOf(plan));
   if (types === null) return noWord(word);
@@ -33,6 +43,7 @@ const versionOf = (plan) => ({ 2: 2, 3: 3 })[plan.members.get("version")?.value.
 /** A version has no such word. */
 function noWord(word) {
   const since = sinceOf(word), near = nearest(word);
+  if (word === TRY) return "try stands before a command, once, in plans of version 3.";
   if (since !== undefined) return `${word} is a command of version ${since}.`;
   return `There is no command ${quoted(word)}.${near === null ? "" : ` Did you mean ${near}?`}`;
 }

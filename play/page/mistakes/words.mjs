@@ -9,11 +9,13 @@ const TABLE = Object.entries({
   weakset: "X", wsadd: "S Y", wshas: "X S Y", wsdelete: "X S Y",
   registry: "X C", register: "R Y H or R Y H T", unregister: "X R T",
   buffer: "X N", length: "X B", sameblock: "X B D", load: "X B I", store: "B I N", add: "X B I N",
-  sub: "X B I N", and: "X B I N", or: "X B I N", xor: "X B I N", exchange: "X B I N", compareexchange: "X B I N P", post: "A Y",
-  collect: "no operands", collectlater: "no operands",
+  sub: "X B I N", and: "X B I N", or: "X B I N", xor: "X B I N", exchange: "X B I N", compareexchange: "X B I N P",
+  try: "X COMMAND", post: "A Y", collect: "no operands", collectlater: "no operands",
 });
 /** The version with which a command came, where it is not the first. */
-const SINCE = { collectlater: 2, sub: 3, and: 3, or: 3, xor: 3, exchange: 3, compareexchange: 3 };
+const SINCE = { collectlater: 2, sub: 3, and: 3, or: 3, xor: 3, exchange: 3, compareexchange: 3, try: 3 };
+/** The word that stands before a command with the variable that catches its refusal, and is no command by itself. */
+export const TRY = "try";
 /** What an operand with such a letter is; each other letter is a name. From version 3 on a whole number may be a variable's value. */
 const TYPES = { L: "literal", TEXT: "text", C: "callback", A: "agent", I: "whole", N: "whole", P: "whole" };
 /** The letters of names that are no variables which are read. */
@@ -42,7 +44,7 @@ function typeOf(word, letter) {
 
 /** What each operand of a version's command with so many of them has to be; null for a word that is none. */
 export function typesOf(word, count, version) {
-  if (!(sinceOf(word) <= version)) return null;
+  if (word === TRY || !(sinceOf(word) <= version)) return null;
   const types = formOf(word, count).map((letter) => typeOf(word, letter));
   return version < 3 ? types : types.map((type) => (type === "whole" ? "amount" : type));
 }

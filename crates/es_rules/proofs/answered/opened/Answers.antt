@@ -8,11 +8,11 @@ use Rattle.es_rules.proofs.answered.opened.Goals as goal
 pub returns-clause-said : goal.returns-clause-said
 returns-clause-said c =
     IfOk-weaker c.giving.result _ _
-    (λ e is. rw is (rw (opening_is c.args.agent.now c.in-Run.command.now c.requires (sym c.due.ensures ∙ ap (shown (snapshot c.args.agent.now.history)) c.in-Run.is)) refl))
+    (λ e is. rw is (rw (opening_is c.args.agent.now c.in-Run.command.now c.requires (_, sym c.due.ensures ∙ ap (shown (snapshot c.args.agent.now.history)) c.in-Run.is)) refl))
     c.giving.ensures
 
 pub returns-clause-next : goal.returns-clause-next
 returns-clause-next c =
     IfOk-weaker c.giving.result _ _
-    (λ e is. rw is (rw (opening_is c.args.agent.now c.in-Run.command.now c.requires (sym c.due.ensures ∙ ap (shown (snapshot c.args.agent.now.history)) c.in-Run.is)) (opening_next c.args.agent.now c.requires)))
+    (λ e is. rw is (rw (opening_is c.args.agent.now c.in-Run.command.now c.requires (_, sym c.due.ensures ∙ ap (shown (snapshot c.args.agent.now.history)) c.in-Run.is)) (opening_next c.args.agent.now c.requires)))
     c.giving.ensures

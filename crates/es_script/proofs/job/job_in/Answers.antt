@@ -17,4 +17,4 @@ pub returns : goal.returns
 returns c =
     let l = c.members in
     let closed : read_key l.reader ≡ Some (None, c.next_key.new.self) = grind arith in
-    took_job (said c.args.scope.now) c.args.place c.args.reader.now l.reader c.next_key.new.self l.draft c.in_ok-job.job l.invariant closed c.in_ok-job.ensures.on c.in_ok-job.ensures.run
+    took_job (said c.args.scope.now) c.args.place c.args.reader.now l.reader c.next_key.new.self l.draft c.in_ok-job.job l.invariant closed c.in_ok-job.ensures.on c.in_ok-job.ensures.run c.in_ok-job.ensures.catches

@@ -9,4 +9,4 @@ pub returns-else-is_collection-clause-said : goal.returns-else-is_collection-cla
 returns-else-is_collection-clause-said g c =
     let at = subst (λ b. shown (snapshot b.history) c.due.result ≡ due b.plan b.history) c.record.ensures c.due.ensures in
     rw (← c.self.view_is)
-    (command_beforehand c.self.inside.core c.in-Run.command.now (sym at ∙ ap (shown (snapshot c.self.inside.core.history)) c.in-Run.is) (sym c.is_collection.ensures ∙ c.if-is_collection.false))
+    (command_beforehand c.self.inside.core _ c.in-Run.command.now (sym at ∙ ap (shown (snapshot c.self.inside.core.history)) c.in-Run.is) (sym c.is_collection.ensures ∙ c.if-is_collection.false))
