@@ -3,7 +3,7 @@ use Rattle.std.proofs.Common.{◌≡◌, ℕ, length, Bool, true, false, cond, L
 use Rattle.es_event.specs.History.{History}
 use Rattle.es_event.specs.Jobs.{job}
 use Rattle.es_event.specs.Later.{snapshot, collects_now}
-use Rattle.es_event.specs.Order.{Phase, between, handed, inside, stopped, ended, phase, left, queue, due_at, due_job, due_between, due_inside, due_after, due_end}
+use Rattle.es_event.specs.Order.{Phase, between, handed, inside, stopped, ended, phase, left, catching, queue, due_at, due_job, due_between, due_inside, due_after, due_end}
 use Rattle.es_event.specs.Runs.{IsRunOver, IsWholeRun}
 use Rattle.es_event.specs.declared.command.Command.{Command}
 use Rattle.es_event.specs.declared.plan.AgentPlan.{AgentPlan}
@@ -26,9 +26,9 @@ after_asks : {P : Type 0} (b : AgentView) (h : History) (o : Option ℕ) → nee
 after_asks b h None is = end_asks b (snapshot h) is
 after_asks b h (Some n) is = cc
 
-inside_asks : {P : Type 0} (b : AgentView) (h : History) (cs : List Command) → need_of b (due_inside h cs) ≡ asks_nothing → P
-inside_asks b h [] is = after_asks b h (next_cell h) is
-inside_asks b h (c ∷ cs) is = command_asks (collects_now b.history c) (opens_now b.history c) (request b c) is
+inside_asks : {P : Type 0} (b : AgentView) (h : History) (x : Option (List ℕ)) (cs : List Command) → need_of b (due_inside h x cs) ≡ asks_nothing → P
+inside_asks b h x [] is = after_asks b h (next_cell h) is
+inside_asks b h x (c ∷ cs) is = command_asks (collects_now b.history c) (opens_now b.history c) (request b c) is
 
 job_asks : {P : Type 0} (b : AgentView) (n : ℕ) (o : Option (Option (ℕ × List ℕ))) → need_of b (due_job n o) ≡ asks_nothing → P
 job_asks b n None is = cc
@@ -42,7 +42,7 @@ between_asks b (r ∷ rs) is = cc
 nothing_at : (b : AgentView) (at : Phase) → need_of b (due_at b.plan b.history at) ≡ asks_nothing → at ≡ ended
 nothing_at b between is = between_asks b (queue b.history) is
 nothing_at b handed is = cc
-nothing_at b inside is = inside_asks b b.history (left b.plan b.history) is
+nothing_at b inside is = inside_asks b b.history (catching b.plan b.history) (left b.plan b.history) is
 nothing_at b stopped is = end_asks b (snapshot b.history) is
 nothing_at b ended is = refl
 

@@ -1,3 +1,4 @@
+mod Local
 mod Ending
 mod Linking
 mod Stepping
