@@ -3,7 +3,8 @@ use Rattle.std.proofs.Common.{◌≡◌, ℕ, ◌==◌, ◌&&◌, ◌||◌, Bool
 use Rattle.std.specs.Option.{option_map_or, option_map}
 use Rattle.std.proofs.lemmas.Bool.{cases_Bool, eqb-true}
 use Rattle.es_event.specs.declared.ledger_event.LedgerEvent.{LedgerEvent}
-use Rattle.es_event.specs.declared.ledger_event.LedgerEvent.TheVariants.{Opened, Posted, Taken, Spent, Accessed, Waiting, Passed, Ended, Drained}
+use Rattle.es_event.specs.declared.ledger_event.LedgerEvent.TheVariants.{Opened, Posted, Taken, Spent, Accessed, Drained, Acted}
+use Rattle.es_event.specs.declared.ledger_event.Act.TheVariants.{Waiting, Passed, Ended}
 use Rattle.es_event.specs.declared.row.Row.{Row}
 use Rattle.es_event.specs.Ledger.{Ledger, waits, ended, holder_of}
 use Rattle.es_match.specs.Deeds.{Deed, Owned, deed, is_wait, part, part_of, by_holder}
@@ -50,20 +51,20 @@ other_than r n a same other = ap (λ m. m == a) same ∙ apart n a other
 
 pub waits_other : (l : Ledger) (e : LedgerEvent) (n a : ℕ) (d : Deed) → deed l e ≡ Some (n, d) → (a ≡ n → ⊥) → waits (e ∷ l) a ≡ waits l a
 waits_other l (Taken s r) n a d is other = ap (λ b. cond b None (waits l a)) (other_than r n a (doer (deed l (Taken s r)) n r d is) other)
-waits_other l (Waiting r s) n a d is other = ap (λ b. cond b (Some s) (waits l a)) (other_than r n a (doer (deed l (Waiting r s)) n r d is) other)
-waits_other l (Passed r s) n a d is other = ap (λ b. cond b None (waits l a)) (other_than r n a (doer (deed l (Passed r s)) n r d is) other)
+waits_other l (Acted r (Waiting s)) n a d is other = ap (λ b. cond b (Some s) (waits l a)) (other_than r n a (doer (deed l (Acted r (Waiting s))) n r d is) other)
+waits_other l (Acted r (Passed s)) n a d is other = ap (λ b. cond b None (waits l a)) (other_than r n a (doer (deed l (Acted r (Passed s))) n r d is) other)
 waits_other l (Opened b w s r) n a d is other = refl
 waits_other l (Posted t r m) n a d is other = refl
 waits_other l (Spent s) n a d is other = refl
 waits_other l (Accessed s i m old) n a d is other = refl
-waits_other l (Ended r) n a d is other = refl
+waits_other l (Acted r Ended) n a d is other = refl
 waits_other l (Drained s r) n a d is other = refl
 
 pub ended_other : (l : Ledger) (e : LedgerEvent) (n a : ℕ) (d : Deed) → deed l e ≡ Some (n, d) → (a ≡ n → ⊥) → ended (e ∷ l) a ≡ ended l a
-ended_other l (Ended r) n a d is other = ap (λ b. b || ended l a) (other_than r n a (doer (deed l (Ended r)) n r d is) other)
+ended_other l (Acted r Ended) n a d is other = ap (λ b. b || ended l a) (other_than r n a (doer (deed l (Acted r Ended)) n r d is) other)
 ended_other l (Taken s r) n a d is other = refl
-ended_other l (Waiting r s) n a d is other = refl
-ended_other l (Passed r s) n a d is other = refl
+ended_other l (Acted r (Waiting s)) n a d is other = refl
+ended_other l (Acted r (Passed s)) n a d is other = refl
 ended_other l (Opened b w s r) n a d is other = refl
 ended_other l (Posted t r m) n a d is other = refl
 ended_other l (Spent s) n a d is other = refl

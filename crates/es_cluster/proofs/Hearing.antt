@@ -1,7 +1,8 @@
 -- An agent asks for a message: what the ledger's history is then.
 use Rattle.std.proofs.Common.{◌≡◌, ℕ, ◌&&◌, Bool, true, false, cond, sym, ◌∙◌, ap, refl, subst, ◌∷◌, Option, Some, None}
 use Rattle.std.specs.Prelude.{is_some}
-use Rattle.es_event.specs.declared.ledger_event.LedgerEvent.TheVariants.{Taken, Waiting, Passed}
+use Rattle.es_event.specs.declared.ledger_event.LedgerEvent.TheVariants.{Taken, Acted}
+use Rattle.es_event.specs.declared.ledger_event.Act.TheVariants.{Waiting, Passed}
 use Rattle.es_event.specs.Ledger.{Ledger, waits, ended}
 use Rattle.es_event.specs.LegalLedger.{has_message, skips}
 use Rattle.es_ledger.specs.LedgerView.{LedgerView}
@@ -24,15 +25,15 @@ use Rattle.es_cluster.proofs.Midway.{awaits}
 use Rattle.es_cluster.proofs.MovingMembers.{Stays, keeps, kept_after, skipped_stays, holds_still}
 use Rattle.es_cluster.proofs.Tying.{still_undrained, skip_ties, taking_grows}
 
-judged_stays : (b : Bool) (l k : Ledger) (a s : ℕ) → ◌≡◌ {A = Turn × Ledger} (Stay, k) (cond b (Skip, Passed a s ∷ l) (Stay, l)) → k ≡ l
+judged_stays : (b : Bool) (l k : Ledger) (a s : ℕ) → ◌≡◌ {A = Turn × Ledger} (Stay, k) (cond b (Skip, Acted a (Passed s) ∷ l) (Stay, l)) → k ≡ l
 judged_stays true l k a s is = let clash : Stay ≡ Skip = ap (λ p. p.0) is in cc
 judged_stays false l k a s is = ap (λ p. p.1) is
 
-judged_skips : (b : Bool) (l k : Ledger) (a s : ℕ) → ◌≡◌ {A = Turn × Ledger} (Skip, k) (cond b (Skip, Passed a s ∷ l) (Stay, l)) → k ≡ Passed a s ∷ l
+judged_skips : (b : Bool) (l k : Ledger) (a s : ℕ) → ◌≡◌ {A = Turn × Ledger} (Skip, k) (cond b (Skip, Acted a (Passed s) ∷ l) (Stay, l)) → k ≡ Acted a (Passed s) ∷ l
 judged_skips true l k a s is = ap (λ p. p.1) is
 judged_skips false l k a s is = let clash : Skip ≡ Stay = ap (λ p. p.0) is in cc
 
-judged_ready : (b : Bool) (l k : Ledger) (a s : ℕ) → ◌≡◌ {A = Turn × Ledger} (Ready, k) (cond b (Skip, Passed a s ∷ l) (Stay, l)) → ⊥
+judged_ready : (b : Bool) (l k : Ledger) (a s : ℕ) → ◌≡◌ {A = Turn × Ledger} (Ready, k) (cond b (Skip, Acted a (Passed s) ∷ l) (Stay, l)) → ⊥
 judged_ready true l k a s is = let clash : Ready ≡ Skip = ap (λ p. p.0) is in cc
 judged_ready false l k a s is = let clash : Ready ≡ Stay = ap (λ p. p.0) is in cc
 
@@ -51,7 +52,7 @@ pub where_stay : (l k : Ledger) (n a s : ℕ) → ◌≡◌ {A = Turn × Ledger}
 where_stay l k n a s is =
     by_message Stay l k n a s is (λ b is. let clash : Stay ≡ Ready = ap (λ p. p.0) is in cc) (λ is. judged_stays (waits_for (asked l a s) a s && skips (asked l a s) n a s) (asked l a s) k a s is)
 
-pub where_skip : (l k : Ledger) (n a s : ℕ) → ◌≡◌ {A = Turn × Ledger} (Skip, k) (told l n a s) → k ≡ Passed a s ∷ asked l a s
+pub where_skip : (l k : Ledger) (n a s : ℕ) → ◌≡◌ {A = Turn × Ledger} (Skip, k) (told l n a s) → k ≡ Acted a (Passed s) ∷ asked l a s
 where_skip l k n a s is =
     by_message Skip l k n a s is (λ b is. let clash : Skip ≡ Ready = ap (λ p. p.0) is in cc) (λ is. judged_skips (waits_for (asked l a s) a s && skips (asked l a s) n a s) (asked l a s) k a s is)
 
@@ -71,21 +72,21 @@ goes_on_ready b l m s is there =
 asked_tied : (b : AgentView) (l : Ledger) (s : ℕ) → IsTied b l → has_drained l ≡ false → need b ≡ asks_message s → IsTied b (asked l b.number s) × (has_drained (asked l b.number s) ≡ false)
 asked_tied b l s tied still is = by_wait (waits l b.number) refl
   where
-    by_wait : (w : Option ℕ) → waits l b.number ≡ w → IsTied b (cond (is_some w) l (Waiting b.number s ∷ l)) × (has_drained (cond (is_some w) l (Waiting b.number s ∷ l)) ≡ false)
-    by_wait None w = (awaits b l (Waiting b.number s ∷ l) s tied refl w still is, still)
+    by_wait : (w : Option ℕ) → waits l b.number ≡ w → IsTied b (cond (is_some w) l (Acted b.number (Waiting s) ∷ l)) × (has_drained (cond (is_some w) l (Acted b.number (Waiting s) ∷ l)) ≡ false)
+    by_wait None w = (awaits b l (Acted b.number (Waiting s) ∷ l) s tied refl w still is, still)
     by_wait (Some t) w = (tied, still)
 
 asked_grows : (l : Ledger) (n s : ℕ) → GrowsBy n l (asked l n s)
 asked_grows l n s = by_wait (is_some (waits l n))
   where
-    by_wait : (b : Bool) → GrowsBy n l (cond b l (Waiting n s ∷ l))
+    by_wait : (b : Bool) → GrowsBy n l (cond b l (Acted n (Waiting s) ∷ l))
     by_wait true = grows_none n l
-    by_wait false = grows_one n l (Waiting n s ∷ l) (Waiting n s) (Waits s) refl refl
+    by_wait false = grows_one n l (Acted n (Waiting s) ∷ l) (Acted n (Waiting s)) (Waits s) refl refl
 
 asked_ends : (l : Ledger) (n s a : ℕ) → ended (asked l n s) a ≡ ended l a
 asked_ends l n s a = by_wait (is_some (waits l n))
   where
-    by_wait : (b : Bool) → ended (cond b l (Waiting n s ∷ l)) a ≡ ended l a
+    by_wait : (b : Bool) → ended (cond b l (Acted n (Waiting s) ∷ l)) a ≡ ended l a
     by_wait true = refl
     by_wait false = refl
 
@@ -100,23 +101,23 @@ stay_keeps b s l m n t ready same agents more =
     kept_after b b s s l m ready refl refl agents (ap (λ l. ended l b.number) is ∙ asked_ends l.history b.number t b.number) (subst (GrowsBy b.number l.history) (sym is) (asked_grows l.history b.number t))
 
 -- it skips its job
-skip_grows : (l k : Ledger) (n t : ℕ) → k ≡ Passed n t ∷ asked l n t → GrowsBy n l k
-skip_grows l k n t more = grows_on n l (asked l n t) k (asked_grows l n t) (grows_one n (asked l n t) k (Passed n t) (Passes t) more refl)
+skip_grows : (l k : Ledger) (n t : ℕ) → k ≡ Acted n (Passed t) ∷ asked l n t → GrowsBy n l k
+skip_grows l k n t more = grows_on n l (asked l n t) k (asked_grows l n t) (grows_one n (asked l n t) k (Acted n (Passed t)) (Passes t) more refl)
 
-pub skipped_ties : (old new : AgentView) (s : StakeView) (l : LedgerView) (k : Ledger) (n t : ℕ) → IsReady old s l → need old ≡ asks_message t → n ≡ old.number → k ≡ Passed n t ∷ asked l.history n t → Skips old new → IsSettled new k
+pub skipped_ties : (old new : AgentView) (s : StakeView) (l : LedgerView) (k : Ledger) (n t : ℕ) → IsReady old s l → need old ≡ asks_message t → n ≡ old.number → k ≡ Acted n (Passed t) ∷ asked l.history n t → Skips old new → IsSettled new k
 skipped_ties old new s l k n t ready is same more skips =
     let before = asked_tied old l.history t ready.tied (still_undrained old s l t ready is) is in
-    skip_ties old new (asked l.history old.number t) k t before.0 before.1 is (more ∙ ap (λ n. Passed n t ∷ asked l.history n t) same) skips
+    skip_ties old new (asked l.history old.number t) k t before.0 before.1 is (more ∙ ap (λ n. Acted n (Passed t) ∷ asked l.history n t) same) skips
 
-pub skipped_keeps : (old new : AgentView) (s : StakeView) (l m : LedgerView) (n t : ℕ) → IsHeld old s l → n ≡ old.number → m.agents ≡ l.agents → m.history ≡ Passed n t ∷ asked l.history n t → Skips old new → Keeps old l new s m
+pub skipped_keeps : (old new : AgentView) (s : StakeView) (l m : LedgerView) (n t : ℕ) → IsHeld old s l → n ≡ old.number → m.agents ≡ l.agents → m.history ≡ Acted n (Passed t) ∷ asked l.history n t → Skips old new → Keeps old l new s m
 skipped_keeps old new s l m n t ready same agents more skips =
-    let is = more ∙ ap (λ n. Passed n t ∷ asked l.history n t) same in
+    let is = more ∙ ap (λ n. Acted n (Passed t) ∷ asked l.history n t) same in
     let stays = skipped_stays old new skips in
     keeps old new l m s stays.step (holds_still old new s stays ready.held) agents (ap (λ l. ended l old.number) is ∙ asked_ends l.history old.number t old.number) (skip_grows l.history m.history old.number t is)
 
-pub unskipped_keeps : (old new : AgentView) (s : StakeView) (l m : LedgerView) (n t : ℕ) → IsHeld old s l → n ≡ old.number → m.agents ≡ l.agents → m.history ≡ Passed n t ∷ asked l.history n t → new ≡ old → Keeps old l new s m
+pub unskipped_keeps : (old new : AgentView) (s : StakeView) (l m : LedgerView) (n t : ℕ) → IsHeld old s l → n ≡ old.number → m.agents ≡ l.agents → m.history ≡ Acted n (Passed t) ∷ asked l.history n t → new ≡ old → Keeps old l new s m
 unskipped_keeps old new s l m n t ready same agents more back =
-    let is = more ∙ ap (λ n. Passed n t ∷ asked l.history n t) same in
+    let is = more ∙ ap (λ n. Acted n (Passed t) ∷ asked l.history n t) same in
     kept_after old new s s l m ready back refl agents (ap (λ l. ended l old.number) is ∙ asked_ends l.history old.number t old.number) (skip_grows l.history m.history old.number t is)
 
 -- A message is taken

@@ -14,7 +14,8 @@ use Rattle.es_event.specs.declared.row.Row.{Row}
 use Rattle.es_event.specs.History.{History}
 use Rattle.es_event.specs.Jobs.{job}
 use Rattle.es_event.specs.declared.ledger_event.LedgerEvent.{LedgerEvent}
-use Rattle.es_event.specs.declared.ledger_event.LedgerEvent.TheVariants.{Spent, Waiting, Drained}
+use Rattle.es_event.specs.declared.ledger_event.LedgerEvent.TheVariants.{Spent, Drained, Acted}
+use Rattle.es_event.specs.declared.ledger_event.Act.TheVariants.{Waiting}
 use Rattle.es_event.specs.Totals.{is_drained}
 use Rattle.es_event.specs.Ledger.{Ledger, waits, ended as has_ended, is_end_of}
 use Rattle.es_event.specs.LegalLedger.{ComesNext, LegalSoFar, LegalLedger, all_ended, owed}
@@ -149,15 +150,15 @@ tells old new row l ds e mid records met came named free =
     }
 
 -- the agent begins to wait
-pub awaits : (b : AgentView) (l m : Ledger) (s : ℕ) → IsTied b l → m ≡ Waiting b.number s ∷ l → waits l b.number ≡ None → has_drained l ≡ false → need b ≡ asks_message s → IsTied b m
+pub awaits : (b : AgentView) (l m : Ledger) (s : ℕ) → IsTied b l → m ≡ Acted b.number (Waiting s) ∷ l → waits l b.number ≡ None → has_drained l ≡ false → need b ≡ asks_message s → IsTied b m
 awaits b l m s tied more free none is = subst (IsTied b) (sym more) (record {
-  ties = subst (λ p. DeedsMeet b.history p (came_to b)) (sym (part_waits l (Waiting b.number s) b.number b.number (Waits s) refl refl)) tied.ties;
+  ties = subst (λ p. DeedsMeet b.history p (came_to b)) (sym (part_waits l (Acted b.number (Waiting s)) b.number b.number (Waits s) refl refl)) tied.ties;
   awaits = λ t w. is ∙ ap asks_message (awaited t w);
-  waits_end = still_patient l (Waiting b.number s) b.number (Waits s) tied.waits_end refl (ap (λ w. may_do w (Waits s)) free);
-  drains_end = still_last l (Waiting b.number s) b.number (Waits s) tied.drains_end refl none;
+  waits_end = still_patient l (Acted b.number (Waiting s)) b.number (Waits s) tied.waits_end refl (ap (λ w. may_do w (Waits s)) free);
+  drains_end = still_last l (Acted b.number (Waiting s)) b.number (Waits s) tied.drains_end refl none;
 })
   where
-    awaited : (t : ℕ) → waits (Waiting b.number s ∷ l) b.number ≡ Some t → s ≡ t
+    awaited : (t : ℕ) → waits (Acted b.number (Waiting s) ∷ l) b.number ≡ Some t → s ≡ t
     awaited t w = let same : ◌≡◌ {A = Option ℕ} (Some s) (Some t) = sym (ap (λ c. cond c (Some s) (waits l b.number)) (eq-eqb b.number b.number refl)) ∙ w in cc
 
 -- Who waits for nobody

@@ -4,7 +4,8 @@ use Rattle.std.specs.Prelude.{is_some, slice_get}
 use Rattle.std.specs.List.{position_from}
 use Rattle.std.specs.Option.{option_map_or}
 use Rattle.std.proofs.lemmas.Bool.{and_parts, cases_Bool, eqb-true, eqb-false}
-use Rattle.es_event.specs.declared.ledger_event.LedgerEvent.TheVariants.{Waiting as WaitingEvent, Passed}
+use Rattle.es_event.specs.declared.ledger_event.LedgerEvent.TheVariants.{Acted}
+use Rattle.es_event.specs.declared.ledger_event.Act.TheVariants.{Waiting as WaitingEvent, Passed}
 use Rattle.es_event.specs.Ledger.{Ledger, ended, waits}
 use Rattle.es_event.specs.LegalLedger.{has_message, is_stuck, all_stuck, all_ended, is_chosen, skips}
 use Rattle.es_event.specs.Order.{Phase, between, handed, inside, stopped, ended as at_end, phase, due_at}
@@ -90,10 +91,10 @@ settled_stays l b over awaits is = by_end (ended l b.number) refl is
 
 -- An agent that asks for a message
 
-pub by_asked : (P : Ledger → Type 0) (l : Ledger) (a s : ℕ) → P l → P (WaitingEvent a s ∷ l) → P (asked l a s)
+pub by_asked : (P : Ledger → Type 0) (l : Ledger) (a s : ℕ) → P l → P (Acted a (WaitingEvent s) ∷ l) → P (asked l a s)
 by_asked P l a s was more = at (is_some (waits l a))
   where
-    at : (b : Bool) → P (cond b l (WaitingEvent a s ∷ l))
+    at : (b : Bool) → P (cond b l (Acted a (WaitingEvent s) ∷ l))
     at true = was
     at false = more
 
@@ -113,7 +114,7 @@ asked_waits l a s t other = by_asked (λ k. waits k t ≡ waits l t) l a s refl 
 pub asked_awaits : (b : AgentView) (l : Ledger) (s : ℕ) → ((t : ℕ) → waits l b.number ≡ Some t → need b ≡ asks_message t) → need b ≡ asks_message s → waits (asked l b.number s) b.number ≡ Some s
 asked_awaits b l s awaits is = at (waits l b.number) refl
   where
-    at : (w : Option ℕ) → waits l b.number ≡ w → waits (cond (is_some w) l (WaitingEvent b.number s ∷ l)) b.number ≡ Some s
+    at : (w : Option ℕ) → waits l b.number ≡ w → waits (cond (is_some w) l (Acted b.number (WaitingEvent s) ∷ l)) b.number ≡ Some s
     at None w = ap (λ t. cond t (Some s) (waits l b.number)) (eq-eqb b.number b.number refl)
     at (Some t) w =
         let asks : asks_message s ≡ asks_message t = sym is ∙ awaits t w in
@@ -146,7 +147,7 @@ asked_stuck l a s (suc n) here all =
     at false e was = asked_settled l a s n (eqb-false n a e) ∙ was
 
 pub asked_all_ended : (l : Ledger) (a s n : ℕ) → all_ended l n ≡ true → all_ended (asked l a s) n ≡ true
-asked_all_ended l a s n all = by_asked (λ k. all_ended k n ≡ true) l a s all (still_over (WaitingEvent a s) l n all)
+asked_all_ended l a s n all = by_asked (λ k. all_ended k n ≡ true) l a s all (still_over (Acted a (WaitingEvent s)) l n all)
 
 -- one that is told to stay waits in vain from then on, and is not the lowest of agents that all do
 pub record StaysHere (l k : Ledger) (n : ℕ) (b : AgentView) (s : ℕ) : Type 0 where
@@ -172,7 +173,7 @@ stays_here b l k n s awaits is heard = subst (λ k. StaysHere l k n b s) (sym re
       unchosen = chosen;
     }
 
-    at_skip : has_message l s b.number ≡ false → (u : Bool) → skips (asked l b.number s) n b.number s ≡ u → ◌≡◌ {A = Turn × Ledger} (Stay, k) (cond u (Skip, Passed b.number s ∷ asked l b.number s) (Stay, asked l b.number s)) → StaysHere l (asked l b.number s) n b s
+    at_skip : has_message l s b.number ≡ false → (u : Bool) → skips (asked l b.number s) n b.number s ≡ u → ◌≡◌ {A = Turn × Ledger} (Stay, k) (cond u (Skip, Acted b.number (Passed s) ∷ asked l b.number s) (Stay, asked l b.number s)) → StaysHere l (asked l b.number s) n b s
     at_skip none true u heard = let clash : Stay ≡ Skip = ap (λ p. p.0) heard in cc
     at_skip none false u heard =
         here none (ended (asked l b.number s) s) (is_chosen (asked l b.number s) n b.number) refl refl
@@ -182,7 +183,7 @@ stays_here b l k n s awaits is heard = subst (λ k. StaysHere l k n b s) (sym re
     at_port true m heard = let clash : Stay ≡ Ready = ap (λ p. p.0) heard in cc
     at_port false m heard =
         at_skip m (skips (asked l b.number s) n b.number s) refl
-        (heard ∙ ap (λ w. cond (w && skips (asked l b.number s) n b.number s) (Skip, Passed b.number s ∷ asked l b.number s) (Stay, asked l b.number s))
+        (heard ∙ ap (λ w. cond (w && skips (asked l b.number s) n b.number s) (Skip, Acted b.number (Passed s) ∷ asked l b.number s) (Stay, asked l b.number s))
         (ap (λ w. option_map_or (λ t. t == s) w false) waiting ∙ eq-eqb s s refl))
 
 -- one that is not told to stay goes on, or is the lowest of agents that all wait in vain once it is asked

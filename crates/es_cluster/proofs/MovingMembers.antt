@@ -14,7 +14,8 @@ use Rattle.es_event.specs.History.{History}
 use Rattle.es_event.specs.Identities.{is_in, is_gone, made}
 use Rattle.es_event.specs.Jobs.{receivers}
 use Rattle.es_event.specs.Ledger.{Ledger, ended as has_ended}
-use Rattle.es_event.specs.declared.ledger_event.LedgerEvent.TheVariants.{Spent, Ended as EndedEvent}
+use Rattle.es_event.specs.declared.ledger_event.LedgerEvent.TheVariants.{Spent, Acted}
+use Rattle.es_event.specs.declared.ledger_event.Act.TheVariants.{Ended as EndedEvent}
 use Rattle.es_event.specs.Order.{phase, due}
 use Rattle.es_event.specs.Follows.{Permits}
 use Rattle.es_event.specs.Runs.{IsRunOver}
@@ -250,12 +251,12 @@ closed_owns old s out is holds p =
 pub closing_owns : (old : AgentView) (s : StakeView) (out : List (ℕ × Row)) → out ≡ tickets old → Holds old s → Owns s.rows out
 closing_owns old s out is holds p = let a = closed_owns old s out is holds p in omega (arith, a)
 
-ended_itself : (l : Ledger) (n a : ℕ) → a ≡ n → has_ended (EndedEvent n ∷ l) a ≡ true
+ended_itself : (l : Ledger) (n a : ℕ) → a ≡ n → has_ended (Acted n EndedEvent ∷ l) a ≡ true
 ended_itself l n a e = ap (λ b. b || has_ended l a) (eq-eqb n a (sym e))
 
 pub closed_keeps : (old new : AgentView) (before after : LedgerView) (s t : StakeView) (out : List (ℕ × Row)) → Records old Closed new → out ≡ tickets old → Holds old s → t.agent ≡ s.agent
     → ((p : Row → Bool) → count_by p s.rows ≡ count_by p t.rows + count_by (λ t. p t.1) out) → after.agents ≡ before.agents
-    → after.history ≡ EndedEvent old.number ∷ spent out before.history → AreDeedsOf old.number (map (λ t. Spent t.1.serial) out) before.history → Keeps old before new t after
+    → after.history ≡ Acted old.number EndedEvent ∷ spent out before.history → AreDeedsOf old.number (map (λ t. Spent t.1.serial) out) before.history → Keeps old before new t after
 closed_keeps old new before after s t out records is holds agent counts agents history deeds =
     let number = ap (λ b. b.number) records in
     record {
@@ -269,7 +270,7 @@ closed_keeps old new before after s t out records is holds agent counts agents h
         agents = ap (λ b. b.agents) records ∙ seated.agents ∙ sym agents;
         over = ap (λ l. has_ended l new.number) history ∙ ended_itself (spent out before.history) old.number new.number number ∙ sym (ap (λ b. is_ended (phase b.history)) records);
       };
-      others = (agents, (EndedEvent old.number ∷ map (λ t. Spent t.1.serial) out, history, ((Ends, refl), deeds)));
+      others = (agents, (Acted old.number EndedEvent ∷ map (λ t. Spent t.1.serial) out, history, ((Ends, refl), deeds)));
     }
 
 -- A turn, whatever came of it

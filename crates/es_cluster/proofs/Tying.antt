@@ -14,7 +14,8 @@ use Rattle.es_event.specs.declared.event.Refusal.TheVariants.{TooManyValues}
 use Rattle.es_event.specs.declared.ledger_event.Body.{Body}
 use Rattle.es_event.specs.declared.ledger_event.Body.TheVariants.{Plain, Block}
 use Rattle.es_event.specs.declared.ledger_event.LedgerEvent.{LedgerEvent}
-use Rattle.es_event.specs.declared.ledger_event.LedgerEvent.TheVariants.{Opened, Posted, Taken, Spent, Accessed, Passed, Ended}
+use Rattle.es_event.specs.declared.ledger_event.LedgerEvent.TheVariants.{Opened, Posted, Taken, Spent, Accessed, Acted}
+use Rattle.es_event.specs.declared.ledger_event.Act.TheVariants.{Passed, Ended}
 use Rattle.es_event.specs.declared.row.Row.{Row}
 use Rattle.es_event.specs.Access.{change_by}
 use Rattle.es_event.specs.Commands.{reads}
@@ -141,13 +142,13 @@ heard old l m e d t tied still is more did wait ends =
 pub still_undrained : (old : AgentView) (s : StakeView) (l : LedgerView) (t : ℕ) → IsReady old s l → need old ≡ asks_message t → has_drained l.history ≡ false
 still_undrained old s l t ready is = undrained old l ready.legal ready.seated (open_for old (asks_message t) (λ f. cc) is)
 
-pub skip_ties : (old new : AgentView) (l m : Ledger) (t : ℕ) → IsTied old l → has_drained l ≡ false → need old ≡ asks_message t → m ≡ Passed old.number t ∷ l → Skips old new → IsSettled new m
+pub skip_ties : (old new : AgentView) (l m : Ledger) (t : ℕ) → IsTied old l → has_drained l ≡ false → need old ≡ asks_message t → m ≡ Acted old.number (Passed t) ∷ l → Skips old new → IsSettled new m
 skip_ties old new l m t tied still is more skips =
     let stays = skipped_stays old new skips in
     let due' = message_due old (due old.plan old.history) t is in
     let sender : skips.1 ≡ t = (let both : receive skips.0 skips.1 ≡ receive due'.0 t = sym skips.2 ∙ due'.1 in cc) in
     tells old new None m (Passes t ∷ []) (Skipped skips.0 skips.1)
-    (heard old l m (Passed old.number t) (Passes t) t tied still is more refl refl (λ w same. eq-eqb t w same))
+    (heard old l m (Acted old.number (Passed t)) (Passes t) t tied still is more refl refl (λ w same. eq-eqb t w same))
     skips.4
     (ap (λ q. after (tickets old) (to_pass q) (Passes t ∷ [])) sender ∙ skip_met (tickets old) t ∙ ap Some (sym stays.same))
     (unbrought old.over [] refl)
@@ -303,13 +304,13 @@ finished_ties old new s l m out ready is c deeds more = emptied_ties old new s l
 
 -- a closing
 pub closed_ties : (old new : AgentView) (s : StakeView) (l : LedgerView) (m : Ledger) (out : List (ℕ × Row)) → IsReady old s l → need old ≡ asks_closing → Records old Closed new → out ≡ tickets old → AreDeedsOf old.number (map (λ t. Spent t.1.serial) out) l.history
-    → m ≡ Ended old.number ∷ spent out l.history → IsSettled new m
+    → m ≡ Acted old.number Ended ∷ spent out l.history → IsSettled new m
 closed_ties old new s l m out ready is records same deeds more =
     let none = free old l.history ready.tied (λ s other. let clash : asks_closing ≡ asks_message s = sym is ∙ other in cc) in
     let still = undrained old l ready.legal ready.seated (open_for old asks_closing (λ f. cc) is) in
     let all = spends_all old l.history [] out (begun old l.history ready.tied) deeds none still in
     tells old new None m (all_spent out ++ Ends ∷ []) Closed
-    (does old (spent out l.history) m (all_spent out) (Ended old.number) Ends all.0 more refl refl (ap (λ w. may_do w Ends) all.1) all.2)
+    (does old (spent out l.history) m (all_spent out) (Acted old.number Ended) Ends all.0 more refl refl (ap (λ w. may_do w Ends) all.1) all.2)
     records
     (ap (λ out. after (tickets old) to_close (all_spent out ++ Ends ∷ [])) same ∙ close_met (tickets old) ∙ ap Some (sym (ap tickets records)))
     (unbrought old.over [] refl)

@@ -3,7 +3,8 @@ use Rattle.std.specs.Prelude.{ℕ, zero, suc, ◌≡◌, List, [], ◌∷◌, So
 use Rattle.std.specs.List.{AllByRecursion}
 use Rattle.es_event.specs.declared.event.Event.{Event}
 use Rattle.es_event.specs.declared.outcome.Outcome.{Outcome}
-use Rattle.es_event.specs.declared.ledger_event.LedgerEvent.TheVariants.{Ended}
+use Rattle.es_event.specs.declared.ledger_event.LedgerEvent.TheVariants.{Acted}
+use Rattle.es_event.specs.declared.ledger_event.Act.TheVariants.{Ended}
 use Rattle.es_event.specs.Ledger.{Ledger, count, ended as has_ended, port_of, table}
 use Rattle.es_event.specs.LegalLedger.{LegalLedger}
 use Rattle.es_event.specs.Rows.{held}
@@ -16,7 +17,7 @@ use Rattle.es_cluster.specs.State.{ClusterView, accounts, names_of}
 
 -- agent n ends where it has not ended; so does each of the first n agents, by rising number
 abbrev pub with_end : ℕ → Ledger → Ledger
-with_end n l = if has_ended l n then l else Ended n ∷ l
+with_end n l = if has_ended l n then l else Acted n Ended ∷ l
 
 abbrev pub with_ends : ℕ → Ledger → Ledger
 with_ends zero l = l

@@ -4,7 +4,8 @@ use Rattle.std.specs.Option.{option_and_then, option_map, option_map_or}
 use Rattle.es_event.specs.declared.ledger_event.Body.{Body}
 use Rattle.es_event.specs.declared.ledger_event.Body.TheVariants.{Plain, Block}
 use Rattle.es_event.specs.declared.ledger_event.LedgerEvent.{LedgerEvent}
-use Rattle.es_event.specs.declared.ledger_event.LedgerEvent.TheVariants.{Opened, Posted, Taken, Spent, Accessed, Waiting, Passed, Ended, Drained}
+use Rattle.es_event.specs.declared.ledger_event.LedgerEvent.TheVariants.{Opened, Posted, Taken, Spent, Accessed, Drained, Acted}
+use Rattle.es_event.specs.declared.ledger_event.Act.TheVariants.{Waiting, Passed, Ended}
 use Rattle.es_event.specs.declared.row.Row.{Row}
 use Rattle.es_event.specs.declared.row.Entry.{Entry}
 use Rattle.es_event.specs.declared.row.Holder.{Holder}
@@ -25,9 +26,7 @@ opens (Posted a r m) = None
 opens (Taken a r) = None
 opens (Spent s) = None
 opens (Accessed s i m old) = None
-opens (Waiting a s) = None
-opens (Passed a s) = None
-opens (Ended a) = None
+opens (Acted a d) = None
 opens (Drained a r) = None
 
 -- how many blocks were made; they are numbered from 1 in order of making
@@ -57,9 +56,7 @@ issues (Posted a r m) = ticket_in m
 issues (Taken a r) = 0
 issues (Spent s) = 0
 issues (Accessed s i m old) = 0
-issues (Waiting a s) = 0
-issues (Passed a s) = 0
-issues (Ended a) = 0
+issues (Acted a d) = 0
 issues (Drained a r) = 0
 
 -- how many tickets were made; their serials are numbered from 1 in order of making
@@ -79,9 +76,7 @@ queued (Posted t u m) s r before = if is_at s r t u then before ++ m ∷ [] else
 queued (Taken t u) s r before = if is_at s r t u then drop 1 before else before
 queued (Spent k) s r before = before
 queued (Accessed k i m old) s r before = before
-queued (Waiting a t) s r before = before
-queued (Passed a t) s r before = before
-queued (Ended a) s r before = before
+queued (Acted a d) s r before = before
 queued (Drained t u) s r before = if is_at s r t u then drop 1 before else before
 
 -- the messages from s to r that were posted and neither taken nor drained, the oldest first
@@ -116,9 +111,7 @@ table_after l (Posted a r m) t = t ++ posted_line l a r m
 table_after l (Taken a r) t = moved_if (option_and_then serial_in (front l a r)) (Agent r) t
 table_after l (Spent s) t = moved s Nobody t
 table_after l (Accessed s i m old) t = t
-table_after l (Waiting a s) t = t
-table_after l (Passed a s) t = t
-table_after l (Ended a) t = t
+table_after l (Acted a d) t = t
 table_after l (Drained a r) t = t
 
 -- a line for each ticket that was made, by rising serial
@@ -166,9 +159,7 @@ writes l (Posted a r m) = None
 writes l (Taken a r) = None
 writes l (Spent s) = None
 writes l (Accessed s i m old) = option_and_then (written_by l s i) (written m old)
-writes l (Waiting a s) = None
-writes l (Passed a s) = None
-writes l (Ended a) = None
+writes l (Acted a d) = None
 writes l (Drained a r) = None
 
 abbrev pub newest_word : Option (ℕ × ℕ × ℕ) → ℕ → ℕ → ℕ → ℕ
@@ -189,9 +180,9 @@ awaited (Posted a r m) c before = before
 awaited (Taken s r) c before = if r == c then None else before
 awaited (Spent s) c before = before
 awaited (Accessed s i m old) c before = before
-awaited (Waiting a s) c before = if a == c then Some s else before
-awaited (Passed a s) c before = if a == c then None else before
-awaited (Ended a) c before = before
+awaited (Acted a (Waiting s)) c before = if a == c then Some s else before
+awaited (Acted a (Passed s)) c before = if a == c then None else before
+awaited (Acted a Ended) c before = before
 awaited (Drained s r) c before = before
 
 -- the sender that agent a waits for, if it waits
@@ -205,9 +196,9 @@ is_end_of (Posted a r m) c = false
 is_end_of (Taken s r) c = false
 is_end_of (Spent s) c = false
 is_end_of (Accessed s i m old) c = false
-is_end_of (Waiting a s) c = false
-is_end_of (Passed a s) c = false
-is_end_of (Ended a) c = a == c
+is_end_of (Acted a (Waiting s)) c = false
+is_end_of (Acted a (Passed s)) c = false
+is_end_of (Acted a Ended) c = a == c
 is_end_of (Drained s r) c = false
 
 -- agent a ended

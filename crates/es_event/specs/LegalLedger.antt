@@ -5,7 +5,9 @@ use Rattle.es_value.specs.Values.{identity}
 use Rattle.es_event.specs.declared.ledger_event.Body.{Body}
 use Rattle.es_event.specs.declared.ledger_event.Body.TheVariants.{Plain, Block}
 use Rattle.es_event.specs.declared.ledger_event.LedgerEvent.{LedgerEvent}
-use Rattle.es_event.specs.declared.ledger_event.LedgerEvent.TheVariants.{Opened, Posted, Taken, Spent, Accessed, Waiting, Passed, Ended, Drained}
+use Rattle.es_event.specs.declared.ledger_event.LedgerEvent.TheVariants.{Opened, Posted, Taken, Spent, Accessed, Drained, Acted}
+use Rattle.es_event.specs.declared.ledger_event.Act.{Act}
+use Rattle.es_event.specs.declared.ledger_event.Act.TheVariants.{Waiting, Passed, Ended}
 use Rattle.es_event.specs.declared.row.Row.{Row}
 use Rattle.es_event.specs.Access.{IsStorable}
 use Rattle.es_event.specs.Rows.{held, count_of}
@@ -55,6 +57,12 @@ abbrev pub IsPostable : Ledger → ℕ → Body → Type 0
 IsPostable l a (Plain v) = identity v ≡ None
 IsPostable l a (Block b s) = (s ≡ serials l + 1) × (holds_block l a b ≡ true)
 
+-- agent a may do this after l
+abbrev pub MayAct : ℕ → Ledger → ℕ → Act → Type 0
+MayAct n l a (Waiting s) = (a < n) × (s < n) × (a ≢ s) × (has_message l s a ≡ false) × (waits l a ≡ None) × (ended l a ≡ false)
+MayAct n l a (Passed s) = (waits l a ≡ Some s) × (skips l n a s ≡ true)
+MayAct n l a Ended = (a < n) × (ended l a ≡ false)
+
 -- the event may come after l
 abbrev pub MayCome : ℕ → Ledger → LedgerEvent → Type 0
 MayCome n l (Opened b w s a) = (b ≡ opened l + 1) × (s ≡ serials l + 1) × (a < n)
@@ -62,9 +70,7 @@ MayCome n l (Posted a r m) = (a < n) × (r < n) × (a ≢ r) × IsPostable l a m
 MayCome n l (Taken s r) = has_message l s r ≡ true
 MayCome n l (Spent s) = is_some (holder_of l s) ≡ true
 MayCome n l (Accessed s i m old) = Reaches (holder_of l s) i (λ r. (old ≡ word l r.block i) × IsStorable m)
-MayCome n l (Waiting a s) = (a < n) × (s < n) × (a ≢ s) × (has_message l s a ≡ false) × (waits l a ≡ None) × (ended l a ≡ false)
-MayCome n l (Passed a s) = (waits l a ≡ Some s) × (skips l n a s ≡ true)
-MayCome n l (Ended a) = (a < n) × (ended l a ≡ false)
+MayCome n l (Acted a d) = MayAct n l a d
 MayCome n l (Drained s r) = (all_ended l n ≡ true) × (has_message l s r ≡ true)
 
 -- the serial of the ticket that lay in the message that was drained last, and has to be spent next
@@ -75,9 +81,7 @@ owed (Posted a r m ∷ earlier) = None
 owed (Taken s r ∷ earlier) = None
 owed (Spent s ∷ earlier) = None
 owed (Accessed s i m old ∷ earlier) = None
-owed (Waiting a s ∷ earlier) = None
-owed (Passed a s ∷ earlier) = None
-owed (Ended a ∷ earlier) = None
+owed (Acted a d ∷ earlier) = None
 owed (Drained s r ∷ earlier) = option_and_then serial_in (front earlier s r)
 
 -- where a ticket is owed, it is spent, and nothing else comes

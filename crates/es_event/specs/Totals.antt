@@ -2,7 +2,7 @@
 use Rattle.std.specs.Prelude.{ℕ, Bool, true, false, count_by}
 use Rattle.std.specs.List.{range_with_len}
 use Rattle.es_event.specs.declared.ledger_event.LedgerEvent.{LedgerEvent}
-use Rattle.es_event.specs.declared.ledger_event.LedgerEvent.TheVariants.{Opened, Posted, Taken, Spent, Accessed, Waiting, Passed, Ended, Drained}
+use Rattle.es_event.specs.declared.ledger_event.LedgerEvent.TheVariants.{Opened, Posted, Taken, Spent, Accessed, Drained, Acted}
 use Rattle.es_event.specs.Ledger.{Ledger, opened, is_released}
 
 -- the blocks are numbered from 1
@@ -15,9 +15,7 @@ is_posted (Posted a r m) = true
 is_posted (Taken s r) = false
 is_posted (Spent s) = false
 is_posted (Accessed s i m old) = false
-is_posted (Waiting a s) = false
-is_posted (Passed a s) = false
-is_posted (Ended a) = false
+is_posted (Acted a d) = false
 is_posted (Drained s r) = false
 
 abbrev pub is_taken : LedgerEvent → Bool
@@ -26,9 +24,7 @@ is_taken (Posted a r m) = false
 is_taken (Taken s r) = true
 is_taken (Spent s) = false
 is_taken (Accessed s i m old) = false
-is_taken (Waiting a s) = false
-is_taken (Passed a s) = false
-is_taken (Ended a) = false
+is_taken (Acted a d) = false
 is_taken (Drained s r) = false
 
 abbrev pub is_drained : LedgerEvent → Bool
@@ -37,9 +33,7 @@ is_drained (Posted a r m) = false
 is_drained (Taken s r) = false
 is_drained (Spent s) = false
 is_drained (Accessed s i m old) = false
-is_drained (Waiting a s) = false
-is_drained (Passed a s) = false
-is_drained (Ended a) = false
+is_drained (Acted a d) = false
 is_drained (Drained s r) = true
 
 abbrev pub posted : Ledger → ℕ

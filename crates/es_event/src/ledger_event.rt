@@ -24,6 +24,17 @@ impl Drop for Body {
     }
 }
 
+/// What an agent does in the ledger that changes no block, ticket, word or port.
+#[derive(Clone, Copy, Debug, PartialEq, Eq)]
+pub enum Act {
+    /// It began to wait for a message of a sender.
+    Waiting { sender: usize },
+    /// It waited, and was told to skip its job.
+    Passed { sender: usize },
+    /// It ended.
+    Ended,
+}
+
 /// What happened in the ledger (ECMA-262, Agent Clusters, Data Blocks; that blocks are counted by
 /// tickets is this host's).
 pub enum LedgerEvent {
@@ -57,19 +68,10 @@ pub enum LedgerEvent {
         change: Change,
         old: u32,
     },
-    /// An agent began to wait for a message of a sender.
-    Waiting {
+    /// An agent did this, which leaves blocks, tickets, words and ports as they are.
+    Acted {
         agent: usize,
-        sender: usize,
-    },
-    /// An agent that waited was told to skip its job.
-    Passed {
-        agent: usize,
-        sender: usize,
-    },
-    /// An agent ended.
-    Ended {
-        agent: usize,
+        act: Act,
     },
     /// After the end of all agents the oldest message of a port was taken out; a ticket in it is spent
     /// next.
@@ -105,15 +107,7 @@ impl Drop for LedgerEvent {
                 change: _,
                 old: _,
             } => {}
-            LedgerEvent::Waiting {
-                agent: _,
-                sender: _,
-            } => {}
-            LedgerEvent::Passed {
-                agent: _,
-                sender: _,
-            } => {}
-            LedgerEvent::Ended { agent: _ } => {}
+            LedgerEvent::Acted { agent: _, act: _ } => {}
             LedgerEvent::Drained {
                 sender: _,
                 receiver: _,

@@ -35,7 +35,7 @@ pub use cursor::{
 pub use done::{AnswerRef, Done};
 pub use due::{Due, due_command};
 pub use event::{Answer, Event, Refusal};
-pub use ledger_event::{Body, LedgerEvent};
+pub use ledger_event::{Act, Body, LedgerEvent};
 pub use literal::Literal;
 pub use log::Log;
 pub use numbers::number_of;

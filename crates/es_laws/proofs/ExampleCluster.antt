@@ -9,7 +9,8 @@ use Rattle.es_event.specs.declared.literal.Literal.TheVariants.{Number as Number
 use Rattle.es_event.specs.declared.command.Command.TheVariants.{Let, Say}
 use Rattle.es_event.specs.declared.event.Answer.TheVariants.{Nothing, Gives}
 use Rattle.es_event.specs.declared.event.Event.{Event}
-use Rattle.es_event.specs.declared.ledger_event.LedgerEvent.TheVariants.{Ended}
+use Rattle.es_event.specs.declared.ledger_event.LedgerEvent.TheVariants.{Acted}
+use Rattle.es_event.specs.declared.ledger_event.Act.TheVariants.{Ended}
 use Rattle.es_event.specs.declared.event.Event.TheVariants.{JobBegun, Did, JobEnded, Closed}
 use Rattle.es_event.specs.declared.outcome.Outcome.{Outcome}
 use Rattle.es_event.specs.declared.plan.AgentPlan.{AgentPlan}
@@ -37,7 +38,7 @@ worked = Closed ∷ JobEnded ∷ Did (Say x, Number (pos 1) ∷ [], Nothing) ∷
 
 -- both have ended
 abbrev pub outcome_of : List (List ℕ) → List (List Event) → Outcome
-outcome_of ns hs = record { names = ns; histories = hs; ledger = Ended 0 ∷ Ended 1 ∷ [] }
+outcome_of ns hs = record { names = ns; histories = hs; ledger = Acted 0 Ended ∷ Acted 1 Ended ∷ [] }
 
 abbrev pub completion : Outcome
 completion = outcome_of (codes "a" ∷ codes "b" ∷ []) (reverse idled ∷ reverse worked ∷ [])

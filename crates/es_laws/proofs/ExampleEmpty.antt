@@ -3,7 +3,8 @@ use Rattle.std.proofs.Common.{◌≡◌, refl, [], ◌∷◌, codes, rules}
 use Rattle.std.specs.Prelude.{reverse}
 use Rattle.std.specs.Fmt.{digits}
 use Rattle.es_event.specs.declared.event.Event.TheVariants.{JobBegun, JobEnded, Closed}
-use Rattle.es_event.specs.declared.ledger_event.LedgerEvent.TheVariants.{Ended}
+use Rattle.es_event.specs.declared.ledger_event.LedgerEvent.TheVariants.{Acted}
+use Rattle.es_event.specs.declared.ledger_event.Act.TheVariants.{Ended}
 use Rattle.es_event.specs.declared.outcome.Outcome.{Outcome}
 use Rattle.es_event.specs.declared.plan.AgentPlan.{AgentPlan}
 use Rattle.es_event.specs.declared.plan.Plan.{Plan}
@@ -30,7 +31,7 @@ abbrev pub plan : Plan
 plan = record { agents = idle ∷ [] }
 
 abbrev pub completion : Outcome
-completion = record { names = codes "a" ∷ []; histories = reverse closed ∷ []; ledger = Ended 0 ∷ [] }
+completion = record { names = codes "a" ∷ []; histories = reverse closed ∷ []; ledger = Acted 0 Ended ∷ [] }
 
 pub is_outcome : IsOutcome plan completion
 is_outcome = record { names = refl; runs = (whole, tt) }

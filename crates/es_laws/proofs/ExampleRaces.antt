@@ -4,7 +4,8 @@ use Rattle.es_value.specs.declared.value.Value.TheVariants.{Undefined}
 use Rattle.es_event.specs.declared.access.Change.TheVariants.{Add, Keep, Write}
 use Rattle.es_event.specs.declared.ledger_event.Body.TheVariants.{Block, Plain}
 use Rattle.es_event.specs.declared.ledger_event.LedgerEvent.{LedgerEvent}
-use Rattle.es_event.specs.declared.ledger_event.LedgerEvent.TheVariants.{Opened, Posted, Taken, Spent, Accessed, Waiting, Passed, Ended, Drained}
+use Rattle.es_event.specs.declared.ledger_event.LedgerEvent.TheVariants.{Opened, Posted, Taken, Spent, Accessed, Drained, Acted}
+use Rattle.es_event.specs.declared.ledger_event.Act.TheVariants.{Waiting, Passed, Ended}
 use Rattle.es_event.specs.Ledger.{Ledger}
 use Rattle.es_event.specs.LegalLedger.{LegalLedger}
 use Rattle.es_laws.specs.Memory.{WordAccess}
@@ -133,7 +134,7 @@ next_after_drained = refl
 -- Whatever else happens, they know it still
 
 abbrev others : Ledger
-others = Drained 1 0 ∷ Ended 2 ∷ Passed 1 2 ∷ Waiting 1 2 ∷ Spent 3 ∷ Accessed 3 0 Keep 0 ∷ Taken 2 0 ∷ Posted 2 0 (Plain Undefined) ∷ Posted 1 0 (Plain Undefined) ∷ Opened 2 1 3 0 ∷ []
+others = Drained 1 0 ∷ Acted 2 Ended ∷ Acted 1 (Passed 2) ∷ Acted 1 (Waiting 2) ∷ Spent 3 ∷ Accessed 3 0 Keep 0 ∷ Taken 2 0 ∷ Posted 2 0 (Plain Undefined) ∷ Posted 1 0 (Plain Undefined) ∷ Opened 2 1 3 0 ∷ []
 
 knows_still : has_no_race (load ∷ (others ++ Taken 0 1 ∷ (others ++ word ∷ (others ++ store ∷ sharing)))) ≡ true
 knows_still = refl

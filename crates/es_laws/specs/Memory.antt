@@ -5,7 +5,7 @@ use Rattle.std.specs.List.{list_all, sum_by}
 use Rattle.es_event.specs.declared.access.Change.{Change}
 use Rattle.es_event.specs.declared.ledger_event.Body.{Body}
 use Rattle.es_event.specs.declared.ledger_event.LedgerEvent.{LedgerEvent}
-use Rattle.es_event.specs.declared.ledger_event.LedgerEvent.TheVariants.{Opened, Posted, Taken, Spent, Accessed, Waiting, Passed, Ended, Drained}
+use Rattle.es_event.specs.declared.ledger_event.LedgerEvent.TheVariants.{Opened, Posted, Taken, Spent, Accessed, Drained, Acted}
 use Rattle.es_event.specs.declared.row.Row.{Row}
 use Rattle.es_event.specs.Access.{written}
 use Rattle.es_event.specs.Ledger.{Ledger, holder_of, is_at, word}
@@ -32,9 +32,7 @@ accessed l (Posted a r m) = []
 accessed l (Taken s r) = []
 accessed l (Spent s) = []
 accessed l (Accessed s i m old) = access_by (holder_of l s) i m old
-accessed l (Waiting a s) = []
-accessed l (Passed a s) = []
-accessed l (Ended a) = []
+accessed l (Acted a d) = []
 accessed l (Drained s r) = []
 
 -- all of them in one order, the newest first
@@ -101,9 +99,7 @@ posts s r (Posted t u m) = if is_at s r t u then 1 else 0
 posts s r (Taken t u) = 0
 posts s r (Spent k) = 0
 posts s r (Accessed k i m old) = 0
-posts s r (Waiting a t) = 0
-posts s r (Passed a t) = 0
-posts s r (Ended a) = 0
+posts s r (Acted a d) = 0
 posts s r (Drained t u) = 0
 
 abbrev pub takes : ℕ → ℕ → LedgerEvent → ℕ
@@ -112,9 +108,7 @@ takes s r (Posted t u m) = 0
 takes s r (Taken t u) = if is_at s r t u then 1 else 0
 takes s r (Spent k) = 0
 takes s r (Accessed k i m old) = 0
-takes s r (Waiting a t) = 0
-takes s r (Passed a t) = 0
-takes s r (Ended a) = 0
+takes s r (Acted a d) = 0
 takes s r (Drained t u) = if is_at s r t u then 1 else 0
 
 abbrev pub how_many : (LedgerEvent → ℕ) → Ledger → ℕ

@@ -4,7 +4,7 @@
 use Rattle.std.specs.Prelude.{ℕ, ◌==◌, ◌&&◌, ◌||◌, not, Bool, List, [], ◌∷◌, ◌++◌, drop, map, if◌then◌else◌}
 use Rattle.std.specs.List.{list_all, list_any, sum_by}
 use Rattle.es_event.specs.declared.ledger_event.LedgerEvent.{LedgerEvent}
-use Rattle.es_event.specs.declared.ledger_event.LedgerEvent.TheVariants.{Opened, Posted, Taken, Spent, Accessed, Waiting, Passed, Ended, Drained}
+use Rattle.es_event.specs.declared.ledger_event.LedgerEvent.TheVariants.{Opened, Posted, Taken, Spent, Accessed, Drained, Acted}
 use Rattle.es_event.specs.Ledger.{Ledger, is_at}
 use Rattle.es_laws.specs.Memory.{WordAccess, accessed, accesses, is_of, is_write}
 
@@ -43,9 +43,7 @@ knows_after l (Posted a r m) k i = k.knows i
 knows_after l (Taken s r) k i = if r == i then first_of (k.carried s r) ++ k.knows i else k.knows i
 knows_after l (Spent s) k i = k.knows i
 knows_after l (Accessed s j m old) k i = marks_of i (accesses l) (accessed l (Accessed s j m old)) ++ k.knows i
-knows_after l (Waiting a s) k i = k.knows i
-knows_after l (Passed a s) k i = k.knows i
-knows_after l (Ended a) k i = k.knows i
+knows_after l (Acted a d) k i = k.knows i
 knows_after l (Drained s r) k i = k.knows i
 
 abbrev pub carried_after : LedgerEvent → Known → ℕ → ℕ → List (List Mark)
@@ -54,9 +52,7 @@ carried_after (Posted t u m) known s r = if is_at s r t u then known.carried s r
 carried_after (Taken t u) known s r = if is_at s r t u then drop 1 (known.carried s r) else known.carried s r
 carried_after (Spent k) known s r = known.carried s r
 carried_after (Accessed k i m old) known s r = known.carried s r
-carried_after (Waiting a t) known s r = known.carried s r
-carried_after (Passed a t) known s r = known.carried s r
-carried_after (Ended a) known s r = known.carried s r
+carried_after (Acted a d) known s r = known.carried s r
 carried_after (Drained t u) known s r = if is_at s r t u then drop 1 (known.carried s r) else known.carried s r
 
 abbrev pub known : Ledger → Known

@@ -1,7 +1,8 @@
 -- One agent opens blocks, reads and writes their words, and spends its tickets; and what no ledger allows.
 use Rattle.std.proofs.Common.{◌≡◌, arith, true, false, refl, [], ◌∷◌, Some, rules}
 use Rattle.es_event.specs.declared.access.Change.TheVariants.{Keep as loads, Write as stores, Add as adds}
-use Rattle.es_event.specs.declared.ledger_event.LedgerEvent.TheVariants.{Opened, Spent, Accessed, Ended}
+use Rattle.es_event.specs.declared.ledger_event.LedgerEvent.TheVariants.{Opened, Spent, Accessed, Acted}
+use Rattle.es_event.specs.declared.ledger_event.Act.TheVariants.{Ended}
 use Rattle.es_event.specs.Rows.{row, held, held_by}
 use Rattle.es_event.specs.declared.row.Holder.TheVariants.{Nobody}
 use Rattle.es_event.specs.Ledger.{Ledger, table, size, opened, word, count, is_released, rows, holder_of}
@@ -29,7 +30,7 @@ abbrev pub opened_two : Ledger
 opened_two = Opened 2 0 2 0 ∷ spent
 
 abbrev pub ended_all : Ledger
-ended_all = Ended 0 ∷ Spent 2 ∷ opened_two
+ended_all = Acted 0 Ended ∷ Spent 2 ∷ opened_two
 
 pub legal_one : LegalLedger 1 ended_all
 legal_one = search rules
@@ -132,5 +133,5 @@ stranger : MayCome 1 spent (Opened 2 0 2 1) → ⊥
 stranger m = absurd (omega (arith, m.2))
 
 -- an agent ends twice
-ends_twice : MayCome 1 ended_all (Ended 0) → ⊥
+ends_twice : MayCome 1 ended_all (Acted 0 Ended) → ⊥
 ends_twice m = cc

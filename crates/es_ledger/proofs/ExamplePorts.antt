@@ -4,7 +4,8 @@ use Rattle.std.specs.Prelude.{pos}
 use Rattle.es_value.specs.declared.value.Value.TheVariants.{Number}
 use Rattle.es_event.specs.declared.access.Change.TheVariants.{Keep as loads, Write as stores}
 use Rattle.es_event.specs.declared.ledger_event.Body.TheVariants.{Plain, Block}
-use Rattle.es_event.specs.declared.ledger_event.LedgerEvent.TheVariants.{Opened, Posted, Taken, Spent, Accessed, Waiting, Passed, Ended, Drained}
+use Rattle.es_event.specs.declared.ledger_event.LedgerEvent.TheVariants.{Opened, Posted, Taken, Spent, Accessed, Drained, Acted}
+use Rattle.es_event.specs.declared.ledger_event.Act.TheVariants.{Waiting, Passed, Ended}
 use Rattle.es_event.specs.Rows.{row, held, in_port}
 use Rattle.es_event.specs.Ledger.{Ledger, table, count, is_released, port_of, holder_of, waits}
 use Rattle.es_event.specs.LegalLedger.{MayCome, ComesNext, LegalLedger, owed}
@@ -12,19 +13,19 @@ use Rattle.es_event.specs.LegalLedger.{MayCome, ComesNext, LegalLedger, owed}
 -- A block is posted; the sender keeps its own ticket, and spends it; the receiver reads what was stored
 
 abbrev pub stored : Ledger
-stored = Accessed 1 3 (stores 7) 0 ∷ Opened 1 4 1 0 ∷ Waiting 1 0 ∷ []
+stored = Accessed 1 3 (stores 7) 0 ∷ Opened 1 4 1 0 ∷ Acted 1 (Waiting 0) ∷ []
 
 abbrev pub posted : Ledger
 posted = Posted 0 1 (Block 1 2) ∷ stored
 
 abbrev pub sender_ended : Ledger
-sender_ended = Ended 0 ∷ Spent 1 ∷ posted
+sender_ended = Acted 0 Ended ∷ Spent 1 ∷ posted
 
 abbrev pub taken : Ledger
 taken = Taken 0 1 ∷ sender_ended
 
 abbrev pub all_ended : Ledger
-all_ended = Ended 1 ∷ Spent 2 ∷ Accessed 2 3 loads 7 ∷ taken
+all_ended = Acted 1 Ended ∷ Spent 2 ∷ Accessed 2 3 loads 7 ∷ taken
 
 pub legal_taken : LegalLedger 2 all_ended
 legal_taken = search rules
@@ -53,7 +54,7 @@ released_at_last = refl
 -- A message that nobody takes is drained, and its ticket is spent
 
 abbrev pub both_ended : Ledger
-both_ended = Ended 1 ∷ Ended 0 ∷ Spent 1 ∷ Posted 0 1 (Block 1 2) ∷ Opened 1 4 1 0 ∷ []
+both_ended = Acted 1 Ended ∷ Acted 0 Ended ∷ Spent 1 ∷ Posted 0 1 (Block 1 2) ∷ Opened 1 4 1 0 ∷ []
 
 abbrev pub drained : Ledger
 drained = Drained 0 1 ∷ both_ended
@@ -67,15 +68,15 @@ released_by_draining = refl
 -- Both wait, and the lower one is passed; its message then serves the other
 
 abbrev pub waiting : Ledger
-waiting = Waiting 1 0 ∷ Waiting 0 1 ∷ []
+waiting = Acted 1 (Waiting 0) ∷ Acted 0 (Waiting 1) ∷ []
 
 abbrev pub passed : Ledger
-passed = Passed 0 1 ∷ waiting
+passed = Acted 0 (Passed 1) ∷ waiting
 
 abbrev pub served : Ledger
 served = Taken 0 1 ∷ Posted 0 1 (Plain (Number (pos 1))) ∷ passed
 
-pub legal_passed : LegalLedger 2 (Ended 1 ∷ Ended 0 ∷ served)
+pub legal_passed : LegalLedger 2 (Acted 1 Ended ∷ Acted 0 Ended ∷ served)
 legal_passed = search rules
 
 -- Two messages come in the order in which they were posted
@@ -119,37 +120,37 @@ takes_twice : MayCome 2 taken (Taken 0 1) → ⊥
 takes_twice m = cc
 
 -- an agent waits at a full port, twice, or after its end
-waits_at_a_message : MayCome 2 two_posted (Waiting 1 0) → ⊥
+waits_at_a_message : MayCome 2 two_posted (Acted 1 (Waiting 0)) → ⊥
 waits_at_a_message m = cc
 
-waits_twice : MayCome 2 waiting (Waiting 0 1) → ⊥
+waits_twice : MayCome 2 waiting (Acted 0 (Waiting 1)) → ⊥
 waits_twice m = cc
 
-waits_for_itself : MayCome 2 [] (Waiting 0 0) → ⊥
+waits_for_itself : MayCome 2 [] (Acted 0 (Waiting 0)) → ⊥
 waits_for_itself m = m.2 refl
 
-waits_for_nobody : MayCome 2 [] (Waiting 0 2) → ⊥
+waits_for_nobody : MayCome 2 [] (Acted 0 (Waiting 2)) → ⊥
 waits_for_nobody m = absurd (omega (arith, m.1))
 
-waits_after_its_end : MayCome 2 both_ended (Waiting 0 1) → ⊥
+waits_after_its_end : MayCome 2 both_ended (Acted 0 (Waiting 1)) → ⊥
 waits_after_its_end m = cc
 
 -- an agent is passed that did not wait, while another can go on, or before a lower one
-passes_who_did_not_wait : MayCome 2 (Ended 0 ∷ []) (Passed 1 0) → ⊥
+passes_who_did_not_wait : MayCome 2 (Acted 0 Ended ∷ []) (Acted 1 (Passed 0)) → ⊥
 passes_who_did_not_wait m = cc
 
-passes_too_early : MayCome 2 (Waiting 0 1 ∷ []) (Passed 0 1) → ⊥
+passes_too_early : MayCome 2 (Acted 0 (Waiting 1) ∷ []) (Acted 0 (Passed 1)) → ⊥
 passes_too_early m = cc
 
-passes_the_higher : MayCome 2 waiting (Passed 1 0) → ⊥
+passes_the_higher : MayCome 2 waiting (Acted 1 (Passed 0)) → ⊥
 passes_the_higher m = cc
 
 -- twice
-passes_twice : MayCome 2 passed (Passed 0 1) → ⊥
+passes_twice : MayCome 2 passed (Acted 0 (Passed 1)) → ⊥
 passes_twice m = cc
 
 -- but one whose sender ended is passed at once
-pub passes_after_an_end : MayCome 2 (Waiting 1 0 ∷ Ended 0 ∷ []) (Passed 1 0)
+pub passes_after_an_end : MayCome 2 (Acted 1 (Waiting 0) ∷ Acted 0 Ended ∷ []) (Acted 1 (Passed 0))
 passes_after_an_end = (refl, refl)
 
 -- a port is drained before all have ended, or when it is empty

@@ -4,7 +4,7 @@ use Rattle.std.specs.List.{range_with_len}
 use Rattle.std.specs.Option.{option_map}
 use Rattle.es_event.specs.declared.ledger_event.Body.{Body}
 use Rattle.es_event.specs.declared.ledger_event.LedgerEvent.{LedgerEvent}
-use Rattle.es_event.specs.declared.ledger_event.LedgerEvent.TheVariants.{Opened, Posted, Taken, Spent, Accessed, Waiting, Passed, Ended, Drained}
+use Rattle.es_event.specs.declared.ledger_event.LedgerEvent.TheVariants.{Opened, Posted, Taken, Spent, Accessed, Drained, Acted}
 use Rattle.es_event.specs.Rows.{held, in_port, count_of}
 use Rattle.es_event.specs.Ledger.{Ledger, serials, table, count, is_opened, is_released, holder_of, port_of, is_at, front}
 use Rattle.es_event.specs.LegalLedger.{LegalSoFar}
@@ -37,9 +37,7 @@ owner l (Posted a r m) = None
 owner l (Taken s r) = Some r
 owner l (Spent s) = option_map (λ p. p.0) (holder_of l s)
 owner l (Accessed s i m old) = None
-owner l (Waiting a s) = None
-owner l (Passed a s) = None
-owner l (Ended a) = None
+owner l (Acted a d) = None
 owner l (Drained s r) = None
 
 -- What one agent does changes no other agent's list of tickets.
@@ -55,9 +53,7 @@ posts (Posted t u m) s r = if is_at s r t u then m ∷ [] else []
 posts (Taken t u) s r = []
 posts (Spent k) s r = []
 posts (Accessed k i m old) s r = []
-posts (Waiting a t) s r = []
-posts (Passed a t) s r = []
-posts (Ended a) s r = []
+posts (Acted a d) s r = []
 posts (Drained t u) s r = []
 
 -- all that s posted to r, the oldest first
@@ -72,9 +68,7 @@ gives l (Posted t u m) s r = []
 gives l (Taken t u) s r = if is_at s r t u then option_to_list (front l s r) else []
 gives l (Spent k) s r = []
 gives l (Accessed k i m old) s r = []
-gives l (Waiting a t) s r = []
-gives l (Passed a t) s r = []
-gives l (Ended a) s r = []
+gives l (Acted a d) s r = []
 gives l (Drained t u) s r = if is_at s r t u then option_to_list (front l s r) else []
 
 -- all that the port of s and r gave, the oldest first

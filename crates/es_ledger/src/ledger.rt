@@ -9,12 +9,13 @@ ghost use Rattle.es_event.specs.Rows.{row, held};
 ghost use Rattle.es_event.specs.Ledger.{opened, serials, table, count, word as word_at, ended, holder_of};
 ghost use Rattle.es_event.specs.LegalLedger.{LegalLedger};
 ghost use Rattle.es_ledger.specs.Audits.{held_below};
-ghost use Rattle.es_event.specs.declared.ledger_event.LedgerEvent.TheVariants.{Opened as OpenedEvent, Spent as SpentEvent, Accessed, Ended as EndedEvent};
+ghost use Rattle.es_event.specs.declared.ledger_event.LedgerEvent.TheVariants.{Opened as OpenedEvent, Spent as SpentEvent, Accessed, Acted};
+ghost use Rattle.es_event.specs.declared.ledger_event.Act.TheVariants.{Ended as EndedEvent};
 
 use crate::blocks::Blocks;
 use crate::ports::Ports;
 use es_block::Block;
-use es_event::{Change, Edit, LedgerEvent, Log};
+use es_event::{Act, Change, Edit, LedgerEvent, Log};
 use es_ticket::{LedgerName, Opened, Rows, Stake, Ticket};
 use es_value::NoMemory;
 use std::alloc::Global;
@@ -240,10 +241,13 @@ impl<L: LedgerName> LedgerCore<L> {
     pub fn ended(&mut self, agent: usize)
         requires known { agent < self.old.agents }
         requires before { ended self.old.history agent ≡ false }
-        ensures { (self.new.agents ≡ self.old.agents) × (self.new.history ≡ EndedEvent agent ∷ self.old.history) }
+        ensures { (self.new.agents ≡ self.old.agents) × (self.new.history ≡ Acted agent EndedEvent ∷ self.old.history) }
     {
         self.ended[agent] = true;
-        self.history.append(LedgerEvent::Ended { agent });
+        self.history.append(LedgerEvent::Acted {
+            agent,
+            act: Act::Ended,
+        });
     }
 
     /// How many agents there are.

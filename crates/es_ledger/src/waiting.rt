@@ -8,7 +8,7 @@ ghost use Rattle.es_ledger.specs.declared.turn.Turn.TheVariants.{Ready, Stay};
 
 use crate::ledger::{LedgerCore, make_room};
 use crate::turn::Turn;
-use es_event::LedgerEvent;
+use es_event::{Act, LedgerEvent};
 use es_ticket::LedgerName;
 use es_value::NoMemory;
 
@@ -57,7 +57,10 @@ impl<L: LedgerName> LedgerCore<L> {
         let agents = self.ended.as_slice().len();
         make_room(&mut self.history, &self.rows, &self.ports, agents, 2)?;
         self.waits[agent] = Some(sender);
-        self.history.append(LedgerEvent::Waiting { agent, sender });
+        self.history.append(LedgerEvent::Acted {
+            agent,
+            act: Act::Waiting { sender },
+        });
         Ok(())
     }
 
@@ -69,7 +72,10 @@ impl<L: LedgerName> LedgerCore<L> {
     {
         if self.waits_for(agent, sender) && self.skips(agent, sender) {
             self.waits[agent] = None;
-            self.history.append(LedgerEvent::Passed { agent, sender });
+            self.history.append(LedgerEvent::Acted {
+                agent,
+                act: Act::Passed { sender },
+            });
             Turn::Skip
         } else {
             Turn::Stay

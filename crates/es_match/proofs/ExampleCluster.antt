@@ -8,7 +8,8 @@ use Rattle.es_event.specs.declared.event.Answer.TheVariants.{Nothing, Gives}
 use Rattle.es_event.specs.declared.event.Refusal.TheVariants.{TooManyValues}
 use Rattle.es_event.specs.declared.event.Event.TheVariants.{JobBegun, Received, Did, Refused, Emptied, JobEnded, Skipped, Closed}
 use Rattle.es_event.specs.declared.ledger_event.Body.TheVariants.{Plain, Block}
-use Rattle.es_event.specs.declared.ledger_event.LedgerEvent.TheVariants.{Opened, Posted, Taken, Spent, Accessed, Waiting, Passed, Ended, Drained}
+use Rattle.es_event.specs.declared.ledger_event.LedgerEvent.TheVariants.{Opened, Posted, Taken, Spent, Accessed, Drained, Acted}
+use Rattle.es_event.specs.declared.ledger_event.Act.TheVariants.{Waiting, Passed, Ended}
 use Rattle.es_event.specs.History.{History}
 use Rattle.es_event.specs.Ledger.{Ledger}
 use Rattle.es_event.specs.LegalLedger.{LegalLedger}
@@ -46,13 +47,13 @@ abbrev pub opened : Ledger
 opened = Opened 1 4 1 0 ∷ []
 
 abbrev pub posted : Ledger
-posted = Posted 0 1 (Block 1 2) ∷ Accessed 1 1 (stores 5) 0 ∷ Waiting 1 0 ∷ opened
+posted = Posted 0 1 (Block 1 2) ∷ Accessed 1 1 (stores 5) 0 ∷ Acted 1 (Waiting 0) ∷ opened
 
 abbrev pub taken : Ledger
-taken = Ended 0 ∷ Spent 1 ∷ Taken 0 1 ∷ posted
+taken = Acted 0 Ended ∷ Spent 1 ∷ Taken 0 1 ∷ posted
 
 abbrev pub worked : Ledger
-worked = Ended 1 ∷ Spent 2 ∷ Accessed 2 1 (adds 4294967295) 5 ∷ Accessed 2 1 loads 5 ∷ taken
+worked = Acted 1 Ended ∷ Spent 2 ∷ Accessed 2 1 (adds 4294967295) 5 ∷ Accessed 2 1 loads 5 ∷ taken
 
 worked_legal : LegalLedger 2 worked
 worked_legal = search rules
@@ -69,7 +70,7 @@ abbrev pub skipper : History
 skipper = Closed ∷ Skipped 1 0 ∷ []
 
 abbrev pub passed : Ledger
-passed = Ended 1 ∷ Passed 1 0 ∷ Ended 0 ∷ Waiting 1 0 ∷ []
+passed = Acted 1 Ended ∷ Acted 1 (Passed 0) ∷ Acted 0 Ended ∷ Acted 1 (Waiting 0) ∷ []
 
 passed_legal : LegalLedger 2 passed
 passed_legal = search rules
@@ -87,7 +88,7 @@ abbrev pub refuser : History
 refuser = Closed ∷ JobEnded ∷ Refused TooManyValues ∷ []
 
 abbrev pub refused : Ledger
-refused = Ended 1 ∷ Spent 2 ∷ Taken 0 1 ∷ Ended 0 ∷ Spent 1 ∷ Posted 0 1 (Block 1 3) ∷ Posted 0 1 (Block 1 2) ∷ Opened 1 4 1 0 ∷ []
+refused = Acted 1 Ended ∷ Spent 2 ∷ Taken 0 1 ∷ Acted 0 Ended ∷ Spent 1 ∷ Posted 0 1 (Block 1 3) ∷ Posted 0 1 (Block 1 2) ∷ Opened 1 4 1 0 ∷ []
 
 abbrev pub drained : Ledger
 drained = Spent 3 ∷ Drained 0 1 ∷ refused
@@ -114,14 +115,14 @@ collector = Closed ∷ JobEnded ∷ Emptied (1 ∷ 2 ∷ []) ∷ Did (SameBlock 
     ∷ JobBegun 3 ∷ received
 
 abbrev pub shared : Ledger
-shared = Taken 0 1 ∷ Taken 0 1 ∷ Taken 0 1 ∷ Ended 0 ∷ Spent 1 ∷ Posted 0 1 (Block 1 3) ∷ Posted 0 1 (Block 1 2)
+shared = Taken 0 1 ∷ Taken 0 1 ∷ Taken 0 1 ∷ Acted 0 Ended ∷ Spent 1 ∷ Posted 0 1 (Block 1 3) ∷ Posted 0 1 (Block 1 2)
     ∷ Posted 0 1 (Plain (Number (pos 7))) ∷ Opened 1 4 1 0 ∷ []
 
 abbrev pub collected : Ledger
-collected = Ended 1 ∷ Spent 2 ∷ Spent 3 ∷ shared
+collected = Acted 1 Ended ∷ Spent 2 ∷ Spent 3 ∷ shared
 
 abbrev pub collected_in_order : Ledger
-collected_in_order = Ended 1 ∷ Spent 3 ∷ Spent 2 ∷ shared
+collected_in_order = Acted 1 Ended ∷ Spent 3 ∷ Spent 2 ∷ shared
 
 collected_legal : LegalLedger 2 collected
 collected_legal = search rules
@@ -138,7 +139,7 @@ abbrev pub later_refuser : History
 later_refuser = Refused TooManyValues ∷ JobEnded ∷ Did (SharedArrayBuffer b 2, [], Gives (Object 1)) ∷ JobBegun 1 ∷ []
 
 abbrev pub before_later : Ledger
-before_later = Ended 0 ∷ Spent 1 ∷ Posted 0 1 (Block 1 4) ∷ Posted 0 1 (Block 1 3) ∷ Opened 2 2 2 1 ∷ Opened 1 4 1 0 ∷ []
+before_later = Acted 0 Ended ∷ Spent 1 ∷ Posted 0 1 (Block 1 4) ∷ Posted 0 1 (Block 1 3) ∷ Opened 2 2 2 1 ∷ Opened 1 4 1 0 ∷ []
 
 abbrev pub later_refused : Ledger
 later_refused = Spent 3 ∷ Taken 0 1 ∷ before_later
@@ -150,8 +151,8 @@ pub a_later_refusal : IsCluster (poster ∷ later_refuser ∷ []) later_refused
 a_later_refusal = two_agents poster later_refuser later_refused refl refl refl
 
 abbrev pub skipper_refused : Ledger
-skipper_refused = Spent 2 ∷ Taken 0 1 ∷ Ended 0 ∷ Spent 1 ∷ Posted 0 1 (Block 1 3) ∷ Posted 0 1 (Block 1 2) ∷ Opened 1 4 1 0
-    ∷ Passed 1 0 ∷ Waiting 1 0 ∷ []
+skipper_refused = Spent 2 ∷ Taken 0 1 ∷ Acted 0 Ended ∷ Spent 1 ∷ Posted 0 1 (Block 1 3) ∷ Posted 0 1 (Block 1 2) ∷ Opened 1 4 1 0
+    ∷ Acted 1 (Passed 0) ∷ Acted 1 (Waiting 0) ∷ []
 
 pub a_refusal_after_a_skip : IsCluster (poster ∷ (Refused TooManyValues ∷ Skipped 1 0 ∷ []) ∷ []) skipper_refused
 a_refusal_after_a_skip = two_agents poster _ skipper_refused refl refl refl
@@ -159,7 +160,7 @@ a_refusal_after_a_skip = two_agents poster _ skipper_refused refl refl refl
 -- A received buffer is posted back
 
 abbrev pub posted_back : Ledger
-posted_back = Ended 1 ∷ Spent 2 ∷ Posted 1 0 (Block 1 3) ∷ taken
+posted_back = Acted 1 Ended ∷ Spent 2 ∷ Posted 1 0 (Block 1 3) ∷ taken
 
 posted_back_legal : LegalLedger 2 posted_back
 posted_back_legal = search rules

@@ -8,7 +8,8 @@ use Rattle.es_event.specs.declared.event.Answer.TheVariants.{Nothing, Gives}
 use Rattle.es_event.specs.declared.event.Refusal.TheVariants.{TooManyValues, TooManyPosts}
 use Rattle.es_event.specs.declared.event.Event.TheVariants.{JobBegun, Received, Did, Refused, Emptied, Skipped, Closed}
 use Rattle.es_event.specs.declared.ledger_event.Body.TheVariants.{Plain, Block}
-use Rattle.es_event.specs.declared.ledger_event.LedgerEvent.TheVariants.{Opened, Posted, Taken, Spent, Accessed, Waiting, Passed, Ended, Drained}
+use Rattle.es_event.specs.declared.ledger_event.LedgerEvent.TheVariants.{Opened, Posted, Taken, Spent, Accessed, Drained, Acted}
+use Rattle.es_event.specs.declared.ledger_event.Act.TheVariants.{Waiting, Passed, Ended}
 use Rattle.es_event.specs.History.{History}
 use Rattle.es_event.specs.Ledger.{Ledger}
 use Rattle.es_event.proofs.Examples.{load, store, add}
@@ -25,43 +26,43 @@ both = maker ∷ worker ∷ []
 -- What the worker does
 
 -- a word that was not read
-invented : No both (Ended 1 ∷ Spent 2 ∷ Accessed 2 1 (adds 4294967295) 5 ∷ Accessed 2 1 loads 6 ∷ taken)
+invented : No both (Acted 1 Ended ∷ Spent 2 ∷ Accessed 2 1 (adds 4294967295) 5 ∷ Accessed 2 1 loads 6 ∷ taken)
 invented = untold both _ 1 refl
 
 -- another index
-elsewhere : No both (Ended 1 ∷ Spent 2 ∷ Accessed 2 1 (adds 4294967295) 5 ∷ Accessed 2 2 loads 5 ∷ taken)
+elsewhere : No both (Acted 1 Ended ∷ Spent 2 ∷ Accessed 2 1 (adds 4294967295) 5 ∷ Accessed 2 2 loads 5 ∷ taken)
 elsewhere = untold both _ 1 refl
 
 -- through the ticket of nobody
-unheld : No both (Ended 1 ∷ Spent 2 ∷ Accessed 2 1 (adds 4294967295) 5 ∷ Accessed 1 1 loads 5 ∷ taken)
+unheld : No both (Acted 1 Ended ∷ Spent 2 ∷ Accessed 2 1 (adds 4294967295) 5 ∷ Accessed 1 1 loads 5 ∷ taken)
 unheld = untold both _ 1 refl
 
 -- another addend
-other_addend : No both (Ended 1 ∷ Spent 2 ∷ Accessed 2 1 (adds 4294967294) 5 ∷ Accessed 2 1 loads 5 ∷ taken)
+other_addend : No both (Acted 1 Ended ∷ Spent 2 ∷ Accessed 2 1 (adds 4294967294) 5 ∷ Accessed 2 1 loads 5 ∷ taken)
 other_addend = untold both _ 1 refl
 
 -- another word before the sum
-other_old : No both (Ended 1 ∷ Spent 2 ∷ Accessed 2 1 (adds 4294967295) 6 ∷ Accessed 2 1 loads 5 ∷ taken)
+other_old : No both (Acted 1 Ended ∷ Spent 2 ∷ Accessed 2 1 (adds 4294967295) 6 ∷ Accessed 2 1 loads 5 ∷ taken)
 other_old = untold both _ 1 refl
 
 -- a sum at another index
-other_sum : No both (Ended 1 ∷ Spent 2 ∷ Accessed 2 0 (adds 4294967295) 5 ∷ Accessed 2 1 loads 5 ∷ taken)
+other_sum : No both (Acted 1 Ended ∷ Spent 2 ∷ Accessed 2 0 (adds 4294967295) 5 ∷ Accessed 2 1 loads 5 ∷ taken)
 other_sum = untold both _ 1 refl
 
 -- two deeds swapped
-swapped : No both (Ended 1 ∷ Spent 2 ∷ Accessed 2 1 loads 5 ∷ Accessed 2 1 (adds 4294967295) 5 ∷ taken)
+swapped : No both (Acted 1 Ended ∷ Spent 2 ∷ Accessed 2 1 loads 5 ∷ Accessed 2 1 (adds 4294967295) 5 ∷ taken)
 swapped = untold both _ 1 refl
 
 -- a deed that was not asked
-besides : No both (Ended 1 ∷ Spent 2 ∷ Accessed 2 1 loads 5 ∷ Accessed 2 1 (adds 4294967295) 5 ∷ Accessed 2 1 loads 5 ∷ taken)
+besides : No both (Acted 1 Ended ∷ Spent 2 ∷ Accessed 2 1 loads 5 ∷ Accessed 2 1 (adds 4294967295) 5 ∷ Accessed 2 1 loads 5 ∷ taken)
 besides = untold both _ 1 refl
 
 -- a deed missing
-missing : No both (Ended 1 ∷ Spent 2 ∷ Accessed 2 1 loads 5 ∷ taken)
+missing : No both (Acted 1 Ended ∷ Spent 2 ∷ Accessed 2 1 loads 5 ∷ taken)
 missing = untold both _ 1 refl
 
 -- the ticket is not spent at the closing
-unspent : No both (Ended 1 ∷ Accessed 2 1 (adds 4294967295) 5 ∷ Accessed 2 1 loads 5 ∷ taken)
+unspent : No both (Acted 1 Ended ∷ Accessed 2 1 (adds 4294967295) 5 ∷ Accessed 2 1 loads 5 ∷ taken)
 unspent = untold both _ 1 refl
 
 -- the agent does not end
@@ -69,7 +70,7 @@ endless : No both (Spent 2 ∷ Accessed 2 1 (adds 4294967295) 5 ∷ Accessed 2 1
 endless = untold both _ 1 refl
 
 -- the ticket is spent after the end
-late : No both (Spent 2 ∷ Ended 1 ∷ Accessed 2 1 (adds 4294967295) 5 ∷ Accessed 2 1 loads 5 ∷ taken)
+late : No both (Spent 2 ∷ Acted 1 Ended ∷ Accessed 2 1 (adds 4294967295) 5 ∷ Accessed 2 1 loads 5 ∷ taken)
 late = untold both _ 1 refl
 
 -- What the worker says
@@ -93,31 +94,31 @@ no_length = untold _ _ 1 refl
 -- Messages
 
 -- a post dropped
-dropped : No both (Ended 1 ∷ Spent 2 ∷ Accessed 2 1 (adds 4294967295) 5 ∷ Accessed 2 1 loads 5 ∷ Ended 0 ∷ Spent 1 ∷ Taken 0 1 ∷ Accessed 1 1 (stores 5) 0
-    ∷ Waiting 1 0 ∷ opened)
+dropped : No both (Acted 1 Ended ∷ Spent 2 ∷ Accessed 2 1 (adds 4294967295) 5 ∷ Accessed 2 1 loads 5 ∷ Acted 0 Ended ∷ Spent 1 ∷ Taken 0 1 ∷ Accessed 1 1 (stores 5) 0
+    ∷ Acted 1 (Waiting 0) ∷ opened)
 dropped = untold both _ 0 refl
 
 -- a post to another agent
-to_another : No ((Did (Post 1 b, Object 1 ∷ [], Nothing) ∷ made) ∷ idle ∷ []) (Ended 1 ∷ Posted 0 0 (Block 1 2) ∷ Accessed 1 1 (stores 5) 0
+to_another : No ((Did (Post 1 b, Object 1 ∷ [], Nothing) ∷ made) ∷ idle ∷ []) (Acted 1 Ended ∷ Posted 0 0 (Block 1 2) ∷ Accessed 1 1 (stores 5) 0
     ∷ opened)
 to_another = untold _ _ 0 refl
 
 -- a post of another value
-other_value : No ((Did (Post 1 x, Number (pos 7) ∷ [], Nothing) ∷ []) ∷ idle ∷ []) (Ended 1
+other_value : No ((Did (Post 1 x, Number (pos 7) ∷ [], Nothing) ∷ []) ∷ idle ∷ []) (Acted 1 Ended
     ∷ Posted 0 1 (Plain (Number (pos 8))) ∷ [])
 other_value = untold _ _ 0 refl
 
 -- a post of another block
-other_block : No ((Did (Post 1 b, Object 1 ∷ [], Nothing) ∷ made) ∷ idle ∷ []) (Ended 1 ∷ Posted 0 1 (Block 2 2) ∷ Accessed 1 1 (stores 5) 0
+other_block : No ((Did (Post 1 b, Object 1 ∷ [], Nothing) ∷ made) ∷ idle ∷ []) (Acted 1 Ended ∷ Posted 0 1 (Block 2 2) ∷ Accessed 1 1 (stores 5) 0
     ∷ opened)
 other_block = untold _ _ 0 refl
 
 -- a block that is posted for a value
-block_for_value : No ((Did (Post 1 x, Number (pos 1) ∷ [], Nothing) ∷ []) ∷ idle ∷ []) (Ended 1 ∷ Posted 0 1 (Block 1 1) ∷ [])
+block_for_value : No ((Did (Post 1 x, Number (pos 1) ∷ [], Nothing) ∷ []) ∷ idle ∷ []) (Acted 1 Ended ∷ Posted 0 1 (Block 1 1) ∷ [])
 block_for_value = untold _ _ 0 refl
 
 -- an object as such is posted
-object_as_such : No ((Did (Post 1 b, Object 1 ∷ [], Nothing) ∷ made) ∷ idle ∷ []) (Ended 1 ∷ Posted 0 1 (Plain (Object 1))
+object_as_such : No ((Did (Post 1 b, Object 1 ∷ [], Nothing) ∷ made) ∷ idle ∷ []) (Acted 1 Ended ∷ Posted 0 1 (Plain (Object 1))
     ∷ Accessed 1 1 (stores 5) 0 ∷ opened)
 object_as_such = untold _ _ 0 refl
 
@@ -132,19 +133,19 @@ object_received : No ((Did (Post 1 x, Number (pos 7) ∷ [], Nothing) ∷ []) �
 object_received = untold _ _ 1 refl
 
 -- a value is received for a block
-value_received : No (maker ∷ (Received 0 (Number (pos 7)) ∷ []) ∷ []) (Ended 0 ∷ Spent 1 ∷ Taken 0 1 ∷ posted)
+value_received : No (maker ∷ (Received 0 (Number (pos 7)) ∷ []) ∷ []) (Acted 0 Ended ∷ Spent 1 ∷ Taken 0 1 ∷ posted)
 value_received = untold _ _ 1 refl
 
 -- a message is received of another sender
-other_sender : No (maker ∷ (Received 1 (Object 1) ∷ []) ∷ []) (Ended 0 ∷ Spent 1 ∷ Taken 0 1 ∷ posted)
+other_sender : No (maker ∷ (Received 1 (Object 1) ∷ []) ∷ []) (Acted 0 Ended ∷ Spent 1 ∷ Taken 0 1 ∷ posted)
 other_sender = untold _ _ 1 refl
 
 -- a message is taken and not received
-unreceived : No (maker ∷ [] ∷ []) (Ended 0 ∷ Spent 1 ∷ Taken 0 1 ∷ posted)
+unreceived : No (maker ∷ [] ∷ []) (Acted 0 Ended ∷ Spent 1 ∷ Taken 0 1 ∷ posted)
 unreceived = untold _ _ 1 refl
 
 -- a message is taken of an empty port
-from_nowhere : No (idle ∷ [] ∷ []) (Taken 0 1 ∷ Ended 0 ∷ [])
+from_nowhere : No (idle ∷ [] ∷ []) (Taken 0 1 ∷ Acted 0 Ended ∷ [])
 from_nowhere = untold _ _ 1 refl
 
 -- an object as such is received
@@ -186,30 +187,30 @@ skips_another : No (idle ∷ (Closed ∷ Skipped 1 1 ∷ []) ∷ []) passed
 skips_another = untold _ _ 1 refl
 
 -- a job is skipped and no word of it stands in the ledger
-skips_alone : No skips (Ended 1 ∷ Ended 0 ∷ Waiting 1 0 ∷ [])
+skips_alone : No skips (Acted 1 Ended ∷ Acted 0 Ended ∷ Acted 1 (Waiting 0) ∷ [])
 skips_alone = untold _ _ 1 refl
 
 -- an agent that waits ends
-ends_waiting : No (idle ∷ idle ∷ []) (Ended 1 ∷ Ended 0 ∷ Waiting 1 0 ∷ [])
+ends_waiting : No (idle ∷ idle ∷ []) (Acted 1 Ended ∷ Acted 0 Ended ∷ Acted 1 (Waiting 0) ∷ [])
 ends_waiting = impatient _ _ refl
 
 -- an agent that waits for one sender skips for another
-skips_for_another : No (idle ∷ (Closed ∷ Skipped 1 2 ∷ []) ∷ []) (Ended 1 ∷ Passed 1 2 ∷ Ended 0 ∷ Waiting 1 0 ∷ [])
+skips_for_another : No (idle ∷ (Closed ∷ Skipped 1 2 ∷ []) ∷ []) (Acted 1 Ended ∷ Acted 1 (Passed 2) ∷ Acted 0 Ended ∷ Acted 1 (Waiting 0) ∷ [])
 skips_for_another = impatient _ _ refl
 
 -- an agent that waits begins to wait again
-waits_twice : No skips (Ended 1 ∷ Passed 1 0 ∷ Ended 0 ∷ Waiting 1 0 ∷ Waiting 1 0 ∷ [])
+waits_twice : No skips (Acted 1 Ended ∷ Acted 1 (Passed 0) ∷ Acted 0 Ended ∷ Acted 1 (Waiting 0) ∷ Acted 1 (Waiting 0) ∷ [])
 waits_twice = impatient _ _ refl
 
 -- an agent that waits for one sender takes a message of another
 takes_of_another : No (idle ∷ (Received 1 (Number (pos 7)) ∷ Did (Post 1 x, Number (pos 7) ∷ [], Nothing) ∷ []) ∷ []) (Taken 1 1
-    ∷ Waiting 1 0 ∷ Posted 1 1 (Plain (Number (pos 7))) ∷ Ended 0 ∷ [])
+    ∷ Acted 1 (Waiting 0) ∷ Posted 1 1 (Plain (Number (pos 7))) ∷ Acted 0 Ended ∷ [])
 takes_of_another = impatient _ _ refl
 
 -- an agent that waits goes on with something else
 
 abbrev waiting : Ledger
-waiting = Waiting 0 1 ∷ opened
+waiting = Acted 0 (Waiting 1) ∷ opened
 
 opens_waiting : (hs : List History) → No hs (Opened 2 4 2 0 ∷ waiting)
 opens_waiting hs = impatient _ _ refl
@@ -235,7 +236,7 @@ abbrev refuses : List History
 refuses = poster ∷ refuser ∷ []
 
 -- the ticket of a refused receipt is not spent
-keeps_ticket : No refuses (Ended 1 ∷ Taken 0 1 ∷ Ended 0 ∷ Spent 1 ∷ Posted 0 1 (Block 1 3) ∷ Posted 0 1 (Block 1 2)
+keeps_ticket : No refuses (Acted 1 Ended ∷ Taken 0 1 ∷ Acted 0 Ended ∷ Spent 1 ∷ Posted 0 1 (Block 1 3) ∷ Posted 0 1 (Block 1 2)
     ∷ Opened 1 4 1 0 ∷ [])
 keeps_ticket = untold _ _ 1 refl
 
@@ -249,24 +250,24 @@ refuses_value : No ((Did (Post 1 x, Number (pos 7) ∷ [], Nothing) ∷ []) ∷ 
 refuses_value = untold _ _ 1 refl
 
 -- a command is refused, which asks nothing of the ledger
-refuses_command : No (poster ∷ (Refused TooManyValues ∷ JobBegun 1 ∷ []) ∷ []) (Spent 2 ∷ Taken 0 1 ∷ Ended 0 ∷ Spent 1
+refuses_command : No (poster ∷ (Refused TooManyValues ∷ JobBegun 1 ∷ []) ∷ []) (Spent 2 ∷ Taken 0 1 ∷ Acted 0 Ended ∷ Spent 1
     ∷ Posted 0 1 (Block 1 3) ∷ Posted 0 1 (Block 1 2) ∷ Opened 1 4 1 0 ∷ [])
 refuses_command = untold _ _ 1 refl
 
 -- a refusal for another reason asks nothing
-refuses_otherwise : No (poster ∷ (Refused TooManyPosts ∷ []) ∷ []) (Spent 2 ∷ Taken 0 1 ∷ Ended 0 ∷ Spent 1
+refuses_otherwise : No (poster ∷ (Refused TooManyPosts ∷ []) ∷ []) (Spent 2 ∷ Taken 0 1 ∷ Acted 0 Ended ∷ Spent 1
     ∷ Posted 0 1 (Block 1 3) ∷ Posted 0 1 (Block 1 2) ∷ Opened 1 4 1 0 ∷ [])
 refuses_otherwise = untold _ _ 1 refl
 
 -- Drains
 
 -- an agent does something after a drain
-not_last : No refuses (Ended 1 ∷ Spent 3 ∷ Drained 0 1 ∷ Spent 2 ∷ Taken 0 1 ∷ Ended 0 ∷ Spent 1 ∷ Posted 0 1 (Block 1 3)
+not_last : No refuses (Acted 1 Ended ∷ Spent 3 ∷ Drained 0 1 ∷ Spent 2 ∷ Taken 0 1 ∷ Acted 0 Ended ∷ Spent 1 ∷ Posted 0 1 (Block 1 3)
     ∷ Posted 0 1 (Block 1 2) ∷ Opened 1 4 1 0 ∷ [])
 not_last = after_drain _ _ refl
 
 -- an agent begins to wait after a drain
-waits_last : No refuses (Waiting 1 0 ∷ drained)
+waits_last : No refuses (Acted 1 (Waiting 0) ∷ drained)
 waits_last = after_drain _ _ refl
 
 -- Collections
@@ -275,11 +276,11 @@ abbrev collects : List History
 collects = sharer ∷ collector ∷ []
 
 -- one ticket is not spent
-one_left : No collects (Ended 1 ∷ Spent 3 ∷ shared)
+one_left : No collects (Acted 1 Ended ∷ Spent 3 ∷ shared)
 one_left = untold _ _ 1 refl
 
 -- a ticket is spent twice
-spent_twice : No collects (Ended 1 ∷ Spent 3 ∷ Spent 3 ∷ shared)
+spent_twice : No collects (Acted 1 Ended ∷ Spent 3 ∷ Spent 3 ∷ shared)
 spent_twice = untold _ _ 1 refl
 
 -- a ticket is spent whose buffer is not emptied
@@ -328,5 +329,5 @@ said_same = untold _ _ 0 refl
 -- Strangers
 
 -- an agent that is not there ends
-stranger : No (idle ∷ idle ∷ []) (Ended 2 ∷ Ended 1 ∷ Ended 0 ∷ [])
+stranger : No (idle ∷ idle ∷ []) (Acted 2 Ended ∷ Acted 1 Ended ∷ Acted 0 Ended ∷ [])
 stranger = untold _ _ 2 refl

@@ -5,7 +5,7 @@ use Rattle.std.specs.Option.{option_and_then, option_map, option_map_or}
 use Rattle.es_event.specs.declared.ledger_event.Body.{Body}
 use Rattle.es_event.specs.declared.ledger_event.Body.TheVariants.{Plain, Block}
 use Rattle.es_event.specs.declared.ledger_event.LedgerEvent.{LedgerEvent}
-use Rattle.es_event.specs.declared.ledger_event.LedgerEvent.TheVariants.{Opened, Posted, Taken, Spent, Accessed, Waiting, Passed, Ended, Drained}
+use Rattle.es_event.specs.declared.ledger_event.LedgerEvent.TheVariants.{Opened, Posted, Taken, Spent, Accessed, Drained, Acted}
 use Rattle.es_event.specs.declared.row.Entry.{Entry}
 use Rattle.es_event.specs.declared.row.Holder.{Holder}
 use Rattle.es_event.specs.declared.row.Holder.TheVariants.{Agent, Nobody}
@@ -79,9 +79,7 @@ line_said l (Posted a r body) q = posted_said l a r body (table l) q
 line_said l (Taken s r) q = moved_said (option_and_then serial_in (front l s r)) (Agent r) (table l) q
 line_said l (Spent s) q = line_moved s Nobody (table l) q
 line_said l (Accessed s i m old) q = refl
-line_said l (Waiting a s) q = refl
-line_said l (Passed a s) q = refl
-line_said l (Ended a) q = refl
+line_said l (Acted a d) q = refl
 line_said l (Drained s r) q = refl
 
 -- All pass

@@ -5,7 +5,9 @@ use Rattle.es_event.specs.declared.access.Change.{Change}
 use Rattle.es_event.specs.declared.ledger_event.Body.{Body}
 use Rattle.es_event.specs.declared.ledger_event.Body.TheVariants.{Plain, Block}
 use Rattle.es_event.specs.declared.ledger_event.LedgerEvent.{LedgerEvent}
-use Rattle.es_event.specs.declared.ledger_event.LedgerEvent.TheVariants.{Opened, Posted, Taken, Spent, Accessed, Waiting, Passed, Ended, Drained}
+use Rattle.es_event.specs.declared.ledger_event.LedgerEvent.TheVariants.{Opened, Posted, Taken, Spent, Accessed, Drained, Acted}
+use Rattle.es_event.specs.declared.ledger_event.Act.{Act}
+use Rattle.es_event.specs.declared.ledger_event.Act.TheVariants.{Waiting, Passed, Ended}
 use Rattle.es_event.specs.Ledger.{Ledger, size, front, holder_of}
 
 -- what an agent does to the ledger; a message that it takes is none where the port was empty, and comes with the number of
@@ -36,6 +38,11 @@ words_in l (Block b s) = size l b
 abbrev pub taking : Ledger → ℕ → Option Body → Deed
 taking l s m = Takes s m (option_map_or (words_in l) m 0)
 
+abbrev pub acting : Act → Deed
+acting (Waiting s) = Waits s
+acting (Passed s) = Passes s
+acting Ended = Ends
+
 -- what an event after l is; a drain is nobody's deed, nor is the spending of a ticket that no agent holds
 abbrev pub deed : Ledger → LedgerEvent → Owned
 deed l (Opened b w s a) = Some (a, Opens b w s)
@@ -43,9 +50,7 @@ deed l (Posted a r m) = Some (a, Posts r m)
 deed l (Taken s r) = Some (r, taking l s (front l s r))
 deed l (Spent s) = by_holder l s (Spends s)
 deed l (Accessed s i m old) = by_holder l s (Accesses s i m old)
-deed l (Waiting a s) = Some (a, Waits s)
-deed l (Passed a s) = Some (a, Passes s)
-deed l (Ended a) = Some (a, Ends)
+deed l (Acted a d) = Some (a, acting d)
 deed l (Drained s r) = None
 
 abbrev pub is_wait : Deed → Bool

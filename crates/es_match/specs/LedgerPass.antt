@@ -10,7 +10,7 @@ use denote.Ref.{Bor}
 use Rattle.es_event.specs.declared.ledger_event.Body.{Body}
 use Rattle.es_event.specs.declared.ledger_event.Body.TheVariants.{Plain, Block}
 use Rattle.es_event.specs.declared.ledger_event.LedgerEvent.{LedgerEvent}
-use Rattle.es_event.specs.declared.ledger_event.LedgerEvent.TheVariants.{Opened, Posted, Taken, Spent, Accessed, Waiting, Passed, Ended, Drained}
+use Rattle.es_event.specs.declared.ledger_event.LedgerEvent.TheVariants.{Opened, Posted, Taken, Spent, Accessed, Drained, Acted}
 use Rattle.es_event.specs.declared.row.Entry.{Entry}
 use Rattle.es_event.specs.declared.row.Holder.{Holder}
 use Rattle.es_event.specs.declared.row.Holder.TheVariants.{Agent, Port, Nobody}
@@ -82,9 +82,7 @@ taken_by l (Posted a r m) = None
 taken_by l (Taken s r) = front l s r
 taken_by l (Spent s) = None
 taken_by l (Accessed s i m old) = None
-taken_by l (Waiting a s) = None
-taken_by l (Passed a s) = None
-taken_by l (Ended a) = None
+taken_by l (Acted a d) = None
 taken_by l (Drained s r) = None
 
 -- the number of words of the block that the event posts
@@ -94,9 +92,7 @@ words_by l (Posted a r m) = words_in l m
 words_by l (Taken s r) = 0
 words_by l (Spent s) = 0
 words_by l (Accessed s i m old) = 0
-words_by l (Waiting a s) = 0
-words_by l (Passed a s) = 0
-words_by l (Ended a) = 0
+words_by l (Acted a d) = 0
 words_by l (Drained s r) = 0
 
 -- the line of serial q after an event that takes this message or posts a block of so many words
@@ -107,7 +103,5 @@ line_after m words (Taken s r) q before =
     option_map_or (λ k. move_line k (Agent r) q before) (option_and_then serial_in m) before
 line_after m words (Spent s) q before = move_line s Nobody q before
 line_after m words (Accessed s i done old) q before = before
-line_after m words (Waiting a s) q before = before
-line_after m words (Passed a s) q before = before
-line_after m words (Ended a) q before = before
+line_after m words (Acted a d) q before = before
 line_after m words (Drained s r) q before = before

@@ -3,7 +3,7 @@
 ghost use Rattle.std.specs.Prelude.{◌≡◌, true};
 ghost use Rattle.es_event.specs.Ledger.{Ledger, front, waits};
 ghost use Rattle.es_match.specs.Patience.{ends_wait, may_do};
-ghost use Rattle.es_match.specs.Deeds.{by_holder, deed, is_wait, taking};
+ghost use Rattle.es_match.specs.Deeds.{acting, by_holder, deed, is_wait, taking};
 ghost use Rattle.es_match.specs.Orderly.{is_known, may_come};
 ghost use Rattle.es_match.specs.DeedsShown.{owned, shown};
 ghost use Rattle.es_match.specs.LedgerPass.{Says};
@@ -12,7 +12,7 @@ use crate::deed::Deed;
 use crate::ledger_pass::LedgerPass;
 use crate::lines::holder;
 use crate::mail::front;
-use es_event::LedgerEvent;
+use es_event::{Act, LedgerEvent};
 
 impl<'a> LedgerPass<'a> {
     /// What the next event is to the agent that does it.
@@ -65,12 +65,7 @@ impl<'a> LedgerPass<'a> {
                     old: *old,
                 },
             ),
-            LedgerEvent::Waiting { agent, sender } => Some((
-                *agent,
-                Deed::Wait { sender: *sender },
-            )),
-            LedgerEvent::Passed { agent, sender } => Some((*agent, Deed::Pass { sender: *sender })),
-            LedgerEvent::Ended { agent } => Some((*agent, Deed::End)),
+            LedgerEvent::Acted { agent, act } => Some((*agent, acting(*act))),
             LedgerEvent::Drained { .. } => None,
         }
     }
@@ -122,6 +117,16 @@ impl<'a> LedgerPass<'a> {
                     && (is_wait(deed) || *agent < agents)
             }
         }
+    }
+}
+
+fn acting<'a>(act: Act) -> Deed<'a>
+    ensures { shown result ≡ acting act }
+{
+    match act {
+        Act::Waiting { sender } => Deed::Wait { sender },
+        Act::Passed { sender } => Deed::Pass { sender },
+        Act::Ended => Deed::End,
     }
 }
 

@@ -2,13 +2,14 @@
 
 ghost use Rattle.std.specs.Prelude.{◌≡◌, ℕ, [], ◌∷◌, OnOk, ◌||◌};
 ghost use Rattle.es_event.specs.Ledger.{Ledger, awaited, newest_size, opens};
+ghost use Rattle.es_event.specs.declared.ledger_event.LedgerEvent.{LedgerEvent as Happening};
 ghost use Rattle.es_match.specs.LedgerPass.{Says, body_of, size_in, taken_by, waits_in, words_by};
 ghost use Rattle.es_match.specs.Deeds.{words_in};
 ghost use Rattle.es_event.specs.Totals.{is_drained};
 
 use crate::lines::{self, Lines, put};
 use crate::mail::{self, Mail};
-use es_event::{Body, LedgerEvent};
+use es_event::{Act, Body, LedgerEvent};
 use es_value::NoMemory;
 use std::alloc::Global;
 use std::collections::HashMap;
@@ -105,9 +106,7 @@ fn note_size(sizes: &mut HashMap<u64, u32>, event: &LedgerEvent) -> Result<(), N
         | LedgerEvent::Taken { .. }
         | LedgerEvent::Spent { .. }
         | LedgerEvent::Accessed { .. }
-        | LedgerEvent::Waiting { .. }
-        | LedgerEvent::Passed { .. }
-        | LedgerEvent::Ended { .. }
+        | LedgerEvent::Acted { .. }
         | LedgerEvent::Drained { .. } => Ok(()),
     }
 }
@@ -120,14 +119,26 @@ fn note_wait(
 {
     match event {
         LedgerEvent::Taken { receiver, .. } => put(waiting, *receiver, None),
-        LedgerEvent::Waiting { agent, sender } => put(waiting, *agent, Some(*sender)),
-        LedgerEvent::Passed { agent, .. } => put(waiting, *agent, None),
+        LedgerEvent::Acted { agent, act } => note_act(waiting, *agent, *act),
         LedgerEvent::Opened { .. }
         | LedgerEvent::Posted { .. }
         | LedgerEvent::Spent { .. }
         | LedgerEvent::Accessed { .. }
-        | LedgerEvent::Ended { .. }
         | LedgerEvent::Drained { .. } => Ok(()),
+    }
+}
+
+fn note_act(
+    waiting: &mut HashMap<usize, Option<usize>>,
+    agent: usize,
+    act: Act,
+) -> Result<(), NoMemory>
+    ensures { OnOk result ((a : ℕ) → waits_in waiting.new a ≡ awaited (Happening.Acted agent act) a (waits_in waiting.old a)) }
+{
+    match act {
+        Act::Waiting { sender } => put(waiting, agent, Some(sender)),
+        Act::Passed { .. } => put(waiting, agent, None),
+        Act::Ended => Ok(()),
     }
 }
 

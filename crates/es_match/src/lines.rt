@@ -129,10 +129,7 @@ pub(crate) fn note(
             _ => Ok(()),
         },
         LedgerEvent::Spent { serial } => hand(lines, *serial, Holder::Nobody),
-        LedgerEvent::Accessed { .. }
-        | LedgerEvent::Waiting { .. }
-        | LedgerEvent::Passed { .. }
-        | LedgerEvent::Ended { .. }
-        | LedgerEvent::Drained { .. } => Ok(()),
+        LedgerEvent::Accessed { .. } | LedgerEvent::Acted { .. } | LedgerEvent::Drained { .. } =>
+            Ok(()),
     }
 }

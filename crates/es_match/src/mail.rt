@@ -98,8 +98,6 @@ pub(crate) fn note<'a>(
         LedgerEvent::Opened { .. }
         | LedgerEvent::Spent { .. }
         | LedgerEvent::Accessed { .. }
-        | LedgerEvent::Waiting { .. }
-        | LedgerEvent::Passed { .. }
-        | LedgerEvent::Ended { .. } => Ok(()),
+        | LedgerEvent::Acted { .. } => Ok(()),
     }
 }

@@ -8,7 +8,8 @@ use Rattle.es_value.specs.declared.value.Value.{Value}
 use Rattle.es_event.specs.declared.ledger_event.Body.{Body}
 use Rattle.es_event.specs.declared.ledger_event.Body.TheVariants.{Plain, Block}
 use Rattle.es_event.specs.declared.ledger_event.LedgerEvent.{LedgerEvent}
-use Rattle.es_event.specs.declared.ledger_event.LedgerEvent.TheVariants.{Spent, Ended, Drained}
+use Rattle.es_event.specs.declared.ledger_event.LedgerEvent.TheVariants.{Spent, Drained, Acted}
+use Rattle.es_event.specs.declared.ledger_event.Act.TheVariants.{Ended}
 use Rattle.es_event.specs.declared.event.Event.{Event}
 use Rattle.es_event.specs.declared.event.Event.TheVariants.{Did, Refused, Closed}
 use Rattle.es_event.specs.declared.event.Answer.{Answer}
@@ -51,7 +52,7 @@ closes _ = false
 -- The end of an agent stands in its part
 
 ends_here : (l : Ledger) (e : LedgerEvent) (a : ℕ) → is_end_of e a ≡ true → list_any is_end (part_of a (deed l e)) ≡ true
-ends_here l (Ended b) a is = ap (λ t. list_any is_end (cond (t && true) (Ends ∷ []) [])) is
+ends_here l (Acted b Ended) a is = ap (λ t. list_any is_end (cond (t && true) (Ends ∷ []) [])) is
 ends_here l _ a is = cc
 
 or_right : (a b : Bool) → b ≡ true → (a || b) ≡ true
@@ -197,14 +198,14 @@ closed_ended b (e ∷ h) follows any = by (is_closing e) refl any (closed_ended 
 ends_more : (n k : ℕ) (l : Ledger) → all_ended l k ≡ true → all_ended (with_end n l) k ≡ true
 ends_more n k l over = by (has_ended l n)
   where
-    by : (b : Bool) → all_ended (cond b l (Ended n ∷ l)) k ≡ true
+    by : (b : Bool) → all_ended (cond b l (Acted n Ended ∷ l)) k ≡ true
     by true = over
-    by false = still_over (Ended n) l k over
+    by false = still_over (Acted n Ended) l k over
 
 ends_this : (n : ℕ) (l : Ledger) → has_ended (with_end n l) n ≡ true
 ends_this n l = by (has_ended l n) refl
   where
-    by : (b : Bool) → has_ended l n ≡ b → has_ended (cond b l (Ended n ∷ l)) n ≡ true
+    by : (b : Bool) → has_ended l n ≡ b → has_ended (cond b l (Acted n Ended ∷ l)) n ≡ true
     by true is = is
     by false is = ap (λ b. b || has_ended l n) (eq-eqb n n refl)
 

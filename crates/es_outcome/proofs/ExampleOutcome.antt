@@ -10,7 +10,8 @@ use Rattle.es_event.specs.declared.event.Event.{Event}
 use Rattle.es_event.specs.declared.event.Event.TheVariants.{JobBegun, Received, Did, Refused, JobEnded, Closed}
 use Rattle.es_event.specs.declared.event.Refusal.TheVariants.{IndexOutOfRange}
 use Rattle.es_event.specs.declared.ledger_event.Body.TheVariants.{Block}
-use Rattle.es_event.specs.declared.ledger_event.LedgerEvent.TheVariants.{Opened, Posted, Taken, Spent, Ended}
+use Rattle.es_event.specs.declared.ledger_event.LedgerEvent.TheVariants.{Opened, Posted, Taken, Spent, Acted}
+use Rattle.es_event.specs.declared.ledger_event.Act.TheVariants.{Ended}
 use Rattle.es_event.specs.declared.outcome.Outcome.{Outcome}
 use Rattle.es_event.specs.declared.plan.AgentPlan.{AgentPlan}
 use Rattle.es_event.specs.declared.plan.Plan.{Plan}
@@ -57,7 +58,7 @@ abbrev outcome : Outcome
 outcome = record {
   names = codes "main" ∷ codes "worker" ∷ [];
   histories = poster ∷ refuser ∷ [];
-  ledger = Opened 1 2 1 0 ∷ Posted 0 1 (Block 1 2) ∷ Spent 1 ∷ Ended 0 ∷ Taken 0 1 ∷ Spent 2 ∷ Ended 1 ∷ [];
+  ledger = Opened 1 2 1 0 ∷ Posted 0 1 (Block 1 2) ∷ Spent 1 ∷ Acted 0 Ended ∷ Taken 0 1 ∷ Spent 2 ∷ Acted 1 Ended ∷ [];
 }
 
 abbrev ledger : Ledger

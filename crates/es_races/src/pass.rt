@@ -68,8 +68,7 @@ impl Pass {
                 change,
                 ..
             } => return self.note_accessed(*serial, *index, change),
-            LedgerEvent::Waiting { .. } | LedgerEvent::Passed { .. } | LedgerEvent::Ended { .. } =>
-                {}
+            LedgerEvent::Acted { .. } => {}
         }
         Ok(None)
     }

@@ -9,7 +9,7 @@ use Rattle.std.proofs.lemmas.List.Sums.{sum_by-cons}
 use Rattle.es_event.specs.declared.ledger_event.Body.{Body}
 use Rattle.es_event.specs.declared.ledger_event.Body.TheVariants.{Plain, Block}
 use Rattle.es_event.specs.declared.ledger_event.LedgerEvent.{LedgerEvent}
-use Rattle.es_event.specs.declared.ledger_event.LedgerEvent.TheVariants.{Opened, Posted, Taken, Spent, Accessed, Waiting, Passed, Ended, Drained}
+use Rattle.es_event.specs.declared.ledger_event.LedgerEvent.TheVariants.{Opened, Posted, Taken, Spent, Accessed, Drained, Acted}
 use Rattle.es_event.specs.declared.row.Row.{Row}
 use Rattle.es_event.specs.declared.row.Entry.{Entry}
 use Rattle.es_event.specs.declared.row.Holder.{Holder}
@@ -126,9 +126,7 @@ next_traced s b (Posted a r m) l t says = posted_next s b a r m l t says
 next_traced s b (Taken a r) l t says = taken_next s b r a l t (option_and_then serial_in (front l a r)) refl says
 next_traced s b (Spent k) l t says = now_moved s b l (Spent k ∷ l) t k Nobody refl says
 next_traced s b (Accessed k i m old) l t says = no_more s b l (Accessed k i m old ∷ l) t refl says
-next_traced s b (Waiting a k) l t says = no_more s b l (Waiting a k ∷ l) t refl says
-next_traced s b (Passed a k) l t says = no_more s b l (Passed a k ∷ l) t refl says
-next_traced s b (Ended a) l t says = no_more s b l (Ended a ∷ l) t refl says
+next_traced s b (Acted a d) l t says = no_more s b l (Acted a d ∷ l) t refl says
 next_traced s b (Drained a r) l t says = no_more s b l (Drained a r ∷ l) t refl says
 
 -- What is left
@@ -160,9 +158,7 @@ any_made (e ∷ l) s b =
     any_next (Taken a r) = taken r a (option_and_then serial_in (front l a r))
     any_next (Spent k) = any_moved k Nobody (table l) s b ∙ sym (or_nothing (any_of (table l) s b))
     any_next (Accessed k i m old) = sym (or_nothing (any_of (table l) s b))
-    any_next (Waiting a k) = sym (or_nothing (any_of (table l) s b))
-    any_next (Passed a k) = sym (or_nothing (any_of (table l) s b))
-    any_next (Ended a) = sym (or_nothing (any_of (table l) s b))
+    any_next (Acted a d) = sym (or_nothing (any_of (table l) s b))
     any_next (Drained a r) = sym (or_nothing (any_of (table l) s b))
 
 -- one that passes is among them

@@ -5,7 +5,7 @@ use Rattle.std.specs.Option.{option_and_then, option_map_or}
 use Rattle.es_event.specs.declared.ledger_event.Body.{Body}
 use Rattle.es_event.specs.declared.ledger_event.Body.TheVariants.{Plain, Block}
 use Rattle.es_event.specs.declared.ledger_event.LedgerEvent.{LedgerEvent}
-use Rattle.es_event.specs.declared.ledger_event.LedgerEvent.TheVariants.{Opened, Posted, Taken, Spent, Accessed, Waiting, Passed, Ended, Drained}
+use Rattle.es_event.specs.declared.ledger_event.LedgerEvent.TheVariants.{Opened, Posted, Taken, Spent, Accessed, Drained, Acted}
 use Rattle.es_event.specs.declared.row.Entry.{Entry}
 use Rattle.es_event.specs.Rows.{is_somebody}
 use Rattle.es_event.specs.Ledger.{Ledger, front, serial_in, table}
@@ -23,9 +23,7 @@ makes (Posted a r m) = ticket_of m
 makes (Taken a r) = None
 makes (Spent s) = None
 makes (Accessed s i m old) = None
-makes (Waiting a s) = None
-makes (Passed a s) = None
-makes (Ended a) = None
+makes (Acted a d) = None
 makes (Drained a r) = None
 
 abbrev pub is_of : ℕ → ℕ → Entry → Bool
@@ -64,9 +62,7 @@ moved_by l t s (Posted a r m) = t
 moved_by l t s (Taken a r) = moved_if t (option_and_then serial_in (front l a r)) s true
 moved_by l t s (Spent k) = moved_to t (k == s) false
 moved_by l t s (Accessed k i m old) = t
-moved_by l t s (Waiting a k) = t
-moved_by l t s (Passed a k) = t
-moved_by l t s (Ended a) = t
+moved_by l t s (Acted a d) = t
 moved_by l t s (Drained a r) = t
 
 -- the event makes a ticket of this serial and this block

@@ -3,7 +3,7 @@ use Rattle.std.specs.Prelude.{ℕ, ◌≡◌, ◌≤◌, ◌+◌, ◌==◌, ◌&
 use Rattle.std.specs.Option.{option_and_then}
 use Rattle.es_event.specs.declared.ledger_event.Body.{Body}
 use Rattle.es_event.specs.declared.ledger_event.LedgerEvent.{LedgerEvent}
-use Rattle.es_event.specs.declared.ledger_event.LedgerEvent.TheVariants.{Opened, Posted, Taken, Spent, Accessed, Waiting, Passed, Ended, Drained}
+use Rattle.es_event.specs.declared.ledger_event.LedgerEvent.TheVariants.{Opened, Posted, Taken, Spent, Accessed, Drained, Acted}
 use Rattle.es_event.specs.Ledger.{Ledger, is_at, port_of, serial_in}
 use Rattle.es_report.specs.declared.ports.Counts.{Counts}
 use Rattle.es_report.specs.declared.ports.Search.{Search}
@@ -15,9 +15,7 @@ posted_at (Posted a u m) s r = if is_at s r a u then m ∷ [] else []
 posted_at (Taken a u) s r = []
 posted_at (Spent k) s r = []
 posted_at (Accessed k i m old) s r = []
-posted_at (Waiting a t) s r = []
-posted_at (Passed a t) s r = []
-posted_at (Ended a) s r = []
+posted_at (Acted a d) s r = []
 posted_at (Drained a u) s r = []
 
 -- all that was put into it, the oldest first

@@ -71,9 +71,7 @@ fn made_by(event: &LedgerEvent) -> Option<(u64, u64)>
         | LedgerEvent::Drained { .. }
         | LedgerEvent::Spent { .. }
         | LedgerEvent::Accessed { .. }
-        | LedgerEvent::Waiting { .. }
-        | LedgerEvent::Passed { .. }
-        | LedgerEvent::Ended { .. } => None,
+        | LedgerEvent::Acted { .. } => None,
     }
 }
 
@@ -130,9 +128,7 @@ fn with_moved(traced: Trace, before: &[LedgerEvent], event: &LedgerEvent, serial
         | LedgerEvent::Posted { .. }
         | LedgerEvent::Drained { .. }
         | LedgerEvent::Accessed { .. }
-        | LedgerEvent::Waiting { .. }
-        | LedgerEvent::Passed { .. }
-        | LedgerEvent::Ended { .. } => traced,
+        | LedgerEvent::Acted { .. } => traced,
     }
 }
 

@@ -62,9 +62,7 @@ fn next_counts(counts: Counts, event: &LedgerEvent, sender: usize, receiver: usi
         LedgerEvent::Opened { .. }
         | LedgerEvent::Spent { .. }
         | LedgerEvent::Accessed { .. }
-        | LedgerEvent::Waiting { .. }
-        | LedgerEvent::Passed { .. }
-        | LedgerEvent::Ended { .. } => counts,
+        | LedgerEvent::Acted { .. } => counts,
     }
 }
 
@@ -144,9 +142,7 @@ fn next_search(
         | LedgerEvent::Opened { .. }
         | LedgerEvent::Spent { .. }
         | LedgerEvent::Accessed { .. }
-        | LedgerEvent::Waiting { .. }
-        | LedgerEvent::Passed { .. }
-        | LedgerEvent::Ended { .. } => search,
+        | LedgerEvent::Acted { .. } => search,
     }
 }
 

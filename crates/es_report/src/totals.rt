@@ -39,11 +39,8 @@ impl Totals {
             LedgerEvent::Posted { .. } => more.posted += 1,
             LedgerEvent::Taken { .. } => more.taken += 1,
             LedgerEvent::Drained { .. } => more.drained += 1,
-            LedgerEvent::Spent { .. }
-            | LedgerEvent::Accessed { .. }
-            | LedgerEvent::Waiting { .. }
-            | LedgerEvent::Passed { .. }
-            | LedgerEvent::Ended { .. } => {}
+            LedgerEvent::Spent { .. } | LedgerEvent::Accessed { .. } | LedgerEvent::Acted { .. } =>
+                {}
         }
         more
     }

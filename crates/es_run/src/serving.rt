@@ -8,7 +8,7 @@ use crate::gate::Gate;
 use crate::helpers::Helpers;
 use crate::marked::Pending;
 use es_cluster::{Beforehand, Member, Planned, Progress};
-use es_event::{Command, Due, LedgerEvent};
+use es_event::{Act, Command, Due, LedgerEvent};
 use es_ledger::LedgerCore;
 use es_value::NoMemory;
 use std::alloc::Global;
@@ -302,8 +302,7 @@ fn may_go_on<L: Planned>(ledger: &LedgerCore<L>, agent: usize, seen: usize) -> b
     let lowest = is_lowest(ledger, agent);
     events.iter().rev().take(new).any(|event| match event {
         LedgerEvent::Posted { receiver, .. } => *receiver == agent,
-        LedgerEvent::Ended { .. } => true,
-        LedgerEvent::Waiting { .. } | LedgerEvent::Passed { .. } => lowest,
+        LedgerEvent::Acted { act, .. } => matches!(act, Act::Ended) || lowest,
         _ => false,
     })
 }
@@ -325,10 +324,7 @@ fn wakes<L: Planned>(ledger: &LedgerCore<L>, before: usize) -> bool {
     last.is_some_and(|event| {
         matches!(
             event,
-            LedgerEvent::Posted { .. }
-                | LedgerEvent::Waiting { .. }
-                | LedgerEvent::Passed { .. }
-                | LedgerEvent::Ended { .. }
+            LedgerEvent::Posted { .. } | LedgerEvent::Acted { .. }
         )
     })
 }

@@ -2,7 +2,8 @@
 use Rattle.std.proofs.Common.{◌≡◌, ◌≢◌, ℕ, ◌<◌, ◌==◌, ◌&&◌, ◌||◌, not, Bool, true, false, cond, sym, ◌∙◌, ap, refl, subst, ◌∷◌, Option, Some, None}
 use Rattle.std.specs.Prelude.{is_some, slice_get}
 use Rattle.std.proofs.lemmas.Bool.{eqb-true, and_parts}
-use Rattle.es_event.specs.declared.ledger_event.LedgerEvent.TheVariants.{Passed, Waiting}
+use Rattle.es_event.specs.declared.ledger_event.LedgerEvent.TheVariants.{Acted}
+use Rattle.es_event.specs.declared.ledger_event.Act.TheVariants.{Passed, Waiting}
 use Rattle.es_event.specs.Ledger.{Ledger, ended, waits}
 use Rattle.es_event.specs.LegalLedger.{ComesNext, LegalSoFar, has_message, owed, skips}
 use Rattle.es_ledger.specs.Turns.{asked, judged, told, waits_for}
@@ -24,11 +25,11 @@ use Rattle.es_theorems.proofs.Skipping.{may_skip}
 
 -- its wait was recorded
 abbrev asking : ClusterView → ℕ → ℕ → ClusterView
-asking c i s = record { agents = c.agents; ledger = record { agents = c.ledger.agents; history = Waiting i s ∷ c.ledger.history }; failed = c.failed }
+asking c i s = record { agents = c.agents; ledger = record { agents = c.ledger.agents; history = Acted i (Waiting s) ∷ c.ledger.history }; failed = c.failed }
 
-waits_tied : (l : Ledger) (i s : ℕ) (b mine : AgentView) → waits l i ≡ None → has_drained l ≡ false → IsTied b l → (b.number ≡ i → b ≡ mine) → need mine ≡ asks_message s → IsTied b (Waiting i s ∷ l)
+waits_tied : (l : Ledger) (i s : ℕ) (b mine : AgentView) → waits l i ≡ None → has_drained l ≡ false → IsTied b l → (b.number ≡ i → b ≡ mine) → need mine ≡ asks_message s → IsTied b (Acted i (Waiting s) ∷ l)
 waits_tied l i s b mine free dry tied own asks = record {
-  ties = subst (λ p. DeedsMeet b.history p (came_to b)) (sym (part_waits l (Waiting i s) i b.number (Waits s) refl refl)) tied.ties;
+  ties = subst (λ p. DeedsMeet b.history p (came_to b)) (sym (part_waits l (Acted i (Waiting s)) i b.number (Waits s) refl refl)) tied.ties;
   awaits = λ t is. awaits t (i == b.number) refl is;
   waits_end = ap (λ w. may_do w (Waits s) && patient l) free ∙ tied.waits_end;
   drains_end = ap (λ d. (false || not d) && drained_last l) dry ∙ tied.drains_end;
@@ -53,12 +54,12 @@ stands_asking c i s b stands dry at free asks = record {
     mine : (j : ℕ) (a : AgentView) → slice_get c.agents j ≡ Some a → j ≡ i → a ≡ b
     mine j a is same = let two = sym is ∙ ap (slice_get c.agents) same ∙ at in cc
 
-legal_asking : (n : ℕ) (l : Ledger) (i s : ℕ) (o : Option ℕ) → o ≡ None → i < n → s < n → (i ≢ s) → has_message l s i ≡ false → waits l i ≡ None → ended l i ≡ false → ComesNext n l (Waiting i s) o
+legal_asking : (n : ℕ) (l : Ledger) (i s : ℕ) (o : Option ℕ) → o ≡ None → i < n → s < n → (i ≢ s) → has_message l s i ≡ false → waits l i ≡ None → ended l i ≡ false → ComesNext n l (Acted i (Waiting s)) o
 legal_asking n l i s None is known there other none free going = (known, there, other, none, free, going)
 legal_asking n l i s (Some k) is known there other none free going = cc
 
 -- the test by which it does not stay
-not_stay : (t : Bool) (l : Ledger) (i s : ℕ) → ((cond {A = Turn × Ledger} t (Skip, Passed i s ∷ l) (Stay, l)).0 ≡ Stay → ⊥) → t ≡ true
+not_stay : (t : Bool) (l : Ledger) (i s : ℕ) → ((cond {A = Turn × Ledger} t (Skip, Acted i (Passed s) ∷ l) (Stay, l)).0 ≡ Stay → ⊥) → t ≡ true
 not_stay true l i s off = refl
 not_stay false l i s off = absurd (off refl)
 
@@ -79,8 +80,8 @@ skips_here c i s b stands legal dry at asks known there other none going off = b
     skip_of m is = (and_parts (waits_for m i s) (skips m n i s) (not_stay (waits_for m i s && skips m n i s) m i s (λ stay. judge (ap (λ m. (judged m n i s).0) is ∙ stay)))).1
 
     by_wait : (w : Option ℕ) → waits l i ≡ w → MaySkip (locals_of c) i s
-    by_wait (Some t) is = may_skip c stands legal dry i s there (skip_of l (ap (λ w. cond (is_some w) l (Waiting i s ∷ l)) is))
+    by_wait (Some t) is = may_skip c stands legal dry i s there (skip_of l (ap (λ w. cond (is_some w) l (Acted i (Waiting s) ∷ l)) is))
     by_wait None is =
-        let skip : skips (Waiting i s ∷ l) n i s ≡ true = skip_of (Waiting i s ∷ l) (ap (λ w. cond (is_some w) l (Waiting i s ∷ l)) is) in
+        let skip : skips (Acted i (Waiting s) ∷ l) n i s ≡ true = skip_of (Acted i (Waiting s) ∷ l) (ap (λ w. cond (is_some w) l (Acted i (Waiting s) ∷ l)) is) in
         subst (λ all. MaySkip all i s) (waits_locals n l i s c.agents)
         (may_skip (asking c i s) (stands_asking c i s b stands dry at is asks) (legal_asking n l i s (owed l) stands.undrained known there other none is going, legal) dry i s there skip)

@@ -6,7 +6,8 @@ use Rattle.std.proofs.lemmas.Bool.{false≢true, or_right}
 use Rattle.es_event.specs.declared.ledger_event.Body.{Body}
 use Rattle.es_event.specs.declared.ledger_event.Body.TheVariants.{Plain, Block}
 use Rattle.es_event.specs.declared.ledger_event.LedgerEvent.{LedgerEvent}
-use Rattle.es_event.specs.declared.ledger_event.LedgerEvent.TheVariants.{Opened, Posted, Taken, Spent, Accessed, Waiting, Passed, Ended, Drained}
+use Rattle.es_event.specs.declared.ledger_event.LedgerEvent.TheVariants.{Opened, Posted, Taken, Spent, Accessed, Drained, Acted}
+use Rattle.es_event.specs.declared.ledger_event.Act.TheVariants.{Waiting, Passed, Ended}
 use Rattle.es_event.specs.declared.row.Row.{Row}
 use Rattle.es_event.specs.declared.row.Holder.TheVariants.{Agent, Nobody}
 use Rattle.es_event.specs.Access.{IsStorable}
@@ -75,14 +76,14 @@ beside_spent k l s a b r legal is other = record {
 still_skips : (m : Bool) (e : Bool) (c : Bool) → m ≡ false → e ≡ true → (not m && (e || c)) ≡ true
 still_skips m e c none is = rw (none, is) refl
 
-pub beside_ended : (k : ℕ) (l : Ledger) (a b : ℕ) → Goes k l a → waits l a ≡ None → (b ≡ a → ⊥) → Beside k l (Ended a) b
+pub beside_ended : (k : ℕ) (l : Ledger) (a b : ℕ) → Goes k l a → waits l a ≡ None → (b ≡ a → ⊥) → Beside k l (Acted a Ended) b
 beside_ended k l a b goes free other = record {
   opened = none_more (opened l);
   serials = none_more (serials l);
   sizes = λ c. refl;
   ports = λ t u. refl;
   words = λ c i. refl;
-  ends = ended_other l (Ended a) a b Ends refl other;
+  ends = ended_other l (Acted a Ended) a b Ends refl other;
   waits = refl;
   holders = λ q p held. held;
   held = refl;
@@ -90,7 +91,7 @@ beside_ended k l a b goes free other = record {
   owes = refl;
 }
   where
-    by_over : (t : ℕ) (over : Bool) → Skips l k b t over → skips (Ended a ∷ l) k b t ≡ true
+    by_over : (t : ℕ) (over : Bool) → Skips l k b t over → skips (Acted a Ended ∷ l) k b t ≡ true
     by_over t true is = still_skips (has_message l t b) ((a == t) || ended l t) _ is.none (ap (λ e. (a == t) || e) is.ends ∙ or_right (a == t) true refl)
     by_over t false is =
         let stuck = stuck_is l a (stuck_here l k a (is.chosen refl).stuck goes.known goes.going) in
@@ -98,7 +99,7 @@ beside_ended k l a b goes free other = record {
 
 -- A skip
 
-pub beside_passed : (k : ℕ) (l : Ledger) (a b s : ℕ) → Goes k l a → waits l a ≡ Some s → skips l k a s ≡ true → (b ≡ a → ⊥) → Beside k l (Passed a s) b
+pub beside_passed : (k : ℕ) (l : Ledger) (a b s : ℕ) → Goes k l a → waits l a ≡ Some s → skips l k a s ≡ true → (b ≡ a → ⊥) → Beside k l (Acted a (Passed s)) b
 beside_passed k l a b s goes waiting skip other = record {
   opened = none_more (opened l);
   serials = none_more (serials l);
@@ -106,14 +107,14 @@ beside_passed k l a b s goes waiting skip other = record {
   ports = λ t u. refl;
   words = λ c i. refl;
   ends = refl;
-  waits = waits_other l (Passed a s) a b (Passes s) refl other;
+  waits = waits_other l (Acted a (Passed s)) a b (Passes s) refl other;
   holders = λ q p held. held;
   held = refl;
   skips = λ t skip. (let is = skips_is l k b t skip in by_over t is.0 is.1);
   owes = refl;
 }
   where
-    by_mine : (over : Bool) → Skips l k a s over → (t : ℕ) → Skips l k b t false → skips (Passed a s ∷ l) k b t ≡ true
+    by_mine : (over : Bool) → Skips l k a s over → (t : ℕ) → Skips l k b t false → skips (Acted a (Passed s) ∷ l) k b t ≡ true
     by_mine false mine t is = absurd (other (chosen_one l k b a (is.chosen refl) (mine.chosen refl)))
     by_mine true mine t is =
         let stuck = stuck_is l a (stuck_here l k a (is.chosen refl).stuck goes.known goes.going) in
@@ -121,7 +122,7 @@ beside_passed k l a b s goes waiting skip other = record {
         let it : stuck.sender ≡ s = ap (λ o. option_map_or (λ n. n) o s) same in
         absurd (false≢true (sym stuck.going ∙ ap (ended l) it ∙ mine.ends))
 
-    by_over : (t : ℕ) (over : Bool) → Skips l k b t over → skips (Passed a s ∷ l) k b t ≡ true
+    by_over : (t : ℕ) (over : Bool) → Skips l k b t over → skips (Acted a (Passed s) ∷ l) k b t ≡ true
     by_over t true is = still_skips (has_message l t b) (ended l t) _ is.none is.ends
     by_over t false is = let mine = skips_is l k a s skip in by_mine mine.0 mine.1 t is
 
@@ -129,22 +130,22 @@ beside_passed k l a b s goes waiting skip other = record {
 
 pub beside : (k : ℕ) (l : Ledger) (f : LedgerEvent) (a b : ℕ) → LegalSoFar k l → Goes k l a → Ready k l a f → (b ≡ a → ⊥) → Beside k l f b
 beside k l (Spent s) a b legal goes ready other = beside_spent k l s a b ready.0.0 legal ready.0.1 other
-beside k l (Passed c s) a b legal goes ready other = subst (λ c. Beside k l (Passed c s) b) (sym ready.0) (beside_passed k l a b s goes ready.1 ready.2 other)
-beside k l (Ended c) a b legal goes ready other = subst (λ c. Beside k l (Ended c) b) (sym ready.0) (beside_ended k l a b goes ready.1 other)
+beside k l (Acted c (Passed s)) a b legal goes ready other = subst (λ c. Beside k l (Acted c (Passed s)) b) (sym ready.0) (beside_passed k l a b s goes ready.1 ready.2 other)
+beside k l (Acted c Ended) a b legal goes ready other = subst (λ c. Beside k l (Acted c Ended) b) (sym ready.0) (beside_ended k l a b goes ready.1 other)
 beside k l _ a b legal goes ready other = absurd ready
 
 -- It may be done
 
 pub ready_deed : (k : ℕ) (l : Ledger) (a : ℕ) (f : LedgerEvent) → Ready k l a f → (d : Deed) × (deed l f ≡ Some (a, d)) × (may_do (waits l a) d ≡ true)
 ready_deed k l a (Spent s) ready = (Spends s, ap (option_map (λ p. (p.0, Spends s))) ready.0.1, ap (λ w. may_do w (Spends s)) ready.1)
-ready_deed k l a (Passed c s) ready = (Passes s, ap (λ c. Some (c, Passes s)) ready.0, ap (λ w. may_do w (Passes s)) ready.1 ∙ eq-eqb s s refl)
-ready_deed k l a (Ended c) ready = (Ends, ap (λ c. Some (c, Ends)) ready.0, ap (λ w. may_do w Ends) ready.1)
+ready_deed k l a (Acted c (Passed s)) ready = (Passes s, ap (λ c. Some (c, Passes s)) ready.0, ap (λ w. may_do w (Passes s)) ready.1 ∙ eq-eqb s s refl)
+ready_deed k l a (Acted c Ended) ready = (Ends, ap (λ c. Some (c, Ends)) ready.0, ap (λ w. may_do w Ends) ready.1)
 ready_deed k l a _ ready = absurd ready
 
 ready_comes : (k : ℕ) (l : Ledger) (a : ℕ) (f : LedgerEvent) → Goes k l a → Ready k l a f → MayCome k l f
 ready_comes k l a (Spent s) goes ready = ap is_some ready.0.1
-ready_comes k l a (Passed c s) goes ready = (ap (waits l) ready.0 ∙ ready.1, ap (λ c. skips l k c s) ready.0 ∙ ready.2)
-ready_comes k l a (Ended c) goes ready = (subst (λ c. c < k) (sym ready.0) goes.known, ap (ended l) ready.0 ∙ goes.going)
+ready_comes k l a (Acted c (Passed s)) goes ready = (ap (waits l) ready.0 ∙ ready.1, ap (λ c. skips l k c s) ready.0 ∙ ready.2)
+ready_comes k l a (Acted c Ended) goes ready = (subst (λ c. c < k) (sym ready.0) goes.known, ap (ended l) ready.0 ∙ goes.going)
 ready_comes k l a _ goes ready = absurd ready
 
 pub ready_may : (k : ℕ) (l : Ledger) (a : ℕ) (f : LedgerEvent) → Goes k l a → Ready k l a f → May k l f
@@ -191,14 +192,14 @@ comes_beside k l f (Accessed q i m old) b d is mine may =
     let by = spender l q b d _ mine in
     subst (λ o. Reaches o i (λ r. (old ≡ word (f ∷ l) r.block i) × IsStorable m)) (by.1 ∙ sym (is.holders q by.0 by.1))
     (reaches_so (holder_of l q) i (λ r. (old ≡ word l r.block i) × IsStorable m) (λ r. (old ≡ word (f ∷ l) r.block i) × IsStorable m) (λ r e. (e.0 ∙ sym (is.words r.block i), e.1)) may)
-comes_beside k l f (Waiting u t) b d is mine may =
-    let same : u ≡ b = doer (deed l (Waiting u t)) b u d mine in
+comes_beside k l f (Acted u (Waiting t)) b d is mine may =
+    let same : u ≡ b = doer (deed l (Acted u (Waiting t))) b u d mine in
     (may.0, may.1, may.2, message_beside k l f b t u is ∙ may.3, ap (waits (f ∷ l)) same ∙ is.waits ∙ ap (waits l) (sym same) ∙ may.4, ap (ended (f ∷ l)) same ∙ is.ends ∙ ap (ended l) (sym same) ∙ may.5)
-comes_beside k l f (Passed u t) b d is mine may =
-    let same : u ≡ b = doer (deed l (Passed u t)) b u d mine in
+comes_beside k l f (Acted u (Passed t)) b d is mine may =
+    let same : u ≡ b = doer (deed l (Acted u (Passed t))) b u d mine in
     (ap (waits (f ∷ l)) same ∙ is.waits ∙ ap (waits l) (sym same) ∙ may.0, ap (λ u. skips (f ∷ l) k u t) same ∙ is.skips t (ap (λ u. skips l k u t) (sym same) ∙ may.1))
-comes_beside k l f (Ended u) b d is mine may =
-    let same : u ≡ b = doer (deed l (Ended u)) b u d mine in
+comes_beside k l f (Acted u Ended) b d is mine may =
+    let same : u ≡ b = doer (deed l (Acted u Ended)) b u d mine in
     (may.0, ap (ended (f ∷ l)) same ∙ is.ends ∙ ap (ended l) (sym same) ∙ may.1)
 comes_beside k l f (Drained t u) b d is mine may = cc
 

@@ -3,7 +3,8 @@ use Rattle.std.proofs.Common.{◌≡◌, ℕ, zero, suc, ◌<◌, ◌==◌, ◌&
 use Rattle.std.specs.Option.{option_map, option_map_or}
 use Rattle.std.proofs.lemmas.Bool.{and_parts, cases_Bool, false≢true, eqb-false, not-true}
 use Rattle.es_event.specs.declared.ledger_event.LedgerEvent.{LedgerEvent}
-use Rattle.es_event.specs.declared.ledger_event.LedgerEvent.TheVariants.{Opened, Posted, Taken, Spent, Accessed, Waiting, Passed, Ended, Drained}
+use Rattle.es_event.specs.declared.ledger_event.LedgerEvent.TheVariants.{Opened, Posted, Taken, Spent, Accessed, Drained, Acted}
+use Rattle.es_event.specs.declared.ledger_event.Act.TheVariants.{Waiting, Passed, Ended}
 use Rattle.es_event.specs.declared.row.Row.{Row}
 use Rattle.es_event.specs.Ledger.{Ledger, ended, holder_of, waits}
 use Rattle.es_event.specs.LegalLedger.{MayCome, all_ended, all_stuck, has_message, is_chosen, is_stuck, skips}
@@ -105,13 +106,13 @@ alone_goes n l a b x d chosen may is known going patient = at x is may (ap (λ w
         absurd (none_taken l b t stuck.sender stuck.none (ap (ends_wait stuck.sender) it ∙ ends) (ap (λ u. has_message l t u) (sym same) ∙ may))
     at (Spent q) is may ends = by_held (Spends q) (holder_of l q) is refl ends
     at (Accessed q i m old) is may ends = by_held (Accesses q i m old) (holder_of l q) is refl ends
-    at (Waiting u t) is may ends = no_end (Waits t) (the_deed None _ u is) refl ends
-    at (Passed u t) is may ends =
-        let same : u ≡ b = doer (deed l (Passed u t)) b u d is in
+    at (Acted u (Waiting t)) is may ends = no_end (Waits t) (the_deed None _ u is) refl ends
+    at (Acted u (Passed t)) is may ends =
+        let same : u ≡ b = doer (deed l (Acted u (Passed t))) b u d is in
         let it = the_deed None _ u is in
         let target : t ≡ stuck.sender = eqb-true t stuck.sender (ap (ends_wait stuck.sender) it ∙ ends) in
         let skip = skips_is l n u t may.1 in
         let over = sym skip.1.ends ∙ ap (ended l) target ∙ stuck.going in
         chosen_one l n b a (subst (Chosen l n) same (skip.1.chosen over)) chosen
-    at (Ended u) is may ends = no_end Ends (the_deed None _ u is) refl ends
+    at (Acted u Ended) is may ends = no_end Ends (the_deed None _ u is) refl ends
     at (Drained t u) is may ends = cc

@@ -5,7 +5,8 @@ use Rattle.std.proofs.lemmas.Bool.{and_parts, not-true}
 use Rattle.es_event.specs.declared.ledger_event.Body.{Body}
 use Rattle.es_event.specs.declared.ledger_event.Body.TheVariants.{Plain, Block}
 use Rattle.es_event.specs.declared.ledger_event.LedgerEvent.{LedgerEvent}
-use Rattle.es_event.specs.declared.ledger_event.LedgerEvent.TheVariants.{Opened, Posted, Taken, Spent, Accessed, Waiting, Passed, Ended, Drained}
+use Rattle.es_event.specs.declared.ledger_event.LedgerEvent.TheVariants.{Opened, Posted, Taken, Spent, Accessed, Drained, Acted}
+use Rattle.es_event.specs.declared.ledger_event.Act.TheVariants.{Waiting, Passed, Ended}
 use Rattle.es_event.specs.declared.row.Row.{Row}
 use Rattle.es_event.specs.Access.{IsStorable}
 use Rattle.es_event.specs.Ledger.{Ledger, front, holder_of, word}
@@ -94,7 +95,7 @@ meant k l (Taken s r) n d may is = meant_here l (Taken s r) r n (taking l s (fro
 meant k l (Spent s) n d may is = meant_by l (Spent s) n (Spends s) d (holder_of l s) is (λ a. refl) (λ a. tt)
 meant k l (Accessed s i m old) n d may is =
     meant_by l (Accessed s i m old) n (Accesses s i m old) d (holder_of l s) is (λ a. refl) (λ a. reaches_so (holder_of l s) i (λ r. (old ≡ word l r.block i) × IsStorable m) (λ r. old ≡ word l r.block i) (λ r e. e.0) may)
-meant k l (Waiting a s) n d may is = meant_here l (Waiting a s) a n (Waits s) d is refl tt
-meant k l (Passed a s) n d may is = meant_here l (Passed a s) a n (Passes s) d is refl (not-true (has_message l s a) (and_parts (not (has_message l s a)) _ may.1).0)
-meant k l (Ended a) n d may is = meant_here l (Ended a) a n Ends d is refl tt
+meant k l (Acted a (Waiting s)) n d may is = meant_here l (Acted a (Waiting s)) a n (Waits s) d is refl tt
+meant k l (Acted a (Passed s)) n d may is = meant_here l (Acted a (Passed s)) a n (Passes s) d is refl (not-true (has_message l s a) (and_parts (not (has_message l s a)) _ may.1).0)
+meant k l (Acted a Ended) n d may is = meant_here l (Acted a Ended) a n Ends d is refl tt
 meant k l (Drained s r) n d may is = cc

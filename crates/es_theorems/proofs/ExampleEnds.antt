@@ -5,7 +5,8 @@ use Rattle.es_event.specs.declared.access.Change.TheVariants.{Write as stores}
 use Rattle.es_event.specs.declared.event.Event.TheVariants.{JobBegun, JobEnded, Closed}
 use Rattle.es_event.specs.declared.ledger_event.Body.TheVariants.{Plain, Block}
 use Rattle.es_event.specs.declared.ledger_event.LedgerEvent.{LedgerEvent}
-use Rattle.es_event.specs.declared.ledger_event.LedgerEvent.TheVariants.{Opened, Posted, Taken, Spent, Accessed, Waiting, Ended, Drained}
+use Rattle.es_event.specs.declared.ledger_event.LedgerEvent.TheVariants.{Opened, Posted, Taken, Spent, Accessed, Drained, Acted}
+use Rattle.es_event.specs.declared.ledger_event.Act.TheVariants.{Waiting, Ended}
 use Rattle.es_event.specs.declared.event.Event.{Event}
 use Rattle.es_event.specs.declared.outcome.Outcome.{Outcome}
 use Rattle.es_event.specs.Ledger.{Ledger}
@@ -16,7 +17,7 @@ abbrev posted : Ledger
 posted = Posted 0 1 (Plain Undefined) ∷ []
 
 -- the other agent waited before the message came
-a_wait_besides : Alike (Posted 0 1 (Plain Undefined) ∷ Waiting 1 0 ∷ []) posted
+a_wait_besides : Alike (Posted 0 1 (Plain Undefined) ∷ Acted 1 (Waiting 0) ∷ []) posted
 a_wait_besides = record {
   opened = refl;
   serials = refl;
@@ -60,7 +61,7 @@ a_drain_more a = let count = a.drained in cc
 another_word : Alike (Accessed 1 0 (stores 7) 0 ∷ two_blocks) (Accessed 1 0 (stores 8) 0 ∷ two_blocks) → ⊥
 another_word a = let word = a.words 1 0 in cc
 
-not_ended : Alike (Ended 0 ∷ two_blocks) two_blocks → ⊥
+not_ended : Alike (Acted 0 Ended ∷ two_blocks) two_blocks → ⊥
 not_ended a = let end = a.ends 0 in cc
 
 kept : Alike (Spent 1 ∷ two_blocks) two_blocks → ⊥
@@ -75,7 +76,7 @@ abbrev whole : List Event
 whole = JobBegun 1 ∷ JobEnded ∷ Closed ∷ []
 
 -- the tickets of both blocks were given up at once
-in_another_order : SameEnd (ended_in whole (Opened 1 1 1 0 ∷ Opened 2 1 2 0 ∷ Spent 1 ∷ Spent 2 ∷ Ended 0 ∷ [])) (ended_in whole (Opened 1 1 1 0 ∷ Opened 2 1 2 0 ∷ Spent 2 ∷ Spent 1 ∷ Ended 0 ∷ []))
+in_another_order : SameEnd (ended_in whole (Opened 1 1 1 0 ∷ Opened 2 1 2 0 ∷ Spent 1 ∷ Spent 2 ∷ Acted 0 Ended ∷ [])) (ended_in whole (Opened 1 1 1 0 ∷ Opened 2 1 2 0 ∷ Spent 2 ∷ Spent 1 ∷ Acted 0 Ended ∷ []))
 in_another_order = record {
   names = refl;
   histories = refl;

@@ -9,7 +9,8 @@ use Rattle.es_event.specs.declared.command.Command.TheVariants.{Let, Post, Say, 
 use Rattle.es_event.specs.declared.event.Answer.TheVariants.{Gives}
 use Rattle.es_event.specs.declared.event.Event.TheVariants.{JobBegun, Did, Skipped, Closed}
 use Rattle.es_event.specs.declared.ledger_event.Body.TheVariants.{Plain}
-use Rattle.es_event.specs.declared.ledger_event.LedgerEvent.TheVariants.{Opened, Posted, Accessed, Passed, Ended as EndedEvent}
+use Rattle.es_event.specs.declared.ledger_event.LedgerEvent.TheVariants.{Opened, Posted, Accessed, Acted}
+use Rattle.es_event.specs.declared.ledger_event.Act.TheVariants.{Passed, Ended as EndedEvent}
 use Rattle.es_event.specs.declared.literal.Literal.{Literal}
 use Rattle.es_event.specs.declared.operand.Operand.{Operand}
 use Rattle.es_event.specs.declared.plan.AgentPlan.{AgentPlan}
@@ -146,10 +147,10 @@ abbrev skipped : AgentView
 skipped = record { plan = hears; number = 1; agents = 2; over = []; history = Skipped 1 0 ∷ [] }
 
 abbrev sent : Ledger
-sent = EndedEvent 0 ∷ Posted 0 1 (Plain (Number (pos 1))) ∷ []
+sent = Acted 0 EndedEvent ∷ Posted 0 1 (Plain (Number (pos 1))) ∷ []
 
 abbrev passed : Ledger
-passed = Passed 1 0 ∷ sent
+passed = Acted 1 (Passed 0) ∷ sent
 
 skipped_tied : IsTied skipped passed
 skipped_tied = record { ties = ([], Passes 0 ∷ [], nothing_came, refl, (refl, refl), refl); awaits = λ s e. cc; waits_end = refl; drains_end = refl }
@@ -166,7 +167,7 @@ but_for_its_skip legal = record {
       let same : 0 ≡ s = cc in
       let clash : Ready ≡ Stay = ap (λ s. (told sent 2 1 s).0) same ∙ stays in
       cc);
-  ledger = (Passed 1 0 ∷ [], refl, ((Passes 0, refl), tt));
+  ledger = (Acted 1 (Passed 0) ∷ [], refl, ((Passes 0, refl), tt));
   number = refl;
   legal = legal;
   tied = record { tied = skipped_tied; free = refl };

@@ -11,7 +11,8 @@ use Rattle.es_event.specs.declared.event.Event.TheVariants.{JobBegun, Received, 
 use Rattle.es_event.specs.declared.ledger_event.Body.{Body}
 use Rattle.es_event.specs.declared.ledger_event.Body.TheVariants.{Block}
 use Rattle.es_event.specs.declared.ledger_event.LedgerEvent.{LedgerEvent}
-use Rattle.es_event.specs.declared.ledger_event.LedgerEvent.TheVariants.{Opened, Posted, Taken, Spent, Accessed, Ended}
+use Rattle.es_event.specs.declared.ledger_event.LedgerEvent.TheVariants.{Opened, Posted, Taken, Spent, Accessed, Acted}
+use Rattle.es_event.specs.declared.ledger_event.Act.TheVariants.{Ended}
 use Rattle.es_event.specs.declared.outcome.Outcome.{Outcome}
 use Rattle.es_event.specs.declared.plan.AgentPlan.{AgentPlan}
 use Rattle.es_event.specs.declared.plan.Plan.{Plan}
@@ -55,11 +56,11 @@ said w = Received 0 (Object 1) ∷ JobBegun 1 ∷ Did (load (codes "x") (codes "
 
 -- the store comes first
 abbrev store_first : List LedgerEvent
-store_first = Opened 1 1 1 0 ∷ Posted 0 1 (Block 1 2) ∷ Accessed 1 0 (Write 7) 0 ∷ Spent 1 ∷ Ended 0 ∷ Taken 0 1 ∷ Accessed 2 0 Keep 7 ∷ Spent 2 ∷ Ended 1 ∷ []
+store_first = Opened 1 1 1 0 ∷ Posted 0 1 (Block 1 2) ∷ Accessed 1 0 (Write 7) 0 ∷ Spent 1 ∷ Acted 0 Ended ∷ Taken 0 1 ∷ Accessed 2 0 Keep 7 ∷ Spent 2 ∷ Acted 1 Ended ∷ []
 
 -- the load comes first
 abbrev load_first : List LedgerEvent
-load_first = Opened 1 1 1 0 ∷ Posted 0 1 (Block 1 2) ∷ Taken 0 1 ∷ Accessed 2 0 Keep 0 ∷ Accessed 1 0 (Write 7) 0 ∷ Spent 1 ∷ Ended 0 ∷ Spent 2 ∷ Ended 1 ∷ []
+load_first = Opened 1 1 1 0 ∷ Posted 0 1 (Block 1 2) ∷ Taken 0 1 ∷ Accessed 2 0 Keep 0 ∷ Accessed 1 0 (Write 7) 0 ∷ Spent 1 ∷ Acted 0 Ended ∷ Spent 2 ∷ Acted 1 Ended ∷ []
 
 abbrev ends : ℕ → List LedgerEvent → Outcome
 ends w es = record { names = codes "a" ∷ codes "c" ∷ []; histories = stored ∷ said w ∷ []; ledger = es }

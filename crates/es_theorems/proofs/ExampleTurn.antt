@@ -7,7 +7,8 @@ use Rattle.es_event.specs.declared.command.Command.TheVariants.{SharedArrayBuffe
 use Rattle.es_event.specs.declared.event.Answer.TheVariants.{Gives}
 use Rattle.es_event.specs.declared.event.Event.TheVariants.{JobBegun, Did}
 use Rattle.es_event.specs.declared.ledger_event.Body.TheVariants.{Plain}
-use Rattle.es_event.specs.declared.ledger_event.LedgerEvent.TheVariants.{Opened, Posted, Accessed, Waiting as WaitingEvent, Passed, Ended as EndedEvent}
+use Rattle.es_event.specs.declared.ledger_event.LedgerEvent.TheVariants.{Opened, Posted, Accessed, Acted}
+use Rattle.es_event.specs.declared.ledger_event.Act.TheVariants.{Waiting as WaitingEvent, Passed, Ended as EndedEvent}
 use Rattle.es_event.specs.declared.plan.AgentPlan.{AgentPlan}
 use Rattle.es_event.specs.Ledger.{Ledger}
 use Rattle.es_event.specs.LegalLedger.{LegalLedger}
@@ -118,12 +119,12 @@ refused p n old new l t is out = out (subst (λ (v : LedgerView). LegalLedger v.
 
 -- the second agent skips its job although the message of the first lies there
 a_skip_where_a_message_lies : (p : Progress) (n : ℕ) (old new : ClusterView) → Turned p n old new
-    → new.ledger ≡ two (Passed 1 0 ∷ EndedEvent 0 ∷ Posted 0 1 (Plain (Number (pos 1))) ∷ WaitingEvent 1 0 ∷ []) → ⊥
+    → new.ledger ≡ two (Acted 1 (Passed 0) ∷ Acted 0 EndedEvent ∷ Posted 0 1 (Plain (Number (pos 1))) ∷ Acted 1 (WaitingEvent 0) ∷ []) → ⊥
 a_skip_where_a_message_lies p n old new t is = refused p n old new _ t is (λ legal. let skips = legal.0.0.1 in cc)
 
 -- or without a wait
 a_skip_without_a_wait : (p : Progress) (n : ℕ) (old new : ClusterView) → Turned p n old new
-    → new.ledger ≡ two (Passed 1 0 ∷ EndedEvent 0 ∷ Posted 0 1 (Plain (Number (pos 1))) ∷ []) → ⊥
+    → new.ledger ≡ two (Acted 1 (Passed 0) ∷ Acted 0 EndedEvent ∷ Posted 0 1 (Plain (Number (pos 1))) ∷ []) → ⊥
 a_skip_without_a_wait p n old new t is = refused p n old new _ t is (λ legal. let waits = legal.0.0.0 in cc)
 
 -- a load gives a word that nobody wrote

@@ -5,7 +5,8 @@ use Rattle.std.specs.Option.{option_and_then, option_map}
 use Rattle.std.proofs.lemmas.Bool.{and_right, cases_Bool, eqb-false, false≢true}
 use Rattle.es_event.specs.declared.ledger_event.Body.TheVariants.{Plain, Block}
 use Rattle.es_event.specs.declared.ledger_event.LedgerEvent.{LedgerEvent}
-use Rattle.es_event.specs.declared.ledger_event.LedgerEvent.TheVariants.{Opened, Posted, Taken, Spent, Accessed, Waiting, Passed, Ended, Drained}
+use Rattle.es_event.specs.declared.ledger_event.LedgerEvent.TheVariants.{Opened, Posted, Taken, Spent, Accessed, Drained, Acted}
+use Rattle.es_event.specs.declared.ledger_event.Act.TheVariants.{Waiting, Passed, Ended}
 use Rattle.es_event.specs.declared.row.Row.{Row}
 use Rattle.es_event.specs.declared.row.Entry.{Entry}
 use Rattle.es_event.specs.declared.row.Holder.{Holder}
@@ -47,9 +48,7 @@ owner_of k l x a goes may = at x (subst (ComesNext k l x) goes.paid may.legal)
     at (Taken s r) is = (r, Rattle.es_match.specs.Deeds.taking l s (front l s r), refl)
     at (Spent s) is = let o = some_owner (holder_of l s) (Spends s) is in (o.0, Spends s, o.1)
     at (Accessed s i m old) is = let o = some_owner (holder_of l s) (Accesses s i m old) (reaches_some (holder_of l s) i _ is) in (o.0, Accesses s i m old, o.1)
-    at (Waiting c s) is = (c, Waits s, refl)
-    at (Passed c s) is = (c, Passes s, refl)
-    at (Ended c) is = (c, Ends, refl)
+    at (Acted c act) is = (c, Rattle.es_match.specs.Deeds.acting act, refl)
     at (Drained s r) is = absurd (false≢true (sym goes.going ∙ ended_below l k a is.0 goes.known))
 
 -- Its next event
@@ -188,10 +187,10 @@ next_ends k a es l d ds s goes steps waiting is =
     let whole = sym (found_ahead a es l f ∙ ap (λ p. p ++ ahead f.behind (f.event ∷ played f.before l) a) (part_mine a f.does (deed (played f.before l) f.event) f.mine (not_wait s f.does ends))) ∙ is in
     ap (ends_wait s) (sym (same_head f.does d (ahead f.behind (f.event ∷ played f.before l) a) ds whole)) ∙ ends
 
-wait_goes : (k l' : ℕ) (a s : ℕ) (l : Ledger) → Goes k l a → Goes k (Waiting a s ∷ l) a
+wait_goes : (k l' : ℕ) (a s : ℕ) (l : Ledger) → Goes k l a → Goes k (Acted a (Waiting s) ∷ l) a
 wait_goes k l' a s l goes = record { known = goes.known; going = goes.going; paid = refl; undrained = goes.undrained }
 
-pub waits_now : (l : Ledger) (a s : ℕ) → waits (Waiting a s ∷ l) a ≡ Some s
+pub waits_now : (l : Ledger) (a s : ℕ) → waits (Acted a (Waiting s) ∷ l) a ≡ Some s
 waits_now l a s = ap (λ b. cond b (Some s) (waits l a)) (eq-eqb a a refl)
 
 -- where the next deed ends no wait, none is recorded before it
@@ -209,10 +208,10 @@ found_next k a es l d ds goes steps none is = let f = find k a es l d ds goes st
         let wait = a_wait f.does w in
         let may = found_may k a es l f steps in
         let goes_there = goes_far k a f.before l f.away goes in
-        let event : f.event ≡ Waiting a wait.0 = (meant k far f.event a f.does (subst (ComesNext k far f.event) goes_there.paid may.0.legal) f.mine).event ∙ ap (λ d. Rattle.es_theorems.specs.Doing.event_of a d) wait.1 in
-        let rest : ahead f.behind (Waiting a wait.0 ∷ far) a ≡ d ∷ ds =
+        let event : f.event ≡ Acted a (Waiting wait.0) = (meant k far f.event a f.does (subst (ComesNext k far f.event) goes_there.paid may.0.legal) f.mine).event ∙ ap (λ d. Rattle.es_theorems.specs.Doing.event_of a d) wait.1 in
+        let rest : ahead f.behind (Acted a (Waiting wait.0) ∷ far) a ≡ d ∷ ds =
         ap (λ e. ahead f.behind (e ∷ far) a) (sym event) ∙ ap (λ p. p ++ ahead f.behind (f.event ∷ far) a) (sym (part_wait a a f.does (deed far f.event) f.mine w)) ∙ sym (found_ahead a es l f) ∙ is in
-        absurd (false≢true (sym (none wait.0) ∙ next_ends k a f.behind (Waiting a wait.0 ∷ far) d ds wait.0 (wait_goes k k a wait.0 far goes_there) (subst (λ e. Steps k f.behind (e ∷ far)) event may.1) (waits_now far a wait.0) rest))
+        absurd (false≢true (sym (none wait.0) ∙ next_ends k a f.behind (Acted a (Waiting wait.0) ∷ far) d ds wait.0 (wait_goes k k a wait.0 far goes_there) (subst (λ e. Steps k f.behind (e ∷ far)) event may.1) (waits_now far a wait.0) rest))
 
 -- It is brought
 
@@ -255,7 +254,7 @@ ends_first k a es l ds legal goes steps free is =
     let far = played f.before l in
     let goes_there = goes_far k a f.before l f.away goes in
     let mine : deed far f.event ≡ Some (a, Ends) = f.mine ∙ ap (λ d. Some (a, d)) n.1 in
-    let event : f.event ≡ Ended a = (meant k far f.event a Ends (subst (ComesNext k far f.event) goes_there.paid (found_may k a es l f steps).0.legal) mine).event in
+    let event : f.event ≡ Acted a Ended = (meant k far f.event a Ends (subst (ComesNext k far f.event) goes_there.paid (found_may k a es l f steps).0.legal) mine).event in
     brought k a es l Ends ds f legal goes steps (subst (Ready k l a) (sym event) (refl, free)) refl event (ap (deed l) event) is
 
 -- They are gathered

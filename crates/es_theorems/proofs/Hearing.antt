@@ -5,7 +5,8 @@ use Rattle.std.specs.Option.{option_map_or}
 use Rattle.std.proofs.lemmas.Bool.{false≢true}
 use Rattle.es_event.specs.declared.event.Event.{Event}
 use Rattle.es_event.specs.declared.ledger_event.LedgerEvent.{LedgerEvent}
-use Rattle.es_event.specs.declared.ledger_event.LedgerEvent.TheVariants.{Taken, Waiting as WaitingEvent, Passed}
+use Rattle.es_event.specs.declared.ledger_event.LedgerEvent.TheVariants.{Taken, Acted}
+use Rattle.es_event.specs.declared.ledger_event.Act.TheVariants.{Waiting as WaitingEvent, Passed}
 use Rattle.es_event.specs.Ledger.{Ledger, ended as has_ended, waits}
 use Rattle.es_event.specs.LegalLedger.{ComesNext, LegalSoFar, MayCome, has_message, skips}
 use Rattle.es_event.specs.Order.{phase}
@@ -50,14 +51,14 @@ use Rattle.es_theorems.proofs.TurningThreads.{next_of, turn}
 -- What is told where a wait begins
 
 -- a wait that is recorded now
-told_here : (m : Ledger) (n i s : ℕ) (skip : Bool) → has_message m s i ≡ false → waits m i ≡ None → skips (WaitingEvent i s ∷ m) n i s ≡ skip
-    → ◌≡◌ {A = Told × Ledger} (told m n i s) (cond skip (Skip, Passed i s ∷ WaitingEvent i s ∷ m) (Stay, WaitingEvent i s ∷ m))
+told_here : (m : Ledger) (n i s : ℕ) (skip : Bool) → has_message m s i ≡ false → waits m i ≡ None → skips (Acted i (WaitingEvent s) ∷ m) n i s ≡ skip
+    → ◌≡◌ {A = Told × Ledger} (told m n i s) (cond skip (Skip, Acted i (Passed s) ∷ Acted i (WaitingEvent s) ∷ m) (Stay, Acted i (WaitingEvent s) ∷ m))
 told_here m n i s skip none free is =
     ap (λ b. cond b (IsReadyTurn, m) (judged (asked m i s) n i s)) none
-    ∙ ap (λ w. judged (cond (is_some w) m (WaitingEvent i s ∷ m)) n i s) free
-    ∙ ap (λ w. cond (w && skips (WaitingEvent i s ∷ m) n i s) (Skip, Passed i s ∷ WaitingEvent i s ∷ m) (Stay, WaitingEvent i s ∷ m))
+    ∙ ap (λ w. judged (cond (is_some w) m (Acted i (WaitingEvent s) ∷ m)) n i s) free
+    ∙ ap (λ w. cond (w && skips (Acted i (WaitingEvent s) ∷ m) n i s) (Skip, Acted i (Passed s) ∷ Acted i (WaitingEvent s) ∷ m) (Stay, Acted i (WaitingEvent s) ∷ m))
     (ap (λ b. option_map_or (λ t. t == s) (cond b (Some s) (waits m i)) false) (eq-eqb i i refl) ∙ eq-eqb s s refl)
-    ∙ ap (λ b. cond b (Skip, Passed i s ∷ WaitingEvent i s ∷ m) (Stay, WaitingEvent i s ∷ m)) is
+    ∙ ap (λ b. cond b (Skip, Acted i (Passed s) ∷ Acted i (WaitingEvent s) ∷ m) (Stay, Acted i (WaitingEvent s) ∷ m)) is
 
 -- The wait, as the next event
 
@@ -67,13 +68,13 @@ pub record WaitsNext (n : ℕ) (all : List Account) (c : ClusterView) (i s : ℕ
   pub turned : AllTurned turns c after
   pub behind : List LedgerEvent
   pub on : Underway n all after behind
-  pub less : length behind < length (WaitingEvent i s ∷ es)
-  pub like : Like (played (WaitingEvent i s ∷ es) c.ledger.history) (played behind after.ledger.history)
-  pub parts : (a : ℕ) → part (played (WaitingEvent i s ∷ es) c.ledger.history) a ≡ part (played behind after.ledger.history) a
+  pub less : length behind < length (Acted i (WaitingEvent s) ∷ es)
+  pub like : Like (played (Acted i (WaitingEvent s) ∷ es) c.ledger.history) (played behind after.ledger.history)
+  pub parts : (a : ℕ) → part (played (Acted i (WaitingEvent s) ∷ es) c.ledger.history) a ≡ part (played behind after.ledger.history) a
 
 -- it stays
-stays : (n : ℕ) (all : List Account) (c : ClusterView) (es : List LedgerEvent) (i s : ℕ) (b : AgentView) → (u : Underway n all c (WaitingEvent i s ∷ es)) → slice_get c.agents i ≡ Some b → MayCome n c.ledger.history (WaitingEvent i s) → need b ≡ asks_message s
-    → skips (WaitingEvent i s ∷ c.ledger.history) n i s ≡ false → WaitsNext n all c i s es
+stays : (n : ℕ) (all : List Account) (c : ClusterView) (es : List LedgerEvent) (i s : ℕ) (b : AgentView) → (u : Underway n all c (Acted i (WaitingEvent s) ∷ es)) → slice_get c.agents i ≡ Some b → MayCome n c.ledger.history (Acted i (WaitingEvent s)) → need b ≡ asks_message s
+    → skips (Acted i (WaitingEvent s) ∷ c.ledger.history) n i s ≡ false → WaitsNext n all c i s es
 stays n all c es i s b u here may wants skip = record {
   turns = i ∷ [];
   after = after;
@@ -88,10 +89,10 @@ stays n all c es i s b u here may wants skip = record {
     waits_end = tied.waits_end;
     drains_end = tied.drains_end;
     strangers = λ a beyond. ap (λ p. part m a ++ p) (part_wait a i (Waits s) (Some (i, Waits s)) refl refl) ∙ append-nil (part m a) ∙ u.strangers a beyond;
-    left = λ j d is. left_as (account_of all j) d (ahead (WaitingEvent i s ∷ es) m j) (ahead es (WaitingEvent i s ∷ m) j) (ap (λ p. p ++ ahead es (WaitingEvent i s ∷ m) j) (part_wait j i (Waits s) (Some (i, Waits s)) refl refl)) (u.left j d is);
+    left = λ j d is. left_as (account_of all j) d (ahead (Acted i (WaitingEvent s) ∷ es) m j) (ahead es (Acted i (WaitingEvent s) ∷ m) j) (ap (λ p. p ++ ahead es (Acted i (WaitingEvent s) ∷ m) j) (part_wait j i (Waits s) (Some (i, Waits s)) refl refl)) (u.left j d is);
   };
   less = omega arith;
-  like = like (played es (WaitingEvent i s ∷ m));
+  like = like (played es (Acted i (WaitingEvent s) ∷ m));
   parts = λ a. refl;
 }
   where
@@ -99,19 +100,19 @@ stays n all c es i s b u here may wants skip = record {
     m = c.ledger.history
 
     after : ClusterView
-    after = record { agents = c.agents; ledger = record { agents = c.ledger.agents; history = WaitingEvent i s ∷ m }; failed = false }
+    after = record { agents = c.agents; ledger = record { agents = c.ledger.agents; history = Acted i (WaitingEvent s) ∷ m }; failed = false }
 
     was : StandsAt c i b
     was = u.stands.each i b here
 
-    told_stay : ◌≡◌ {A = Told × Ledger} (Stay, WaitingEvent i s ∷ m) (told m c.ledger.agents b.number s)
+    told_stay : ◌≡◌ {A = Told × Ledger} (Stay, Acted i (WaitingEvent s) ∷ m) (told m c.ledger.agents b.number s)
     told_stay = sym (ap (λ k. told m k b.number s) u.number ∙ ap (λ k. told m n k s) was.number ∙ told_here m n i s false may.3 may.4 skip)
 
     acts : Acts n m (Some (i, Waits s))
     acts = u.steps.0.acts
 
-    tied : IsTied b (WaitingEvent i s ∷ m)
-    tied = awaits b m (WaitingEvent i s ∷ m) s was.tied (ap (λ k. WaitingEvent k s ∷ m) (sym was.number)) (ap (waits m) was.number ∙ may.4) acts.2 wants
+    tied : IsTied b (Acted i (WaitingEvent s) ∷ m)
+    tied = awaits b m (Acted i (WaitingEvent s) ∷ m) s was.tied (ap (λ k. Acted k (WaitingEvent s) ∷ m) (sym was.number)) (ap (waits m) was.number ∙ may.4) acts.2 wants
 
     turned : Turned Waiting i c after
     turned = record {
@@ -121,9 +122,9 @@ stays n all c es i s b u here may wants skip = record {
       agents = sym (set_same c.agents i b here);
       turn = (s, wants, refl);
       told = (s, wants, told_stay);
-      ledger = grows_one i m (WaitingEvent i s ∷ m) (WaitingEvent i s) (Waits s) refl refl;
+      ledger = grows_one i m (Acted i (WaitingEvent s) ∷ m) (Acted i (WaitingEvent s)) (Waits s) refl refl;
       number = refl;
-      legal = (subst (λ k. LegalSoFar k (WaitingEvent i s ∷ m)) (sym u.number) (u.steps.0.legal, u.legal), refl);
+      legal = (subst (λ k. LegalSoFar k (Acted i (WaitingEvent s) ∷ m)) (sym u.number) (u.steps.0.legal, u.legal), refl);
       tied = tied;
       seated = record { known = was.seated.known; agents = was.seated.agents; over = was.seated.over };
       whole = (u.whole, refl);
@@ -171,11 +172,11 @@ passes_next n i s es l d ds legal goes steps waiting skip is = at (ends_which s 
     event : f.event ≡ event_of i f.does
     event = (meant n far f.event i f.does may f.mine).event
 
-    ready : Ready n l i (Passed i s)
+    ready : Ready n l i (Acted i (Passed s))
     ready = (refl, waiting, skip)
 
-    there : Ready n far i (Passed i s)
-    there = ready_far n i (Passed i s) f.before l f.away legal (steps_first n f.before (f.event ∷ f.behind) l (subst (λ es. Steps n es l) f.split steps)) goes ready
+    there : Ready n far i (Acted i (Passed s))
+    there = ready_far n i (Acted i (Passed s)) f.before l f.away legal (steps_first n f.before (f.event ∷ f.behind) l (subst (λ es. Steps n es l) f.split steps)) goes ready
 
     at : {A : Type 0} → (f.does ≡ f.does → A) → f.does ≡ f.does → A
     at go same = go same
@@ -189,7 +190,7 @@ passes_next n i s es l d ds legal goes steps waiting skip is = at (ends_which s 
 
     passed : f.does ≡ Passes s → (d ≡ Passes s) × First n i (Passes s) ds es l
     passed does =
-        let it : f.event ≡ Passed i s = event ∙ ap (event_of i) does in
+        let it : f.event ≡ Acted i (Passed s) = event ∙ ap (event_of i) does in
         let d_is : d ≡ Passes s = sym same ∙ does in
         (d_is, brought n i es l (Passes s) ds f legal goes steps (subst (Ready n l i) (sym it) ready) refl it (ap (deed l) it) (is ∙ ap (λ d. d ∷ ds) d_is))
 
@@ -199,9 +200,9 @@ same_sender b s t a c = let both : asks_message s ≡ asks_message t = sym a ∙
 abbrev turn_of : Told × Ledger → Told
 turn_of p = p.0
 
-skips_now : (n : ℕ) (all : List Account) (c : ClusterView) (es : List LedgerEvent) (i s : ℕ) (b : AgentView) (e : Event) (rest : List Event) (j : ℕ) (d : Deed) (ds : List Deed) → IsWhole (account_of all i) → (u : Underway n all c (WaitingEvent i s ∷ es))
-    → slice_get c.agents i ≡ Some b → (left : Left (account_of all i) b (ahead (WaitingEvent i s ∷ es) c.ledger.history i)) → left.rest ≡ e ∷ rest → deeds_asked b e ≡ suc j → MayCome n c.ledger.history (WaitingEvent i s) → need b ≡ asks_message s
-    → ahead es (WaitingEvent i s ∷ c.ledger.history) i ≡ d ∷ ds → skips (WaitingEvent i s ∷ c.ledger.history) n i s ≡ true → WaitsNext n all c i s es
+skips_now : (n : ℕ) (all : List Account) (c : ClusterView) (es : List LedgerEvent) (i s : ℕ) (b : AgentView) (e : Event) (rest : List Event) (j : ℕ) (d : Deed) (ds : List Deed) → IsWhole (account_of all i) → (u : Underway n all c (Acted i (WaitingEvent s) ∷ es))
+    → slice_get c.agents i ≡ Some b → (left : Left (account_of all i) b (ahead (Acted i (WaitingEvent s) ∷ es) c.ledger.history i)) → left.rest ≡ e ∷ rest → deeds_asked b e ≡ suc j → MayCome n c.ledger.history (Acted i (WaitingEvent s)) → need b ≡ asks_message s
+    → ahead es (Acted i (WaitingEvent s) ∷ c.ledger.history) i ≡ d ∷ ds → skips (Acted i (WaitingEvent s) ∷ c.ledger.history) n i s ≡ true → WaitsNext n all c i s es
 skips_now n all c es i s b e rest j d ds whole u here left is asks may wants some skip = record {
   turns = i ∷ [];
   after = t.after;
@@ -209,15 +210,15 @@ skips_now n all c es i s b e rest j d ds whole u here left is asks may wants som
   behind = first.behind;
   on = t.on;
   less = (let size = first.same.size in omega (arith, size));
-  like = subst (Like (played (WaitingEvent i s ∷ es) m)) (ap (played first.behind) (sym t.history)) first.same.like;
-  parts = λ a. parts_same n (WaitingEvent i s ∷ es) (WaitingEvent i s ∷ first.event ∷ [] ++ first.behind) m a re ∙ ap (λ l. part (played first.behind l) a) (sym t.history);
+  like = subst (Like (played (Acted i (WaitingEvent s) ∷ es) m)) (ap (played first.behind) (sym t.history)) first.same.like;
+  parts = λ a. parts_same n (Acted i (WaitingEvent s) ∷ es) (Acted i (WaitingEvent s) ∷ first.event ∷ [] ++ first.behind) m a re ∙ ap (λ l. part (played first.behind l) a) (sym t.history);
 }
   where
     m : Ledger
     m = c.ledger.history
 
     l : Ledger
-    l = WaitingEvent i s ∷ m
+    l = Acted i (WaitingEvent s) ∷ m
 
     was : StandsAt c i b
     was = u.stands.each i b here
@@ -234,26 +235,26 @@ skips_now n all c es i s b e rest j d ds whole u here left is asks may wants som
     first : First n i (Passes s) ds es l
     first = next.1
 
-    re : Rearranged n (WaitingEvent i s ∷ es) (WaitingEvent i s ∷ first.event ∷ [] ++ first.behind) m
-    re = rearranged_cons n (WaitingEvent i s) es (first.event ∷ first.behind) m u.steps.0 first.same
+    re : Rearranged n (Acted i (WaitingEvent s) ∷ es) (Acted i (WaitingEvent s) ∷ first.event ∷ [] ++ first.behind) m
+    re = rearranged_cons n (Acted i (WaitingEvent s)) es (first.event ∷ first.behind) m u.steps.0 first.same
 
-    u2 : Underway n all c (WaitingEvent i s ∷ first.event ∷ [] ++ first.behind)
-    u2 = rearranged_on n all c (WaitingEvent i s ∷ es) (WaitingEvent i s ∷ first.event ∷ [] ++ first.behind) u re
+    u2 : Underway n all c (Acted i (WaitingEvent s) ∷ first.event ∷ [] ++ first.behind)
+    u2 = rearranged_on n all c (Acted i (WaitingEvent s) ∷ es) (Acted i (WaitingEvent s) ∷ first.event ∷ [] ++ first.behind) u re
 
-    left2 : Left (account_of all i) b (ahead (WaitingEvent i s ∷ first.event ∷ [] ++ first.behind) m i)
-    left2 = left_as (account_of all i) b (ahead (WaitingEvent i s ∷ es) m i) (ahead (WaitingEvent i s ∷ first.event ∷ [] ++ first.behind) m i) (re.parts i) left
+    left2 : Left (account_of all i) b (ahead (Acted i (WaitingEvent s) ∷ first.event ∷ [] ++ first.behind) m i)
+    left2 = left_as (account_of all i) b (ahead (Acted i (WaitingEvent s) ∷ es) m i) (ahead (Acted i (WaitingEvent s) ∷ first.event ∷ [] ++ first.behind) m i) (re.parts i) left
 
-    un : Unfolded b e rest (ahead (WaitingEvent i s ∷ first.event ∷ [] ++ first.behind) m i) left2.final
-    un = next_of (account_of all i) b (ahead (WaitingEvent i s ∷ first.event ∷ [] ++ first.behind) m i) e rest was.run whole left2 is
+    un : Unfolded b e rest (ahead (Acted i (WaitingEvent s) ∷ first.event ∷ [] ++ first.behind) m i) left2.final
+    un = next_of (account_of all i) b (ahead (Acted i (WaitingEvent s) ∷ first.event ∷ [] ++ first.behind) m i) e rest was.run whole left2 is
 
-    all_of : ahead (WaitingEvent i s ∷ first.event ∷ [] ++ first.behind) m i ≡ Passes s ∷ ds
+    all_of : ahead (Acted i (WaitingEvent s) ∷ first.event ∷ [] ++ first.behind) m i ≡ Passes s ∷ ds
     all_of = sym (re.parts i) ∙ ap (λ p. p ++ ahead es l i) (part_wait i i (Waits s) (Some (i, Waits s)) refl refl) ∙ some ∙ ap (λ d. d ∷ ds) next.0
 
-    now_is : take (deeds_asked b e) (ahead (WaitingEvent i s ∷ first.event ∷ [] ++ first.behind) m i) ≡ Passes s ∷ take j ds
+    now_is : take (deeds_asked b e) (ahead (Acted i (WaitingEvent s) ∷ first.event ∷ [] ++ first.behind) m i) ≡ Passes s ∷ take j ds
     now_is = ap (take (deeds_asked b e)) all_of ∙ ap (λ k. take k (Passes s ∷ ds)) asks
 
-    met : (t : Tickets) × (after (tickets b) (asked_by b e) (take (deeds_asked b e) (ahead (WaitingEvent i s ∷ first.event ∷ [] ++ first.behind) m i)) ≡ Some t)
-    met = met_of b e (take (deeds_asked b e) (ahead (WaitingEvent i s ∷ first.event ∷ [] ++ first.behind) m i)) (came_to (grown b un.row e)) un.met
+    met : (t : Tickets) × (after (tickets b) (asked_by b e) (take (deeds_asked b e) (ahead (Acted i (WaitingEvent s) ∷ first.event ∷ [] ++ first.behind) m i)) ≡ Some t)
+    met = met_of b e (take (deeds_asked b e) (ahead (Acted i (WaitingEvent s) ∷ first.event ∷ [] ++ first.behind) m i)) (came_to (grown b un.row e)) un.met
 
     met_now : after (tickets b) (asked_by b e) (Passes s ∷ take j ds) ≡ Some met.0
     met_now = ap (after (tickets b) (asked_by b e)) (sym now_is) ∙ met.1
@@ -261,13 +262,13 @@ skips_now n all c es i s b e rest j d ds whole u here left is asks may wants som
     alone : take j ds ≡ []
     alone = alone_asked (tickets b) met.0 (asked_by b e) (Passes s) (take j ds) met_now refl
 
-    deeds_are : ahead (WaitingEvent i s ∷ first.event ∷ []) m i ≡ Passes s ∷ []
+    deeds_are : ahead (Acted i (WaitingEvent s) ∷ first.event ∷ []) m i ≡ Passes s ∷ []
     deeds_are = ap (λ p. p ++ ahead (first.event ∷ []) l i) (part_wait i i (Waits s) (Some (i, Waits s)) refl refl) ∙ ap (λ p. p ++ []) (part_mine i (Passes s) (deed l first.event) first.mine refl)
 
-    deeds : ahead (WaitingEvent i s ∷ first.event ∷ []) m i ≡ take (deeds_asked b e) (ahead (WaitingEvent i s ∷ first.event ∷ [] ++ first.behind) m i)
+    deeds : ahead (Acted i (WaitingEvent s) ∷ first.event ∷ []) m i ≡ take (deeds_asked b e) (ahead (Acted i (WaitingEvent s) ∷ first.event ∷ [] ++ first.behind) m i)
     deeds = deeds_are ∙ ap (λ ds. Passes s ∷ ds) (sym alone) ∙ sym now_is
 
-    others : (k : ℕ) → (k ≡ i → ⊥) → ahead (WaitingEvent i s ∷ first.event ∷ []) m k ≡ []
+    others : (k : ℕ) → (k ≡ i → ⊥) → ahead (Acted i (WaitingEvent s) ∷ first.event ∷ []) m k ≡ []
     others k other =
         ap (λ p. p ++ ahead (first.event ∷ []) l k) (part_none k i (Waits s) (Some (i, Waits s)) refl other)
         ∙ ap (λ p. p ++ []) (part_none k i (Passes s) (deed l first.event) first.mine other)
@@ -290,28 +291,28 @@ skips_now n all c es i s b e rest j d ds whole u here left is asks may wants som
         let clash : ◌≡◌ {A = Told} Skip Stay = sym it ∙ there in cc
 
     t : Turn n all c i (grown b un.row e) (first.event ∷ l) first.behind rest
-    t = turn n all c (WaitingEvent i s ∷ first.event ∷ []) first.behind i b e rest u2 here left2 is un
-        (grows_on i m l (first.event ∷ l) (grows_one i m l (WaitingEvent i s) (Waits s) refl refl) (grows_one i l (first.event ∷ l) first.event (Passes s) refl first.mine))
+    t = turn n all c (Acted i (WaitingEvent s) ∷ first.event ∷ []) first.behind i b e rest u2 here left2 is un
+        (grows_on i m l (first.event ∷ l) (grows_one i m l (Acted i (WaitingEvent s)) (Waits s) refl refl) (grows_one i l (first.event ∷ l) first.event (Passes s) refl first.mine))
         others deeds free over tells
 
 -- The wait
 
-waits_or_skips : (n : ℕ) (all : List Account) (c : ClusterView) (es : List LedgerEvent) (i s : ℕ) (b : AgentView) (e : Event) (rest : List Event) (j : ℕ) (d : Deed) (ds : List Deed) → IsWhole (account_of all i) → (u : Underway n all c (WaitingEvent i s ∷ es))
-    → slice_get c.agents i ≡ Some b → (left : Left (account_of all i) b (ahead (WaitingEvent i s ∷ es) c.ledger.history i)) → left.rest ≡ e ∷ rest → deeds_asked b e ≡ suc j
-    → ahead es (WaitingEvent i s ∷ c.ledger.history) i ≡ d ∷ ds → WaitsNext n all c i s es
+waits_or_skips : (n : ℕ) (all : List Account) (c : ClusterView) (es : List LedgerEvent) (i s : ℕ) (b : AgentView) (e : Event) (rest : List Event) (j : ℕ) (d : Deed) (ds : List Deed) → IsWhole (account_of all i) → (u : Underway n all c (Acted i (WaitingEvent s) ∷ es))
+    → slice_get c.agents i ≡ Some b → (left : Left (account_of all i) b (ahead (Acted i (WaitingEvent s) ∷ es) c.ledger.history i)) → left.rest ≡ e ∷ rest → deeds_asked b e ≡ suc j
+    → ahead es (Acted i (WaitingEvent s) ∷ c.ledger.history) i ≡ d ∷ ds → WaitsNext n all c i s es
 waits_or_skips n all c es i s b e rest j d ds whole u here left is asks some = at (skips l n i s) refl
   where
     m : Ledger
     m = c.ledger.history
 
     l : Ledger
-    l = WaitingEvent i s ∷ m
+    l = Acted i (WaitingEvent s) ∷ m
 
     was : StandsAt c i b
     was = u.stands.each i b here
 
-    may : MayCome n m (WaitingEvent i s)
-    may = subst (ComesNext n m (WaitingEvent i s)) u.stands.undrained u.steps.0.legal
+    may : MayCome n m (Acted i (WaitingEvent s))
+    may = subst (ComesNext n m (Acted i (WaitingEvent s))) u.stands.undrained u.steps.0.legal
 
     goes : Goes n l i
     goes = record { known = may.0; going = may.5; paid = refl; undrained = u.steps.0.acts.2 }
@@ -319,16 +320,16 @@ waits_or_skips n all c es i s b e rest j d ds whole u here left is asks some = a
     ends : ends_wait s d ≡ true
     ends = next_ends n i es l d ds s goes u.steps.1 (waits_now m i s) some
 
-    un : Unfolded b e rest (ahead (WaitingEvent i s ∷ es) m i) left.final
-    un = next_of (account_of all i) b (ahead (WaitingEvent i s ∷ es) m i) e rest was.run whole left is
+    un : Unfolded b e rest (ahead (Acted i (WaitingEvent s) ∷ es) m i) left.final
+    un = next_of (account_of all i) b (ahead (Acted i (WaitingEvent s) ∷ es) m i) e rest was.run whole left is
 
-    now_is : take (deeds_asked b e) (ahead (WaitingEvent i s ∷ es) m i) ≡ d ∷ take j ds
+    now_is : take (deeds_asked b e) (ahead (Acted i (WaitingEvent s) ∷ es) m i) ≡ d ∷ take j ds
     now_is =
         ap (take (deeds_asked b e)) (ap (λ p. p ++ ahead es l i) (part_wait i i (Waits s) (Some (i, Waits s)) refl refl) ∙ some)
         ∙ ap (λ k. take k (d ∷ ds)) asks
 
-    met : (t : Tickets) × (after (tickets b) (asked_by b e) (take (deeds_asked b e) (ahead (WaitingEvent i s ∷ es) m i)) ≡ Some t)
-    met = met_of b e (take (deeds_asked b e) (ahead (WaitingEvent i s ∷ es) m i)) (came_to (grown b un.row e)) un.met
+    met : (t : Tickets) × (after (tickets b) (asked_by b e) (take (deeds_asked b e) (ahead (Acted i (WaitingEvent s) ∷ es) m i)) ≡ Some t)
+    met = met_of b e (take (deeds_asked b e) (ahead (Acted i (WaitingEvent s) ∷ es) m i)) (came_to (grown b un.row e)) un.met
 
     wants : need b ≡ asks_message s
     wants = first_message b un.row e s d (take j ds) met.0 un.next (ap (after (tickets b) (asked_by b e)) (sym now_is) ∙ met.1) (ap (refused_in (asked_by b e)) (sym now_is) ∙ un.named) ends
@@ -338,7 +339,7 @@ waits_or_skips n all c es i s b e rest j d ds whole u here left is asks some = a
     at true skip = skips_now n all c es i s b e rest j d ds whole u here left is asks may wants some skip
 
 -- the turns up to it, and its own
-up_to_wait : (n : ℕ) (all : List Account) (c : ClusterView) (es : List LedgerEvent) (i s : ℕ) → (v : Settled n all c (WaitingEvent i s ∷ es) i) → WaitsNext n all v.after i s es → Stepped n all c (WaitingEvent i s ∷ es)
+up_to_wait : (n : ℕ) (all : List Account) (c : ClusterView) (es : List LedgerEvent) (i s : ℕ) → (v : Settled n all c (Acted i (WaitingEvent s) ∷ es) i) → WaitsNext n all v.after i s es → Stepped n all c (Acted i (WaitingEvent s) ∷ es)
 up_to_wait n all c es i s v w = record {
   turns = v.turns ++ w.turns;
   after = w.after;
@@ -346,36 +347,36 @@ up_to_wait n all c es i s v w = record {
   behind = w.behind;
   on = w.on;
   less = w.less;
-  like = subst (λ k. Like (played (WaitingEvent i s ∷ es) k) (played w.behind w.after.ledger.history)) v.history w.like;
-  parts = λ a. ap (λ k. part (played (WaitingEvent i s ∷ es) k) a) (sym v.history) ∙ w.parts a;
+  like = subst (λ k. Like (played (Acted i (WaitingEvent s) ∷ es) k) (played w.behind w.after.ledger.history)) v.history w.like;
+  parts = λ a. ap (λ k. part (played (Acted i (WaitingEvent s) ∷ es) k) a) (sym v.history) ∙ w.parts a;
 }
 
-pub wait_step : (n : ℕ) (all : List Account) (c : ClusterView) (es : List LedgerEvent) (i s : ℕ) → ((i : ℕ) → i < n → IsWhole (account_of all i)) → Underway n all c (WaitingEvent i s ∷ es) → Stepped n all c (WaitingEvent i s ∷ es)
+pub wait_step : (n : ℕ) (all : List Account) (c : ClusterView) (es : List LedgerEvent) (i s : ℕ) → ((i : ℕ) → i < n → IsWhole (account_of all i)) → Underway n all c (Acted i (WaitingEvent s) ∷ es) → Stepped n all c (Acted i (WaitingEvent s) ∷ es)
 wait_step n all c es i s wholes u = at (ahead es l i) refl
   where
     m : Ledger
     m = c.ledger.history
 
     l : Ledger
-    l = WaitingEvent i s ∷ m
+    l = Acted i (WaitingEvent s) ∷ m
 
-    may : MayCome n m (WaitingEvent i s)
-    may = subst (ComesNext n m (WaitingEvent i s)) u.stands.undrained u.steps.0.legal
+    may : MayCome n m (Acted i (WaitingEvent s))
+    may = subst (ComesNext n m (Acted i (WaitingEvent s))) u.stands.undrained u.steps.0.legal
 
     whole : IsWhole (account_of all i)
     whole = wholes i may.0
 
     found : (b : AgentView) × (slice_get c.agents i ≡ Some b)
-    found = agent_there n all c (WaitingEvent i s ∷ es) i u may.0
+    found = agent_there n all c (Acted i (WaitingEvent s) ∷ es) i u may.0
 
-    unwaited : (k : Ledger) → ahead (WaitingEvent i s ∷ es) k i ≡ ahead es (WaitingEvent i s ∷ k) i
-    unwaited k = ap (λ p. p ++ ahead es (WaitingEvent i s ∷ k) i) (part_wait i i (Waits s) (Some (i, Waits s)) refl refl)
+    unwaited : (k : Ledger) → ahead (Acted i (WaitingEvent s) ∷ es) k i ≡ ahead es (Acted i (WaitingEvent s) ∷ k) i
+    unwaited k = ap (λ p. p ++ ahead es (Acted i (WaitingEvent s) ∷ k) i) (part_wait i i (Waits s) (Some (i, Waits s)) refl refl)
 
-    at : (ds : List Deed) → ahead es l i ≡ ds → Stepped n all c (WaitingEvent i s ∷ es)
+    at : (ds : List Deed) → ahead es l i ≡ ds → Stepped n all c (Acted i (WaitingEvent s) ∷ es)
     at [] none =
         let was = u.stands.each i found.0 found.1 in
-        let closed = finished (account_of all i) found.0 (ahead (WaitingEvent i s ∷ es) m i) whole (u.left i found.0 found.1) (unwaited m ∙ none) in
+        let closed = finished (account_of all i) found.0 (ahead (Acted i (WaitingEvent s) ∷ es) m i) whole (u.left i found.0 found.1) (unwaited m ∙ none) in
         absurd (false≢true (sym may.5 ∙ ap (has_ended m) (sym was.number) ∙ was.seated.over ∙ closed))
     at (d ∷ ds) some =
-        let v = settle n all c (WaitingEvent i s ∷ es) i d ds (u.left i found.0 found.1).rest whole u found.0 found.1 (u.left i found.0 found.1) refl (unwaited m ∙ some) in
-        up_to_wait n all c es i s v (waits_or_skips n all v.after es i s v.agent v.event v.rest v.fewer d ds whole v.on v.here v.mine v.mine_is v.some (ap (λ k. ahead es (WaitingEvent i s ∷ k) i) v.history ∙ some))
+        let v = settle n all c (Acted i (WaitingEvent s) ∷ es) i d ds (u.left i found.0 found.1).rest whole u found.0 found.1 (u.left i found.0 found.1) refl (unwaited m ∙ some) in
+        up_to_wait n all c es i s v (waits_or_skips n all v.after es i s v.agent v.event v.rest v.fewer d ds whole v.on v.here v.mine v.mine_is v.some (ap (λ k. ahead es (Acted i (WaitingEvent s) ∷ k) i) v.history ∙ some))

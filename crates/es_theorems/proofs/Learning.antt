@@ -7,7 +7,7 @@ use Rattle.es_event.specs.declared.access.Change.{Change}
 use Rattle.es_event.specs.declared.event.Event.{Event}
 use Rattle.es_event.specs.declared.ledger_event.Body.{Body}
 use Rattle.es_event.specs.declared.ledger_event.LedgerEvent.{LedgerEvent}
-use Rattle.es_event.specs.declared.ledger_event.LedgerEvent.TheVariants.{Opened, Posted, Taken, Spent, Accessed, Waiting, Passed, Ended, Drained}
+use Rattle.es_event.specs.declared.ledger_event.LedgerEvent.TheVariants.{Opened, Posted, Taken, Spent, Accessed, Drained, Acted}
 use Rattle.es_event.specs.declared.row.Holder.TheVariants.{Agent}
 use Rattle.es_event.specs.declared.row.Row.{Row}
 use Rattle.es_event.specs.Access.{written, change_by}
@@ -61,9 +61,7 @@ all_marked n (Opened b w s a ∷ l) legal = marked_later l (Opened b w s a) (mar
 all_marked n (Posted t u m ∷ l) legal = marked_later l (Posted t u m) (marked l) (all_marked n l legal.1)
 all_marked n (Taken t u ∷ l) legal = marked_later l (Taken t u) (marked l) (all_marked n l legal.1)
 all_marked n (Spent s ∷ l) legal = marked_later l (Spent s) (marked l) (all_marked n l legal.1)
-all_marked n (Waiting a s ∷ l) legal = marked_later l (Waiting a s) (marked l) (all_marked n l legal.1)
-all_marked n (Passed a s ∷ l) legal = marked_later l (Passed a s) (marked l) (all_marked n l legal.1)
-all_marked n (Ended a ∷ l) legal = marked_later l (Ended a) (marked l) (all_marked n l legal.1)
+all_marked n (Acted a d ∷ l) legal = marked_later l (Acted a d) (marked l) (all_marked n l legal.1)
 all_marked n (Drained t u ∷ l) legal = marked_later l (Drained t u) (marked l) (all_marked n l legal.1)
 
 -- so under later names they are the same

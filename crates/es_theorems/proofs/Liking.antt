@@ -5,7 +5,8 @@ use Rattle.std.specs.Option.{option_and_then, option_map, option_map_or}
 use Rattle.es_event.specs.declared.ledger_event.Body.{Body}
 use Rattle.es_event.specs.declared.ledger_event.Body.TheVariants.{Plain, Block}
 use Rattle.es_event.specs.declared.ledger_event.LedgerEvent.{LedgerEvent}
-use Rattle.es_event.specs.declared.ledger_event.LedgerEvent.TheVariants.{Opened, Posted, Taken, Spent, Accessed, Waiting, Passed, Ended, Drained}
+use Rattle.es_event.specs.declared.ledger_event.LedgerEvent.TheVariants.{Opened, Posted, Taken, Spent, Accessed, Drained, Acted}
+use Rattle.es_event.specs.declared.ledger_event.Act.TheVariants.{Waiting, Passed, Ended}
 use Rattle.es_event.specs.Access.{IsStorable}
 use Rattle.es_event.specs.Rows.{count_of, held}
 use Rattle.es_event.specs.Ledger.{Ledger, awaited, ended, front, holder_of, serial_in, waits, word}
@@ -102,9 +103,9 @@ may_come n l m (Spent s) k is = ap is_some (sym (same_holder l m s k.alike)) ∙
 may_come n l m (Accessed s i d old) k is =
     subst (λ o. Reaches o i (λ r. (old ≡ word m r.block i) × IsStorable d)) (same_holder l m s k.alike)
     (reaches_so (holder_of l s) i (λ r. (old ≡ word l r.block i) × IsStorable d) (λ r. (old ≡ word m r.block i) × IsStorable d) (λ r e. (e.0 ∙ k.alike.words r.block i, e.1)) is)
-may_come n l m (Waiting a s) k is = (is.0, is.1, is.2, sym (same_message l m s a k.alike) ∙ is.3, sym (k.waits a) ∙ is.4, sym (k.alike.ends a) ∙ is.5)
-may_come n l m (Passed a s) k is = (sym (k.waits a) ∙ is.0, sym (same_skips l m n a s k) ∙ is.1)
-may_come n l m (Ended a) k is = (is.0, sym (k.alike.ends a) ∙ is.1)
+may_come n l m (Acted a (Waiting s)) k is = (is.0, is.1, is.2, sym (same_message l m s a k.alike) ∙ is.3, sym (k.waits a) ∙ is.4, sym (k.alike.ends a) ∙ is.5)
+may_come n l m (Acted a (Passed s)) k is = (sym (k.waits a) ∙ is.0, sym (same_skips l m n a s k) ∙ is.1)
+may_come n l m (Acted a Ended) k is = (is.0, sym (k.alike.ends a) ∙ is.1)
 may_come n l m (Drained s r) k is = (sym (same_all_ended l m n k.alike) ∙ is.0, sym (same_message l m s r k.alike) ∙ is.1)
 
 comes_next : (n : ℕ) (l m : Ledger) (e : LedgerEvent) (o : Option ℕ) → Like l m → ComesNext n l e o → ComesNext n m e o

@@ -4,7 +4,7 @@ use Rattle.std.specs.Option.{option_map_or, option_and_then}
 use Rattle.std.proofs.lemmas.Bool.{cases_Bool, eqb-false, eqb-true}
 use Rattle.es_value.specs.declared.value.Value.{Value}
 use Rattle.es_event.specs.declared.ledger_event.LedgerEvent.{LedgerEvent}
-use Rattle.es_event.specs.declared.ledger_event.LedgerEvent.TheVariants.{Opened, Posted, Taken, Spent, Accessed, Waiting, Passed, Ended, Drained}
+use Rattle.es_event.specs.declared.ledger_event.LedgerEvent.TheVariants.{Opened, Posted, Taken, Spent, Accessed, Drained, Acted}
 use Rattle.es_event.specs.Identities.{object_of}
 use Rattle.es_event.specs.Ledger.{Ledger, opened}
 use Rattle.es_event.specs.LegalLedger.{ComesNext, LegalSoFar, owed}
@@ -60,9 +60,7 @@ named_is n (Posted t u m ∷ l) legal b some less = later n l (Posted t u m) b (
 named_is n (Taken t u ∷ l) legal b some less = later n l (Taken t u) b (named_is n l legal.1 b some (omega (arith, less))) refl
 named_is n (Spent k ∷ l) legal b some less = later n l (Spent k) b (named_is n l legal.1 b some (omega (arith, less))) refl
 named_is n (Accessed k i m old ∷ l) legal b some less = later n l (Accessed k i m old) b (named_is n l legal.1 b some (omega (arith, less))) refl
-named_is n (Waiting a t ∷ l) legal b some less = later n l (Waiting a t) b (named_is n l legal.1 b some (omega (arith, less))) refl
-named_is n (Passed a t ∷ l) legal b some less = later n l (Passed a t) b (named_is n l legal.1 b some (omega (arith, less))) refl
-named_is n (Ended a ∷ l) legal b some less = later n l (Ended a) b (named_is n l legal.1 b some (omega (arith, less))) refl
+named_is n (Acted a d ∷ l) legal b some less = later n l (Acted a d) b (named_is n l legal.1 b some (omega (arith, less))) refl
 named_is n (Drained t u ∷ l) legal b some less = later n l (Drained t u) b (named_is n l legal.1 b some (omega (arith, less))) refl
 
 -- Two blocks have two names

@@ -11,7 +11,8 @@ use Rattle.es_event.specs.declared.event.Answer.{Answer}
 use Rattle.es_event.specs.declared.event.Event.{Event}
 use Rattle.es_event.specs.declared.event.Event.TheVariants.{Received, Did, Refused, Emptied, Skipped, Closed}
 use Rattle.es_event.specs.declared.ledger_event.LedgerEvent.{LedgerEvent}
-use Rattle.es_event.specs.declared.ledger_event.LedgerEvent.TheVariants.{Opened, Posted, Taken, Spent, Accessed, Waiting, Passed, Ended, Drained}
+use Rattle.es_event.specs.declared.ledger_event.LedgerEvent.TheVariants.{Opened, Posted, Taken, Spent, Accessed, Drained, Acted}
+use Rattle.es_event.specs.declared.ledger_event.Act.TheVariants.{Waiting, Passed, Ended}
 use Rattle.es_event.specs.declared.row.Row.{Row}
 use Rattle.es_event.specs.Commands.{first}
 use Rattle.es_event.specs.Numbers.{access_of, index_of}
@@ -216,24 +217,24 @@ told_right n m (Taken t u) i s d may is ends stay =
     let there : has_message m s i ≡ true = ap (λ t. has_message m t i) (sym sender) ∙ ap (has_message m t) (sym user) ∙ may in
     let ready : (told m n i s).0 ≡ Ready = ap (λ b. turn_of (cond b (Ready, m) (judged (asked m i s) n i s))) there in
     let clash : ◌≡◌ {A = Turn} Ready Stay = sym ready ∙ stay in cc
-told_right n m (Passed u t) i s d may is ends stay =
-    let user : u ≡ i = doer (deed m (Passed u t)) i u d is in
+told_right n m (Acted u (Passed t)) i s d may is ends stay =
+    let user : u ≡ i = doer (deed m (Acted u (Passed t))) i u d is in
     let sender : t ≡ s = eqb-true t s (its u i (Passes t) d s is ends) in
     let waiting : waits m i ≡ Some s = ap (waits m) (sym user) ∙ may.0 ∙ ap Some sender in
     let skip : skips m n i s ≡ true = ap (λ t. skips m n i t) (sym sender) ∙ ap (λ u. skips m n u t) (sym user) ∙ may.1 in
     let none : has_message m s i ≡ false = not-true (has_message m s i) (and_parts (not (has_message m s i)) _ skip).0 in
-    let same : asked m i s ≡ m = ap (λ w. cond (is_some w) m (Waiting i s ∷ m)) waiting in
+    let same : asked m i s ≡ m = ap (λ w. cond (is_some w) m (Acted i (Waiting s) ∷ m)) waiting in
     let skipping : (told m n i s).0 ≡ Skip =
     ap (λ b. turn_of (cond b (Ready, m) (judged (asked m i s) n i s))) none ∙ ap (λ l. turn_of (judged l n i s)) same
-    ∙ ap (λ w. turn_of (cond (option_map_or (λ t. t == s) w false && skips m n i s) (Skip, Passed i s ∷ m) (Stay, m))) waiting
-    ∙ ap (λ b. turn_of (cond (b && skips m n i s) (Skip, Passed i s ∷ m) (Stay, m))) (eq-eqb s s refl)
-    ∙ ap (λ b. turn_of (cond b (Skip, Passed i s ∷ m) (Stay, m))) skip
+    ∙ ap (λ w. turn_of (cond (option_map_or (λ t. t == s) w false && skips m n i s) (Skip, Acted i (Passed s) ∷ m) (Stay, m))) waiting
+    ∙ ap (λ b. turn_of (cond (b && skips m n i s) (Skip, Acted i (Passed s) ∷ m) (Stay, m))) (eq-eqb s s refl)
+    ∙ ap (λ b. turn_of (cond b (Skip, Acted i (Passed s) ∷ m) (Stay, m))) skip
     in
     let clash : ◌≡◌ {A = Turn} Skip Stay = sym skipping ∙ stay in cc
 told_right n m (Opened b w q u) i s d may is ends stay = let clash = its u i (Opens b w q) d s is ends in cc
 told_right n m (Posted u r b) i s d may is ends stay = let clash = its u i (Posts r b) d s is ends in cc
 told_right n m (Spent q) i s d may is ends stay = held_none (holder_of m q) i (Spends q) d s refl is ends
 told_right n m (Accessed q j c old) i s d may is ends stay = held_none (holder_of m q) i (Accesses q j c old) d s refl is ends
-told_right n m (Waiting u t) i s d may is ends stay = let clash = its u i (Waits t) d s is ends in cc
-told_right n m (Ended u) i s d may is ends stay = let clash = its u i Ends d s is ends in cc
+told_right n m (Acted u (Waiting t)) i s d may is ends stay = let clash = its u i (Waits t) d s is ends in cc
+told_right n m (Acted u Ended) i s d may is ends stay = let clash = its u i Ends d s is ends in cc
 told_right n m (Drained t u) i s d may is ends stay = cc

@@ -7,7 +7,7 @@ use Rattle.std.proofs.lemmas.List.{append-nil}
 use Rattle.es_event.specs.declared.ledger_event.Body.{Body}
 use Rattle.es_event.specs.declared.ledger_event.Body.TheVariants.{Plain, Block}
 use Rattle.es_event.specs.declared.ledger_event.LedgerEvent.{LedgerEvent}
-use Rattle.es_event.specs.declared.ledger_event.LedgerEvent.TheVariants.{Opened, Posted, Taken, Spent, Accessed, Waiting, Passed, Ended, Drained}
+use Rattle.es_event.specs.declared.ledger_event.LedgerEvent.TheVariants.{Opened, Posted, Taken, Spent, Accessed, Drained, Acted}
 use Rattle.es_event.specs.declared.row.Row.{Row}
 use Rattle.es_event.specs.declared.row.Entry.{Entry}
 use Rattle.es_event.specs.declared.row.Holder.{Holder}
@@ -32,9 +32,7 @@ Gives l (Taken s u) k a = (option_and_then serial_in (front l s u) ≡ Some k) �
 Gives l (Posted c u m) k a = ⊥
 Gives l (Spent s) k a = ⊥
 Gives l (Accessed s i m old) k a = ⊥
-Gives l (Waiting c s) k a = ⊥
-Gives l (Passed c s) k a = ⊥
-Gives l (Ended c) k a = ⊥
+Gives l (Acted c d) k a = ⊥
 Gives l (Drained s r) k a = ⊥
 
 pub first_is : (c a : ℕ) (q r : Row) → ◌≡◌ {A = Option (ℕ × Row)} (Some (c, q)) (Some (a, r)) → c ≡ a

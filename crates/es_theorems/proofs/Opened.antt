@@ -6,7 +6,8 @@ use Rattle.std.proofs.lemmas.Bool.{cases_Bool, eqb-false, eqb-true}
 use Rattle.es_event.specs.declared.ledger_event.Body.{Body}
 use Rattle.es_event.specs.declared.ledger_event.Body.TheVariants.{Plain, Block}
 use Rattle.es_event.specs.declared.ledger_event.LedgerEvent.{LedgerEvent}
-use Rattle.es_event.specs.declared.ledger_event.LedgerEvent.TheVariants.{Opened, Posted, Taken, Spent, Accessed, Waiting, Passed, Ended, Drained}
+use Rattle.es_event.specs.declared.ledger_event.LedgerEvent.TheVariants.{Opened, Posted, Taken, Spent, Accessed, Drained, Acted}
+use Rattle.es_event.specs.declared.ledger_event.Act.TheVariants.{Waiting, Passed, Ended}
 use Rattle.es_event.specs.declared.row.Entry.{Entry}
 use Rattle.es_event.specs.declared.row.Holder.{Holder}
 use Rattle.es_event.specs.declared.row.Holder.TheVariants.{Agent, Nobody}
@@ -66,9 +67,9 @@ sent_newest n l (Opened b w k c) a legal = sent_if (Opened b w k c ∷ l) _ (Ope
 sent_newest n l (Taken t u) a legal = sent_if (Taken t u ∷ l) _ (taking l t (front l t u)) tt
 sent_newest n l (Spent k) a legal = sent_by_ticket (Spent k ∷ l) a (holder_of l k) (Spends k) tt
 sent_newest n l (Accessed k i m old) a legal = sent_by_ticket (Accessed k i m old ∷ l) a (holder_of l k) (Accesses k i m old) tt
-sent_newest n l (Waiting c s) a legal = sent_if (Waiting c s ∷ l) _ (Waits s) tt
-sent_newest n l (Passed c s) a legal = sent_if (Passed c s ∷ l) _ (Passes s) tt
-sent_newest n l (Ended c) a legal = sent_if (Ended c ∷ l) _ Ends tt
+sent_newest n l (Acted c (Waiting s)) a legal = sent_if (Acted c (Waiting s) ∷ l) _ (Waits s) tt
+sent_newest n l (Acted c (Passed s)) a legal = sent_if (Acted c (Passed s) ∷ l) _ (Passes s) tt
+sent_newest n l (Acted c Ended) a legal = sent_if (Acted c Ended ∷ l) _ Ends tt
 sent_newest n l (Drained t u) a legal = tt
 
 pub all_sent : (n : ℕ) (l : Ledger) → LegalSoFar n l → (a : ℕ) → AreSent l (part l a)

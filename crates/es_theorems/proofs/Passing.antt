@@ -2,7 +2,8 @@
 use Rattle.std.proofs.Common.{◌≡◌, ◌≢◌, ℕ, ◌<◌, ◌==◌, ◌&&◌, Bool, true, false, cond, refl, subst, List, [], ◌∷◌, ◌++◌, Option, Some, None}
 use Rattle.std.specs.Option.{option_map}
 use Rattle.es_event.specs.declared.ledger_event.LedgerEvent.{LedgerEvent}
-use Rattle.es_event.specs.declared.ledger_event.LedgerEvent.TheVariants.{Opened, Posted, Taken, Spent, Accessed, Waiting, Passed, Ended, Drained}
+use Rattle.es_event.specs.declared.ledger_event.LedgerEvent.TheVariants.{Opened, Posted, Taken, Spent, Accessed, Drained, Acted}
+use Rattle.es_event.specs.declared.ledger_event.Act.TheVariants.{Waiting, Passed, Ended}
 use Rattle.es_event.specs.declared.row.Row.{Row}
 use Rattle.es_event.specs.Ledger.{Ledger, front, holder_of}
 use Rattle.es_event.specs.LegalLedger.{ComesNext, LegalSoFar, owed}
@@ -36,19 +37,19 @@ by_ticket n a None d is = tt
 by_ticket n a (Some p) d is = aim_if n a _ d (λ t. is)
 
 -- it waited for it
-may_pass : (n : ℕ) (l : Ledger) (b s : ℕ) (o : Option ℕ) → LegalSoFar n l → ComesNext n l (Passed b s) o → (s < n) × (b ≢ s)
+may_pass : (n : ℕ) (l : Ledger) (b s : ℕ) (o : Option ℕ) → LegalSoFar n l → ComesNext n l (Acted b (Passed s)) o → (s < n) × (b ≢ s)
 may_pass n l b s None legal may = waits_known n l legal b s may.0
 may_pass n l b s (Some k) legal may = cc
 
 newest_aims : (n : ℕ) (l : Ledger) (e : LedgerEvent) (a : ℕ) → LegalSoFar n (e ∷ l) → AllAim n a (part_of a (deed l e))
-newest_aims n l (Passed b s) a legal = aim_if n a ((b == a) && true) (Passes s) (λ t. subst (λ a. (s < n) × (a ≢ s)) (eqb-true b a (and_parts (b == a) true t).0) (may_pass n l b s (owed l) legal.1 legal.0))
+newest_aims n l (Acted b (Passed s)) a legal = aim_if n a ((b == a) && true) (Passes s) (λ t. subst (λ a. (s < n) × (a ≢ s)) (eqb-true b a (and_parts (b == a) true t).0) (may_pass n l b s (owed l) legal.1 legal.0))
 newest_aims n l (Opened b w k c) a legal = aim_if n a _ (Opens b w k) (λ t. tt)
 newest_aims n l (Posted t u m) a legal = aim_if n a _ (Posts u m) (λ t. tt)
 newest_aims n l (Taken t u) a legal = aim_if n a _ (taking l t (front l t u)) (λ t. tt)
 newest_aims n l (Spent k) a legal = by_ticket n a (holder_of l k) (Spends k) tt
 newest_aims n l (Accessed k i m old) a legal = by_ticket n a (holder_of l k) (Accesses k i m old) tt
-newest_aims n l (Waiting c s) a legal = aim_if n a _ (Waits s) (λ t. tt)
-newest_aims n l (Ended c) a legal = aim_if n a _ Ends (λ t. tt)
+newest_aims n l (Acted c (Waiting s)) a legal = aim_if n a _ (Waits s) (λ t. tt)
+newest_aims n l (Acted c Ended) a legal = aim_if n a _ Ends (λ t. tt)
 newest_aims n l (Drained t u) a legal = tt
 
 all_aim : (n : ℕ) (l : Ledger) → LegalSoFar n l → (a : ℕ) → AllAim n a (part l a)

@@ -5,7 +5,8 @@ use Rattle.std.proofs.lemmas.Bool.{and_parts, false≢true}
 use Rattle.es_event.specs.declared.ledger_event.Body.{Body}
 use Rattle.es_event.specs.declared.ledger_event.Body.TheVariants.{Plain, Block}
 use Rattle.es_event.specs.declared.ledger_event.LedgerEvent.{LedgerEvent}
-use Rattle.es_event.specs.declared.ledger_event.LedgerEvent.TheVariants.{Opened, Posted, Taken, Spent, Accessed, Waiting, Passed, Ended, Drained}
+use Rattle.es_event.specs.declared.ledger_event.LedgerEvent.TheVariants.{Opened, Posted, Taken, Spent, Accessed, Drained, Acted}
+use Rattle.es_event.specs.declared.ledger_event.Act.TheVariants.{Waiting, Passed, Ended}
 use Rattle.es_event.specs.declared.row.Row.{Row}
 use Rattle.es_event.specs.Ledger.{Ledger, ended, front, holder_of, is_end_of, waits}
 use Rattle.es_match.specs.Deeds.{Deed, Owned, Opens, Posts, Takes, Spends, Accesses, Waits, Passes, Ends, deed, is_wait, part, part_of, taking}
@@ -83,9 +84,9 @@ free_after l (Posted c r m) a d is quick may = free_unless (waits l a) d may (λ
 free_after l (Taken s r) a d is quick may = ap (λ t. cond t None (waits l a)) (eq-eqb r a (doer (deed l (Taken s r)) a r d is))
 free_after l (Spent s) a d is quick may = free_unless (waits l a) d may (λ s'. ap (ends_wait s') (sym (held_deed (holder_of l s) a (Spends s) d is)))
 free_after l (Accessed s i m old) a d is quick may = free_unless (waits l a) d may (λ s'. ap (ends_wait s') (sym (held_deed (holder_of l s) a (Accesses s i m old) d is)))
-free_after l (Waiting c s) a d is quick may = let same = its_deed c a (Waits s) d is in let clash = ap is_wait same ∙ quick in cc
-free_after l (Passed c s) a d is quick may = ap (λ t. cond t None (waits l a)) (eq-eqb c a (doer (deed l (Passed c s)) a c d is))
-free_after l (Ended c) a d is quick may = free_unless (waits l a) d may (λ s'. ap (ends_wait s') (sym (its_deed c a _ d is)))
+free_after l (Acted c (Waiting s)) a d is quick may = let same = its_deed c a (Waits s) d is in let clash = ap is_wait same ∙ quick in cc
+free_after l (Acted c (Passed s)) a d is quick may = ap (λ t. cond t None (waits l a)) (eq-eqb c a (doer (deed l (Acted c (Passed s))) a c d is))
+free_after l (Acted c Ended) a d is quick may = free_unless (waits l a) d may (λ s'. ap (ends_wait s') (sym (its_deed c a _ d is)))
 free_after l (Drained s r) a d is quick may = cc
 
 pub free_played : (k : ℕ) (es : List LedgerEvent) (l : Ledger) (a : ℕ) → Steps k es l → AllMine a es l → waits l a ≡ None → waits (played es l) a ≡ None
@@ -101,9 +102,9 @@ end_is l (Posted c r m) a d is = ap is_end (its_deed c a (Posts r m) d is)
 end_is l (Taken s r) a d is = ap is_end (its_deed r a (taking l s (front l s r)) d is)
 end_is l (Spent s) a d is = ap is_end (held_deed (holder_of l s) a (Spends s) d is)
 end_is l (Accessed s i m old) a d is = ap is_end (held_deed (holder_of l s) a (Accesses s i m old) d is)
-end_is l (Waiting c s) a d is = ap is_end (its_deed c a (Waits s) d is)
-end_is l (Passed c s) a d is = ap is_end (its_deed c a (Passes s) d is)
-end_is l (Ended c) a d is = eq-eqb c a (doer (deed l (Ended c)) a c d is) ∙ ap is_end (its_deed c a Ends d is)
+end_is l (Acted c (Waiting s)) a d is = ap is_end (its_deed c a (Waits s) d is)
+end_is l (Acted c (Passed s)) a d is = ap is_end (its_deed c a (Passes s) d is)
+end_is l (Acted c Ended) a d is = eq-eqb c a (doer (deed l (Acted c Ended)) a c d is) ∙ ap is_end (its_deed c a Ends d is)
 end_is l (Drained s r) a d is = cc
 
 or_swapped : (a b c : Bool) → (a || (b || c)) ≡ ((b || a) || c)

@@ -5,7 +5,8 @@ use Rattle.std.specs.Option.{option_map}
 use Rattle.std.proofs.lemmas.Bool.{eqb-true}
 use Rattle.es_event.specs.declared.ledger_event.Body.{Body}
 use Rattle.es_event.specs.declared.ledger_event.LedgerEvent.{LedgerEvent}
-use Rattle.es_event.specs.declared.ledger_event.LedgerEvent.TheVariants.{Opened, Posted, Taken, Spent, Accessed, Waiting, Passed, Ended, Drained}
+use Rattle.es_event.specs.declared.ledger_event.LedgerEvent.TheVariants.{Opened, Posted, Taken, Spent, Accessed, Drained, Acted}
+use Rattle.es_event.specs.declared.ledger_event.Act.TheVariants.{Waiting, Passed, Ended}
 use Rattle.es_event.specs.declared.row.Row.{Row}
 use Rattle.es_event.specs.Ledger.{Ledger, front, holder_of, is_at, port_of}
 use Rattle.es_event.specs.LegalLedger.{ComesNext, LegalSoFar, has_message, owed}
@@ -172,7 +173,7 @@ is_port n f (Opened b w k a ∷ l) s r legal dry = quiet f l (Opened b w k a) s 
 is_port n f (Spent k ∷ l) s r legal dry = quiet f l (Spent k) s r (is_port n f l s r legal.1 dry) refl refl refl (by_spender f (holder_of l k) (Spends k) s refl refl).0 (by_spender f (holder_of l k) (Spends k) r refl refl).1
 is_port n f (Accessed k i m old ∷ l) s r legal dry =
     quiet f l (Accessed k i m old) s r (is_port n f l s r legal.1 dry) refl refl refl (by_spender f (holder_of l k) (Accesses k i m old) s refl refl).0 (by_spender f (holder_of l k) (Accesses k i m old) r refl refl).1
-is_port n f (Waiting a t ∷ l) s r legal dry = quiet f l (Waiting a t) s r (is_port n f l s r legal.1 dry) refl refl refl (none_sent f _ (Waits t) refl) (none_got _ (Waits t) refl)
-is_port n f (Passed a t ∷ l) s r legal dry = quiet f l (Passed a t) s r (is_port n f l s r legal.1 dry) refl refl refl (none_sent f _ (Passes t) refl) (none_got _ (Passes t) refl)
-is_port n f (Ended a ∷ l) s r legal dry = quiet f l (Ended a) s r (is_port n f l s r legal.1 dry) refl refl refl (none_sent f _ Ends refl) (none_got _ Ends refl)
+is_port n f (Acted a (Waiting t) ∷ l) s r legal dry = quiet f l (Acted a (Waiting t)) s r (is_port n f l s r legal.1 dry) refl refl refl (none_sent f _ (Waits t) refl) (none_got _ (Waits t) refl)
+is_port n f (Acted a (Passed t) ∷ l) s r legal dry = quiet f l (Acted a (Passed t)) s r (is_port n f l s r legal.1 dry) refl refl refl (none_sent f _ (Passes t) refl) (none_got _ (Passes t) refl)
+is_port n f (Acted a Ended ∷ l) s r legal dry = quiet f l (Acted a Ended) s r (is_port n f l s r legal.1 dry) refl refl refl (none_sent f _ Ends refl) (none_got _ Ends refl)
 is_port n f (Drained t u ∷ l) s r legal dry = cc

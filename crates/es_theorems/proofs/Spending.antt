@@ -5,7 +5,8 @@ use Rattle.std.specs.Option.{option_map, option_map_or}
 use Rattle.std.proofs.lemmas.Bool.{eqb-false}
 use Rattle.std.proofs.lemmas.List.Sums.{sum_by-cons}
 use Rattle.es_event.specs.declared.ledger_event.LedgerEvent.{LedgerEvent}
-use Rattle.es_event.specs.declared.ledger_event.LedgerEvent.TheVariants.{Spent, Ended}
+use Rattle.es_event.specs.declared.ledger_event.LedgerEvent.TheVariants.{Spent, Acted}
+use Rattle.es_event.specs.declared.ledger_event.Act.TheVariants.{Ended}
 use Rattle.es_event.specs.declared.row.Entry.{Entry}
 use Rattle.es_event.specs.declared.row.Holder.TheVariants.{Nobody}
 use Rattle.es_event.specs.Rows.{held_by, moved}
@@ -121,9 +122,9 @@ still_at_end true n l (Ends ∷ []) is = record {
   tables = sym (off_none (table l));
   words = λ b i. refl;
   ends = λ a. refl;
-  posted = uncounted is_posted l (Ended n) refl;
-  taken = uncounted is_taken l (Ended n) refl;
-  drained = uncounted is_drained l (Ended n) refl;
+  posted = uncounted is_posted l (Acted n Ended) refl;
+  taken = uncounted is_taken l (Acted n Ended) refl;
+  drained = uncounted is_drained l (Acted n Ended) refl;
 }
 still_at_end closing n l _ is = cc
 

@@ -8,7 +8,8 @@ use Rattle.std.proofs.lemmas.List.{reverse-append, reverse-reverse, length-map}
 use Rattle.es_event.specs.declared.event.Event.{Event}
 use Rattle.es_event.specs.declared.event.Event.TheVariants.{Did, Refused, Closed}
 use Rattle.es_event.specs.declared.ledger_event.LedgerEvent.{LedgerEvent}
-use Rattle.es_event.specs.declared.ledger_event.LedgerEvent.TheVariants.{Spent, Waiting, Ended}
+use Rattle.es_event.specs.declared.ledger_event.LedgerEvent.TheVariants.{Spent, Acted}
+use Rattle.es_event.specs.declared.ledger_event.Act.TheVariants.{Waiting, Ended}
 use Rattle.es_event.specs.declared.outcome.Outcome.{Outcome}
 use Rattle.es_event.specs.declared.plan.AgentPlan.{AgentPlan}
 use Rattle.es_event.specs.declared.plan.Plan.{Plan}
@@ -131,7 +132,7 @@ after_end over plan (e ∷ h) ds ps qs c follows (before, now, d, split, meets, 
 -- An agent that ended did so
 
 end_part : (l : Ledger) (e : LedgerEvent) (a : ℕ) → is_end_of e a ≡ true → has_end (part_of a (deed l e)) ≡ true
-end_part l (Ended b) a is = ap (λ t. has_end (cond (t && true) (Ends ∷ []) [])) is
+end_part l (Acted b Ended) a is = ap (λ t. has_end (cond (t && true) (Ends ∷ []) [])) is
 end_part l _ a is = cc
 
 pub ended_part : (l : Ledger) (a : ℕ) → has_ended l a ≡ true → has_end (part l a) ≡ true
@@ -181,8 +182,8 @@ acts_of n x es l (Some p) parted comes is patience last = at (is_wait p.1) refl
 
     waits_so : (s : ℕ) (o : Option ℕ) → owed l ≡ o → ComesNext n l x o → p.1 ≡ Waits s → (p.0 < n) × (has_ended l p.0 ≡ false)
     waits_so s None none comes wait =
-        let event : x ≡ Waiting p.0 s = (meant n l x p.0 p.1 comes is).event ∙ ap (event_of p.0) wait in
-        let it : MayCome n l (Waiting p.0 s) = subst (MayCome n l) event comes in
+        let event : x ≡ Acted p.0 (Waiting s) = (meant n l x p.0 p.1 comes is).event ∙ ap (event_of p.0) wait in
+        let it : MayCome n l (Acted p.0 (Waiting s)) = subst (MayCome n l) event comes in
         (it.0, it.5)
     waits_so s (Some k) owes comes wait = absurd (no_wait l k p.0 s (ap (deed l) (sym comes) ∙ is ∙ ap (λ d. Some (p.0, d)) wait))
 

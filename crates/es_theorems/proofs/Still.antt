@@ -3,7 +3,8 @@ use Rattle.std.proofs.Common.{◌≡◌, ℕ, Bool, true, false, cond, sym, ◌�
 use Rattle.std.specs.Prelude.{is_some, slice_set}
 use Rattle.es_event.specs.declared.ledger_event.Body.{Body}
 use Rattle.es_event.specs.declared.ledger_event.Body.TheVariants.{Plain, Block}
-use Rattle.es_event.specs.declared.ledger_event.LedgerEvent.TheVariants.{Waiting as WaitingEvent}
+use Rattle.es_event.specs.declared.ledger_event.LedgerEvent.TheVariants.{Acted}
+use Rattle.es_event.specs.declared.ledger_event.Act.TheVariants.{Waiting as WaitingEvent}
 use Rattle.es_event.specs.Ledger.{Ledger, waits}
 use Rattle.es_ledger.specs.LedgerView.{LedgerView}
 use Rattle.es_ledger.specs.Turns.{told}
@@ -28,25 +29,25 @@ sent_same f g (d ∷ ds) same = ap (λ x. x ++ sent_in f ds) (one d) ∙ ap (λ 
     one (Posts r m) = ap (λ x. (r, x) ∷ []) (same m)
     one _ = refl
 
-waits_letter : (n : ℕ) (l : Ledger) (a s : ℕ) (m : Body) → letter_of n (WaitingEvent a s ∷ l) m ≡ letter_of n l m
+waits_letter : (n : ℕ) (l : Ledger) (a s : ℕ) (m : Body) → letter_of n (Acted a (WaitingEvent s) ∷ l) m ≡ letter_of n l m
 waits_letter n l a s (Plain v) = refl
 waits_letter n l a s (Block b k) = refl
 
-waits_local : (n : ℕ) (l : Ledger) (a s : ℕ) (b : AgentView) → local_of n (WaitingEvent a s ∷ l) b ≡ local_of n l b
+waits_local : (n : ℕ) (l : Ledger) (a s : ℕ) (b : AgentView) → local_of n (Acted a (WaitingEvent s) ∷ l) b ≡ local_of n l b
 waits_local n l a s b =
-    let same : part (WaitingEvent a s ∷ l) b.number ≡ part l b.number = part_waits l (WaitingEvent a s) a b.number (Waits s) refl refl in
-    ap (λ p. record { plan = b.plan; over = renamed (name n l) b.over; history = b.history; sent = sent_in (letter_of n (WaitingEvent a s ∷ l)) p; got = got_in p }) same
-    ∙ ap (λ x. record { plan = b.plan; over = renamed (name n l) b.over; history = b.history; sent = x; got = got_in (part l b.number) }) (sent_same (letter_of n (WaitingEvent a s ∷ l)) (letter_of n l) (part l b.number) (waits_letter n l a s))
+    let same : part (Acted a (WaitingEvent s) ∷ l) b.number ≡ part l b.number = part_waits l (Acted a (WaitingEvent s)) a b.number (Waits s) refl refl in
+    ap (λ p. record { plan = b.plan; over = renamed (name n l) b.over; history = b.history; sent = sent_in (letter_of n (Acted a (WaitingEvent s) ∷ l)) p; got = got_in p }) same
+    ∙ ap (λ x. record { plan = b.plan; over = renamed (name n l) b.over; history = b.history; sent = x; got = got_in (part l b.number) }) (sent_same (letter_of n (Acted a (WaitingEvent s) ∷ l)) (letter_of n l) (part l b.number) (waits_letter n l a s))
 
-pub waits_locals : (n : ℕ) (l : Ledger) (a s : ℕ) (bs : List AgentView) → map (local_of n (WaitingEvent a s ∷ l)) bs ≡ map (local_of n l) bs
+pub waits_locals : (n : ℕ) (l : Ledger) (a s : ℕ) (bs : List AgentView) → map (local_of n (Acted a (WaitingEvent s) ∷ l)) bs ≡ map (local_of n l) bs
 waits_locals n l a s [] = refl
-waits_locals n l a s (b ∷ bs) = ap (λ x. x ∷ map (local_of n (WaitingEvent a s ∷ l)) bs) (waits_local n l a s b) ∙ ap (λ xs. local_of n l b ∷ xs) (waits_locals n l a s bs)
+waits_locals n l a s (b ∷ bs) = ap (λ x. x ∷ map (local_of n (Acted a (WaitingEvent s) ∷ l)) bs) (waits_local n l a s b) ∙ ap (λ xs. local_of n l b ∷ xs) (waits_locals n l a s bs)
 
 -- what is the same after a recorded wait is the same after a turn that waits
-told_same : {A : Type 0} (f : Ledger → A) (l m : Ledger) (k a s : ℕ) → f (WaitingEvent a s ∷ l) ≡ f l → ◌≡◌ {A = Turn × Ledger} (Stay, m) (told l k a s) → f m ≡ f l
+told_same : {A : Type 0} (f : Ledger → A) (l m : Ledger) (k a s : ℕ) → f (Acted a (WaitingEvent s) ∷ l) ≡ f l → ◌≡◌ {A = Turn × Ledger} (Stay, m) (told l k a s) → f m ≡ f l
 told_same f l m k a s same is = ap f (where_stay l m k a s is) ∙ at (is_some (waits l a))
   where
-    at : (t : Bool) → f (cond t l (WaitingEvent a s ∷ l)) ≡ f l
+    at : (t : Bool) → f (cond t l (Acted a (WaitingEvent s) ∷ l)) ≡ f l
     at true = refl
     at false = same
 
@@ -65,7 +66,7 @@ pub waits_words : (n i : ℕ) (c d : ClusterView) (words : Words) → Turned Wai
 waits_words n i c d words turn holds =
     subst (λ l. HasWords n l words) (sym (where_stay c.ledger.history d.ledger.history c.ledger.agents turn.before.number turn.told.0 turn.told.2)) (at (is_some (waits c.ledger.history turn.before.number)))
   where
-    at : (t : Bool) → HasWords n (cond t c.ledger.history (WaitingEvent turn.before.number turn.told.0 ∷ c.ledger.history)) words
+    at : (t : Bool) → HasWords n (cond t c.ledger.history (Acted turn.before.number (WaitingEvent turn.told.0) ∷ c.ledger.history)) words
     at true = holds
     at false = record { named_so = λ b x some less. holds.named_so b x some (omega (arith, less)); others = λ k x none. holds.others k x (λ b some less same. none b some (omega (arith, less)) same) }
 

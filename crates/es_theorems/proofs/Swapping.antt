@@ -7,7 +7,8 @@ use Rattle.std.proofs.lemmas.List.Sums.{sum_by-cons}
 use Rattle.es_event.specs.declared.ledger_event.Body.{Body}
 use Rattle.es_event.specs.declared.ledger_event.Body.TheVariants.{Plain, Block}
 use Rattle.es_event.specs.declared.ledger_event.LedgerEvent.{LedgerEvent}
-use Rattle.es_event.specs.declared.ledger_event.LedgerEvent.TheVariants.{Opened, Posted, Taken, Spent, Accessed, Passed, Ended, Drained}
+use Rattle.es_event.specs.declared.ledger_event.LedgerEvent.TheVariants.{Opened, Posted, Taken, Spent, Accessed, Drained, Acted}
+use Rattle.es_event.specs.declared.ledger_event.Act.TheVariants.{Passed, Ended}
 use Rattle.es_event.specs.declared.row.Row.{Row}
 use Rattle.es_event.specs.declared.row.Entry.{Entry}
 use Rattle.es_event.specs.declared.row.Holder.TheVariants.{Agent, Port, Nobody}
@@ -72,8 +73,8 @@ skips_still k l a b s x d is other paid may skip = let how = skips_is l k a s sk
 
 pub ready_after : (k : ℕ) (l : Ledger) (a b : ℕ) (f x : LedgerEvent) (d : Deed) → LegalSoFar k l → deed l x ≡ Some (b, d) → (a ≡ b → ⊥) → owed l ≡ None → May k l x → Ready k l a f → Ready k (x ∷ l) a f
 ready_after k l a b (Spent s) x d legal is other paid may ready = ((ready.0.0, holder_other k l x b a d s ready.0.0 legal is other ready.0.1), waits_other l x b a d is other ∙ ready.1)
-ready_after k l a b (Passed c s) x d legal is other paid may ready = (ready.0, waits_other l x b a d is other ∙ ready.1, skips_still k l a b s x d is other paid may ready.2)
-ready_after k l a b (Ended c) x d legal is other paid may ready = (ready.0, waits_other l x b a d is other ∙ ready.1)
+ready_after k l a b (Acted c (Passed s)) x d legal is other paid may ready = (ready.0, waits_other l x b a d is other ∙ ready.1, skips_still k l a b s x d is other paid may ready.2)
+ready_after k l a b (Acted c Ended) x d legal is other paid may ready = (ready.0, waits_other l x b a d is other ∙ ready.1)
 ready_after k l a b _ x d legal is other paid may ready = absurd ready
 
 -- Both orders tell the same
@@ -121,8 +122,7 @@ tables_quiet l f _ fronts sizes = refl
 
 tables_swap : (k : ℕ) (l : Ledger) (f x : LedgerEvent) (a b : ℕ) (d : Deed) → LegalSoFar k l → Ready k l a f → deed l x ≡ Some (b, d) → (a ≡ b → ⊥) → MayCome k l x → table (f ∷ x ∷ l) ≡ table (x ∷ f ∷ l)
 tables_swap k l (Spent s) x a b d legal ready is other may = tables_spent k l s a b x d ready.0.0 legal ready.0.1 is other may
-tables_swap k l (Passed c s) x a b d legal ready is other may = tables_quiet l (Passed c s) x (λ s r. refl) (λ c. refl)
-tables_swap k l (Ended c) x a b d legal ready is other may = tables_quiet l (Ended c) x (λ s r. refl) (λ c. refl)
+tables_swap k l (Acted c act) x a b d legal ready is other may = tables_quiet l (Acted c act) x (λ s r. refl) (λ c. refl)
 tables_swap k l _ x a b d legal ready is other may = absurd ready
 
 -- what the other writes is the same
@@ -147,15 +147,14 @@ record Plainly (f : LedgerEvent) : Type 0 where
 
 plainly : (k : ℕ) (l : Ledger) (a : ℕ) (f : LedgerEvent) → Ready k l a f → Plainly f
 plainly k l a (Spent s) ready = record { opens = refl; issues = refl; queues = λ s r q. refl; writes = λ l. refl; drains = refl }
-plainly k l a (Passed c s) ready = record { opens = refl; issues = refl; queues = λ s r q. refl; writes = λ l. refl; drains = refl }
-plainly k l a (Ended c) ready = record { opens = refl; issues = refl; queues = λ s r q. refl; writes = λ l. refl; drains = refl }
+plainly k l a (Acted c act) ready = record { opens = refl; issues = refl; queues = λ s r q. refl; writes = λ l. refl; drains = refl }
 plainly k l a _ ready = absurd ready
 
 -- whom agents wait for
 awaited_other : (f : LedgerEvent) (l : Ledger) (k a c : ℕ) (v : Option ℕ) → Ready k l a f → (c ≡ a → ⊥) → awaited f c v ≡ v
 awaited_other (Spent s) l k a c v ready other = refl
-awaited_other (Ended b) l k a c v ready other = refl
-awaited_other (Passed b s) l k a c v ready other = ap (λ t. cond t None v) (ne_eqb b c (λ same. other (sym same ∙ ready.0)))
+awaited_other (Acted b Ended) l k a c v ready other = refl
+awaited_other (Acted b (Passed s)) l k a c v ready other = ap (λ t. cond t None v) (ne_eqb b c (λ same. other (sym same ∙ ready.0)))
 awaited_other _ l k a c v ready other = absurd ready
 
 waits_swap : (k : ℕ) (l : Ledger) (f x : LedgerEvent) (a b c : ℕ) (d : Deed) → LegalSoFar k l → Ready k l a f → Beside k l f b → deed l x ≡ Some (b, d) → (a ≡ b → ⊥) → waits (f ∷ x ∷ l) c ≡ waits (x ∷ f ∷ l) c
@@ -171,8 +170,7 @@ added a b c = omega arith
 
 deed_ready : (k : ℕ) (l m : Ledger) (a : ℕ) (f : LedgerEvent) → Ready k l a f → Ready k m a f → deed m f ≡ deed l f
 deed_ready k l m a (Spent s) left right = ap (option_map (λ p. (p.0, Spends s))) right.0.1 ∙ sym (ap (option_map (λ p. (p.0, Spends s))) left.0.1)
-deed_ready k l m a (Passed b s) left right = refl
-deed_ready k l m a (Ended b) left right = refl
+deed_ready k l m a (Acted b act) left right = refl
 deed_ready k l m a _ left right = absurd left
 
 -- Both orders

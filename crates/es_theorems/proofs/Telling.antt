@@ -8,7 +8,8 @@ use Rattle.std.specs.Option.{option_and_then, option_map, option_map_or}
 use Rattle.es_event.specs.declared.ledger_event.Body.{Body}
 use Rattle.es_event.specs.declared.ledger_event.Body.TheVariants.{Plain, Block}
 use Rattle.es_event.specs.declared.ledger_event.LedgerEvent.{LedgerEvent}
-use Rattle.es_event.specs.declared.ledger_event.LedgerEvent.TheVariants.{Posted, Taken, Accessed, Waiting}
+use Rattle.es_event.specs.declared.ledger_event.LedgerEvent.TheVariants.{Posted, Taken, Accessed, Acted}
+use Rattle.es_event.specs.declared.ledger_event.Act.TheVariants.{Waiting}
 use Rattle.es_event.specs.declared.row.Entry.{Entry}
 use Rattle.es_event.specs.declared.row.Holder.TheVariants.{Agent, Port}
 use Rattle.es_event.specs.Access.{written}
@@ -103,11 +104,11 @@ after_one l m e a = record {
   drained = counted is_drained l m e a.drained;
 }
 
-uncounted : (p : LedgerEvent → Bool) (l : Ledger) (a s : ℕ) → p (Waiting a s) ≡ false → count_by p (Waiting a s ∷ l) ≡ count_by p l
-uncounted p l a s is = sum_by-cons (λ e. cond {A = ℕ} (p e) 1 0) (Waiting a s) l ∙ ap (λ b. cond {A = ℕ} b 1 0 + count_by p l) is ∙ (let none : 0 + count_by p l ≡ count_by p l = omega arith in none)
+uncounted : (p : LedgerEvent → Bool) (l : Ledger) (a s : ℕ) → p (Acted a (Waiting s)) ≡ false → count_by p (Acted a (Waiting s) ∷ l) ≡ count_by p l
+uncounted p l a s is = sum_by-cons (λ e. cond {A = ℕ} (p e) 1 0) (Acted a (Waiting s)) l ∙ ap (λ b. cond {A = ℕ} b 1 0 + count_by p l) is ∙ (let none : 0 + count_by p l ≡ count_by p l = omega arith in none)
 
 -- a wait tells nothing of these
-pub after_wait : (l : Ledger) (a s : ℕ) → Alike (Waiting a s ∷ l) l
+pub after_wait : (l : Ledger) (a s : ℕ) → Alike (Acted a (Waiting s) ∷ l) l
 after_wait l a s = record { opened = omega arith; serials = omega arith; sizes = λ b. refl; ports = λ s r. refl; tables = refl; words = λ b i. refl; ends = λ n. refl; posted = uncounted is_posted l a s refl; taken = uncounted is_taken l a s refl; drained = uncounted is_drained l a s refl }
 
 -- What a report says of it

@@ -1,7 +1,8 @@
 -- Turn after turn, until nothing follows that an agent does.
 use Rattle.std.proofs.Common.{◌≡◌, ℕ, zero, suc, ◌<◌, Bool, true, false, sym, ◌∙◌, ap, refl, subst, arith, List, [], ◌∷◌, ◌++◌, length, Some, None}
 use Rattle.es_event.specs.declared.ledger_event.LedgerEvent.{LedgerEvent}
-use Rattle.es_event.specs.declared.ledger_event.LedgerEvent.TheVariants.{Waiting as WaitingEvent}
+use Rattle.es_event.specs.declared.ledger_event.LedgerEvent.TheVariants.{Acted}
+use Rattle.es_event.specs.declared.ledger_event.Act.TheVariants.{Waiting as WaitingEvent}
 use Rattle.es_event.specs.LegalLedger.{ComesNext}
 use Rattle.es_match.specs.Deeds.{Deed, Owned, deed, is_wait}
 use Rattle.es_match.specs.Cluster.{Account, account_of}
@@ -24,7 +25,7 @@ step n all c x es i d wholes u mine = at (is_wait d) refl
     at false quick = deed_step n all c x es i d wholes u mine quick
     at true w =
         let wait = a_wait d w in
-        let event : x ≡ WaitingEvent i wait.0 = (meant n c.ledger.history x i d (subst (ComesNext n c.ledger.history x) u.stands.undrained u.steps.0.legal) mine).event ∙ ap (event_of i) wait.1 in
+        let event : x ≡ Acted i (WaitingEvent wait.0) = (meant n c.ledger.history x i d (subst (ComesNext n c.ledger.history x) u.stands.undrained u.steps.0.legal) mine).event ∙ ap (event_of i) wait.1 in
         subst (λ x. Stepped n all c (x ∷ es)) (sym event) (wait_step n all c es i wait.0 wholes (subst (λ x. Underway n all c (x ∷ es)) event u))
 
 pub through : (fuel n : ℕ) (all : List Account) (c : ClusterView) (es : List LedgerEvent) → ((i : ℕ) → i < n → IsWhole (account_of all i)) → Underway n all c es → length es < suc fuel → Through n all c es

@@ -23,7 +23,8 @@ use Rattle.es_event.specs.declared.event.Refusal.TheVariants.{TooManyValues}
 use Rattle.es_event.specs.declared.ledger_event.Body.{Body}
 use Rattle.es_event.specs.declared.ledger_event.Body.TheVariants.{Plain, Block}
 use Rattle.es_event.specs.declared.ledger_event.LedgerEvent.{LedgerEvent}
-use Rattle.es_event.specs.declared.ledger_event.LedgerEvent.TheVariants.{Opened, Posted, Taken, Spent, Accessed, Waiting as WaitingEvent, Passed, Ended as EndedEvent}
+use Rattle.es_event.specs.declared.ledger_event.LedgerEvent.TheVariants.{Opened, Posted, Taken, Spent, Accessed, Acted}
+use Rattle.es_event.specs.declared.ledger_event.Act.TheVariants.{Waiting as WaitingEvent, Passed, Ended as EndedEvent}
 use Rattle.es_event.specs.declared.literal.Literal.{Literal}
 use Rattle.es_event.specs.declared.row.Row.{Row}
 use Rattle.es_event.specs.Access.{to_uint32, IsStorable, change_by, edit_of}
@@ -485,22 +486,22 @@ asked_legal b l s x is none = at (waits l.history b.number) refl
     others : (s < l.agents) × (b.number ≢ s)
     others = subst (λ d. NamesOthers d b.number l.agents) is x.others
 
-    at : (w : Option ℕ) → waits l.history b.number ≡ w → LegalLedger l.agents (cond (is_some w) l.history (WaitingEvent b.number s ∷ l.history))
-    at None w = next_legal l.agents l.history (WaitingEvent b.number s) x.legal (x.seated.known, others.0, others.1, none, w, x.seated.over ∙ open_for b (asks_message s) (λ f. cc) is) refl
+    at : (w : Option ℕ) → waits l.history b.number ≡ w → LegalLedger l.agents (cond (is_some w) l.history (Acted b.number (WaitingEvent s) ∷ l.history))
+    at None w = next_legal l.agents l.history (Acted b.number (WaitingEvent s)) x.legal (x.seated.known, others.0, others.1, none, w, x.seated.over ∙ open_for b (asks_message s) (λ f. cc) is) refl
     at (Some t) w = x.legal
 
 asked_held : (b : AgentView) (l : LedgerView) (s : ℕ) → Standing b l → AllHeld b.number (asked l.history b.number s) (tickets b)
-asked_held b l s x = by_asked (λ k. AllHeld b.number k (tickets b)) l.history b.number s x.going.held (held_after l.agents l.history (WaitingEvent b.number s) b.number (tickets b) x.legal.0 (λ k f. cc) x.going.held)
+asked_held b l s x = by_asked (λ k. AllHeld b.number k (tickets b)) l.history b.number s x.going.held (held_after l.agents l.history (Acted b.number (WaitingEvent s)) b.number (tickets b) x.legal.0 (λ k f. cc) x.going.held)
 
 asked_only : (b : AgentView) (l : LedgerView) (s : ℕ) → Standing b l → Only b.number (asked l.history b.number s) (tickets b)
-asked_only b l s x = by_asked (λ k. Only b.number k (tickets b)) l.history b.number s x.going.only (only_after b.number l.history (WaitingEvent b.number s) (tickets b) (λ k gives. gives) x.going.only)
+asked_only b l s x = by_asked (λ k. Only b.number k (tickets b)) l.history b.number s x.going.only (only_after b.number l.history (Acted b.number (WaitingEvent s)) (tickets b) (λ k gives. gives) x.going.only)
 
 -- one that waits on goes on still
 pub asked_going : (b : AgentView) (l : LedgerView) (s : ℕ) → Standing b l → Going b (asked l.history b.number s)
 asked_going b l s x = record { run = x.going.run; rising = x.going.rising; newest_is = x.going.newest_is; held = asked_held b l s x; apart = x.going.apart; only = asked_only b l s x }
 
 asked_grows : (l : Ledger) (n s : ℕ) → GrowsBy n l (asked l n s)
-asked_grows l n s = by_asked (λ k. GrowsBy n l k) l n s (grows_none n l) (grows_one n l (WaitingEvent n s ∷ l) (WaitingEvent n s) (Waits s) refl refl)
+asked_grows l n s = by_asked (λ k. GrowsBy n l k) l n s (grows_none n l) (grows_one n l (Acted n (WaitingEvent s) ∷ l) (Acted n (WaitingEvent s)) (Waits s) refl refl)
 
 stays : (b : AgentView) (l : LedgerView) (s : ℕ) → Standing b l → need b ≡ asks_message s → has_message l.history s b.number ≡ false → ◌≡◌ {A = Told × Ledger} (Stay, asked l.history b.number s) (told l.history l.agents b.number s) → Turn Waiting b l
 stays b l s x is none heard =
@@ -519,21 +520,21 @@ stays b l s x is none heard =
     }
 
 skipped : (b : AgentView) (l : LedgerView) (s : ℕ) → Standing b l → need b ≡ asks_message s → has_message l.history s b.number ≡ false → skips (asked l.history b.number s) l.agents b.number s ≡ true
-    → ◌≡◌ {A = Told × Ledger} (Skip, Passed b.number s ∷ asked l.history b.number s) (told l.history l.agents b.number s) → Turn Moved b l
+    → ◌≡◌ {A = Told × Ledger} (Skip, Acted b.number (Passed s) ∷ asked l.history b.number s) (told l.history l.agents b.number s) → Turn Moved b l
 skipped b l s x is none may heard =
     let at = message_due b (due b.plan b.history) s is in
     let k = asked l.history b.number s in
-    let m = Passed b.number s ∷ k in
+    let m = Acted b.number (Passed s) ∷ k in
     let new = record b { history = Skipped at.0 s ∷ b.history } in
     let skip : Skips b new = (at.0, s, at.1, job_skipped b at.0 s at.1, refl) in
     let stays = skipped_stays b new skip in
     let legal = asked_legal b l s x is none in
-    let grows = grows_on b.number l.history k m (asked_grows l.history b.number s) (grows_one b.number k m (Passed b.number s) (Passes s) refl refl) in
+    let grows = grows_on b.number l.history k m (asked_grows l.history b.number s) (grows_one b.number k m (Acted b.number (Passed s)) (Passes s) refl refl) in
     moves_to b new l m x stays.step stays.moves (goes_on b l (with_history l m) s Skip m is heard (λ f. cc)) grows
     (skipped_ties b new (stake b) l m b.number s (ready b l x) is refl refl skip) (asked_ends l.history b.number s b.number)
-    (next_legal l.agents k (Passed b.number s) legal (asked_awaits b l.history s x.tied.awaits is, may) refl)
-    (going_still b l.history m (Skipped at.0 s) x.going stays (held_after l.agents k (Passed b.number s) b.number (tickets b) legal.0 (λ k f. cc) (asked_held b l s x))
-    (only_after b.number k (Passed b.number s) (tickets b) (λ k gives. gives) (asked_only b l s x)))
+    (next_legal l.agents k (Acted b.number (Passed s)) legal (asked_awaits b l.history s x.tied.awaits is, may) refl)
+    (going_still b l.history m (Skipped at.0 s) x.going stays (held_after l.agents k (Acted b.number (Passed s)) b.number (tickets b) legal.0 (λ k f. cc) (asked_held b l s x))
+    (only_after b.number k (Acted b.number (Passed s)) (tickets b) (λ k gives. gives) (asked_only b l s x)))
 
 -- it asks for a message
 hears : (b : AgentView) (l : LedgerView) (s : ℕ) → Standing b l → need b ≡ asks_message s → (p : Progress) × Turn p b l
@@ -552,11 +553,11 @@ hears b l s x is = by_message (has_message l.history s b.number) refl
     by_front (Some (Block c i)) at there = by_room c i (nat_lt (made b.history) most_identities) (ap is_some at) at refl
 
     by_choice : (u : Bool) → has_message l.history s b.number ≡ false → (waits_for k b.number s && skips k l.agents b.number s) ≡ u → (p : Progress) × Turn p b l
-    by_choice false none u = (Waiting, stays b l s x is none (sym (ap (λ t. cond t (Ready, l.history) (judged k l.agents b.number s)) none ∙ ap (λ u. cond u (Skip, Passed b.number s ∷ k) (Stay, k)) u)))
+    by_choice false none u = (Waiting, stays b l s x is none (sym (ap (λ t. cond t (Ready, l.history) (judged k l.agents b.number s)) none ∙ ap (λ u. cond u (Skip, Acted b.number (Passed s) ∷ k) (Stay, k)) u)))
     by_choice true none u = (
       Moved,
       skipped b l s x is none (second (waits_for k b.number s) (skips k l.agents b.number s) u)
-          (sym (ap (λ t. cond t (Ready, l.history) (judged k l.agents b.number s)) none ∙ ap (λ u. cond u (Skip, Passed b.number s ∷ k) (Stay, k)) u)),
+          (sym (ap (λ t. cond t (Ready, l.history) (judged k l.agents b.number s)) none ∙ ap (λ u. cond u (Skip, Acted b.number (Passed s) ∷ k) (Stay, k)) u)),
     )
       where
         second : (p q : Bool) → (p && q) ≡ true → q ≡ true
@@ -574,9 +575,9 @@ closed b l x is =
     let out = tickets b in
     let new = record b { history = Closed ∷ b.history } in
     let all = spend_all l.agents b.number l.history out x.legal.0 x.legal.1 x.going.held x.going.apart in
-    let m = EndedEvent b.number ∷ spent out l.history in
+    let m = Acted b.number EndedEvent ∷ spent out l.history in
     let moves = closed_moves b new is refl in
-    let grows : GrowsBy b.number l.history m = (EndedEvent b.number ∷ map (λ t. Spent t.1.serial) out, refl, ((Ends, refl), all.deeds)) in
+    let grows : GrowsBy b.number l.history m = (Acted b.number EndedEvent ∷ map (λ t. Spent t.1.serial) out, refl, ((Ends, refl), all.deeds)) in
     record {
       after = new;
       ledger = with_history l m;
@@ -590,8 +591,8 @@ closed b l x is =
         agents = x.seated.agents;
         over = ap (λ c. c || ended (spent out l.history) b.number) (eq-eqb b.number b.number refl);
       };
-      legal = next_legal l.agents (spent out l.history) (EndedEvent b.number) (all.legal, all.owes) (x.seated.known, spent_over out l.history b.number ∙ x.seated.over ∙ open_for b asks_closing (λ f. cc) is) refl;
-      going = going_on b l.history m Closed x.going moves tt tt (only_after b.number (spent out l.history) (EndedEvent b.number) [] (λ k gives. gives) (only_none b.number l.history out x.going.only));
+      legal = next_legal l.agents (spent out l.history) (Acted b.number EndedEvent) (all.legal, all.owes) (x.seated.known, spent_over out l.history b.number ∙ x.seated.over ∙ open_for b asks_closing (λ f. cc) is) refl;
+      going = going_on b l.history m Closed x.going moves tt tt (only_after b.number (spent out l.history) (Acted b.number EndedEvent) [] (λ k gives. gives) (only_none b.number l.history out x.going.only));
     }
 
 -- Whatever it asks for

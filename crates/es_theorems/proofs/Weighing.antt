@@ -11,7 +11,9 @@ use Rattle.es_event.specs.declared.event.Event.TheVariants.{Did, Refused}
 use Rattle.es_event.specs.declared.ledger_event.Body.{Body}
 use Rattle.es_event.specs.declared.ledger_event.Body.TheVariants.{Plain, Block}
 use Rattle.es_event.specs.declared.ledger_event.LedgerEvent.{LedgerEvent}
-use Rattle.es_event.specs.declared.ledger_event.LedgerEvent.TheVariants.{Opened, Posted, Taken, Spent, Accessed, Waiting, Passed, Ended, Drained}
+use Rattle.es_event.specs.declared.ledger_event.LedgerEvent.TheVariants.{Opened, Posted, Taken, Spent, Accessed, Drained, Acted}
+use Rattle.es_event.specs.declared.ledger_event.Act.{Act}
+use Rattle.es_event.specs.declared.ledger_event.Act.TheVariants.{Waiting, Passed, Ended}
 use Rattle.es_event.specs.declared.row.Row.{Row}
 use Rattle.es_event.specs.Commands.{opens_words}
 use Rattle.es_event.specs.History.{History}
@@ -20,7 +22,7 @@ use Rattle.es_event.specs.LegalLedger.{ComesNext, LegalSoFar, owed}
 use Rattle.es_event.specs.Sharing.{blocks_opened, opens_at}
 use Rattle.es_event.specs.Totals.{is_posted, is_taken, posted, taken}
 use Rattle.es_event.proofs.Entries.{inner}
-use Rattle.es_match.specs.Deeds.{Deed, Owned, Opens, Posts, Takes, Spends, Accesses, Waits, Passes, Ends, deed, is_wait, part, part_of, taking}
+use Rattle.es_match.specs.Deeds.{Deed, Owned, Opens, Posts, Takes, Spends, Accesses, Waits, Passes, Ends, deed, is_wait, part, part_of, taking, acting}
 use Rattle.es_match.specs.Asks.{Asking, nothing, to_open, to_measure, to_compare, to_access, to_post, to_receive, to_refuse, to_pass, to_empty, to_close, asks, asks_did, between_jobs, wants_room}
 use Rattle.es_match.specs.Cluster.{DeedsMeet}
 use Rattle.es_match.specs.Meets.{Came, Tickets, after, is_access, is_pass, is_post, is_refusal, no_more, opening, pair, receiving, serials_of, spends_ticket_in, within}
@@ -158,6 +160,11 @@ by_ticket : (n x y z : ℕ) (o : Option (ℕ × Row)) (d : Deed) → weight x y 
 by_ticket n x y z None d none = sum_none n
 by_ticket n x y z (Some p) d none = light n x y z (Some (p.0, d)) (λ k c is. ap (weight x y z) (sym (deed_in is)) ∙ none)
 
+act_weight : (x y z : ℕ) (act : Act) → weight x y z (acting act) ≡ 0
+act_weight x y z (Waiting s) = refl
+act_weight x y z (Passed s) = refl
+act_weight x y z Ended = refl
+
 event_once : (n x y z : ℕ) (l : Ledger) (e : LedgerEvent) (o : Option ℕ) → LegalSoFar n l → ComesNext n l e o → sum_below n (λ a. weigh x y z (part_of a (deed l e))) ≡ event_weight x y z e
 event_once n x y z l e (Some k) legal comes = subst (λ e. sum_below n (λ a. weigh x y z (part_of a (deed l e))) ≡ event_weight x y z e) (sym comes) (by_ticket n x y z (holder_of l k) (Spends k) refl)
 event_once n x y z l (Opened b w s a) None legal comes = once n x y z a (Opens b w s) refl comes.2
@@ -165,9 +172,7 @@ event_once n x y z l (Posted a r m) None legal comes = once n x y z a (Posts r m
 event_once n x y z l (Taken s r) None legal comes = once n x y z r (taking l s (front l s r)) refl (its_agents n l s r legal comes).1
 event_once n x y z l (Spent k) None legal comes = by_ticket n x y z (holder_of l k) (Spends k) refl
 event_once n x y z l (Accessed k i m old) None legal comes = by_ticket n x y z (holder_of l k) (Accesses k i m old) refl
-event_once n x y z l (Waiting a s) None legal comes = light n x y z (Some (a, Waits s)) (λ k d is. ap (weight x y z) (sym (deed_in is)))
-event_once n x y z l (Passed a s) None legal comes = light n x y z (Some (a, Passes s)) (λ k d is. ap (weight x y z) (sym (deed_in is)))
-event_once n x y z l (Ended a) None legal comes = light n x y z (Some (a, Ends)) (λ k d is. ap (weight x y z) (sym (deed_in is)))
+event_once n x y z l (Acted a act) None legal comes = light n x y z (Some (a, acting act)) (λ k d is. ap (weight x y z) (sym (deed_in is)) ∙ act_weight x y z act)
 event_once n x y z l (Drained s r) None legal comes = sum_none n
 
 pub agents_weight : (n x y z : ℕ) (l : Ledger) → LegalSoFar n l → sum_below n (λ a. weigh x y z (part l a)) ≡ ledger_weight x y z l
@@ -209,6 +214,7 @@ ledger_taken (e ∷ l) = counted is_taken l e ∙ ap (λ k. k + taken l) (one e)
 deed_weight : (x y z n : ℕ) (l : Ledger) (e : LedgerEvent) (d : Deed) → deed l e ≡ Some (n, d) → weight x y z d ≡ event_weight x y z e
 deed_weight x y z n l (Spent k) d is = ap (weight x y z) (sym (held_deed (holder_of l k) n (Spends k) d is))
 deed_weight x y z n l (Accessed k i m old) d is = ap (weight x y z) (sym (held_deed (holder_of l k) n (Accesses k i m old) d is))
+deed_weight x y z n l (Acted a act) d is = ap (weight x y z) (sym (deed_in is)) ∙ act_weight x y z act
 deed_weight x y z n l (Drained s r) d is = cc
 deed_weight x y z n l _ d is = ap (weight x y z) (sym (deed_in is))
 

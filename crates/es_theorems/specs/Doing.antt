@@ -4,7 +4,8 @@ use Rattle.std.specs.Option.{option_map_or}
 use Rattle.es_event.specs.declared.ledger_event.Body.{Body}
 use Rattle.es_event.specs.declared.ledger_event.Body.TheVariants.{Plain, Block}
 use Rattle.es_event.specs.declared.ledger_event.LedgerEvent.{LedgerEvent}
-use Rattle.es_event.specs.declared.ledger_event.LedgerEvent.TheVariants.{Opened, Posted, Taken, Spent, Accessed, Waiting, Passed, Ended}
+use Rattle.es_event.specs.declared.ledger_event.LedgerEvent.TheVariants.{Opened, Posted, Taken, Spent, Accessed, Acted}
+use Rattle.es_event.specs.declared.ledger_event.Act.TheVariants.{Waiting, Passed, Ended}
 use Rattle.es_event.specs.Ledger.{Ledger, opened, serials, front, holder_of, word}
 use Rattle.es_event.specs.LegalLedger.{Reaches, has_message}
 use Rattle.es_match.specs.Deeds.{Deed, Opens, Posts, Takes, Spends, Accesses, Waits, Passes, Ends, words_in}
@@ -16,9 +17,9 @@ event_of n (Posts r m) = Posted n r m
 event_of n (Takes s m w) = Taken s n
 event_of n (Spends s) = Spent s
 event_of n (Accesses s i m old) = Accessed s i m old
-event_of n (Waits s) = Waiting n s
-event_of n (Passes s) = Passed n s
-event_of n Ends = Ended n
+event_of n (Waits s) = Acted n (Waiting s)
+event_of n (Passes s) = Acted n (Passed s)
+event_of n Ends = Acted n Ended
 
 -- the ledger after these deeds of agent n, the oldest first
 abbrev pub did : ℕ → List Deed → Ledger → Ledger

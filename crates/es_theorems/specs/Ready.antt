@@ -1,7 +1,8 @@
 -- Internal: what an agent may do at once, whatever others do before it.
 use Rattle.std.specs.Prelude.{ℕ, ◌≡◌, ◌<◌, true, false, Some, None}
 use Rattle.es_event.specs.declared.ledger_event.LedgerEvent.{LedgerEvent}
-use Rattle.es_event.specs.declared.ledger_event.LedgerEvent.TheVariants.{Spent, Passed, Ended}
+use Rattle.es_event.specs.declared.ledger_event.LedgerEvent.TheVariants.{Spent, Acted}
+use Rattle.es_event.specs.declared.ledger_event.Act.TheVariants.{Passed, Ended}
 use Rattle.es_event.specs.declared.row.Row.{Row}
 use Rattle.es_event.specs.Ledger.{Ledger, ended, holder_of, waits}
 use Rattle.es_event.specs.LegalLedger.{owed, skips}
@@ -17,6 +18,6 @@ pub record Goes (k : ℕ) (l : Ledger) (a : ℕ) : Type 0 where
 -- agent a may spend a ticket of its own, or end, or skip its job
 abbrev pub Ready : ℕ → Ledger → ℕ → LedgerEvent → Type 0
 Ready k l a (Spent s) = ((r : Row) × (holder_of l s ≡ Some (a, r))) × (waits l a ≡ None)
-Ready k l a (Passed b s) = (b ≡ a) × (waits l a ≡ Some s) × (skips l k a s ≡ true)
-Ready k l a (Ended b) = (b ≡ a) × (waits l a ≡ None)
+Ready k l a (Acted b (Passed s)) = (b ≡ a) × (waits l a ≡ Some s) × (skips l k a s ≡ true)
+Ready k l a (Acted b Ended) = (b ≡ a) × (waits l a ≡ None)
 Ready k l a _ = ⊥

@@ -4,7 +4,7 @@ use Rattle.es_value.specs.declared.value.Value.{Value}
 use Rattle.es_event.specs.declared.ledger_event.Body.{Body}
 use Rattle.es_event.specs.declared.ledger_event.Body.TheVariants.{Plain, Block}
 use Rattle.es_event.specs.declared.ledger_event.LedgerEvent.{LedgerEvent}
-use Rattle.es_event.specs.declared.ledger_event.LedgerEvent.TheVariants.{Opened, Posted, Taken, Spent, Accessed, Waiting, Passed, Ended, Drained}
+use Rattle.es_event.specs.declared.ledger_event.LedgerEvent.TheVariants.{Opened, Posted, Taken, Spent, Accessed, Drained, Acted}
 use Rattle.es_event.specs.declared.row.Row.{Row}
 use Rattle.es_event.specs.Ledger.{Ledger, is_at, opened, port_of, size, word}
 use Rattle.es_event.specs.Rows.{row}
@@ -42,9 +42,7 @@ named_by n l (Posted a r m) c before = before
 named_by n l (Taken s r) c before = before
 named_by n l (Spent s) c before = before
 named_by n l (Accessed s i m old) c before = before
-named_by n l (Waiting a s) c before = before
-named_by n l (Passed a s) c before = before
-named_by n l (Ended a) c before = before
+named_by n l (Acted a d) c before = before
 named_by n l (Drained s r) c before = before
 
 -- the name of a block, 0 where it was not opened
@@ -93,9 +91,7 @@ told_after l (Posted t u m) s r before = if is_at s r t u then before ++ (known 
 told_after l (Taken t u) s r before = before
 told_after l (Spent k) s r before = before
 told_after l (Accessed k i m old) s r before = before
-told_after l (Waiting a t) s r before = before
-told_after l (Passed a t) s r before = before
-told_after l (Ended a) s r before = before
+told_after l (Acted a d) s r before = before
 told_after l (Drained t u) s r before = before
 
 -- of each message that s posted to r, the oldest first, the accesses of which s knew

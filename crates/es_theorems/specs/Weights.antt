@@ -2,7 +2,7 @@
 -- ledger's events. Each is counted with a weight of its own, so that one count serves all three.
 use Rattle.std.specs.Prelude.{ℕ, ◌+◌, List, [], ◌∷◌}
 use Rattle.es_event.specs.declared.ledger_event.LedgerEvent.{LedgerEvent}
-use Rattle.es_event.specs.declared.ledger_event.LedgerEvent.TheVariants.{Opened, Posted, Taken, Spent, Accessed, Waiting, Passed, Ended, Drained}
+use Rattle.es_event.specs.declared.ledger_event.LedgerEvent.TheVariants.{Opened, Posted, Taken, Spent, Accessed, Drained, Acted}
 use Rattle.es_event.specs.History.{History}
 use Rattle.es_event.specs.Ledger.{Ledger}
 use Rattle.es_match.specs.Deeds.{Deed, Opens, Posts, Takes, Spends, Accesses, Waits, Passes, Ends}
@@ -48,9 +48,7 @@ event_weight x y z (Posted a r m) = y
 event_weight x y z (Taken s r) = z
 event_weight x y z (Spent s) = 0
 event_weight x y z (Accessed s i m old) = 0
-event_weight x y z (Waiting a s) = 0
-event_weight x y z (Passed a s) = 0
-event_weight x y z (Ended a) = 0
+event_weight x y z (Acted a d) = 0
 event_weight x y z (Drained s r) = 0
 
 abbrev pub ledger_weight : ℕ → ℕ → ℕ → Ledger → ℕ

@@ -6,7 +6,9 @@ use Rattle.es_event.specs.declared.access.Change.{Change}
 use Rattle.es_event.specs.declared.ledger_event.Body.{Body}
 use Rattle.es_event.specs.declared.ledger_event.Body.TheVariants.{Plain, Block}
 use Rattle.es_event.specs.declared.ledger_event.LedgerEvent.{LedgerEvent}
-use Rattle.es_event.specs.declared.ledger_event.LedgerEvent.TheVariants.{Opened, Posted, Taken, Spent, Accessed, Waiting, Passed, Ended, Drained}
+use Rattle.es_event.specs.declared.ledger_event.LedgerEvent.TheVariants.{Opened, Posted, Taken, Spent, Accessed, Drained, Acted}
+use Rattle.es_event.specs.declared.ledger_event.Act.{Act}
+use Rattle.es_event.specs.declared.ledger_event.Act.TheVariants.{Waiting, Passed, Ended}
 use Rattle.es_trace.specs.Columns.{label, row, widest}
 use Rattle.es_trace.specs.Commands.{name_at}
 
@@ -25,15 +27,19 @@ change_text Change.Keep = codes " loaded"
 change_text (Change.Write w) = codes " stored"
 change_text (Change.Add n) = codes " added to"
 
+-- what an agent did
+abbrev pub act_text : List (List ℕ) → Act → List ℕ
+act_text names (Waiting s) = codes " waits for " ++ name_at names s
+act_text names (Passed s) = codes " waits no more for " ++ name_at names s
+act_text names Ended = codes " ended"
+
 abbrev pub ledger_text : List (List ℕ) → LedgerEvent → List ℕ
 ledger_text names (Opened b w s a) = codes "block " ++ (decimal b ++ codes " opened")
 ledger_text names (Posted a r m) = message_text names a r (codes " posted")
 ledger_text names (Taken a r) = message_text names a r (codes " taken")
 ledger_text names (Spent s) = codes "ticket " ++ (decimal s ++ codes " spent")
 ledger_text names (Accessed s i m old) = word_text i s (change_text m)
-ledger_text names (Waiting a s) = name_at names a ++ (codes " waits for " ++ name_at names s)
-ledger_text names (Passed a s) = name_at names a ++ (codes " waits no more for " ++ name_at names s)
-ledger_text names (Ended a) = name_at names a ++ codes " ended"
+ledger_text names (Acted a d) = name_at names a ++ act_text names d
 ledger_text names (Drained a r) = message_text names a r (codes " drained")
 
 -- Answers
@@ -44,9 +50,7 @@ tells (Posted a r m) = true
 tells (Taken a r) = false
 tells (Spent s) = false
 tells (Accessed s i m old) = true
-tells (Waiting a s) = false
-tells (Passed a s) = false
-tells (Ended a) = false
+tells (Acted a d) = false
 tells (Drained a r) = false
 
 abbrev pub body_text : Body → List ℕ
@@ -66,9 +70,7 @@ told_text names (Posted a r m) = body_text m
 told_text names (Taken a r) = []
 told_text names (Spent s) = []
 told_text names (Accessed s i m old) = told_of m old
-told_text names (Waiting a s) = []
-told_text names (Passed a s) = []
-told_text names (Ended a) = []
+told_text names (Acted a d) = []
 told_text names (Drained a r) = []
 
 -- Rows

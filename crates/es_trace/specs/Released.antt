@@ -7,7 +7,7 @@ use Rattle.es_value.specs.Ids.{is_in}
 use Rattle.es_event.specs.declared.ledger_event.Body.{Body}
 use Rattle.es_event.specs.declared.ledger_event.Body.TheVariants.{Plain, Block}
 use Rattle.es_event.specs.declared.ledger_event.LedgerEvent.{LedgerEvent}
-use Rattle.es_event.specs.declared.ledger_event.LedgerEvent.TheVariants.{Opened, Posted, Taken, Spent, Accessed, Waiting, Passed, Ended, Drained}
+use Rattle.es_event.specs.declared.ledger_event.LedgerEvent.TheVariants.{Opened, Posted, Taken, Spent, Accessed, Drained, Acted}
 use Rattle.es_event.specs.Ledger.{Ledger, is_released}
 use Rattle.es_trace.specs.declared.released.TicketBlocks.{TicketBlocks}
 
@@ -23,9 +23,7 @@ ticket_made (Posted a r m) = ticket_in m
 ticket_made (Taken a r) = None
 ticket_made (Spent s) = None
 ticket_made (Accessed s i m old) = None
-ticket_made (Waiting a s) = None
-ticket_made (Passed a s) = None
-ticket_made (Ended a) = None
+ticket_made (Acted a d) = None
 ticket_made (Drained a r) = None
 
 abbrev pub newest_block : Option (ℕ × ℕ) → ℕ → Option ℕ → Option ℕ
@@ -44,9 +42,7 @@ spends (Posted a r m) = None
 spends (Taken a r) = None
 spends (Spent s) = Some s
 spends (Accessed s i m old) = None
-spends (Waiting a s) = None
-spends (Passed a s) = None
-spends (Ended a) = None
+spends (Acted a d) = None
 spends (Drained a r) = None
 
 abbrev pub with_block : Option ℕ → List ℕ → List ℕ

@@ -4,13 +4,13 @@ ghost use Rattle.std.specs.Prelude.{◌≡◌, ◌++◌, codes, decimal, IfOk, O
 ghost use Rattle.std.specs.List.{flat_map};
 ghost use Rattle.std.specs.Io.KnownBytes.{Appends};
 ghost use Rattle.es_trace.specs.Commands.{name_at as name_said};
-ghost use Rattle.es_trace.specs.Ledger.{change_text, ledger_row, ledger_rows, ledger_text, message_text, released_row, word_text};
+ghost use Rattle.es_trace.specs.Ledger.{act_text, change_text, ledger_row, ledger_rows, ledger_text, message_text, released_row, word_text};
 
 use crate::names::width_of;
 use crate::naming::name_at;
 use crate::row::{empty_text, label_of, write_row};
 use crate::told::{tells, write_told};
-use es_event::{Change, LedgerEvent};
+use es_event::{Act, Change, LedgerEvent};
 use es_value::Name;
 use std::alloc::Global;
 use std::io;
@@ -131,16 +131,26 @@ fn write_event<W: Write>(
             change,
             ..
         } => write_change(*index, *serial, *change, writer),
-        LedgerEvent::Waiting { agent, sender } => {
-            write_wait(names, *agent, *sender, " waits for ", writer)
-        }
-        LedgerEvent::Passed { agent, sender } => {
-            write_wait(names, *agent, *sender, " waits no more for ", writer)
-        }
-        LedgerEvent::Ended { agent } => write_end(names, *agent, writer),
+        LedgerEvent::Acted { agent, act } => write_act(names, *agent, *act, writer),
         LedgerEvent::Drained { sender, receiver } => {
             write_message(names, *sender, *receiver, " drained", writer)
         }
+    }
+}
+
+/// Writes what an agent did that changes no block, ticket, word or port.
+fn write_act<W: Write>(
+    names: &[Name],
+    agent: usize,
+    act: Act,
+    writer: &mut W,
+) -> Result<(), io::Error>
+    ensures { OnOk result (Appends (W.contents writer.old) (W.contents writer.new) (name_said names.now agent ++ act_text names.now act)) }
+{
+    match act {
+        Act::Waiting { sender } => write_wait(names, agent, sender, " waits for ", writer),
+        Act::Passed { sender } => write_wait(names, agent, sender, " waits no more for ", writer),
+        Act::Ended => write_end(names, agent, writer),
     }
 }
 

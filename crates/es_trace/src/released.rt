@@ -63,9 +63,7 @@ impl TicketBlocks {
             | LedgerEvent::Posted { .. }
             | LedgerEvent::Taken { .. }
             | LedgerEvent::Accessed { .. }
-            | LedgerEvent::Waiting { .. }
-            | LedgerEvent::Passed { .. }
-            | LedgerEvent::Ended { .. }
+            | LedgerEvent::Acted { .. }
             | LedgerEvent::Drained { .. } => None,
         }
     }
@@ -108,9 +106,7 @@ fn ticket_made(event: &LedgerEvent) -> Option<(u64, u64)>
         LedgerEvent::Taken { .. }
         | LedgerEvent::Spent { .. }
         | LedgerEvent::Accessed { .. }
-        | LedgerEvent::Waiting { .. }
-        | LedgerEvent::Passed { .. }
-        | LedgerEvent::Ended { .. }
+        | LedgerEvent::Acted { .. }
         | LedgerEvent::Drained { .. } => None,
     }
 }

@@ -21,9 +21,7 @@ pub(crate) fn tells(event: &LedgerEvent) -> bool
             true,
         LedgerEvent::Taken { .. }
         | LedgerEvent::Spent { .. }
-        | LedgerEvent::Waiting { .. }
-        | LedgerEvent::Passed { .. }
-        | LedgerEvent::Ended { .. }
+        | LedgerEvent::Acted { .. }
         | LedgerEvent::Drained { .. } => false,
     }
 }
@@ -47,9 +45,7 @@ pub(crate) fn write_told<W: Write>(
         LedgerEvent::Accessed { change, old, .. } => write_word(*change, *old, writer),
         LedgerEvent::Taken { .. }
         | LedgerEvent::Spent { .. }
-        | LedgerEvent::Waiting { .. }
-        | LedgerEvent::Passed { .. }
-        | LedgerEvent::Ended { .. }
+        | LedgerEvent::Acted { .. }
         | LedgerEvent::Drained { .. } => Ok(()),
     }
 }

@@ -6,7 +6,9 @@ use Rattle.es_event.specs.declared.access.Change.{Change}
 use Rattle.es_event.specs.declared.ledger_event.Body.{Body}
 use Rattle.es_event.specs.declared.ledger_event.Body.TheVariants.{Plain, Block}
 use Rattle.es_event.specs.declared.ledger_event.LedgerEvent.{LedgerEvent}
-use Rattle.es_event.specs.declared.ledger_event.LedgerEvent.TheVariants.{Opened, Posted, Taken, Spent, Accessed, Waiting, Passed, Ended, Drained}
+use Rattle.es_event.specs.declared.ledger_event.LedgerEvent.TheVariants.{Opened, Posted, Taken, Spent, Accessed, Drained, Acted}
+use Rattle.es_event.specs.declared.ledger_event.Act.{Act}
+use Rattle.es_event.specs.declared.ledger_event.Act.TheVariants.{Waiting, Passed, Ended}
 use Rattle.es_trace.specs.Commands.{name_at}
 use Rattle.es_trace_json.specs.Values.{value_json}
 
@@ -32,15 +34,18 @@ change_members s i old Change.Keep = codes "\"loaded\"" ++ (place_json s i ++ (c
 change_members s i old (Change.Write w) = codes "\"stored\"" ++ (place_json s i ++ (codes ",\"word\":" ++ decimal w))
 change_members s i old (Change.Add n) = codes "\"added\"" ++ (place_json s i ++ (codes ",\"old\":" ++ (decimal old ++ (codes ",\"addend\":" ++ decimal n))))
 
+abbrev pub act_members : List (List ℕ) → ℕ → Act → List ℕ
+act_members names a (Waiting s) = codes "\"waiting\",\"agent\":" ++ (name_json names a ++ (codes ",\"sender\":" ++ name_json names s))
+act_members names a (Passed s) = codes "\"passed\",\"agent\":" ++ (name_json names a ++ (codes ",\"sender\":" ++ name_json names s))
+act_members names a Ended = codes "\"ended\",\"agent\":" ++ name_json names a
+
 abbrev pub ledger_members : List (List ℕ) → LedgerEvent → List ℕ
 ledger_members names (Opened b w s a) = codes "\"opened\",\"block\":" ++ (decimal b ++ (codes ",\"words\":" ++ (decimal w ++ (codes ",\"ticket\":" ++ (decimal s ++ (codes ",\"agent\":" ++ name_json names a))))))
 ledger_members names (Posted a r m) = codes "\"posted\"" ++ (ends_json names a r ++ (codes ",\"carries\":" ++ body_json m))
 ledger_members names (Taken a r) = codes "\"taken\"" ++ ends_json names a r
 ledger_members names (Spent s) = codes "\"spent\",\"ticket\":" ++ decimal s
 ledger_members names (Accessed s i m old) = change_members s i old m
-ledger_members names (Waiting a s) = codes "\"waiting\",\"agent\":" ++ (name_json names a ++ (codes ",\"sender\":" ++ name_json names s))
-ledger_members names (Passed a s) = codes "\"passed\",\"agent\":" ++ (name_json names a ++ (codes ",\"sender\":" ++ name_json names s))
-ledger_members names (Ended a) = codes "\"ended\",\"agent\":" ++ name_json names a
+ledger_members names (Acted a d) = act_members names a d
 ledger_members names (Drained a r) = codes "\"drained\"" ++ ends_json names a r
 
 abbrev pub ledger_line : List (List ℕ) → LedgerEvent → List ℕ

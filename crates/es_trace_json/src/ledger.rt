@@ -4,11 +4,11 @@ ghost use Rattle.std.specs.Prelude.{◌≡◌, ◌++◌, codes, decimal, OnOk};
 ghost use Rattle.std.specs.List.{flat_map};
 ghost use Rattle.std.specs.Io.KnownBytes.{Appends};
 ghost use Rattle.es_value.specs.Printed.{quoted};
-ghost use Rattle.es_trace_json.specs.Ledger.{body_json, change_members, ends_json, ledger_line, ledger_lines, ledger_members, name_json, place_json, released_line};
+ghost use Rattle.es_trace_json.specs.Ledger.{act_members, body_json, change_members, ends_json, ledger_line, ledger_lines, ledger_members, name_json, place_json, released_line};
 
 use crate::member::write_agent;
 use crate::value::{write_quoted, write_value};
-use es_event::{Body, Change, LedgerEvent};
+use es_event::{Act, Body, Change, LedgerEvent};
 use es_trace::name_at;
 use es_value::Name;
 use std::io;
@@ -100,16 +100,26 @@ fn write_members<W: Write>(
             change,
             old,
         } => write_change(*serial, *index, *old, *change, writer),
-        LedgerEvent::Waiting { agent, sender } => {
-            write_wait("waiting", names, *agent, *sender, writer)
-        }
-        LedgerEvent::Passed { agent, sender } => {
-            write_wait("passed", names, *agent, *sender, writer)
-        }
-        LedgerEvent::Ended { agent } => write_end(names, *agent, writer),
+        LedgerEvent::Acted { agent, act } => write_act(names, *agent, *act, writer),
         LedgerEvent::Drained { sender, receiver } => {
             write_message("drained", names, *sender, *receiver, writer)
         }
+    }
+}
+
+/// Writes what an agent did that changes no block, ticket, word or port.
+fn write_act<W: Write>(
+    names: &[Name],
+    agent: usize,
+    act: Act,
+    writer: &mut W,
+) -> Result<(), io::Error>
+    ensures { OnOk result (Appends (W.contents writer.old) (W.contents writer.new) (act_members names.now agent act)) }
+{
+    match act {
+        Act::Waiting { sender } => write_wait("waiting", names, agent, sender, writer),
+        Act::Passed { sender } => write_wait("passed", names, agent, sender, writer),
+        Act::Ended => write_end(names, agent, writer),
     }
 }
 

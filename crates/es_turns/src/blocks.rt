@@ -106,9 +106,7 @@ fn blocks_opened(event: &LedgerEvent) -> u64
         | LedgerEvent::Taken { .. }
         | LedgerEvent::Spent { .. }
         | LedgerEvent::Accessed { .. }
-        | LedgerEvent::Waiting { .. }
-        | LedgerEvent::Passed { .. }
-        | LedgerEvent::Ended { .. }
+        | LedgerEvent::Acted { .. }
         | LedgerEvent::Drained { .. } => 0,
     }
 }

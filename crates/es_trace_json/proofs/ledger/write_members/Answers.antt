@@ -5,6 +5,3 @@ returns-in-Posted g c = rw c.in-Posted.is c.write_posted.ensures
 
 pub returns-in-Taken : goal.returns-in-Taken
 returns-in-Taken g c = rw c.in-Taken.is c.write_message.ensures
-
-pub returns-in-Passed : goal.returns-in-Passed
-returns-in-Passed g c = rw c.in-Passed.is c.write_wait-in-Passed.ensures
