@@ -81,7 +81,7 @@ function* addField(member, cx, made) {
 /** The context in which a field or a static block is evaluated. */
 function within(cx, made, self, home, node) {
   const scope = new Scope(made.instanceScope, cx.agent, cx.agent.world.scopes.get(node)).begin(node, cx.writer);
-  return new Context(cx.agent, scope, { self: selfOf(cx.writer, self), callee: made, home, strand: cx.strand });
+  return new Context(cx.agent, scope, { self: selfOf(cx.writer, self), callee: made, home, caller: cx });
 }
 
 function* setField(cx, made, self, home, { key, member }) {
@@ -120,7 +120,7 @@ function* constructed(cx, node, self, values) {
     linkPrototype(cx, node, made);
     yield* begin(cx, self, made);
   } else if (callee.isDefault) {
-    const inner = new Context(cx.agent, callee.scope, { self, callee, home: callee.home, newTarget, strand: cx.strand });
+    const inner = new Context(cx.agent, callee.scope, { self, callee, home: callee.home, newTarget, caller: cx });
     yield* callSuper(inner, node, values);
     cx.writer.endTemporaries(node, inner.temporaries);
     return self.value;
@@ -139,7 +139,7 @@ function* begin(cx, self, made) {
 function* runConstructor(cx, node, self, values) {
   const { callee, newTarget } = self;
   const scope = new Scope(callee.scope, cx.agent, cx.agent.world.scopes.get(callee.node));
-  const inner = new Context(cx.agent, scope, { self, callee, home: callee.home, newTarget, strand: cx.strand });
+  const inner = new Context(cx.agent, scope, { self, callee, home: callee.home, newTarget, caller: cx });
   try {
     yield* bindParameters(cx, inner, node, callee, values);
     const value = yield* runBody(inner, callee.node);

@@ -7,11 +7,13 @@ const NOT = { set: 2, get: 3, delete: 3, post: 1 };
 const GIVING_WORDS = new Set(["load", "add", "sub", "and", "or", "xor", "exchange", "compareexchange"]);
 const ASSIGNING = new Set([
   "let", "new", "symbol", "symbolfor", "copy", "same", "get", "delete", "weakref", "deref", "weakmap", "wmget", "wmhas", "wmdelete",
-  "weakset", "wshas", "wsdelete", "registry", "unregister", "buffer", "length", "sameblock", ...GIVING_WORDS,
+  "weakset", "wshas", "wsdelete", "registry", "unregister", "buffer", "length", "sameblock", "try", ...GIVING_WORDS,
 ]);
 
-/** Whether the word at a place of a command is a variable. A number is none: version 3 has both for indices and numbers. */
+/** Whether the word at a place of a command is a variable. A number is none: version 3 has both for indices and numbers. Behind
+    `try` and its variable stands a whole command. */
 export function isVariable(command, place) {
+  if (command[0] === "try" && place > 1) return isVariable(command.slice(2), place - 2);
   return place >= 1 && place <= (UP_TO[command[0]] ?? command.length) && NOT[command[0]] !== place && typeof command[place] === "string";
 }
 

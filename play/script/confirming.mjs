@@ -14,7 +14,7 @@ function saidBy(trace) {
   const said = new Map();
   for (const text of trace.split("\n")) {
     const line = text === "" ? {} : JSON.parse(text);
-    if (!["did", "refused", "emptied", "taken"].includes(line.event)) continue;
+    if (!["did", "refused", "caught", "emptied", "taken"].includes(line.event)) continue;
     if (!said.has(line.agent)) said.set(line.agent, []);
     said.get(line.agent).push(line);
   }
@@ -25,10 +25,11 @@ const guessOf = ({ command, answer, error, emptied, taken }) => {
   if (emptied !== undefined) return { event: "emptied", what: emptied };
   if (taken !== undefined) return { event: "taken", what: taken };
   if (error !== undefined) return { event: "refused", command, what: error };
+  if (command[0] === "try") return { event: "caught", command: command.slice(2), what: answer };
   return command[0] === "collect" ? { event: "emptied", command, what: answer } : { event: "did", command, what: told(answer) };
 };
 const answerOf = (line) => ({
-  did: () => line.answer?.gives ?? null, refused: () => line.error, emptied: () => line.identities, taken: () => line.registration,
+  did: () => line.answer?.gives ?? null, refused: () => line.error, caught: () => line.error, emptied: () => line.identities, taken: () => line.registration,
 })[line.event]();
 
 const isEqual = (one, other) => JSON.stringify(one ?? null) === JSON.stringify(other ?? null);

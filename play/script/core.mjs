@@ -16,10 +16,18 @@ export class Context {
   temporaries = [];
   /** Temporaries with the value that is returned. */
   returned = [];
+  /** How many `try`, and what else goes on after something is thrown, stand around what runs now in this function. */
+  guards = 0;
 
-  /** The strand is what runs without a break: of it is known how many `try` stand around what runs now. */
-  constructor(agent, scope, { self = { value: undefined }, callee = null, newTarget, home = null, strand = { guards: 0 } } = {}) {
-    Object.assign(this, { agent, writer: agent.writer, scope, self, callee, newTarget, home, strand });
+  /** The caller is the context of the function that called this one, or lets it go on. */
+  constructor(agent, scope, { self = { value: undefined }, callee = null, newTarget, home = null, caller = null } = {}) {
+    Object.assign(this, { agent, writer: agent.writer, scope, self, callee, newTarget, home, caller });
+  }
+
+  /** Whether the script goes on in this job after something is thrown now. */
+  get isGuarded() {
+    for (let cx = this; cx !== null; cx = cx.caller) if (cx.guards > 0) return true;
+    return false;
   }
 
   operand(node, value) {
@@ -33,6 +41,16 @@ export class Context {
   /** A command's answer. */
   ask(node, words, given) {
     return this.writer.ask(node, words, this.temporaries, given);
+  }
+
+  /** Writes a command that is refused. Where the script goes on after that, it stands behind `try`; else it ends its job. */
+  refuse(node, command, error) {
+    if (!this.isGuarded) {
+      this.writer.refuse(node, command, error);
+      return;
+    }
+    this.agent.world.needVersion(3);
+    this.do(node, ["try", this.writer.temporary(this.temporaries), ...command], error);
   }
 
   /** Makes a new object of the plan. */
@@ -86,6 +104,16 @@ export function* execute(node, cx) {
 
 /** Whether the end of a statement is far from its beginning. */
 const isWhole = ({ type }) => type === "BlockStatement" || type.startsWith("For");
+
+/** Does something after which the script goes on, also where it throws. */
+export function* guarded(cx, act) {
+  cx.guards += 1;
+  try {
+    return yield* act();
+  } finally {
+    cx.guards -= 1;
+  }
+}
 
 /** Values that are still needed while others are found. */
 export function* needing(cx, value, act) {

@@ -15,6 +15,16 @@ export class Thrown {
   }
 }
 
+/** A generator is told to return where it waits. */
+export class Returned {
+  constructor(value) {
+    this.value = value;
+  }
+}
+
+/** Whether the script sees what was thrown: its `finally` runs, and its iterators are closed. */
+export const isSeen = (error) => error instanceof Thrown || error instanceof Returned;
+
 /** The script is to be run again from its beginning, with what was found out. */
 export class Again {
   constructor(reason) {

@@ -111,7 +111,7 @@ function* entered(cx, node, callee, self, values, newTarget) {
   }
   const scope = new Scope(callee.scope, agent, agent.world.scopes.get(callee.node));
   const inner = new Context(agent, scope, {
-    self: callee.isArrow ? callee.self : selfOf(writer, self), callee, home: callee.home, strand: cx.strand,
+    self: callee.isArrow ? callee.self : selfOf(writer, self), callee, home: callee.home, caller: cx,
     newTarget: callee.isArrow ? callee.newTarget : newTarget,
   });
   const isLater = callee.node.generator || callee.node.async;

@@ -3,25 +3,18 @@
 import { awaited, newPromise, proceed, promiseOf, reject, resolve } from "./promises.mjs";
 import { call, evaluate, evaluators, raise } from "./core.mjs";
 import { Coroutine, runWhole } from "./coroutines.mjs";
-import { Thrown } from "./faults.mjs";
+import { Returned, Thrown } from "./faults.mjs";
 import { bindParameters, leave, newInstance, runBody } from "./functions.mjs";
-import { iterate } from "./iteration.mjs";
+import { closing, iterate } from "./iteration.mjs";
 import { getProperty } from "./properties.mjs";
 import { KNOWN, isCallable, isInPlan, isThing } from "./values.mjs";
-
-/** The generator is told to return where it waits. */
-class Returned {
-  constructor(value) {
-    this.value = value;
-  }
-}
 
 /** Begins a call of a generator: it runs when it is asked for its first value. */
 function* beginGenerator(cx, inner, node, callee, values) {
   const isAsync = callee.node.async;
   const made = newInstance(cx, node, callee, isAsync ? "asyncGenerator" : "generator");
   callee.complete?.("prototype");
-  inner.strand = isAsync ? { guards: 1 } : inner.strand;
+  if (isAsync) inner.guards += 1;
   yield* bindParameters(cx, inner, node, callee, values);
   made.coroutine = new Coroutine((function* () {
     try {
@@ -58,6 +51,7 @@ function resume(cx, node, generator, how, value) {
     return { value: how === "return" ? value : undefined, done: true };
   }
   generator.state = "running";
+  generator.inner.caller = cx;
   try {
     const step = generator.coroutine.next({ how, value });
     generator.state = step.done ? "done" : "waiting";
@@ -146,14 +140,15 @@ function* iterateAsync(cx, node, source, visit) {
     return;
   }
   const iterator = yield* call(cx, node, make, source, []);
+  const close = function* () {
+    const end = yield* getProperty(cx, node, iterator, "return");
+    if (isCallable(end)) yield* awaited(cx, node, yield* call(cx, node, end, iterator, []));
+  };
   for (;;) {
     const promise = yield* promiseOf(cx, node, yield* call(cx, node, yield* getProperty(cx, node, iterator, "next"), iterator, []));
     const step = yield* awaited(cx, node, promise);
     if (yield* getProperty(cx, node, step, "done")) return;
-    if (!(yield* visit(yield* getProperty(cx, node, step, "value")))) continue;
-    const end = yield* getProperty(cx, node, iterator, "return");
-    if (isCallable(end)) yield* awaited(cx, node, yield* call(cx, node, end, iterator, []));
-    return;
+    if (yield* closing(cx, visit, yield* getProperty(cx, node, step, "value"), close)) return;
   }
 }
 

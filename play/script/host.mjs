@@ -11,6 +11,7 @@ import { nameOfError, sayValues, shown } from "./saying.mjs";
 import { Sym, Thing, hasIdentity, isCallable, isThing } from "./values.mjs";
 
 const MOST_ROUNDS = 100;
+const MOST_POSTS = 10000;
 /** A turn is a timer of so many milliseconds, as in play/lessons/node.mjs. */
 const TURN = 5;
 
@@ -107,7 +108,7 @@ function installTurns(realm) {
   realm.define("queueMicrotask", realm.native("queueMicrotask", function* (cx, node, self, [callback]) {
     if (!isCallable(callback)) raise(cx, node, "TypeError", 'The "callback" argument must be of type function.');
     cx.agent.enqueue(cx, node, [callback], function* (inner) {
-      inner.strand = { guards: 0 };
+      inner.guards = 0;
       yield* realm.invoke(inner, node, callback, undefined, []);
     });
   }));
@@ -136,11 +137,10 @@ function installAgents(realm) {
     const receiver = nameOfAgent(cx, node, name);
     const message = value?.kind === "view" ? value.stands : value;
     if ((isThing(message) && message.kind !== "buffer") || (message instanceof Sym && !message.registered)) {
-      if (cx.strand.guards === 0 && hasIdentity(message)) {
-        cx.writer.refuse(node, ["post", receiver, cx.operand(node, message)], "DataCloneError: value cannot be posted");
-      }
+      if (hasIdentity(message)) cx.refuse(node, ["post", receiver, cx.operand(node, message)], "DataCloneError: value cannot be posted");
       raise(cx, node, "DataCloneError", `${isThing(value) ? "#<Object>" : shown(value)} could not be cloned.`);
     }
+    if ((cx.agent.posted = (cx.agent.posted ?? 0) + 1) > MOST_POSTS) throw new ScriptFault("an agent of a plan posts 10,000 messages at most", node);
     cx.do(node, ["post", receiver, cx.operand(node, message)]);
     cx.agent.world.port(cx.agent.name, receiver).push(message);
   }));

@@ -1,6 +1,7 @@
 // Iteration over arrays, texts, Maps, Sets, generators, and objects with an iterator of their own.
 
-import { call, needing, raise } from "./core.mjs";
+import { call, guarded, needing, raise } from "./core.mjs";
+import { Thrown, isSeen } from "./faults.mjs";
 import { findProperty, getProperty, item, newArray } from "./properties.mjs";
 import { KNOWN, isThing } from "./values.mjs";
 
@@ -58,7 +59,7 @@ export function partOf(cx, node, source, key, entry, part) {
 /** How an iterator of the language goes on, without an object for each step; null of other iterators. */
 function ownSteps(cx, node, iterator) {
   if (iterator?.properties?.has("next")) return null;
-  if (iterator?.step) return { next: () => iterator.step(cx), end: () => undefined };
+  if (iterator?.step) return { next: () => iterator.step(cx), close: null };
   if (iterator?.kind !== "generator") return null;
   return {
     next: () => {
@@ -66,24 +67,35 @@ function ownSteps(cx, node, iterator) {
       if (done) iterator.result = value;
       return done ? undefined : { value };
     },
-    end: () => cx.agent.realm.resumeGenerator(cx, node, iterator, "return", undefined),
+    *close() { cx.agent.realm.resumeGenerator(cx, node, iterator, "return", undefined); },
   };
 }
 
-function* eachStep(cx, node, iterator, { next, end }, visit) {
+function* eachStep(cx, node, iterator, { next, close }, visit) {
   yield* needing(cx, iterator, function* () {
-    for (;;) {
-      const step = next();
-      if (step === undefined) return;
-      let isOpen = true;
-      try {
-        if (!(yield* visit(step.value))) isOpen = false;
-      } finally {
-        if (isOpen) end();
-      }
-      if (isOpen) return;
+    for (let step = next(); step !== undefined; step = next()) {
+      if (yield* close ? closing(cx, visit, step.value, close) : visit(step.value)) return;
     }
   });
+}
+
+/** Visits a value of an iterator, which is closed where the iteration ends there. What was thrown before goes on, also where closing
+    throws. */
+export function* closing(cx, visit, value, close) {
+  let ends;
+  try {
+    ends = yield* guarded(cx, () => visit(value));
+  } catch (error) {
+    if (!isSeen(error)) throw error;
+    try {
+      yield* close();
+    } catch (other) {
+      if (!(other instanceof Thrown && error instanceof Thrown)) throw other;
+    }
+    throw error;
+  }
+  if (ends) yield* close();
+  return ends;
 }
 
 /** The same of an array's item. */
@@ -108,25 +120,16 @@ function* stepOf(cx, node, iterator) {
 }
 
 function* eachOfIterator(cx, node, iterator, visit) {
+  const close = function* () {
+    const end = yield* getProperty(cx, node, iterator, "return");
+    if (end !== undefined) yield* call(cx, node, end, iterator, []);
+  };
   yield* needing(cx, iterator, function* () {
-    let isOpen = true;
-    try {
-      for (;;) {
-        isOpen = false;
-        const step = yield* stepOf(cx, node, iterator);
-        if (step === undefined) return;
-        isOpen = true;
-        if (yield* visit(step.value)) return;
-      }
-    } finally {
-      if (isOpen) yield* closed(cx, node, iterator);
+    for (;;) {
+      const step = yield* stepOf(cx, node, iterator);
+      if (step === undefined || (yield* closing(cx, visit, step.value, close))) return;
     }
   });
-}
-
-function* closed(cx, node, iterator) {
-  const end = yield* getProperty(cx, node, iterator, "return");
-  if (end !== undefined) yield* call(cx, node, end, iterator, []);
 }
 
 /** All values of an iteration. */

@@ -181,8 +181,7 @@ export class Agent {
         return;
       }
       const { node, act, carried, held } = this.microtasks.shift();
-      const cx = new Context(this, null, { strand: { guards: 1 } });
-      cx.temporaries = carried;
+      const cx = Object.assign(new Context(this, null), { guards: 1, temporaries: carried });
       this.attempt(node, cx, act);
       for (const one of held) one.end(node, this.writer);
     }

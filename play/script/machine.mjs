@@ -211,6 +211,7 @@ const DOES = {
   store: (machine, [, b, i, n]) => void (machine.value(b).block.words[i] = n),
   ...Object.fromEntries(Object.entries(CHANGES).map(([word, change]) => [word, changing(change)])),
   post: () => undefined,
+  try: (machine, [, x], error) => machine.assign(x, error),
   collect: (machine) => machine.empty(new Graph(machine)),
   collectlater: (machine) => void (machine.open = { graph: new Graph(machine), given: [] }),
 };

@@ -26,7 +26,13 @@ export function* resolve(cx, node, promise, value) {
   if (!isCallable(then)) return settle(cx, node, promise, "fulfilled", value);
   const { resolving, rejecting } = resolvers(cx, promise);
   cx.agent.enqueue(cx, node, [value, then, resolving, rejecting], function* (inner) {
-    yield* call(inner, node, then, value, [resolving, rejecting]);
+    try {
+      yield* call(inner, node, then, value, [resolving, rejecting]);
+    } catch (error) {
+      if (!(error instanceof Thrown)) throw error;
+      yield* call(inner, node, rejecting, undefined, [error.value]);
+      error.held?.end(node, inner.writer);
+    }
   });
   return undefined;
 }
@@ -143,7 +149,7 @@ function beginAsync(cx, inner, node, callee, values) {
     state.hasEnded = true;
     if (state.isGiven) held.end(node, cx.writer);
   };
-  inner.strand = { guards: 1 };
+  inner.guards += 1;
   const coroutine = new Coroutine((function* () {
     try {
       yield* bindParameters(cx, inner, node, callee, values);

@@ -1,6 +1,6 @@
 // Promise, as a script has it.
 
-import { call, raise } from "./core.mjs";
+import { call, guarded, raise } from "./core.mjs";
 import { Thrown } from "./faults.mjs";
 import { iterate } from "./iteration.mjs";
 import { newPromise, promiseOf, reject, resolve, resolvers, subscribe } from "./promises.mjs";
@@ -127,16 +127,14 @@ export function installPromises(realm) {
     if (!isCallable(executor)) raise(cx, node, "TypeError", `Promise resolver ${String(executor)} is not a function`);
     const promise = newPromise(cx.agent);
     const both = resolvers(cx, promise);
-    cx.strand.guards += 1;
     cx.writer.need(promise);
     try {
-      yield* call(cx, node, executor, undefined, [both.resolving, both.rejecting]);
+      yield* guarded(cx, () => call(cx, node, executor, undefined, [both.resolving, both.rejecting]));
     } catch (error) {
       if (!(error instanceof Thrown)) throw error;
       reject(cx, node, promise, error.value);
       error.held?.end(node, cx.writer);
     } finally {
-      cx.strand.guards -= 1;
       cx.writer.needNoMore(promise, cx.temporaries);
     }
     return promise;

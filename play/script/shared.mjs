@@ -26,16 +26,19 @@ function newBuffer(cx, node, bytes, newTarget) {
   return made;
 }
 
+/** The number of a command that is refused before an object is asked for its number: so 0 stands in its place. */
+const unasked = (value) => (typeof value === "object" ? 0 : wordOf(value));
+
 /** The index that a call of Atomics is given, in a view. Where it is refused, so is a command of the plan: of this word, with these
-    numbers. An object has not been asked for its number by then, so 0 stands in its place. */
+    numbers. */
 function* indexIn(cx, node, view, given, [command, ...numbers] = ["load"]) {
   if (view?.kind !== "view") raise(cx, node, "TypeError", "[object Object] is not an integer typed array.");
   const [index] = yield* wholesOf(cx, node, view, [given]);
   if (index >= 0 && index < view.count) return index;
   const word = view.from + index;
-  if (cx.strand.guards === 0 && Number.isSafeInteger(word) && !(word in view.stands.block.words)) {
-    const words = [word, ...numbers.map((number) => (typeof number === "object" ? 0 : wordOf(number)))];
-    cx.writer.refuse(node, [command, cx.writer.temporary(cx.temporaries), cx.operand(node, view), ...words], "RangeError: index");
+  if (Number.isSafeInteger(word) && !(word in view.stands.block.words)) {
+    const assigned = command === "store" ? [] : [cx.writer.temporary(cx.temporaries)];
+    cx.refuse(node, [command, ...assigned, cx.operand(node, view), word, ...numbers], "RangeError: index");
   }
   return raise(cx, node, "RangeError", "Invalid atomic access index");
 }
@@ -64,9 +67,9 @@ const CHANGING = { add: "add", sub: "add", and: "and", or: "or", xor: "xor", exc
 
 const changing = (name, word) => function* (cx, node, self, [view, index, first, second]) {
   const values = word === "compareexchange" ? [first, second] : [first];
-  const sign = name === "sub" ? -1 : 1, isOfThree = word !== "add";
-  if (isOfThree) cx.agent.world.needVersion(3);
-  const at = yield* indexIn(cx, node, view, index, isOfThree ? [word, ...values] : undefined);
+  const sign = name === "sub" ? -1 : 1;
+  if (word !== "add") cx.agent.world.needVersion(3);
+  const at = yield* indexIn(cx, node, view, index, [word, ...values.map((value) => sign * unasked(value))]);
   const numbers = (yield* wholesOf(cx, node, view, values)).map((whole) => sign * wordOf(whole));
   return view.reads(cx.ask(node, [word, cx.operand(node, view), view.from + at, ...numbers]));
 };
@@ -76,7 +79,7 @@ const atomics = (realm) => ({
     return realm.load(cx, node, view, yield* indexIn(cx, node, view, index));
   },
   *store(cx, node, self, [view, index, value]) {
-    const at = yield* indexIn(cx, node, view, index);
+    const at = yield* indexIn(cx, node, view, index, ["store", unasked(value)]);
     const [whole] = yield* wholesOf(cx, node, view, [value]);
     return realm.store(cx, node, view, at, whole);
   },
@@ -87,10 +90,8 @@ const atomics = (realm) => ({
 function* sameBlock(cx, node, self, [one, other]) {
   const both = [one, other];
   if (both.some((value) => planned(value)?.kind !== "buffer")) {
-    if (cx.strand.guards === 0) {
-      const operands = both.map((value) => cx.operand(node, value));
-      cx.writer.refuse(node, ["sameblock", cx.writer.temporary(cx.temporaries), ...operands], "TypeError: not a SharedArrayBuffer");
-    }
+    const operands = both.map((value) => cx.operand(node, value));
+    cx.refuse(node, ["sameblock", cx.writer.temporary(cx.temporaries), ...operands], "TypeError: not a SharedArrayBuffer");
     raise(cx, node, "TypeError", "sameBlock takes two of SharedArrayBuffer");
   }
   return cx.ask(node, ["sameblock", ...both.map((value) => cx.operand(node, value))]);

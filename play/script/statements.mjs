@@ -1,8 +1,8 @@
 // What each kind of statement does, and how it ends.
 
-import { evaluate, execute, executors } from "./core.mjs";
+import { evaluate, execute, executors, guarded } from "./core.mjs";
 import { Held, Scope } from "./bindings.mjs";
-import { Thrown } from "./faults.mjs";
+import { Thrown, isSeen } from "./faults.mjs";
 import { hoistFunctions } from "./functions.mjs";
 import { iterate } from "./iteration.mjs";
 import { bindPattern, named } from "./patterns.mjs";
@@ -197,23 +197,30 @@ function* throwing(node, cx) {
 }
 
 function* trying(node, cx) {
-  let ended;
+  if (!node.finalizer) return yield* trial(node, cx);
+  let ended, signal = null;
   try {
-    cx.strand.guards += 1;
-    try {
-      ended = yield* execute(node.block, cx);
-    } finally {
-      cx.strand.guards -= 1;
-    }
+    ended = yield* guarded(cx, () => trial(node, cx));
   } catch (error) {
-    if (!(error instanceof Thrown) || !node.handler) throw error;
-    ended = yield* catching(node.handler, cx, error);
-  } finally {
-    const last = node.finalizer ? yield* execute(node.finalizer, cx) : undefined;
-    // What a finally ends with takes the place of all else.
-    if (last !== undefined) return last;
+    if (!isSeen(error)) throw error;
+    signal = error;
   }
-  return ended;
+  const last = yield* execute(node.finalizer, cx);
+  if (last === undefined && signal !== null) throw signal;
+  // What a finally ends with takes the place of all else.
+  signal?.held?.end(node, cx.writer);
+  return last ?? ended;
+}
+
+/** A `try` without its `finally`. */
+function* trial({ block: body, handler }, cx) {
+  if (!handler) return yield* execute(body, cx);
+  try {
+    return yield* guarded(cx, () => execute(body, cx));
+  } catch (error) {
+    if (!(error instanceof Thrown)) throw error;
+    return yield* catching(handler, cx, error);
+  }
 }
 
 function* catching(node, cx, thrown) {

@@ -5,19 +5,20 @@ import { ScriptFault } from "./faults.mjs";
 import { link, linkPrototype, newInstance } from "./functions.mjs";
 import { iterate } from "./iteration.mjs";
 import { getProperty } from "./properties.mjs";
+import { shown } from "./saying.mjs";
 import { canBeHeldWeakly, isCallable, isInPlan } from "./values.mjs";
 
-/** A command that the host refuses. Where nobody can catch what it throws, it is written, and ends its job. */
+/** A command that the host refuses: it is written, and the script may catch what it throws. */
 function refused(cx, node, words, error, message) {
-  if (cx.strand.guards > 0) return raise(cx, node, "TypeError", message);
   const operands = words.slice(1).map((value) => (value === NEW ? cx.writer.temporary(cx.temporaries) : cx.operand(node, value)));
-  cx.writer.refuse(node, [words[0], ...operands], error);
+  cx.refuse(node, [words[0], ...operands], error);
   return raise(cx, node, "TypeError", message);
 }
 
 /** In the place of an operand: the variable that the command would assign. */
 const NEW = {};
 const HELD_WEAKLY = "TypeError: cannot be held weakly";
+const noToken = (token) => `Invalid unregisterToken ('${shown(token)}')`;
 const KINDS = {
   weakref: "WeakRef", weakmap: "WeakMap", weakset: "WeakSet", registry: "FinalizationRegistry",
 };
@@ -25,6 +26,7 @@ const KINDS = {
 /** CanBeHeldWeakly. A view can't be told from its buffer in a plan. */
 function isWeakly(node, value) {
   if (value?.stands) throw new ScriptFault("a view is not held weakly here: in a plan it is its buffer; hold the buffer", node);
+  if (value?.known) throw new ScriptFault("a symbol of the language is not held weakly here: a plan has none of these", node);
   return canBeHeldWeakly(value);
 }
 
@@ -139,14 +141,16 @@ function installRegistry(realm) {
         const message = "FinalizationRegistry.prototype.register: target and holdings must not be same";
         refused(cx, node, words, "TypeError: target and held value are the same", message);
       }
-      if (token !== undefined && !isWeakly(node, token)) refused(cx, node, words, HELD_WEAKLY, "Invalid unregister token");
+      // A plan has undefined for null, which is no token and not refused.
+      if (token === null) raise(cx, node, "TypeError", noToken(token));
+      if (token !== undefined && !isWeakly(node, token)) refused(cx, node, words, HELD_WEAKLY, noToken(token));
       const registry = cx.agent.registryFor(cx, node, self);
       cx.do(node, ["register", ...[registry, ...words.slice(2)].map((value) => cx.operand(node, value))]);
       return undefined;
     },
     *unregister(cx, node, self, [token]) {
       checkThis(cx, node, self, "registry", "unregister");
-      if (!isWeakly(node, token)) refused(cx, node, ["unregister", NEW, self, token], HELD_WEAKLY, "Invalid unregister token");
+      if (!isWeakly(node, token)) refused(cx, node, ["unregister", NEW, self, token], HELD_WEAKLY, noToken(token));
       let found = false;
       for (const registry of [self, ...self.more]) {
         found = cx.ask(node, ["unregister", cx.operand(node, registry), cx.operand(node, token)]) || found;

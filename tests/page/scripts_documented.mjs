@@ -16,7 +16,7 @@ await turn();
 `;
 
 /** The commands that no script gives. */
-const GIVEN_BY_NONE = ["keys O", "sub X B I N", "try X COMMAND"];
+const GIVEN_BY_NONE = ["keys O", "sub X B I N"];
 
 /** The rows of the table below a heading: the words of the first two columns that are code. */
 function rowsOf(path, heading) {
@@ -30,9 +30,10 @@ function commandsOf(textOf, line) {
   return text === null ? [] : JSON.parse(text).agents[0].jobs.at(-1).run;
 }
 
-/** Whether a command is what a form of the table says. A value that nobody uses is given to a temporary. */
-function isOf(form, command) {
-  const words = form.split(" ");
+/** Whether a command is what a form of the table says. A value that nobody uses is given to a temporary. COMMAND stands for another
+    command. */
+function isOf(form, given) {
+  const words = form.split(" "), command = words.at(-1) === "COMMAND" ? [...given.slice(0, 2), "COMMAND"] : given;
   return words.length === command.length && words.every((word, at) => {
     if (word === "X" && /^_\d+$/.test(command[at])) return true;
     return command[at] === (at > 0 && word in LITERALS ? LITERALS[word] : word);

@@ -6,8 +6,9 @@
 // - The lessons write their lines, here and on node; what may differ is named in lines.json.
 // - Each command has JavaScript that gives it in docs/PLANS.md, and what docs/SCRIPTS.md has beside that gives it too.
 // - Plans of the corpus, written as scripts and read back, say what their reports say.
-// - A script that needs it has a plan of a later version. Commands have their places in the script. Wrong guesses of what a
-//   collection empties are put right. A long script takes some seconds.
+// - A script that needs it has a plan of a later version. A refusal that the script catches stands behind `try`, in plans that were
+//   worked out by hand. Commands have their places in the script. Wrong guesses of what a collection empties are put right. A long
+//   script takes some seconds.
 // - COUNT random scripts say the same here and on node, but for what an engine may keep.
 // The plans of the lessons and of the random scripts are put into the folder, for other tests. Prints what fails, and
 // `N passed, M failed` last.
@@ -113,12 +114,46 @@ const VERSIONED = [
   ["collectLater();", 2],
   ["const v = new Uint32Array(new SharedArrayBuffer(4)); Atomics.or(v, 0, 1); collectLater();", 3],
   ["collectLater(); await turn(); const v = new Uint32Array(new SharedArrayBuffer(4)); Atomics.exchange(v, 0, 1);", 3],
+  ["try { new WeakRef({}); null.x; } catch {}", 1],
+  ["new WeakRef(5);", 1],
+  ["try { new WeakRef(5); } finally {}", 3],
 ];
 
 function versions() {
   for (const [source, wanted] of VERSIONED) {
     const { text } = run(source);
     check(text?.startsWith(`{"version": ${wanted},`), `the plan of ${source} is of version ${wanted}: ${text}`);
+  }
+}
+
+/** What follows a refusal here: the script says why it goes on. */
+const SAID = [["let", "_1", "no"], ["say", "_1"]];
+/** Scripts that catch refusals, and the commands of all callbacks and jobs of their plans. */
+const CATCHING = [
+  ["try { new WeakRef(5); } catch {}", [[["let", "_2", 5], ["try", "_3", "weakref", "_1", "_2"]]]],
+  ['let o = {}; const w = new WeakRef(o); await turn(); o = null; gc(); const m = w.deref(); try { new WeakRef(m); } catch { console.log("no"); }',
+    [[["new", "o"], ["weakref", "w", "o"]], [["let", "o", null], ["collect"], ["deref", "m", "w"], ["try", "_2", "weakref", "_1", "m"], ...SAID]]],
+  ['const o = {}, w = new WeakRef(o); let ref = null; try { ref = new WeakRef(w.deref()); } catch { console.log("no"); }',
+    [[["new", "o"], ["weakref", "w", "o"], ["deref", "_1", "w"], ["weakref", "ref", "o"], ["let", "_1", null]]]],
+  ['agent("a", async () => { postMessage(5, "b"); }); agent("b", async () => { const m = await message("a"), s = new WeakSet(); try { s.add(m); } catch { console.log("no"); } })',
+    [[["let", "_1", 5], ["post", "b", "_1"]], [], [["weakset", "s"], ["try", "_1", "wsadd", "s", "m"], ...SAID]]],
+  ['agent("a", async () => { try { postMessage({}, "b"); } catch { console.log("no"); } }); agent("b", async () => {});',
+    [[["new", "_1"], ["try", "_2", "post", "b", "_1"], ["let", "_1", null], ...SAID], []]],
+  ["const r = new FinalizationRegistry((h) => { try { new WeakRef(h); } catch { } }); r.register({}, 7); await turn(); gc();",
+    [[["copy", "h", "held"], ["try", "_c2", "weakref", "_c1", "h"]],
+      [["registry", "r", "cleanup"], ["new", "_1"], ["let", "_2", 7], ["register", "r", "_1", "_2"], ["let", "_1", null]], [["collect"]]]],
+  ["const b = new SharedArrayBuffer(8), v = new Int32Array(b); try { Atomics.load(v, 2); } catch {} try { Atomics.store(v, -1, 6); } catch {} try { Atomics.sub(v, 3, 4); } catch {}",
+    [[["buffer", "b", 2], ["copy", "v", "b"], ["try", "_2", "load", "_1", "b", 2], ["try", "_1", "store", "b", -1, 6], ["try", "_2", "add", "_1", "b", 3, -4]]]],
+  ["const r = new FinalizationRegistry(() => {}), o = {}; const f = () => { r.register(o, 1, 2); }; (async () => f())().catch(() => {}); try { r.unregister(3); } finally { r.register(o, o); }",
+    [[], [["registry", "r", "cleanup"], ["new", "o"], ["let", "_1", 1], ["let", "_2", 2], ["try", "_3", "register", "r", "o", "_1", "_2"],
+      ["let", "_2", 3], ["try", "_3", "unregister", "_1", "r", "_2"], ["register", "r", "o", "o"]], []]],
+];
+
+function caught() {
+  for (const [source, wanted] of CATCHING) {
+    const { plan } = planOf(source, { engine });
+    const found = plan.agents.flatMap(({ callbacks, jobs }) => [...Object.values(callbacks), ...jobs.map(({ run: commands }) => commands)]);
+    check(JSON.stringify(found) === JSON.stringify(wanted), `the plan of ${source}: ${JSON.stringify(found)}`);
   }
 }
 
@@ -176,9 +211,9 @@ function timed() {
 /** What the interpreter knows of the operands of commands is what commands.json says. */
 function operands() {
   for (const [word, { operands: uses, and = "", ahead }] of Object.entries(JSON.parse(readFileSync(here("../rows/commands.json"), "utf8")))) {
-    if (ahead || word === "try") continue; // the interpreter writes no such command
-    const all = [...uses + and], areVariables = (operands, letters) => (
-      all.every((use, place) => isVariable([word, ...operands], place + 1) === letters.includes(use)));
+    if (ahead || word === "try") continue;
+    const all = [...uses + and], areVariables = (operands, letters) => all.every((use, place) => (
+      [[word], ["try", "caught", word]].every((words) => isVariable([...words, ...operands], words.length + place) === letters.includes(use))));
     check(areVariables(all.map((use, place) => `${use}${place}`), "xvohwmsrbinp"), `the variables of ${word}`);
     check(areVariables(all.map((use, place) => ("inp".includes(use) ? place : use)), "xvohwmsrb"), `the variables of ${word} beside numbers`);
     check(assigns([word, "name"], "name") === uses.startsWith("x"), `whether ${word} assigns`);
@@ -228,6 +263,7 @@ operands();
 documented();
 corpus();
 versions();
+caught();
 marked();
 guessed();
 timed();

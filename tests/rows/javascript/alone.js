@@ -55,3 +55,11 @@ agent("b", async () => { await turn(); postMessage(1, "a"); await turn(); await 
 const registryOf = (name) => new FinalizationRegistry((held) => console.log(name, "lost", held)); agent("a", async () => { const r = registryOf("a"); r.register({}, 1); const own = registryOf; await turn(); gc(); await message("b"); console.log(typeof own, new WeakRef(registryOf).deref() === own); }); agent("b", async () => { const r = registryOf("b"); r.register({}, 2); await turn(); gc(); await turn(); console.log("b ends"); postMessage(1, "a"); });
 /// undefined undefined
 let F = function () {}, o = new F(); const w = new WeakRef(F), p = new WeakRef(F.prototype); F = null; o = null; await turn(); gc(); console.log(w.deref(), p.deref());
+/// closed | Uncaught TypeError: WeakRef: invalid target | next
+function* own() { try { yield 1; } finally { console.log("closed"); } } const all = own(); setTimeout(() => console.log("next"), 9); setTimeout(() => { for (const x of all) new WeakRef(x); }, 1);
+/// last | Uncaught TypeError: Invalid value used in weak set | next
+setTimeout(() => console.log("next"), 1); try { throw 1; } catch { new WeakSet().add(5); } finally { console.log("last"); }
+/// TypeError: Invalid unregisterToken ('5') | TypeError: Invalid unregisterToken ('Symbol(k)') | TypeError: WeakRef: invalid target
+const r = new FinalizationRegistry(() => {}); for (const f of [() => r.register({}, 1, 5), () => r.unregister(Symbol.for("k")), () => new WeakRef()]) try { f(); } catch (e) { console.log(`${e}`); }
+/// TypeError 1 | TypeError 2 | weak
+const r = new FinalizationRegistry((h) => { try { new WeakRef(h); console.log("weak"); } catch (e) { console.log(e.name, h); } }); for (const h of [1, 2, {}]) r.register({}, h); await turn(); gc();

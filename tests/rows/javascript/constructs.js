@@ -742,3 +742,30 @@ let n = 0; const t = setInterval(() => { console.log("round", ++n); if (n === 2)
 let o = { n: 1 }; const r = new WeakRef(o); setTimeout((x) => { throw new Error(`thrown ${x.n}`); }, 1, o); o = null; await turn(); await turn(); gc(); console.log(r.deref());
 /// promises that are rejected, and exceptions
 Promise.reject({ name: "none" }).catch(() => {}); Promise.reject(5); (async () => { throw new TypeError("in async"); })(); setTimeout(() => { throw new RangeError("in a timer"); }, 1); await turn(); throw new Error("at the top");
+/// refusals that the script catches
+const r1 = new FinalizationRegistry(() => {}), none = new WeakMap(), key = {}, words = new Int32Array(new SharedArrayBuffer(4)); let text = "none";
+try { new WeakRef(none.get(key)); text = "never"; } catch (r) { text = `${r instanceof TypeError} ${String(r).split(":")[0]}`; } console.log(text);
+for (const f of [() => none.set(5, key), () => new WeakSet([key, "x"]), () => r1.register(none.get(key), 1), () => r1.register(key, key), () => r1.register(key, 1, 2), () => r1.register(key, 1, null), () => r1.unregister(), () => Atomics.store(words, words[0] + 1, 3), () => Atomics.sub(words, 9, { valueOf() { console.log("never"); } }), () => new WeakRef(key)]) {
+  try { f(); console.log("done"); } catch (r) { console.log(r.name); continue; } finally { console.log("then", words[0]); }
+  console.log("went on");
+}
+agent("a", async () => { for (const one of [5, undefined, "t", "end"]) postMessage(one, "b"); });
+agent("b", async () => { const s = new WeakSet(); for (let m; (m = await message("a")) !== "end";) try { s.add(m); console.log("never"); } catch { console.log("no", typeof m); } try { postMessage(() => 1, "a"); } catch (e) { console.log(e.name); } });
+/// refusals that a caller, a promise or a generator's caller catches
+const refuse = () => new WeakRef(5), named = (e) => console.log("caught", e.name); class Refusing { x = refuse(); static { try { refuse(); } catch (e) { named(e); } } }
+try { new Refusing(); } catch (e) { named(e); } try { [1].forEach(refuse); } catch (e) { named(e); } try { `${{ toString: refuse }}`; } catch (e) { named(e); }
+await (async () => refuse())().catch(named); await new Promise(refuse).catch(named); await Promise.resolve().then(refuse).catch(named); await Promise.resolve({ then: refuse }).catch(named); try { await { then() { throw { name: "own" }; } }; } catch (e) { named(e); }
+function* steps() { yield 1; refuse(); } const one = steps(), two = steps(), three = (async function* () { yield 1; refuse(); })(); one.next(); two.next(); await three.next();
+(async () => { try { one.next(); } catch (e) { named(e); } })(); setTimeout(() => { try { two.next(); } catch (e) { named(e); } }, 1); await three.next().catch(named);
+/// what is refused while an iterator is open
+const closes = (act) => ({ [Symbol.iterator]: () => ({ next: () => ({ value: 1, done: false }), return() { console.log("closed"); return act(); } }) });
+function* own() { try { yield 1; } finally { console.log("own closed"); } } async function* slow() { try { yield 1; } finally { await null; console.log("slow closed"); } }
+const refused = async (act) => { try { await act(); console.log("never"); } catch (e) { console.log(e.name); } };
+await refused(() => { for (const x of closes(() => ({}))) new WeakRef(x); }); await refused(() => { for (const x of closes(() => { throw new RangeError("lost"); })) new WeakRef(x); }); await refused(() => { for (const x of closes(() => { throw new RangeError("kept"); })) break; });
+await refused(() => new WeakSet(closes(() => ({})))); await refused(() => new WeakSet(own())); await refused(() => { for (const x of own()) new WeakRef(x); }); await refused(async () => { for await (const x of slow()) new WeakRef(x); });
+await refused(async () => { for await (const x of slow()) throw new RangeError("own"); }); for await (const x of slow()) break;
+/// what a finally ends with
+function drops() { try { throw { n: 1 }; } finally { return "dropped"; } } function keeps() { const o = { n: 2 }; try { return o; } finally { gc(); } }
+console.log(drops(), keeps().n); for (const x of [1, 2]) try { new WeakRef(x); } catch { continue; } finally { console.log("finally", x); }
+const dropped = (() => { const o = { n: 3 }, w = new WeakRef(o); try { try { throw o; } finally { return w; } } catch { console.log("never"); } })(); await turn(); gc(); console.log(dropped.deref());
+try { try { throw new Error("first"); } catch { new WeakRef(5); } finally { console.log("last"); } } catch (e) { console.log(e.name); }

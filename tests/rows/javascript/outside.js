@@ -124,3 +124,11 @@ class Cache { static all = new Map(); } agent("a", async () => { console.log(Cac
 function counter() { let n = 0; return () => ++n; } const next = counter(); agent("a", async () => { console.log(next()); });
 /// make it within the agent | go
 let go; const p = new Promise((act) => (go = act)); agent("a", async () => { go(5); });
+/// Proxy is not taken | Proxy
+function f() { try { new Proxy({}, {}); } finally { return 5; } } f();
+/// BigInt is not taken | BigInt
+const all = { [Symbol.iterator]: () => ({ next: () => ({ value: 1, done: false }), return() { throw 1; } }) }; try { for (const x of all) BigInt(x); } catch {}
+/// a symbol of the language | new WeakRef(Symbol.iterator)
+try { new WeakRef(Symbol.iterator); } catch {}
+/// posts 10,000 messages | postMessage(i, "b")
+agent("b", async () => {}); for (let i = 0; ; i++) { postMessage(i, "b"); if (i % 4000 === 3999) await turn(); }
