@@ -22,6 +22,7 @@ const loud = new FinalizationRegistry((held) => console.log("called", held));
 function gone() { if (r.deref()) return "there"; return "gone"; }
 const there = () => r.deref() !== undefined;
 function note(what) { console.log(what); }
+function put(o, what) { try { w.set(o, 2); } catch { return what + " caught"; } return what; }
 `;
 /** Reads all variables. Where it is left out, an engine may let go of what nothing reads any more. */
 const TAIL = 'console.log("end", [a, b, c, x, y, o, r, list, w, s, t, g, loud].length);\n';
@@ -40,6 +41,10 @@ const STATEMENTS = [
   'console.log("#");', 'console.log("#", a === b);', "w.set(a ?? t, 1);", 'console.log("#", w.has(a ?? t), w.get(b ?? t));', "s.add(a ?? t);",
   'console.log("#", s.has(b ?? t));', 'for (let i = 0; i < 2; i++) console.log("#", i, r.deref() === undefined);',
   'try { r.deref().z = 1; console.log("#"); } catch { console.log("#", "caught"); }', "const #v = r.deref();",
+  // These are refused, or not, and caught.
+  'try { new WeakRef(r.deref()); console.log("#"); } catch { console.log("#", "caught"); }', 'try { s.add(x); console.log("#"); } catch { console.log("#", "caught"); }',
+  'note(put(y, "#"));', 'console.log("#", put(r.deref(), "put"));',
+  'try { new WeakRef(5); } catch (e) { console.log("#", e.name); } finally { console.log("#"); }', "await (async () => { s.add(x); })().catch(() => { n += 1; });",
 ];
 
 function choosingScript(dice) {

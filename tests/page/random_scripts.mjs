@@ -55,6 +55,9 @@ async function firstOf(...all) { for await (const o of slow(...all)) if (o) retu
 function repeated(o, times) { let round = 0; return new Promise((go) => { const timer = setInterval(() => { console.log("tick", id(o)); if (++round === times) { clearInterval(timer); go(o); } }, 0); }); }
 const viaThis = { kept: null, keep(o) { this.kept = o; return this; }, get it() { return this.kept; }, async wait() { await null; return this.kept; } };
 let sym = Symbol("s"), pending = null;
+function tried(act) { try { console.log("tried", id(act())); } catch (e) { console.log("refused", e.name); return; } finally { console.log("after"); } }
+function* seeing(o) { try { yield o; refs.push(new WeakRef(o)); yield null; } finally { console.log("closed", id(o)); } }
+let seen = seeing(null);
 function linked(o, otherwise) { const { link: x = otherwise } = o ?? {}; return x; }
 `;
 const TAIL = 'console.log("end", [a, b, c, d].map(id), h.peek(), list.map(id), [...map].map(([k, v]) => (k?.id ?? k) + id(v)), [...set].map(id), id(Node.cache), id(viaThis.it), [token, registry, other, third, weak, members, sym, pending, cache, gone].length, refs.length);\n';
@@ -70,6 +73,13 @@ const fresh = (dice) => dice.one([
 const value = (dice) => (dice.below(25) === 0 ? `(gc(), ${plain(dice)})` : plain(dice));
 const plain = (dice) => (dice.below(3) === 0 ? fresh(dice) : any(dice));
 const text = (dice) => dice.one(['"x"', '"y"', '"z"']);
+/** What may be held weakly, or not. */
+const weakly = (dice) => (dice.below(2) ? any(dice) : dice.one(["5", "true", "sym", 'Symbol.for("s")', "refs", "undefined"]));
+/** What is refused where a value can't be held weakly. */
+const refusable = (dice) => dice.one([
+  `void refs.push(new WeakRef(${weakly(dice)}))`, `weak.set(${weakly(dice)}, ${any(dice)})`, `members.add(${weakly(dice)})`, `registry.unregister(${weakly(dice)})`,
+  `registry.register(${weakly(dice)}, "${"mno"[dice.below(3)]}", ${weakly(dice)})`, "registry.register(token, token)", "Node.made.missing()",
+]);
 
 /** Statements, each of a draw. */
 const STATEMENTS = [
@@ -115,6 +125,13 @@ const STATEMENTS = [
   (dice) => `d = [${value(dice)}, ${value(dice)}].map((o) => () => o)[${dice.below(2)}]();`,
   (dice) => `a = (${any(dice)}, ${value(dice)}) ?? ${value(dice)};`,
   (dice) => `b ??= ${value(dice)}; c &&= ${value(dice)};`,
+  // Refusals that the script catches
+  (dice) => `tried(() => ${refusable(dice)});`,
+  (dice) => `try { ${refusable(dice)}; ${refusable(dice)}; c = ${value(dice)}; } catch { console.log("no"); ${dice.one(OBJECTS)} = ${value(dice)}; }`,
+  (dice) => `await (async (o) => { await ${dice.one(["null", "turn()"])}; members.add(o); return id(o); })(${weakly(dice)}).then((n) => console.log("added", n), (e) => console.log("lost", e.name));`,
+  (dice) => dice.one([`seen = seeing(${weakly(dice)});`, `setTimeout(() => tried(() => seen.next().value), 0);`, `tried(() => seen.next().value);`,
+    `try { for (const o of seeing(${weakly(dice)})) members.add(o); } catch (e) { console.log("stopped", e.name); }`]),
+  (dice) => `console.log("first", await Promise.any([new Promise(() => { ${refusable(dice)}; }), later(7)]));`,
   // Weak things
   (dice) => `watch(${value(dice)});`,
   (dice) => `register(${value(dice)}, "${"nmopq"[dice.below(5)]}", ${dice.below(2) === 0});`,
