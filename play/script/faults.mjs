@@ -15,10 +15,10 @@ export class Thrown {
   }
 }
 
-/** A generator is told to return where it waits. */
+/** A generator is told to return where it waits, and what holds the value on its way. */
 export class Returned {
-  constructor(value) {
-    this.value = value;
+  constructor(value, held = null) {
+    Object.assign(this, { value, held });
   }
 }
 

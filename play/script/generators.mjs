@@ -1,7 +1,8 @@
 // Generators, of both kinds, and for-await.
 
 import { awaited, newPromise, proceed, promiseOf, reject, resolve } from "./promises.mjs";
-import { call, evaluate, evaluators, raise } from "./core.mjs";
+import { call, evaluate, evaluators, needing, raise } from "./core.mjs";
+import { Held } from "./bindings.mjs";
 import { Coroutine, runWhole } from "./coroutines.mjs";
 import { Returned, Thrown } from "./faults.mjs";
 import { bindParameters, leave, newInstance, runBody } from "./functions.mjs";
@@ -21,7 +22,9 @@ function* beginGenerator(cx, inner, node, callee, values) {
       return needed(inner, yield* runBody(inner, callee.node));
     } catch (signal) {
       if (!(signal instanceof Returned)) throw signal;
-      return needed(inner, signal.value);
+      needed(inner, signal.value);
+      signal.held?.end(callee.node, inner.writer);
+      return signal.value;
     } finally {
       leave(inner, callee.node, cx.writer);
     }
@@ -87,8 +90,20 @@ function* delegating(node, cx) {
     yield* iterateAsync(cx, node, source, function* (value) { received(node, yield { yielded: value, node }); });
     return undefined;
   }
+  if (source?.kind === "generator") return yield* needing(cx, source, () => passing(node, cx, source));
   yield* iterate(cx, node, source, function* (value) { received(node, yield { yielded: value, node }); });
-  return source.result;
+  return undefined;
+}
+
+/** What a generator is told, the one to which it delegates is told. */
+function* passing(node, cx, generator) {
+  let told = { how: "next" };
+  for (;;) {
+    const { value, done } = resume(cx, node, generator, told.how, told.value);
+    if (done && told.how === "return") throw new Returned(value, new Held(node, cx.writer, "returned", value, cx.temporaries));
+    if (done) return value;
+    told = yield { yielded: value, node };
+  }
 }
 
 evaluators.YieldExpression = yielding;

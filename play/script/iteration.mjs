@@ -64,7 +64,6 @@ function ownSteps(cx, node, iterator) {
   return {
     next: () => {
       const { value, done } = cx.agent.realm.resumeGenerator(cx, node, iterator, "next", undefined);
-      if (done) iterator.result = value;
       return done ? undefined : { value };
     },
     *close() { cx.agent.realm.resumeGenerator(cx, node, iterator, "return", undefined); },
@@ -91,6 +90,7 @@ export function* closing(cx, visit, value, close) {
       yield* close();
     } catch (other) {
       if (!(other instanceof Thrown && error instanceof Thrown)) throw other;
+      other.held?.end(other.node, cx.writer);
     }
     throw error;
   }

@@ -140,7 +140,9 @@ export class Agent {
     this.#settle();
     writer.endTemporaries(task.node, cx.temporaries);
     for (const { promise, node } of this.rejected) {
-      if (!promise.isHandled) this.#say(cx, node, promise.isBody ? "Uncaught " : "Uncaught (in promise) ", promise.value);
+      if (promise.isHandled) continue;
+      this.#say(cx, node, promise.isBody ? "Uncaught " : "Uncaught (in promise) ", promise.value);
+      if (writer.hasRefused && this.tasks.length === 0) this.#goOn();
     }
     this.rejected.clear();
     writer.machine.endJob();
@@ -173,11 +175,16 @@ export class Agent {
     this.realm.sayText(cx, node, word + this.realm.textOfError(value));
   }
 
+  /** What is left of a job that a refusal ended comes in another one. */
+  #goOn() {
+    const place = placeOf({ queue: null, wait: 0, from: 0, level: 0 }, []);
+    this.tasks.push({ node: WHOLE, time: this.now, order: 0, latest: 0, act: function* () {}, ...place });
+  }
+
   #drain() {
     while (this.microtasks.length > 0) {
       if (this.writer.hasRefused) {
-        const place = placeOf({ queue: null, wait: 0, from: 0, level: 0 }, []);
-        this.tasks.push({ node: WHOLE, time: this.now, order: 0, latest: 0, act: function* () {}, ...place });
+        this.#goOn();
         return;
       }
       const { node, act, carried, held } = this.microtasks.shift();

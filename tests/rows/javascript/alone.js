@@ -63,3 +63,5 @@ setTimeout(() => console.log("next"), 1); try { throw 1; } catch { new WeakSet()
 const r = new FinalizationRegistry(() => {}); for (const f of [() => r.register({}, 1, 5), () => r.unregister(Symbol.for("k")), () => new WeakRef()]) try { f(); } catch (e) { console.log(`${e}`); }
 /// TypeError 1 | TypeError 2 | weak
 const r = new FinalizationRegistry((h) => { try { new WeakRef(h); console.log("weak"); } catch (e) { console.log(e.name, h); } }); for (const h of [1, 2, {}]) r.register({}, h); await turn(); gc();
+/// Uncaught TypeError: cannot be held weakly | Uncaught (in promise) Error: lost
+Promise.reject(new Error("lost")); new WeakRef(1);

@@ -769,3 +769,12 @@ function drops() { try { throw { n: 1 }; } finally { return "dropped"; } } funct
 console.log(drops(), keeps().n); for (const x of [1, 2]) try { new WeakRef(x); } catch { continue; } finally { console.log("finally", x); }
 const dropped = (() => { const o = { n: 3 }, w = new WeakRef(o); try { try { throw o; } finally { return w; } } catch { console.log("never"); } })(); await turn(); gc(); console.log(dropped.deref());
 try { try { throw new Error("first"); } catch { new WeakRef(5); } finally { console.log("last"); } } catch (e) { console.log(e.name); }
+/// what yield* passes on, and what comes back
+function* g() { try { const got = yield 1; console.log("got", got); yield 2; } catch (e) { console.log("inner", e.name); yield 3 } finally { console.log("closing"); } return 9; }
+function* h() { console.log("result", yield* g()); yield 4; }
+const it = h(); it.next(); console.log(it.next("sent").value); try { console.log(it.throw(new TypeError("x")).value); } catch (e) { console.log("outer", e.name) } console.log(it.next().value, it.next().done);
+const one = h(); one.next(); console.log(one.return(7).value, one.next().done);
+function* refuses() { yield 1; new WeakRef(5); } function* outer() { try { yield* refuses(); } catch (e) { console.log("outer", e.name); } }
+const two = outer(); two.next(); console.log(two.next().done); for (const x of outer()) console.log(x);
+function* kept() { try { yield { n: 1 }; } finally { return { n: 2 }; } } function* over() { return yield* kept(); } const three = over(); console.log(three.next().value.n); gc(); console.log(three.return({ n: 3 }).value.n);
+function* last() { return { n: 4 }; } function* all() { const o = yield* last(); gc(); yield o; yield* [5, 6]; } console.log([...all()].map((o) => o.n ?? o));
