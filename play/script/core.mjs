@@ -27,7 +27,7 @@ export class Context {
   /** Whether the script goes on in this job after something is thrown now. */
   get isGuarded() {
     for (let cx = this; cx !== null; cx = cx.caller) if (cx.guards > 0) return true;
-    return false;
+    return this.agent.goesOn;
   }
 
   operand(node, value) {

@@ -17,7 +17,6 @@ const MOST_JOBS = 1000;
 const TOO_MANY_JOBS = "an agent would have more than 1,000 jobs; others have their turns where it waits for a message";
 /** What two calls of a callback may not differ in: the commands, and what a line shows in another way than the report. */
 const written = ({ commands, places }) => JSON.stringify([commands, places.map(({ say }) => say?.shown)]);
-const WHOLE = { start: 0, end: 0 };
 
 export class Agent {
   jobs = [];
@@ -139,12 +138,7 @@ export class Agent {
     this.#drain();
     this.#settle();
     writer.endTemporaries(task.node, cx.temporaries);
-    for (const { promise, node } of this.rejected) {
-      if (promise.isHandled) continue;
-      this.#say(cx, node, promise.isBody ? "Uncaught " : "Uncaught (in promise) ", promise.value);
-      if (writer.hasRefused && this.tasks.length === 0) this.#goOn();
-    }
-    this.rejected.clear();
+    this.#sayRejected(cx);
     writer.machine.endJob();
     this.#clean();
   }
@@ -175,18 +169,20 @@ export class Agent {
     this.realm.sayText(cx, node, word + this.realm.textOfError(value));
   }
 
-  /** What is left of a job that a refusal ended comes in another one. */
-  #goOn() {
-    const place = placeOf({ queue: null, wait: 0, from: 0, level: 0 }, []);
-    this.tasks.push({ node: WHOLE, time: this.now, order: 0, latest: 0, act: function* () {}, ...place });
+  /** Whether more of the script comes in the job that runs, whatever is thrown now. */
+  get goesOn() {
+    return this.microtasks.length > 0 || this.rejected.size > 0;
+  }
+
+  #sayRejected(cx) {
+    for (const { promise, node } of this.rejected) {
+      if (!promise.isHandled) this.#say(cx, node, promise.isBody ? "Uncaught " : "Uncaught (in promise) ", promise.value);
+    }
+    this.rejected.clear();
   }
 
   #drain() {
     while (this.microtasks.length > 0) {
-      if (this.writer.hasRefused) {
-        this.#goOn();
-        return;
-      }
       const { node, act, carried, held } = this.microtasks.shift();
       const cx = Object.assign(new Context(this, null), { guards: 1, temporaries: carried });
       this.attempt(node, cx, act);
@@ -243,6 +239,7 @@ export class Agent {
     if (!hasIdentity(cell.held)) writer.tell(cell.held, "held");
     this.attempt(place, cx, (inner) => this.realm.invoke(inner, place, registry.callback, undefined, [cell.held]));
     this.#drain();
+    this.#sayRejected(cx);
     if (!writer.hasRefused) writer.clear(place, "held", { temporary: true });
     const { hasRefused } = writer;
     writer.hasRefused = false;

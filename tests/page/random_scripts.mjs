@@ -1,4 +1,4 @@
-// Random scripts: closures, loops, classes, promises, generators, collections and weak things.
+// Random scripts: closures, loops, classes, promises, generators, collections, weak things and refusals that are caught.
 //
 // A script prints numbers of objects, so that a line tells which object it is. It uses each of its variables at its end, since an
 // engine may let go what nothing uses any more. Its callbacks say texts that begin with the script's name.

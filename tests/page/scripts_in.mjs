@@ -144,9 +144,11 @@ const CATCHING = [
       [["registry", "r", "cleanup"], ["new", "_1"], ["let", "_2", 7], ["register", "r", "_1", "_2"], ["let", "_1", null]], [["collect"]]]],
   ["const b = new SharedArrayBuffer(8), v = new Int32Array(b); try { Atomics.load(v, 2); } catch {} try { Atomics.store(v, -1, 6); } catch {} try { Atomics.sub(v, 3, 4); } catch {}",
     [[["buffer", "b", 2], ["copy", "v", "b"], ["try", "_2", "load", "_1", "b", 2], ["try", "_1", "store", "b", -1, 6], ["try", "_2", "add", "_1", "b", 3, -4]]]],
-  ["const r = new FinalizationRegistry(() => {}), o = {}; const f = () => { r.register(o, 1, 2); }; (async () => f())().catch(() => {}); try { r.unregister(3); } finally { r.register(o, o); }",
+  ["const r = new FinalizationRegistry(() => {}), o = {}; const f = () => { r.register(o, 1, 2); }; try { f(); } catch {} try { r.unregister(3); } finally { r.register(o, o); }",
     [[], [["registry", "r", "cleanup"], ["new", "o"], ["let", "_1", 1], ["let", "_2", 2], ["try", "_3", "register", "r", "o", "_1", "_2"],
-      ["let", "_2", 3], ["try", "_3", "unregister", "_1", "r", "_2"], ["register", "r", "o", "o"]], []]],
+      ["let", "_2", 3], ["try", "_3", "unregister", "_1", "r", "_2"], ["register", "r", "o", "o"]]]],
+  ["Promise.resolve().then(() => {}); new WeakRef(5);",
+    [[["let", "_2", 5], ["try", "_3", "weakref", "_1", "_2"], ["let", "_1", "Uncaught TypeError: WeakRef: invalid target"], ["say", "_1"]]]],
 ];
 
 function caught() {

@@ -63,5 +63,9 @@ setTimeout(() => console.log("next"), 1); try { throw 1; } catch { new WeakSet()
 const r = new FinalizationRegistry(() => {}); for (const f of [() => r.register({}, 1, 5), () => r.unregister(Symbol.for("k")), () => new WeakRef()]) try { f(); } catch (e) { console.log(`${e}`); }
 /// TypeError 1 | TypeError 2 | weak
 const r = new FinalizationRegistry((h) => { try { new WeakRef(h); console.log("weak"); } catch (e) { console.log(e.name, h); } }); for (const h of [1, 2, {}]) r.register({}, h); await turn(); gc();
-/// Uncaught TypeError: cannot be held weakly | Uncaught (in promise) Error: lost
+/// Uncaught TypeError: WeakRef: invalid target | Uncaught (in promise) Error: lost
 Promise.reject(new Error("lost")); new WeakRef(1);
+/// Uncaught TypeError: WeakRef: invalid target | Uncaught TypeError: Invalid value used in weak set | 1 | undefined
+let o = { n: 1 }; const w = new WeakRef(o); queueMicrotask(() => new WeakSet().add(5)); queueMicrotask(() => { o = null; gc(); console.log(w.deref()?.n); }); setTimeout(() => { gc(); console.log(w.deref()); }, 1); new WeakRef(5);
+/// 1 | Uncaught (in promise) TypeError: WeakRef: invalid target
+const r = new FinalizationRegistry(async (h) => { console.log(h); new WeakRef(h); }); r.register({}, 1); await turn(); gc();
