@@ -1,6 +1,7 @@
 // The variables of a script, as it runs. A variable is one of the plan; one that a function within uses is a property of an
 // object of the plan, which is its environment. A primitive value stands in the plan only where a command needs it.
 
+import { Thrown } from "./faults.mjs";
 import { hasIdentity, isInPlan, isThing, Thing } from "./values.mjs";
 
 export class Binding {
@@ -102,6 +103,9 @@ export class Held {
     this.#binding.end(node, writer);
   }
 }
+
+/** What a script throws, held until it is caught. */
+export const thrownOf = (cx, node, value) => new Thrown(value, node, new Held(node, cx.writer, "thrown", value, cx.temporaries));
 
 export class Scope {
   bindings = new Map();

@@ -2,9 +2,9 @@
 
 import { awaited, newPromise, proceed, promiseOf, reject, resolve } from "./promises.mjs";
 import { call, evaluate, evaluators, needing, raise } from "./core.mjs";
-import { Held } from "./bindings.mjs";
+import { Held, thrownOf } from "./bindings.mjs";
 import { Coroutine, runWhole } from "./coroutines.mjs";
-import { Returned, Thrown } from "./faults.mjs";
+import { Returned } from "./faults.mjs";
 import { bindParameters, leave, newInstance, runBody } from "./functions.mjs";
 import { closing, iterate } from "./iteration.mjs";
 import { getProperty } from "./properties.mjs";
@@ -50,7 +50,7 @@ function resume(cx, node, generator, how, value) {
   if (generator.state === "running") raise(cx, node, "TypeError", "Generator is already running");
   if (generator.state === "new" && how !== "next") finish(cx, generator);
   if (generator.state === "done") {
-    if (how === "throw") throw new Thrown(value, node);
+    if (how === "throw") throw thrownOf(cx, node, value);
     return { value: how === "return" ? value : undefined, done: true };
   }
   generator.state = "running";
@@ -75,11 +75,11 @@ function finish(cx, generator) {
 function* yielding(node, cx) {
   if (node.delegate) return yield* delegating(node, cx);
   const value = node.argument ? yield* evaluate(node.argument, cx) : undefined;
-  return received(node, yield { yielded: cx.callee.node.async ? yield* awaited(cx, node, value) : value, node });
+  return received(node, cx, yield { yielded: cx.callee.node.async ? yield* awaited(cx, node, value) : value, node });
 }
 
-function received(node, { how, value }) {
-  if (how === "throw") throw new Thrown(value, node);
+function received(node, cx, { how, value }) {
+  if (how === "throw") throw thrownOf(cx, node, value);
   if (how === "return") throw new Returned(value);
   return value;
 }
@@ -87,11 +87,11 @@ function received(node, { how, value }) {
 function* delegating(node, cx) {
   const source = yield* evaluate(node.argument, cx);
   if (cx.callee.node.async) {
-    yield* iterateAsync(cx, node, source, function* (value) { received(node, yield { yielded: value, node }); });
+    yield* iterateAsync(cx, node, source, function* (value) { received(node, cx, yield { yielded: value, node }); });
     return undefined;
   }
   if (source?.kind === "generator") return yield* needing(cx, source, () => passing(node, cx, source));
-  yield* iterate(cx, node, source, function* (value) { received(node, yield { yielded: value, node }); });
+  yield* iterate(cx, node, source, function* (value) { received(node, cx, yield { yielded: value, node }); });
   return undefined;
 }
 

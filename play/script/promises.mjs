@@ -2,7 +2,7 @@
 // microtask does.
 
 import { call, evaluate, evaluators } from "./core.mjs";
-import { Held } from "./bindings.mjs";
+import { Held, thrownOf } from "./bindings.mjs";
 import { Coroutine } from "./coroutines.mjs";
 import { Thrown } from "./faults.mjs";
 import { bindParameters, leave, runBody } from "./functions.mjs";
@@ -106,7 +106,7 @@ export function* awaited(cx, node, value) {
   const promise = yield* promiseOf(cx, node, value);
   const { found, error, carried } = yield { awaits: promise, node };
   cx.temporaries.push(...carried.splice(0));
-  if (error) throw new Thrown(found, node, new Held(node, cx.writer, "thrown", found, cx.temporaries));
+  if (error) throw thrownOf(cx, node, found);
   return found;
 }
 

@@ -1,5 +1,6 @@
 // Promise, as a script has it.
 
+import { thrownOf } from "./bindings.mjs";
 import { call, guarded, raise } from "./core.mjs";
 import { Thrown } from "./faults.mjs";
 import { iterate } from "./iteration.mjs";
@@ -37,7 +38,7 @@ const methods = {
   *finally(cx, node, self, [callback]) {
     const { realm } = cx.agent;
     const after = (goOn) => realm.native("", function* (inner, place, _, [value]) {
-      const going = realm.native("", function* () { return yield* goOn(value, place); });
+      const going = realm.native("", function* (there) { return yield* goOn(value, place, there); });
       inner.writer.hold(place, going, "value", value, inner.temporaries);
       inner.writer.need(going);
       const waits = yield* promiseOf(inner, place, yield* call(inner, place, callback, undefined, []));
@@ -45,7 +46,7 @@ const methods = {
       return then(inner, place, waits, [going]);
     });
     const pass = function* (value) { return value; };
-    const fail = function* (value, place) { throw new Thrown(value, place); };
+    const fail = function* (value, place, inner) { throw thrownOf(inner, place, value); };
     return then(cx, node, self, [after(pass), after(fail)]);
   },
 };

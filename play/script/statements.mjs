@@ -1,7 +1,7 @@
 // What each kind of statement does, and how it ends.
 
 import { evaluate, execute, executors, guarded } from "./core.mjs";
-import { Held, Scope } from "./bindings.mjs";
+import { Scope, thrownOf } from "./bindings.mjs";
 import { Thrown, isSeen } from "./faults.mjs";
 import { hoistFunctions } from "./functions.mjs";
 import { iterate } from "./iteration.mjs";
@@ -193,7 +193,7 @@ function* labeled(node, cx, labels = []) {
 
 function* throwing(node, cx) {
   const value = yield* evaluate(node.argument, cx);
-  throw new Thrown(value, node, new Held(node, cx.writer, "thrown", value, cx.temporaries));
+  throw thrownOf(cx, node, value);
 }
 
 function* trying(node, cx) {

@@ -778,3 +778,5 @@ function* refuses() { yield 1; new WeakRef(5); } function* outer() { try { yield
 const two = outer(); two.next(); console.log(two.next().done); for (const x of outer()) console.log(x);
 function* kept() { try { yield { n: 1 }; } finally { return { n: 2 }; } } function* over() { return yield* kept(); } const three = over(); console.log(three.next().value.n); gc(); console.log(three.return({ n: 3 }).value.n);
 function* last() { return { n: 4 }; } function* all() { const o = yield* last(); gc(); yield o; yield* [5, 6]; } console.log([...all()].map((o) => o.n ?? o));
+function* plain() { yield 1; } const thrown = plain(); thrown.next(); for (const n of [1, 2]) try { thrown.throw({ n }); } catch (e) { gc(); console.log(e.n); }
+await Promise.reject({ n: 3 }).finally(() => gc()).catch((e) => { gc(); console.log(e.n); });
