@@ -86,20 +86,33 @@ function received(node, cx, { how, value }) {
 
 function* delegating(node, cx) {
   const source = yield* evaluate(node.argument, cx);
+  if (source?.kind === "generator" || (source?.kind === "asyncGenerator" && cx.callee.node.async)) {
+    return yield* needing(cx, source, () => passing(node, cx, source));
+  }
   if (cx.callee.node.async) {
     yield* iterateAsync(cx, node, source, function* (value) { received(node, cx, yield { yielded: value, node }); });
     return undefined;
   }
-  if (source?.kind === "generator") return yield* needing(cx, source, () => passing(node, cx, source));
   yield* iterate(cx, node, source, function* (value) { received(node, cx, yield { yielded: value, node }); });
   return undefined;
+}
+
+/** What a generator answers. One that waits is waited for. Where one that waits delegates to one that does not, the value is waited
+    for, and then what stands for its step. */
+function* answered(node, cx, generator, { how, value }) {
+  if (generator.kind === "asyncGenerator") {
+    const step = yield* awaited(cx, node, request(cx, node, generator, how, value));
+    return { value: yield* getProperty(cx, node, step, "value"), done: yield* getProperty(cx, node, step, "done") };
+  }
+  const step = resume(cx, node, generator, how, value);
+  return cx.callee.node.async ? { ...step, value: yield* awaited(cx, node, yield* awaited(cx, node, step.value)) } : step;
 }
 
 /** What a generator is told, the one to which it delegates is told. */
 function* passing(node, cx, generator) {
   let told = { how: "next" };
   for (;;) {
-    const { value, done } = resume(cx, node, generator, told.how, told.value);
+    const { value, done } = yield* answered(node, cx, generator, told);
     if (done && told.how === "return") throw new Returned(value, new Held(node, cx.writer, "returned", value, cx.temporaries));
     if (done) return value;
     told = yield { yielded: value, node };

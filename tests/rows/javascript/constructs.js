@@ -780,3 +780,13 @@ function* kept() { try { yield { n: 1 }; } finally { return { n: 2 }; } } functi
 function* last() { return { n: 4 }; } function* all() { const o = yield* last(); gc(); yield o; yield* [5, 6]; } console.log([...all()].map((o) => o.n ?? o));
 function* plain() { yield 1; } const thrown = plain(); thrown.next(); for (const n of [1, 2]) try { thrown.throw({ n }); } catch (e) { gc(); console.log(e.n); }
 await Promise.reject({ n: 3 }).finally(() => gc()).catch((e) => { gc(); console.log(e.n); });
+/// what yield* passes on in a generator that waits
+function* g() { try { const got = yield { n: 1 }; console.log("got", got); yield 2; } catch (e) { console.log("inner", e.name); yield 3 } finally { console.log("closing"); } return { n: 9 }; }
+async function* ag() { try { const got = yield { n: 4 }; console.log("agot", got); yield 5; } catch (e) { console.log("ainner", e.name); yield 6 } finally { console.log("aclosing"); } return { n: 10 }; }
+async function* h(f) { const o = yield* f(); gc(); console.log("result", o.n); yield* [7, Promise.resolve(8)]; }
+for (const f of [g, ag]) {
+  for await (const x of h(f)) { gc(); console.log(x.n ?? x); }
+  const it = h(f); await it.next(); console.log((await it.next("sent")).value, (await it.throw(new TypeError("x"))).value, (await it.next()).value, (await it.return({ n: 11 })).value.n);
+  const other = h(f); await other.next(); const ended = await other.return({ n: 12 }); gc(); console.log(ended.value.n, ended.done, (await other.next()).done);
+  const third = h(f); await third.next(); console.log((await third.throw(new RangeError("y"))).value, await third.throw({ name: "own" }).catch((e) => e.name));
+}
