@@ -10,9 +10,9 @@ use std::array;
 
 /// How many names lie at hand. With fewer, names that are counted up (`k1`, `k2`, ..) drive out those that are
 /// read again and again.
-const PLACES: usize = 32;
+const PLACES: usize = 64;
 
-/// The names of an agent that were read so far. One of those that were read last is found by its length
+/// The names of an agent that were read so far. One of those that were read last is found by its first
 /// and its last byte, without a look into the table of all.
 #[derive(Drop)]
 pub struct KnownNames {
@@ -103,11 +103,11 @@ impl KnownNames {
     }
 }
 
-/// The place of a text.
+/// The place of a text. Names of a letter and a number, as `o0` and `p0` are, mostly have places of their own.
 fn place_of(text: &[u8]) -> usize {
-    match text.last() {
-        Some(byte) => (text.len() % 4 * 8 + *byte as usize) % PLACES,
-        None => 0,
+    match (text.first(), text.last()) {
+        (Some(first), Some(last)) => (*first as usize * 8 + *last as usize) % PLACES,
+        _ => 0,
     }
 }
 
