@@ -67,8 +67,12 @@ after_a_collection : catching plan_collect (Emptied [] ∷ JobBegun 1 ∷ []) �
 after_a_collection = refl
 
 -- nothing is caught between two jobs
-between_jobs : catching plan_callback (JobEnded ∷ called) ≡ None
+between_jobs : catching plan_callback (JobEnded ∷ Did (Say d, Undefined ∷ [], Nothing) ∷ called) ≡ None
 between_jobs = refl
+
+-- nor where a refusal stopped a callback
+after_a_refusal : catching plan_callback (Refused NotHeldWeakly ∷ Did (Say d, Undefined ∷ [], Nothing) ∷ called) ≡ None
+after_a_refusal = refl
 
 -- Wrong neighbours
 

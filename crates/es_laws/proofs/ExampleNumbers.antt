@@ -3,9 +3,12 @@
 use Rattle.std.proofs.Common.{◌≡◌, true, false, refl, [], ◌∷◌, Some, None, codes}
 use Rattle.std.specs.Prelude.{pos, negsuc, Ok, Err}
 use Rattle.es_value.specs.declared.value.Value.TheVariants.{Undefined, Boolean, Number, Text, Registered, Object, Symbol as SymbolValue}
+use Rattle.es_event.specs.declared.access.Change.{Change}
 use Rattle.es_event.specs.declared.access.Edit.{Edit}
 use Rattle.es_event.specs.declared.access.Modification.{Modification}
-use Rattle.es_event.specs.declared.atomic.Operation.TheVariants.{CompareExchange}
+use Rattle.es_event.specs.declared.atomic.AtomicParts.{AtomicParts}
+use Rattle.es_event.specs.declared.atomic.Operation.{Operation}
+use Rattle.es_event.specs.declared.atomic.Operation.TheVariants.{Load, Store, Modify, CompareExchange}
 use Rattle.es_event.specs.declared.command.Command.{Command}
 use Rattle.es_event.specs.declared.command.Command.TheVariants.{SharedArrayBuffer}
 use Rattle.es_event.specs.declared.event.Answer.TheVariants.{Gives}
@@ -14,9 +17,9 @@ use Rattle.es_event.specs.declared.event.Refusal.TheVariants.{NotASharedArrayBuf
 use Rattle.es_event.specs.declared.operand.Operand.{Operand}
 use Rattle.es_event.specs.Rows.{row}
 use Rattle.es_event.specs.Access.{modified, change_by, written, to_uint32}
-use Rattle.es_event.specs.Commands.{atomic}
+use Rattle.es_event.specs.Commands.{assigns, atomic, reads}
 use Rattle.es_event.specs.History.{History}
-use Rattle.es_event.specs.Numbers.{number_of}
+use Rattle.es_event.specs.Numbers.{access_of, index_of, number_of}
 use Rattle.es_event.specs.Rules.{refusal}
 use Rattle.es_event.specs.Sharing.{Buffers}
 use Rattle.es_event.proofs.Examples.{compare_exchange, load}
@@ -136,6 +139,17 @@ another_stays = refl
 replaced_by_itself : written (change_by (Edit.Compare 5 5) 5) 5 ≡ Some 5
 replaced_by_itself = refl
 
+-- an addition is told as one, and whatever else modifies a word as a store
+add_is_told_as_one : change_by (Edit.Modify Modification.Add 3) 10 ≡ Change.Add 3
+add_is_told_as_one = refl
+
+sub_is_told_as_a_store : change_by (Edit.Modify Modification.Sub 3) 10 ≡ Change.Write 7
+sub_is_told_as_a_store = refl
+
+-- a sum that is told as one begins at 0 again too
+told_sum_wraps : written (Change.Add 2) 4294967295 ≡ Some 1
+told_sum_wraps = refl
+
 -- numbers are words before they are compared
 word_of_minus_1 : to_uint32 (negsuc 0) ≡ 4294967295
 word_of_minus_1 = refl
@@ -156,6 +170,10 @@ one_word = (1, row 1 1 1) ∷ []
 abbrev swaps : Command
 swaps = atomic b (Operand.Variable n) (CompareExchange x (Operand.Variable m) (Operand.Variable o))
 
+-- the same, but what is put alone is the value of a variable
+abbrev puts : Command
+puts = atomic b (Operand.Number (pos 0)) (CompareExchange x (Operand.Number (pos 5)) (Operand.Variable o))
+
 the_buffer_first : refusal one_word opened swaps (Undefined ∷ Object 1 ∷ Object 1 ∷ Object 1 ∷ []) ≡ Some NotASharedArrayBuffer
 the_buffer_first = refl
 
@@ -165,6 +183,10 @@ the_index_is_a_number = refl
 
 the_index_is_read : refusal one_word opened swaps (Object 1 ∷ Text (codes "?") ∷ Object 1 ∷ Undefined ∷ []) ≡ Some TextIsNoWhole
 the_index_is_read = refl
+
+-- before the block is asked for it, which here has no words
+the_index_is_a_number_first : refusal ((1, row 1 1 0) ∷ []) opened swaps (Object 1 ∷ Object 1 ∷ Boolean true ∷ Boolean true ∷ []) ≡ Some NotANumber
+the_index_is_a_number_first = refl
 
 -- the index is within the block, before the words
 the_index_is_there : refusal one_word opened swaps (Object 1 ∷ Text (codes "1") ∷ Object 1 ∷ Undefined ∷ []) ≡ Some IndexOutOfRange
@@ -186,3 +208,48 @@ numbers_of_the_plan = refl
 
 past_the_block : refusal one_word opened (load x b (pos 1)) (Object 1 ∷ []) ≡ Some IndexOutOfRange
 past_the_block = refl
+
+-- a number of the plan takes no value
+numbers_take_no_value : refusal one_word opened puts (Object 1 ∷ Object 1 ∷ []) ≡ Some NotANumber
+numbers_take_no_value = refl
+
+-- What a command reads, and assigns: the variable of the buffer, and then of the operands from left to right
+
+swaps_reads : reads swaps ≡ b ∷ n ∷ m ∷ o ∷ []
+swaps_reads = refl
+
+puts_reads : reads puts ≡ b ∷ o ∷ []
+puts_reads = refl
+
+a_load_reads : reads (atomic b (Operand.Variable n) (Load x)) ≡ b ∷ n ∷ []
+a_load_reads = refl
+
+a_store_reads : reads (atomic b (Operand.Variable n) (Store (Operand.Variable m))) ≡ b ∷ n ∷ m ∷ []
+a_store_reads = refl
+
+a_sum_reads : reads (atomic b (Operand.Variable n) (Modify x Modification.Add (Operand.Variable m))) ≡ b ∷ n ∷ m ∷ []
+a_sum_reads = refl
+
+swaps_assigns : assigns swaps ≡ Some x
+swaps_assigns = refl
+
+-- What it does to a word, and whether it gives the one that was there
+
+abbrev on_word : Operation → AtomicParts
+on_word how = record { buffer = b; index = Operand.Variable n; operation = how }
+
+a_load_keeps : access_of (on_word (Load x)) (Object 1 ∷ Undefined ∷ []) ≡ record { edit = Edit.Plain Change.Keep; gives_word = true }
+a_load_keeps = refl
+
+a_store_writes : access_of (on_word (Store (Operand.Variable m))) (Object 1 ∷ Number (pos 3) ∷ Text (codes "5") ∷ []) ≡ record { edit = Edit.Plain (Change.Write 5); gives_word = false }
+a_store_writes = refl
+
+a_sub_modifies : access_of (on_word (Modify x Modification.Sub (Operand.Variable m))) (Object 1 ∷ Number (pos 3) ∷ Number (negsuc 0) ∷ []) ≡ record { edit = Edit.Modify Modification.Sub 4294967295; gives_word = true }
+a_sub_modifies = refl
+
+-- the first word is compared, the second put
+compares_and_puts : access_of (on_word (CompareExchange x (Operand.Variable m) (Operand.Variable o))) (Object 1 ∷ Number (pos 3) ∷ Text (codes "5") ∷ Boolean true ∷ []) ≡ record { edit = Edit.Compare 5 1; gives_word = true }
+compares_and_puts = refl
+
+the_third_word : index_of (on_word (Load x)) (Object 1 ∷ Text (codes " 3") ∷ []) ≡ pos 3
+the_third_word = refl
