@@ -11,9 +11,8 @@ use Rattle.es_event.specs.Registrations.{registered, cell, fate}
 use Rattle.es_event.specs.Sharing.{blocks_opened, messages_posted}
 use Rattle.es_event.specs.Reach.{IsReached}
 
--- the look-backs of two histories are the same, but for where the agent stands in its plan
-pub record LookAlike (into : Receivers) (g h : History) : Type 0 where
-  pub variables : (x : List ℕ) → var into g x ≡ var into h x
+-- the look-backs of two histories that speak of no variable are the same
+pub record SameButVariables (g h : History) : Type 0 where
   pub properties : (o : ℕ) (k : List ℕ) → prop g o k ≡ prop h o k
   pub keys : (o : ℕ) → keys g o ≡ keys h o
   pub kept : kept g ≡ kept h
@@ -29,4 +28,9 @@ pub record LookAlike (into : Receivers) (g h : History) : Type 0 where
   pub job : job g ≡ job h
   pub blocks : blocks_opened g ≡ blocks_opened h
   pub messages : messages_posted g ≡ messages_posted h
+
+-- the look-backs of two histories are the same, but for where the agent stands in its plan
+pub record LookAlike (into : Receivers) (g h : History) : Type 0 where
+  pub variables : (x : List ℕ) → var into g x ≡ var into h x
+  pub besides : SameButVariables g h
   pub reached : (i : ℕ) → IsReached into g i ↔ IsReached into h i

@@ -1,6 +1,6 @@
 //! Commands on words of shared memory.
 
-ghost use Rattle.std.specs.Prelude.{◌≡◌, ◌∷◌, ◌++◌, IfOk, is_some};
+ghost use Rattle.std.specs.Prelude.{◌≡◌, ◌∷◌, ◌++◌, [], false, IfOk, is_some};
 ghost use Rattle.std.specs.Option.{option_copied, option_to_list};
 ghost use Rattle.es_event.specs.Access.{edit_of, given_to, operands_of, to_uint32 as to_uint32_said, variables_of};
 ghost use Rattle.es_event.specs.Numbers.{access_of, index_of, number_or_0, numbers_of, operand_number, word_at};
@@ -109,14 +109,34 @@ impl Atomic {
         &self.parts.index
     }
 
-    /// The variables whose values the command takes, in order: the buffer's, and those of the operands.
+    /// The variables whose values the command takes, in order: the buffer's, and those of the operands. Most commands
+    /// have numbers alone for operands, so these are looked for first.
     #[inline(never)]
     pub(crate) fn reads(&self) -> OperandNames<'_>
+        ensures { names_of result ≡ self.now.buffer ∷ variables_of (self.now.index ∷ operands_of self.now.operation) }
+    {
+        if self.has_variables() {
+            self.reads_operands()
+        } else {
+            OperandNames::One(&self.parts.buffer)
+        }
+    }
+
+    /// The same, where an operand may be a variable.
+    #[inline(never)]
+    fn reads_operands(&self) -> OperandNames<'_>
         ensures { names_of result ≡ self.now.buffer ∷ variables_of (self.now.index ∷ operands_of self.now.operation) }
     {
         let (first, second) = self.parts.operation.variables();
         let names = OperandNames::One(&self.parts.buffer).and(self.parts.index.variable());
         names.and(first).and(second)
+    }
+
+    /// Whether an operand is a variable.
+    fn has_variables(&self) -> bool
+        ensures { result ≡ false → variables_of (self.now.index ∷ operands_of self.now.operation) ≡ [] }
+    {
+        self.parts.index.is_variable() || self.parts.operation.has_variables()
     }
 
     /// The word's place, where these are the values that the command takes; 0 where one of them is no number.
@@ -206,6 +226,21 @@ impl Operation {
             | Operation::Modify { to, .. }
             | Operation::CompareExchange { to, .. } => Some(to),
             Operation::Store { .. } => None,
+        }
+    }
+
+    /// Whether an operand after the index is a variable.
+    fn has_variables(&self) -> bool
+        ensures { result ≡ false → variables_of (operands_of self.now) ≡ [] }
+    {
+        match self {
+            Operation::Load { .. } => false,
+            Operation::Store { number } | Operation::Modify { number, .. } => number.is_variable(),
+            Operation::CompareExchange {
+                expected,
+                replacement,
+                ..
+            } => expected.is_variable() || replacement.is_variable(),
         }
     }
 

@@ -1,6 +1,6 @@
 //! A number that a command takes.
 
-ghost use Rattle.std.specs.Prelude.{◌≡◌, drop};
+ghost use Rattle.std.specs.Prelude.{◌≡◌, [], false, drop};
 ghost use Rattle.std.specs.Option.{option_copied, option_to_list};
 ghost use Rattle.es_event.specs.Access.{variable_of};
 ghost use Rattle.es_event.specs.Numbers.{after_operand, operand_number};
@@ -37,6 +37,14 @@ impl Operand {
             Operand::Number(_) => None,
             Operand::Variable(name) => Some(name),
         }
+    }
+
+    /// Whether it is a variable.
+    #[inline]
+    pub(crate) fn is_variable(&self) -> bool
+        ensures { result ≡ false → variable_of self.now ≡ [] }
+    {
+        matches!(self, Operand::Variable(_))
     }
 
     /// Its number, where these are the values of the variables from it on.

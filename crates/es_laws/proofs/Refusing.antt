@@ -8,7 +8,7 @@ use Rattle.es_event.specs.declared.event.Event.TheVariants.{Refused}
 use Rattle.es_event.specs.declared.event.Refusal.{Refusal}
 use Rattle.es_event.specs.History.{History}
 use Rattle.es_event.specs.Jobs.{Receivers}
-use Rattle.es_event.specs.LookBacks.{LookAlike}
+use Rattle.es_event.specs.LookBacks.{LookAlike, SameButVariables}
 use Rattle.es_event.specs.Registrations.{fate, is_present}
 use Rattle.es_event.specs.Report.{refusal_text}
 use Rattle.es_event.specs.Variables.{var}
@@ -39,9 +39,8 @@ closed_after into h code m c = record {
   entries = c.entries;
 }
 
-pub alike_refused : (into : Receivers) (h : History) (code : Refusal) → LookAlike into (Refused code ∷ h) h
-alike_refused into h code = record {
-  variables = λ x. refl;
+besides_refused : (h : History) (code : Refusal) → SameButVariables (Refused code ∷ h) h
+besides_refused h code = record {
   properties = λ o k. refl;
   keys = λ o. refl;
   kept = refl;
@@ -57,6 +56,12 @@ alike_refused into h code = record {
   job = omega arith;
   blocks = omega arith;
   messages = omega arith;
+}
+
+pub alike_refused : (into : Receivers) (h : History) (code : Refusal) → LookAlike into (Refused code ∷ h) h
+alike_refused into h code = record {
+  variables = λ x. refl;
+  besides = besides_refused h code;
   reached = λ i. (λ r m c. r m (closed_after into h code (λ j. m j ≡ true) c), λ r m c. r m (closed_before into h code (λ j. m j ≡ true) c));
 }
 
@@ -70,29 +75,34 @@ caught_at : (into : Receivers) (h : History) (x y : List ℕ) (code : Refusal) (
 caught_at into h x y code true is = ap (λ b. unwrap_or (cond b (some_text code) None) (var into h y)) is
 caught_at into h x y code false is = ap (λ b. unwrap_or (cond b (some_text code) None) (var into h y)) is
 
+besides_caught : (h : History) (x : List ℕ) (code : Refusal) → SameButVariables (caught_by x code ∷ h) h
+besides_caught h x code = record {
+  properties = λ o k. refl;
+  keys = λ o. refl;
+  kept = refl;
+  gone = refl;
+  targets = λ w. refl;
+  entries = λ w k. refl;
+  members = λ s v. refl;
+  registered = omega arith;
+  cells = λ n. refl;
+  fates = λ n. fate_same (caught_by x code) h n refl refl refl;
+  kinds = λ o. refl;
+  made = omega arith;
+  job = omega arith;
+  blocks = omega arith;
+  messages = omega arith;
+}
+
 pub caught_alone : ACaughtRefusalAssignsItsTextAlone
 caught_alone into h x code = (
   caught_at into h x x code true ((bytes_eq-Decides x x).1 refl),
   record {
     variables = λ y other. caught_at into h x y code false other;
-    properties = λ o k. refl;
-    keys = λ o. refl;
-    kept = refl;
-    gone = refl;
-    targets = λ w. refl;
-    entries = λ w k. refl;
-    members = λ s v. refl;
-    registered = omega arith;
-    cells = λ n. refl;
-    fates = λ n. fate_same (caught_by x code) h n refl refl refl;
-    kinds = λ o. refl;
-    made = omega arith;
-    job = omega arith;
+    besides = besides_caught h x code;
     cleaning = refl;
     queue = refl;
     later = refl;
-    blocks = omega arith;
-    messages = omega arith;
   },
   refl,
 )

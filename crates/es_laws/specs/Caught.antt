@@ -9,14 +9,9 @@ use Rattle.es_event.specs.declared.event.Event.{Event}
 use Rattle.es_event.specs.declared.event.Refusal.{Refusal}
 use Rattle.es_event.specs.declared.literal.Literal.{Literal}
 use Rattle.es_event.specs.History.{History}
-use Rattle.es_event.specs.Identities.{made, gone, kind}
-use Rattle.es_event.specs.Jobs.{Receivers, cleaning, job}
+use Rattle.es_event.specs.Jobs.{Receivers, cleaning}
+use Rattle.es_event.specs.LookBacks.{SameButVariables}
 use Rattle.es_event.specs.Variables.{var}
-use Rattle.es_event.specs.Properties.{prop, keys}
-use Rattle.es_event.specs.WeakRefs.{kept, target}
-use Rattle.es_event.specs.Ephemerons.{entry, is_member}
-use Rattle.es_event.specs.Registrations.{registered, cell, fate}
-use Rattle.es_event.specs.Sharing.{blocks_opened, messages_posted}
 use Rattle.es_event.specs.Later.{snapshot}
 use Rattle.es_event.specs.Order.{queue}
 use Rattle.es_event.specs.Report.{line, refusal_text}
@@ -28,24 +23,10 @@ caught_by x code = Event.Did (Command.Let x (Literal.Text (refusal_text code)), 
 -- the look-backs of two histories are the same, but for x, for what is reached from there, and for how far the agent is in its plan
 pub record LookAlikeBut (x : List ℕ) (into : Receivers) (g h : History) : Type 0 where
   pub variables : (y : List ℕ) → bytes_eq x y ≡ false → var into g y ≡ var into h y
-  pub properties : (o : ℕ) (k : List ℕ) → prop g o k ≡ prop h o k
-  pub keys : (o : ℕ) → keys g o ≡ keys h o
-  pub kept : kept g ≡ kept h
-  pub gone : gone g ≡ gone h
-  pub targets : (w : ℕ) → target g w ≡ target h w
-  pub entries : (w k : ℕ) → entry g w k ≡ entry h w k
-  pub members : (s v : ℕ) → is_member g s v ≡ is_member h s v
-  pub registered : registered g ≡ registered h
-  pub cells : (n : ℕ) → cell g n ≡ cell h n
-  pub fates : (n : ℕ) → fate g n ≡ fate h n
-  pub kinds : (o : ℕ) → kind g o ≡ kind h o
-  pub made : made g ≡ made h
-  pub job : job g ≡ job h
+  pub besides : SameButVariables g h
   pub cleaning : cleaning g ≡ cleaning h
   pub queue : queue g ≡ queue h
   pub later : snapshot g ≡ snapshot h
-  pub blocks : blocks_opened g ≡ blocks_opened h
-  pub messages : messages_posted g ≡ messages_posted h
 
 -- A refusal that is caught assigns its text, says nothing, and changes nothing else.
 abbrev pub ACaughtRefusalAssignsItsTextAlone : Type 0
