@@ -90,6 +90,7 @@ tied_view : (agents n : ℕ) (p : AgentPlan) (l : LedgerView) → l.history ≡ 
 tied_view agents n p l none = subst (IsTied (first_view agents n p)) (sym none) (record {
   ties = (refl, refl);
   awaits = λ s is. cc;
+  awake = refl;
   waits_end = refl;
   drains_end = refl;
 })

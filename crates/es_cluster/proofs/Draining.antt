@@ -12,6 +12,7 @@ use Rattle.es_event.specs.declared.row.Entry.{Entry}
 use Rattle.es_event.specs.declared.row.Holder.{Holder}
 use Rattle.es_event.specs.declared.row.Holder.TheVariants.{Agent, Port, Nobody}
 use Rattle.es_event.specs.Rows.{held_by, line_of}
+use Rattle.es_event.specs.Waiters.{asleep}
 use Rattle.es_event.specs.Ledger.{Ledger, front, port_of, serial_in, table, by_agent, holder_of, waits, ended}
 use Rattle.es_event.specs.LegalLedger.{ComesNext, LegalLedger, LegalSoFar, all_ended, owed}
 use Rattle.es_ledger.specs.LedgerView.{LedgerView}
@@ -125,8 +126,8 @@ Stands bs n l = ArePlaced bs (record { agents = n; history = l }) × AreTied bs 
 part_still : (l : Ledger) (e : LedgerEvent) (a : ℕ) → deed l e ≡ None → part (e ∷ l) a ≡ part l a
 part_still l e a none = ap (λ o. part l a ++ part_of a o) none ∙ append-nil (part l a)
 
-still : (bs : List AgentView) (n : ℕ) (l : Ledger) (e : LedgerEvent) → deed l e ≡ None → ((a : ℕ) → waits (e ∷ l) a ≡ waits l a) → ((a : ℕ) → ended (e ∷ l) a ≡ ended l a) → Stands bs n l → Stands bs n (e ∷ l)
-still bs n l e none same ends stands = (
+still : (bs : List AgentView) (n : ℕ) (l : Ledger) (e : LedgerEvent) → deed l e ≡ None → ((a : ℕ) → waits (e ∷ l) a ≡ waits l a) → ((a : ℕ) → asleep (e ∷ l) a ≡ asleep l a) → ((a : ℕ) → ended (e ∷ l) a ≡ ended l a) → Stands bs n l → Stands bs n (e ∷ l)
+still bs n l e none same slept ends stands = (
   record {
     size = stands.0.size;
     each = λ i b is.
@@ -143,6 +144,7 @@ still bs n l e none same ends stands = (
         record {
           ties = subst (λ p. DeedsMeet b.history p (came_to b)) (sym (part_still l e b.number none)) was.ties;
           awaits = λ s waiting. was.awaits s (sym (same b.number) ∙ waiting);
+          awake = slept b.number ∙ was.awake;
           waits_end = ap (λ o. is_patient l o && patient l) none ∙ was.waits_end;
           drains_end = ap (λ o. (is_nobodys o || not (was_drained l)) && drained_last l) none ∙ was.drains_end;
         });
@@ -154,8 +156,8 @@ still bs n l e none same ends stands = (
 
 pub stands_outlasts : (bs : List AgentView) (n : ℕ) → Outlasts (Stands bs n)
 stands_outlasts bs n = record {
-  drains = λ l r s stands. still bs n l (Drained s r) refl (λ a. refl) (λ a. refl) stands;
-  spends = λ l k none stands. still bs n l (Spent k) none (λ a. refl) (λ a. refl) stands;
+  drains = λ l r s stands. still bs n l (Drained s r) refl (λ a. refl) (λ a. refl) (λ a. refl) stands;
+  spends = λ l k none stands. still bs n l (Spent k) none (λ a. refl) (λ a. refl) (λ a. refl) stands;
 }
 
 -- the agents have their places after a drain, and all have ended

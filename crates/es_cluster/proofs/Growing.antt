@@ -1,12 +1,13 @@
--- What one agent does: its part grows by it, and no other agent's part, wait or end changes.
+-- What one agent does: its part grows by it, and no other agent's part, wait, sleep or end changes.
 use Rattle.std.proofs.Common.{◌≡◌, ℕ, ◌==◌, ◌&&◌, ◌||◌, Bool, true, false, cond, not, sym, ◌∙◌, ap, refl, List, [], ◌∷◌, ◌++◌, append-nil, append_assoc, eq-eqb, Some, None, inl, inr}
 use Rattle.std.specs.Option.{option_map_or, option_map}
 use Rattle.std.proofs.lemmas.Bool.{cases_Bool, eqb-true}
 use Rattle.es_event.specs.declared.ledger_event.LedgerEvent.{LedgerEvent}
-use Rattle.es_event.specs.declared.ledger_event.LedgerEvent.TheVariants.{Opened, Posted, Taken, Spent, Accessed, Drained, Acted}
-use Rattle.es_event.specs.declared.ledger_event.Act.TheVariants.{Waiting, Passed, Ended}
+use Rattle.es_event.specs.declared.ledger_event.LedgerEvent.TheVariants.{Taken, Acted}
+use Rattle.es_event.specs.declared.ledger_event.Act.TheVariants.{Waiting, Passed, Ended, Slept, Woke, TimedOut}
 use Rattle.es_event.specs.declared.row.Row.{Row}
 use Rattle.es_event.specs.Ledger.{Ledger, waits, ended, holder_of}
+use Rattle.es_event.specs.Waiters.{asleep}
 use Rattle.es_match.specs.Deeds.{Deed, Owned, deed, is_wait, part, part_of, by_holder}
 use Rattle.es_cluster.specs.Tied.{AreDeedsOf, GrowsBy}
 
@@ -41,7 +42,7 @@ part_other l e n a d is other =
     ∙ ap (λ b. part l a ++ cond (b && not (is_wait d)) (d ∷ []) []) (apart n a other)
     ∙ append-nil (part l a)
 
--- Waits and ends
+-- Waits, sleeps and ends
 
 pub doer : (o : Owned) (n m : ℕ) (d : Deed) → o ≡ Some (n, d) → option_map_or (λ p. p.0) o m ≡ n
 doer o n m d is = ap (λ o. option_map_or (λ p. p.0) o m) is
@@ -53,23 +54,22 @@ pub waits_other : (l : Ledger) (e : LedgerEvent) (n a : ℕ) (d : Deed) → deed
 waits_other l (Taken s r) n a d is other = ap (λ b. cond b None (waits l a)) (other_than r n a (doer (deed l (Taken s r)) n r d is) other)
 waits_other l (Acted r (Waiting s)) n a d is other = ap (λ b. cond b (Some s) (waits l a)) (other_than r n a (doer (deed l (Acted r (Waiting s))) n r d is) other)
 waits_other l (Acted r (Passed s)) n a d is other = ap (λ b. cond b None (waits l a)) (other_than r n a (doer (deed l (Acted r (Passed s))) n r d is) other)
-waits_other l (Opened b w s r) n a d is other = refl
-waits_other l (Posted t r m) n a d is other = refl
-waits_other l (Spent s) n a d is other = refl
-waits_other l (Accessed s i m old) n a d is other = refl
-waits_other l (Acted r Ended) n a d is other = refl
-waits_other l (Drained s r) n a d is other = refl
+waits_other l _ n a d is other = refl
+
+-- an act that sets whether one agent sleeps
+set_other : (l : Ledger) (r n a : ℕ) (v : Bool) → r ≡ n → (a ≡ n → ⊥) → cond (r == a) v (asleep l a) ≡ asleep l a
+set_other l r n a v is other = ap (λ b. cond b v (asleep l a)) (other_than r n a is other)
+
+pub asleep_other : (l : Ledger) (e : LedgerEvent) (n a : ℕ) (d : Deed) → deed l e ≡ Some (n, d) → (a ≡ n → ⊥) → asleep (e ∷ l) a ≡ asleep l a
+asleep_other l (Acted r (Slept s i w)) n a d is other = set_other l r n a true (doer (deed l (Acted r (Slept s i w))) n r d is) other
+asleep_other l (Acted r Woke) n a d is other = set_other l r n a false (doer (deed l (Acted r Woke)) n r d is) other
+asleep_other l (Acted r TimedOut) n a d is other = set_other l r n a false (doer (deed l (Acted r TimedOut)) n r d is) other
+asleep_other l (Acted r Ended) n a d is other = set_other l r n a false (doer (deed l (Acted r Ended)) n r d is) other
+asleep_other l _ n a d is other = refl
 
 pub ended_other : (l : Ledger) (e : LedgerEvent) (n a : ℕ) (d : Deed) → deed l e ≡ Some (n, d) → (a ≡ n → ⊥) → ended (e ∷ l) a ≡ ended l a
 ended_other l (Acted r Ended) n a d is other = ap (λ b. b || ended l a) (other_than r n a (doer (deed l (Acted r Ended)) n r d is) other)
-ended_other l (Taken s r) n a d is other = refl
-ended_other l (Acted r (Waiting s)) n a d is other = refl
-ended_other l (Acted r (Passed s)) n a d is other = refl
-ended_other l (Opened b w s r) n a d is other = refl
-ended_other l (Posted t r m) n a d is other = refl
-ended_other l (Spent s) n a d is other = refl
-ended_other l (Accessed s i m old) n a d is other = refl
-ended_other l (Drained s r) n a d is other = refl
+ended_other l _ n a d is other = refl
 
 -- Many deeds
 
@@ -104,6 +104,9 @@ part_stays n a l m g other = grown part n a l m (λ l e d is. part_other l e n a
 
 pub waits_stay : (n a : ℕ) (l m : Ledger) → GrowsBy n l m → (a ≡ n → ⊥) → waits m a ≡ waits l a
 waits_stay n a l m g other = grown waits n a l m (λ l e d is. waits_other l e n a d is other) g
+
+pub asleep_stays : (n a : ℕ) (l m : Ledger) → GrowsBy n l m → (a ≡ n → ⊥) → asleep m a ≡ asleep l a
+asleep_stays n a l m g other = grown asleep n a l m (λ l e d is. asleep_other l e n a d is other) g
 
 pub ended_stays : (n a : ℕ) (l m : Ledger) → GrowsBy n l m → (a ≡ n → ⊥) → ended m a ≡ ended l a
 ended_stays n a l m g other = grown ended n a l m (λ l e d is. ended_other l e n a d is other) g

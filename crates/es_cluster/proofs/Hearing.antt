@@ -1,9 +1,10 @@
 -- An agent asks for a message: what the ledger's history is then.
-use Rattle.std.proofs.Common.{◌≡◌, ℕ, ◌&&◌, Bool, true, false, cond, sym, ◌∙◌, ap, refl, subst, ◌∷◌, Option, Some, None}
+use Rattle.std.proofs.Common.{◌≡◌, ℕ, ◌&&◌, ◌||◌, Bool, true, false, cond, sym, ◌∙◌, ap, refl, subst, ◌∷◌, Option, Some, None}
 use Rattle.std.specs.Prelude.{is_some}
 use Rattle.es_event.specs.declared.ledger_event.LedgerEvent.TheVariants.{Taken, Acted}
 use Rattle.es_event.specs.declared.ledger_event.Act.TheVariants.{Waiting, Passed}
 use Rattle.es_event.specs.Ledger.{Ledger, waits, ended}
+use Rattle.es_event.specs.Waiters.{asleep}
 use Rattle.es_event.specs.LegalLedger.{has_message, skips}
 use Rattle.es_ledger.specs.LedgerView.{LedgerView}
 use Rattle.es_ledger.specs.Turns.{asked, judged, told, waits_for}
@@ -70,21 +71,21 @@ goes_on_ready b l m s is there =
 -- The wait is recorded, where it is not yet
 
 asked_tied : (b : AgentView) (l : Ledger) (s : ℕ) → IsTied b l → has_drained l ≡ false → need b ≡ asks_message s → IsTied b (asked l b.number s) × (has_drained (asked l b.number s) ≡ false)
-asked_tied b l s tied still is = by_wait (waits l b.number) refl
+asked_tied b l s tied still is = subst (λ z. IsTied b (cond (is_some (waits l b.number) || z) l (Acted b.number (Waiting s) ∷ l)) × (has_drained (cond (is_some (waits l b.number) || z) l (Acted b.number (Waiting s) ∷ l)) ≡ false)) (sym tied.awake) (by_wait (waits l b.number) refl)
   where
-    by_wait : (w : Option ℕ) → waits l b.number ≡ w → IsTied b (cond (is_some w) l (Acted b.number (Waiting s) ∷ l)) × (has_drained (cond (is_some w) l (Acted b.number (Waiting s) ∷ l)) ≡ false)
+    by_wait : (w : Option ℕ) → waits l b.number ≡ w → IsTied b (cond (is_some w || false) l (Acted b.number (Waiting s) ∷ l)) × (has_drained (cond (is_some w || false) l (Acted b.number (Waiting s) ∷ l)) ≡ false)
     by_wait None w = (awaits b l (Acted b.number (Waiting s) ∷ l) s tied refl w still is, still)
     by_wait (Some t) w = (tied, still)
 
 asked_grows : (l : Ledger) (n s : ℕ) → GrowsBy n l (asked l n s)
-asked_grows l n s = by_wait (is_some (waits l n))
+asked_grows l n s = by_wait (is_some (waits l n) || asleep l n)
   where
     by_wait : (b : Bool) → GrowsBy n l (cond b l (Acted n (Waiting s) ∷ l))
     by_wait true = grows_none n l
     by_wait false = grows_one n l (Acted n (Waiting s) ∷ l) (Acted n (Waiting s)) (Waits s) refl refl
 
 asked_ends : (l : Ledger) (n s a : ℕ) → ended (asked l n s) a ≡ ended l a
-asked_ends l n s a = by_wait (is_some (waits l n))
+asked_ends l n s a = by_wait (is_some (waits l n) || asleep l n)
   where
     by_wait : (b : Bool) → ended (cond b l (Acted n (Waiting s) ∷ l)) a ≡ ended l a
     by_wait true = refl

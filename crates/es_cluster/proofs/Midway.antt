@@ -1,7 +1,7 @@
 -- An agent that has done something in the ledger that its history does not tell yet.
 use Rattle.std.proofs.Common.{◌≡◌, ℕ, suc, zero, ◌<◌, ◌==◌, ◌&&◌, ◌||◌, Bool, true, false, cond, not, sym, ◌∙◌, ap, refl, subst, arith, List, [], ◌∷◌, ◌++◌, append-nil, append_assoc, eq-eqb, Option, Some, None, inl, inr}
 use Rattle.std.specs.Prelude.{reverse}
-use Rattle.std.specs.Option.{option_map}
+use Rattle.std.specs.Option.{option_map, option_map_or}
 use Rattle.std.proofs.lemmas.Bool.{cases_Bool, and_parts, eqb-true, eqb-false}
 use Rattle.es_value.specs.declared.value.Value.{Value}
 use Rattle.es_event.specs.declared.command.Command.{Command}
@@ -15,16 +15,17 @@ use Rattle.es_event.specs.History.{History}
 use Rattle.es_event.specs.Jobs.{job}
 use Rattle.es_event.specs.declared.ledger_event.LedgerEvent.{LedgerEvent}
 use Rattle.es_event.specs.declared.ledger_event.LedgerEvent.TheVariants.{Spent, Drained, Acted}
-use Rattle.es_event.specs.declared.ledger_event.Act.TheVariants.{Waiting}
+use Rattle.es_event.specs.declared.ledger_event.Act.TheVariants.{Waiting, Ended, Slept, Woke, TimedOut}
 use Rattle.es_event.specs.Totals.{is_drained}
 use Rattle.es_event.specs.Ledger.{Ledger, waits, ended as has_ended, is_end_of}
+use Rattle.es_event.specs.Waiters.{asleep}
 use Rattle.es_event.specs.LegalLedger.{ComesNext, LegalSoFar, LegalLedger, all_ended, owed}
 use Rattle.es_event.specs.Order.{phase}
 use Rattle.es_ledger.specs.LedgerView.{LedgerView}
 use Rattle.es_match.specs.Asks.{Asking, to_open, to_receive, to_refuse, between_jobs, asks, asks_did}
-use Rattle.es_match.specs.Patience.{patient, may_do, is_patient, has_drained, drained_last, is_nobodys}
+use Rattle.es_match.specs.Patience.{patient, may_do, may_stir, is_patient, has_drained, drained_last, is_nobodys}
 use Rattle.es_match.specs.Cluster.{DeedsMeet, awaited, is_refusal_asked, refused_senders}
-use Rattle.es_match.specs.Deeds.{Deed, Opens, Takes, Waits, deed, is_wait, part}
+use Rattle.es_match.specs.Deeds.{Deed, Owned, Opens, Takes, Waits, deed, is_sleep, is_wait, part}
 use Rattle.es_match.specs.Meets.{Tickets, after, came_after, opened_ticket, refused_in, taken_ticket, ticket_in}
 use Rattle.es_record.specs.AgentView.{AgentView, Records, with_row}
 use Rattle.es_rules.specs.Needs.{asks_message, need}
@@ -44,24 +45,39 @@ begun b l tied = record {
   told = part l b.number;
   mine = tied.ties;
   split = sym (append-nil (part l b.number));
+  awake = tied.awake;
   waits_end = tied.waits_end;
   drains_end = tied.drains_end;
 }
 
-still_patient : (l : Ledger) (e : LedgerEvent) (n : ℕ) (d : Deed) → patient l ≡ true → deed l e ≡ Some (n, d) → may_do (waits l n) d ≡ true → patient (e ∷ l) ≡ true
-still_patient l e n d before is may = ap (λ o. is_patient l o && patient l) is ∙ ap (λ b. b && patient l) may ∙ before
+still_patient : (l : Ledger) (e : LedgerEvent) (n : ℕ) (d : Deed) → patient l ≡ true → deed l e ≡ Some (n, d) → may_do (waits l n) d ≡ true → asleep l n ≡ false → patient (e ∷ l) ≡ true
+still_patient l e n d before is may awake =
+    ap (λ o. is_patient l o && patient l) is ∙ ap (λ b. (b && may_stir (asleep l n) d) && patient l) may ∙ ap (λ b. may_stir b d && patient l) awake ∙ before
+
+pub awake_if : (b asleep : Bool) → asleep ≡ false → cond b false asleep ≡ false
+awake_if true asleep awake = refl
+awake_if false asleep awake = awake
+
+-- only by a sleep an agent is awake no more
+pub still_awake : (l : Ledger) (e : LedgerEvent) (n : ℕ) (d : Deed) → deed l e ≡ Some (n, d) → is_sleep d ≡ false → asleep l n ≡ false → asleep (e ∷ l) n ≡ false
+still_awake l (Acted c (Slept s i w)) n d is quick awake = let clash : true ≡ false = ap (λ (o : Owned). option_map_or (λ p. is_sleep p.1) o true) is ∙ quick in cc
+still_awake l (Acted c Woke) n d is quick awake = awake_if (c == n) (asleep l n) awake
+still_awake l (Acted c TimedOut) n d is quick awake = awake_if (c == n) (asleep l n) awake
+still_awake l (Acted c Ended) n d is quick awake = awake_if (c == n) (asleep l n) awake
+still_awake l _ n d is quick awake = awake
 
 still_last : (l : Ledger) (e : LedgerEvent) (n : ℕ) (d : Deed) → drained_last l ≡ true → deed l e ≡ Some (n, d) → has_drained l ≡ false → drained_last (e ∷ l) ≡ true
 still_last l e n d before is none = ap (λ o. (is_nobodys o || not (has_drained l)) && drained_last l) is ∙ ap (λ b. not b && drained_last l) none ∙ before
 
 -- one more deed
-pub does : (b : AgentView) (l m : Ledger) (ds : List Deed) (e : LedgerEvent) (d : Deed) → Midway b l ds → m ≡ e ∷ l → deed l e ≡ Some (b.number, d) → is_wait d ≡ false → may_do (waits l b.number) d ≡ true → has_drained l ≡ false
+pub does : (b : AgentView) (l m : Ledger) (ds : List Deed) (e : LedgerEvent) (d : Deed) → Midway b l ds → m ≡ e ∷ l → deed l e ≡ Some (b.number, d) → is_wait d ≡ false → is_sleep d ≡ false → may_do (waits l b.number) d ≡ true → has_drained l ≡ false
     → Midway b m (ds ++ d ∷ [])
-does b l m ds e d mid more is w may none = subst (λ m. Midway b m (ds ++ d ∷ [])) (sym more) (record {
+does b l m ds e d mid more is w up may none = subst (λ m. Midway b m (ds ++ d ∷ [])) (sym more) (record {
   told = mid.told;
   mine = mid.mine;
   split = part_own l e b.number d is w ∙ ap (λ p. p ++ d ∷ []) mid.split ∙ append_assoc mid.told ds (d ∷ []);
-  waits_end = still_patient l e b.number d mid.waits_end is may;
+  awake = still_awake l e b.number d is up mid.awake;
+  waits_end = still_patient l e b.number d mid.waits_end is may mid.awake;
   drains_end = still_last l e b.number d mid.drains_end is none;
 })
 
@@ -143,6 +159,7 @@ tells old new row l ds e mid records met came named free =
       tied = record {
         ties = subst (λ h. DeedsMeet h (part l new.number) (came_to new)) (sym grown) (mid.told, ds, came_to old, ap (part l) same ∙ mid.split, mid.mine, brought);
         awaits = λ s is. (let none : ◌≡◌ {A = Option ℕ} None (Some s) = sym free ∙ ap (waits l) (sym same) ∙ is in cc);
+        awake = ap (asleep l) same ∙ mid.awake;
         waits_end = mid.waits_end;
         drains_end = mid.drains_end;
       };
@@ -154,7 +171,8 @@ pub awaits : (b : AgentView) (l m : Ledger) (s : ℕ) → IsTied b l → m ≡ A
 awaits b l m s tied more free none is = subst (IsTied b) (sym more) (record {
   ties = subst (λ p. DeedsMeet b.history p (came_to b)) (sym (part_waits l (Acted b.number (Waiting s)) b.number b.number (Waits s) refl refl)) tied.ties;
   awaits = λ t w. is ∙ ap asks_message (awaited t w);
-  waits_end = still_patient l (Acted b.number (Waiting s)) b.number (Waits s) tied.waits_end refl (ap (λ w. may_do w (Waits s)) free);
+  awake = tied.awake;
+  waits_end = still_patient l (Acted b.number (Waiting s)) b.number (Waits s) tied.waits_end refl (ap (λ w. may_do w (Waits s)) free) tied.awake;
   drains_end = still_last l (Acted b.number (Waiting s)) b.number (Waits s) tied.drains_end refl none;
 })
   where

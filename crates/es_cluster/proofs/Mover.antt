@@ -7,6 +7,7 @@ use Rattle.std.proofs.lemmas.Bool.{and_parts, cases_Bool, eqb-true, eqb-false}
 use Rattle.es_event.specs.declared.ledger_event.LedgerEvent.TheVariants.{Acted}
 use Rattle.es_event.specs.declared.ledger_event.Act.TheVariants.{Waiting as WaitingEvent, Passed}
 use Rattle.es_event.specs.Ledger.{Ledger, ended, waits}
+use Rattle.es_event.specs.Waiters.{asleep, is_listed}
 use Rattle.es_event.specs.LegalLedger.{has_message, is_stuck, all_stuck, all_ended, is_chosen, skips}
 use Rattle.es_event.specs.Order.{Phase, between, handed, inside, stopped, ended as at_end, phase, due_at}
 use Rattle.es_agent.specs.Tickets.{is_ended}
@@ -70,9 +71,12 @@ over_at b at_end is = refl
 pub over_asks_nothing : (b : AgentView) → is_over b ≡ true → need b ≡ asks_nothing
 over_asks_nothing b is = over_at b (phase b.history) is
 
+abbrev vain : Ledger → ℕ → Bool
+vain l a = option_map_or (λ s. not (has_message l s a) && not (ended l s)) (waits l a) false
+
 -- it does not go on
-pub settled_stays : (l : Ledger) (b : AgentView) → ended l b.number ≡ is_over b → ((s : ℕ) → waits l b.number ≡ Some s → need b ≡ asks_message s) → is_settled l b.number ≡ true → goes_on l b ≡ false
-settled_stays l b over awaits is = by_end (ended l b.number) refl is
+pub settled_stays : (l : Ledger) (b : AgentView) → ended l b.number ≡ is_over b → is_listed l b.number ≡ false → ((s : ℕ) → waits l b.number ≡ Some s → need b ≡ asks_message s) → is_settled l b.number ≡ true → goes_on l b ≡ false
+settled_stays l b over unlisted awaits is = by_end (ended l b.number) refl is
   where
     by_wait : (w : Option ℕ) → waits l b.number ≡ w → option_map_or (λ s. not (has_message l s b.number) && not (ended l s)) w false ≡ true → goes_on l b ≡ false
     by_wait None w stuck = cc
@@ -87,12 +91,12 @@ settled_stays l b over awaits is = by_end (ended l b.number) refl is
 
     by_end : (e : Bool) → ended l b.number ≡ e → (e || is_stuck l b.number) ≡ true → goes_on l b ≡ false
     by_end true e stuck = ap (goes_on_by l b.number) (over_asks_nothing b (sym over ∙ e))
-    by_end false e stuck = by_wait (waits l b.number) refl stuck
+    by_end false e stuck = by_wait (waits l b.number) refl (sym (ap (λ t. t || vain l b.number) unlisted) ∙ stuck)
 
 -- An agent that asks for a message
 
 pub by_asked : (P : Ledger → Type 0) (l : Ledger) (a s : ℕ) → P l → P (Acted a (WaitingEvent s) ∷ l) → P (asked l a s)
-by_asked P l a s was more = at (is_some (waits l a))
+by_asked P l a s was more = at (is_some (waits l a) || asleep l a)
   where
     at : (b : Bool) → P (cond b l (Acted a (WaitingEvent s) ∷ l))
     at true = was
@@ -111,29 +115,41 @@ asked_waits l a s t other = by_asked (λ k. waits k t ≡ waits l t) l a s refl 
 ])
 
 -- its wait is recorded
-pub asked_awaits : (b : AgentView) (l : Ledger) (s : ℕ) → ((t : ℕ) → waits l b.number ≡ Some t → need b ≡ asks_message t) → need b ≡ asks_message s → waits (asked l b.number s) b.number ≡ Some s
-asked_awaits b l s awaits is = at (waits l b.number) refl
+pub asked_awaits : (b : AgentView) (l : Ledger) (s : ℕ) → asleep l b.number ≡ false → ((t : ℕ) → waits l b.number ≡ Some t → need b ≡ asks_message t) → need b ≡ asks_message s → waits (asked l b.number s) b.number ≡ Some s
+asked_awaits b l s awake awaits is = subst (λ z. waits (cond (is_some (waits l b.number) || z) l (Acted b.number (WaitingEvent s) ∷ l)) b.number ≡ Some s) (sym awake) (at (waits l b.number) refl)
   where
-    at : (w : Option ℕ) → waits l b.number ≡ w → waits (cond (is_some w) l (Acted b.number (WaitingEvent s) ∷ l)) b.number ≡ Some s
+    at : (w : Option ℕ) → waits l b.number ≡ w → waits (cond (is_some w || false) l (Acted b.number (WaitingEvent s) ∷ l)) b.number ≡ Some s
     at None w = ap (λ t. cond t (Some s) (waits l b.number)) (eq-eqb b.number b.number refl)
     at (Some t) w =
         let asks : asks_message s ≡ asks_message t = sym is ∙ awaits t w in
         let same : t ≡ s = cc in
         w ∙ ap (λ t. Some t) same
 
-asked_settled : (l : Ledger) (a s t : ℕ) → (t ≡ a → ⊥) → is_settled (asked l a s) t ≡ is_settled l t
-asked_settled l a s t other = at (waits (asked l a s) t) (waits l t) (asked_waits l a s t other)
+pub asked_lists : (l : Ledger) (a s t : ℕ) → is_listed (asked l a s) t ≡ is_listed l t
+asked_lists l a s t = by_asked (λ k. is_listed k t ≡ is_listed l t) l a s refl refl
+
+asked_vain : (l : Ledger) (a s t : ℕ) → (t ≡ a → ⊥) → vain (asked l a s) t ≡ vain l t
+asked_vain l a s t other = at (waits (asked l a s) t) (waits l t) (asked_waits l a s t other)
   where
     at : (v w : Option ℕ) → v ≡ w
-        → (ended (asked l a s) t || option_map_or (λ u. not (has_message (asked l a s) u t) && not (ended (asked l a s) u)) v false)
-        ≡ (ended l t || option_map_or (λ u. not (has_message l u t) && not (ended l u)) w false)
-    at None None same = ap (λ e. e || false) (asked_ends l a s t)
+        → option_map_or (λ u. not (has_message (asked l a s) u t) && not (ended (asked l a s) u)) v false ≡ option_map_or (λ u. not (has_message l u t) && not (ended l u)) w false
+    at None None same = refl
     at None (Some w) same = cc
     at (Some v) None same = cc
     at (Some v) (Some w) same =
         let u : v ≡ w = cc in
-        subst (λ w. (ended (asked l a s) t || (not (has_message (asked l a s) v t) && not (ended (asked l a s) v))) ≡ (ended l t || (not (has_message l w t) && not (ended l w)))) u
-        (rw (asked_ends l a s t, asked_message l a s v t, asked_ends l a s v) refl)
+        subst (λ w. (not (has_message (asked l a s) v t) && not (ended (asked l a s) v)) ≡ (not (has_message l w t) && not (ended l w))) u
+        (rw (asked_message l a s v t, asked_ends l a s v) refl)
+
+asked_settled : (l : Ledger) (a s t : ℕ) → (t ≡ a → ⊥) → is_settled (asked l a s) t ≡ is_settled l t
+asked_settled l a s t other =
+    ap (λ e. e || is_stuck (asked l a s) t) (asked_ends l a s t)
+    ∙ ap (λ b. ended l t || (b || vain (asked l a s) t)) (asked_lists l a s t)
+    ∙ ap (λ v. ended l t || (is_listed l t || v)) (asked_vain l a s t other)
+
+or_right : (b c : Bool) → c ≡ true → (b || c) ≡ true
+or_right true c is = refl
+or_right false c is = is
 
 -- where it waits in vain itself, so do those that did before
 pub asked_stuck : (l : Ledger) (a s n : ℕ) → is_settled (asked l a s) a ≡ true → all_stuck l n ≡ true → all_stuck (asked l a s) n ≡ true
@@ -155,21 +171,21 @@ pub record StaysHere (l k : Ledger) (n : ℕ) (b : AgentView) (s : ℕ) : Type 0
   pub stuck : is_stuck k b.number ≡ true
   pub unchosen : is_chosen k n b.number ≡ false
 
-pub stays_here : (b : AgentView) (l k : Ledger) (n s : ℕ) → ((t : ℕ) → waits l b.number ≡ Some t → need b ≡ asks_message t) → need b ≡ asks_message s → ◌≡◌ {A = Turn × Ledger} (Stay, k) (told l n b.number s) → StaysHere l k n b s
-stays_here b l k n s awaits is heard = subst (λ k. StaysHere l k n b s) (sym recorded) (at_port (has_message l s b.number) refl heard)
+pub stays_here : (b : AgentView) (l k : Ledger) (n s : ℕ) → asleep l b.number ≡ false → ((t : ℕ) → waits l b.number ≡ Some t → need b ≡ asks_message t) → need b ≡ asks_message s → ◌≡◌ {A = Turn × Ledger} (Stay, k) (told l n b.number s) → StaysHere l k n b s
+stays_here b l k n s awake awaits is heard = subst (λ k. StaysHere l k n b s) (sym recorded) (at_port (has_message l s b.number) refl heard)
   where
     recorded : k ≡ asked l b.number s
     recorded = where_stay l k n b.number s heard
 
     waiting : waits (asked l b.number s) b.number ≡ Some s
-    waiting = asked_awaits b l s awaits is
+    waiting = asked_awaits b l s awake awaits is
 
     here : has_message l s b.number ≡ false → (e c : Bool) → ended (asked l b.number s) s ≡ e → is_chosen (asked l b.number s) n b.number ≡ c → (e || c) ≡ false → StaysHere l (asked l b.number s) n b s
     here none true c e chosen neither = cc
     here none false true e chosen neither = cc
     here none false false e chosen neither = record {
       history = refl;
-      stuck = rw (waiting, asked_message l b.number s s b.number, none, e) refl;
+      stuck = or_right (is_listed (asked l b.number s) b.number) (vain (asked l b.number s) b.number) (rw (waiting, asked_message l b.number s s b.number, none, e) refl);
       unchosen = chosen;
     }
 
@@ -187,12 +203,12 @@ stays_here b l k n s awaits is heard = subst (λ k. StaysHere l k n b s) (sym re
         (ap (λ w. option_map_or (λ t. t == s) w false) waiting ∙ eq-eqb s s refl))
 
 -- one that is not told to stay goes on, or is the lowest of agents that all wait in vain once it is asked
-pub goes_or_chosen : (b : AgentView) (l : Ledger) (n s : ℕ) → ((t : ℕ) → waits l b.number ≡ Some t → need b ≡ asks_message t) → need b ≡ asks_message s → ((told l n b.number s).0 ≡ Stay → ⊥) → goes_on l b ≡ false
+pub goes_or_chosen : (b : AgentView) (l : Ledger) (n s : ℕ) → asleep l b.number ≡ false → ((t : ℕ) → waits l b.number ≡ Some t → need b ≡ asks_message t) → need b ≡ asks_message s → ((told l n b.number s).0 ≡ Stay → ⊥) → goes_on l b ≡ false
     → is_chosen (asked l b.number s) n b.number ≡ true
-goes_or_chosen b l n s awaits is heard stays = at_port (has_message l s b.number) (ended l s) refl refl (sym (ap (goes_on_by l b.number) is) ∙ stays) heard
+goes_or_chosen b l n s awake awaits is heard stays = at_port (has_message l s b.number) (ended l s) refl refl (sym (ap (goes_on_by l b.number) is) ∙ stays) heard
   where
     waiting : waits (asked l b.number s) b.number ≡ Some s
-    waiting = asked_awaits b l s awaits is
+    waiting = asked_awaits b l s awake awaits is
 
     at_port : (m e : Bool) → has_message l s b.number ≡ m → ended l s ≡ e → (m || e) ≡ false → ((cond m (Ready, l) (judged (asked l b.number s) n b.number s)).0 ≡ Stay → ⊥) → is_chosen (asked l b.number s) n b.number ≡ true
     at_port true e m at none not_stay = cc

@@ -1,5 +1,5 @@
 -- What a turn of one agent tells of who moves next, in a cluster.
-use Rattle.std.proofs.Common.{◌≡◌, ℕ, zero, suc, ◌+◌, ◌<◌, ◌==◌, ◌&&◌, ◌||◌, Bool, true, false, cond, not, sym, ◌∙◌, ap, refl, subst, arith, List, Option, Some, None, inl, inr}
+use Rattle.std.proofs.Common.{◌≡◌, ℕ, zero, suc, ◌+◌, ◌<◌, ◌==◌, ◌&&◌, ◌||◌, Bool, true, false, cond, not, sym, ◌∙◌, ap, refl, subst, arith, List, [], ◌∷◌, ◌++◌, Option, Some, None, inl, inr}
 use Rattle.std.specs.Prelude.{slice_get, slice_set}
 use Rattle.std.specs.List.{position_from}
 use Rattle.std.proofs.lemmas.Bool.{and_parts, cases_Bool, eqb-true, eqb-false}
@@ -8,8 +8,10 @@ use Rattle.es_event.specs.Later.{collects_now}
 use Rattle.es_event.specs.Follows.{Permits}
 use Rattle.es_event.specs.History.{History}
 use Rattle.es_event.specs.Jobs.{receivers, Receivers}
+use Rattle.es_event.specs.declared.ledger_event.LedgerEvent.{LedgerEvent}
 use Rattle.es_event.specs.Ledger.{Ledger, ended, waits}
-use Rattle.es_event.specs.LegalLedger.{has_message, is_stuck, all_stuck, all_ended, is_chosen}
+use Rattle.es_event.specs.Waiters.{is_listed}
+use Rattle.es_event.specs.LegalLedger.{LegalSoFar, has_message, is_stuck, all_stuck, all_ended, is_chosen}
 use Rattle.es_event.specs.Order.{Due, begin, receive, run, clean, take_cell, finish, end_job, close, nothing, due}
 use Rattle.es_event.specs.Sharing.{Buffers}
 use Rattle.es_ledger.specs.LedgerView.{LedgerView}
@@ -23,8 +25,9 @@ use Rattle.es_cluster.specs.Asked.{Hears}
 use Rattle.es_cluster.specs.Moves.{goes_on_by, goes_on, is_over, or_else}
 use Rattle.es_cluster.specs.State.{ClusterView, ArePlaced, AreTied}
 use Rattle.es_cluster.specs.Turns.{Turned}
-use Rattle.es_cluster.proofs.Mover.{first_at, none_at_all, is_settled, settled_at, settled_stays, over_asks_nothing, asked_message, asked_ends, asked_waits, asked_awaits, asked_stuck, asked_all_ended, StaysHere, stays_here, goes_or_chosen}
+use Rattle.es_cluster.proofs.Mover.{first_at, none_at_all, is_settled, settled_at, settled_stays, over_asks_nothing, asked_lists, asked_message, asked_ends, asked_waits, asked_awaits, asked_stuck, asked_all_ended, StaysHere, stays_here, goes_or_chosen}
 use Rattle.es_cluster.proofs.Resting.{nothing_over}
+use Rattle.es_ledger.proofs.Waking.{awake_unlisted}
 use Rattle.es_cluster.proofs.Standing.{set_same, within}
 
 -- An agent that asks for nothing does not move
@@ -74,16 +77,19 @@ below_ended l (suc n) i all less = elim (cases_Bool (i == n)) [
     below : (i n : ℕ) → i < suc n → (i ≡ n → ⊥) → i < n
     below i n less other = omega (arith, less, other)
 
-module _ (bs : List AgentView) (l : LedgerView) (placed : ArePlaced bs l) (tied : AreTied bs l) where
+module _ (bs : List AgentView) (l : LedgerView) (placed : ArePlaced bs l) (tied : AreTied bs l) (legal : LegalSoFar l.agents l.history) where
   over_of : (i : ℕ) (y : AgentView) → slice_get bs i ≡ Some y → ended l.history y.number ≡ is_over y
   over_of i y is = (placed.each i y is).seated.over
 
   awaits_of : (i : ℕ) (y : AgentView) → slice_get bs i ≡ Some y → (s : ℕ) → waits l.history y.number ≡ Some s → need y ≡ asks_message s
   awaits_of i y is = (tied.each i y is).awaits
 
+  unlisted_of : (i : ℕ) (y : AgentView) → slice_get bs i ≡ Some y → is_listed l.history y.number ≡ false
+  unlisted_of i y is = awake_unlisted l.agents l.history y.number legal (tied.each i y is).awake
+
   lower_stay : (n : ℕ) → all_stuck l.history n ≡ true → (i : ℕ) (y : AgentView) → i < n → slice_get bs i ≡ Some y → goes_on l.history y ≡ false
   lower_stay n all i y less is =
-      settled_stays l.history y (over_of i y is) (awaits_of i y is) (ap (is_settled l.history) (placed.each i y is).number ∙ settled_at l.history n i all less)
+      settled_stays l.history y (over_of i y is) (unlisted_of i y is) (awaits_of i y is) (ap (is_settled l.history) (placed.each i y is).number ∙ settled_at l.history n i all less)
 
   module _ (n : ℕ) (b : AgentView) (here : slice_get bs n ≡ Some b) where
     number_is : b.number ≡ n
@@ -108,13 +114,13 @@ module _ (bs : List AgentView) (l : LedgerView) (placed : ArePlaced bs l) (tied 
         none : (i : ℕ) (y : AgentView) → slice_get bs i ≡ Some y → goes_on l.history y ≡ false
         none i y at =
             sym (goes_same l.history k y (asked_message l.history b.number s) (asked_ends l.history b.number s))
-            ∙ settled_stays k y (asked_ends l.history b.number s y.number ∙ over_of i y at) awaits (ap (is_settled k) (placed.each i y at).number ∙ settled_at k l.agents i parts.0 (let size = placed.size in let inside = within bs i y at in omega (arith, size, inside)))
+            ∙ settled_stays k y (asked_ends l.history b.number s y.number ∙ over_of i y at) (asked_lists l.history b.number s y.number ∙ unlisted_of i y at) awaits (ap (is_settled k) (placed.each i y at).number ∙ settled_at k l.agents i parts.0 (let size = placed.size in let inside = within bs i y at in omega (arith, size, inside)))
           where
             awaits : (t : ℕ) → waits k y.number ≡ Some t → need y ≡ asks_message t
             awaits t waiting = elim (cases_Bool (i == n)) [
               | inl e ↦
                   let same : y ≡ b = let found = sym at ∙ (ap (slice_get bs) (eqb-true i n e) ∙ here) in cc in
-                  let heard : Some s ≡ Some t = sym (asked_awaits b l.history s (awaits_of n b here) is) ∙ (ap (λ (y : AgentView). waits k y.number) (sym same) ∙ waiting) in
+                  let heard : Some s ≡ Some t = sym (asked_awaits b l.history s (tied.each n b here).awake (awaits_of n b here) is) ∙ (ap (λ (y : AgentView). waits k y.number) (sym same) ∙ waiting) in
                   let sender : s ≡ t = cc in
                   ap need same ∙ is ∙ ap asks_message sender
               | inr e ↦
@@ -138,7 +144,7 @@ module _ (bs : List AgentView) (l : LedgerView) (placed : ArePlaced bs l) (tied 
         stays asks_copy is not_on = cc
         stays asks_late_marks is not_on = cc
         stays (asks_ledger r) is not_on = cc
-        stays (asks_message s) is not_on = mover_chosen s is (goes_or_chosen b l.history l.agents s (awaits_of n b here) is (heard s is) (ap (goes_on_by l.history b.number) is ∙ not_on))
+        stays (asks_message s) is not_on = mover_chosen s is (goes_or_chosen b l.history l.agents s (tied.each n b here).awake (awaits_of n b here) is (heard s is) (ap (goes_on_by l.history b.number) is ∙ not_on))
         stays asks_closing is not_on = cc
         stays asks_nothing is not_on = absurd (nothing_moves b new is step)
 
@@ -153,12 +159,19 @@ same_agents p n old new t same = t.agents ∙ ap (slice_set old.agents n) same �
 
 -- What is heard
 
+legal_rest : (n : ℕ) (es : List LedgerEvent) (l : Ledger) → LegalSoFar n (es ++ l) → LegalSoFar n l
+legal_rest n [] l legal = legal
+legal_rest n (e ∷ es) l legal = legal_rest n es l legal.1
+
+legal_before : (p : Progress) (n : ℕ) (old new : ClusterView) → Turned p n old new → LegalSoFar old.ledger.agents old.ledger.history
+legal_before p n old new t = legal_rest old.ledger.agents t.ledger.0 old.ledger.history (subst (LegalSoFar old.ledger.agents) t.ledger.1 (subst (λ k. LegalSoFar k new.ledger.history) t.number t.legal.0))
+
 pub hears : (p : Progress) (n : ℕ) (old new : ClusterView) → ArePlaced old.agents old.ledger → AreTied old.agents old.ledger → Turned p n old new → Hears p n old new
-hears Moved n old new placed tied t = λ all. mover_is old.agents old.ledger placed tied n t.before t.agent t.after new.ledger t.turn t.told all
+hears Moved n old new placed tied t = λ all. mover_is old.agents old.ledger placed tied (legal_before Moved n old new t) n t.before t.agent t.after new.ledger t.turn t.told all
 hears Waiting n old new placed tied t =
     let number = (placed.each n t.before t.agent).number in
     let over = (placed.each n t.before t.agent).seated.over in
-    let here = stays_here t.before old.ledger.history new.ledger.history old.ledger.agents t.told.0 (tied.each n t.before t.agent).awaits t.told.1 t.told.2 in (
+    let here = stays_here t.before old.ledger.history new.ledger.history old.ledger.agents t.told.0 (tied.each n t.before t.agent).awake (tied.each n t.before t.agent).awaits t.told.1 t.told.2 in (
       same_agents Waiting n old new t t.turn.2,
       t.number,
       λ all. stuck_here n old.ledger.history new.ledger.history t.before.number t.told.0 number here.history here.stuck all,

@@ -35,7 +35,7 @@ spends_all b l ds (t ∷ ts) mid are free none =
     let d = are.0.0 in
     let is : deed (spent ts l) (Spent t.1.serial) ≡ Some (b.number, Spends t.1.serial) = are.0.1 ∙ ap (λ d. Some (b.number, d)) (owner_spends (holder_of (spent ts l) t.1.serial) t.1.serial b.number d are.0.1) in (
       subst (Midway b (spent (t ∷ ts) l)) (append_assoc ds (all_spent ts) (Spends t.1.serial ∷ []))
-          (does b (spent ts l) (spent (t ∷ ts) l) (ds ++ all_spent ts) (Spent t.1.serial) (Spends t.1.serial) before.0 refl is refl (ap (λ w. may_do w (Spends t.1.serial)) before.1) before.2),
+          (does b (spent ts l) (spent (t ∷ ts) l) (ds ++ all_spent ts) (Spent t.1.serial) (Spends t.1.serial) before.0 refl is refl refl (ap (λ w. may_do w (Spends t.1.serial)) before.1) before.2),
       before.1,
       before.2,
     )

@@ -15,7 +15,7 @@ use Rattle.es_cluster.specs.Turned.{IsSeated, IsTiedAfter, OthersStay, Proceeds}
 use Rattle.es_cluster.specs.declared.member.Progress.{Progress}
 use Rattle.es_cluster.specs.declared.member.Progress.TheVariants.{Moved, Waiting, Ended}
 use Rattle.es_cluster.specs.Turns.{Takes}
-use Rattle.es_cluster.proofs.Growing.{part_stays, waits_stay, ended_stays}
+use Rattle.es_cluster.proofs.Growing.{asleep_stays, part_stays, waits_stay, ended_stays}
 use Rattle.es_cluster.specs.State.{account, accounts, cores, IsPlaced, ArePlaced, AreTied}
 
 -- Lists in which one is changed
@@ -75,6 +75,7 @@ pub tied_still : (b : AgentView) (l m : Ledger) (n : ℕ) → (b.number ≡ n �
 tied_still b l m n other grows tied new after = record {
   ties = subst (λ p. DeedsMeet b.history p (came_to b)) (sym (part_stays n b.number l m grows other)) tied.ties;
   awaits = λ s is. tied.awaits s (sym (waits_stay n b.number l m grows other) ∙ is);
+  awake = asleep_stays n b.number l m grows other ∙ tied.awake;
   waits_end = after.waits_end;
   drains_end = after.drains_end;
 }

@@ -31,7 +31,7 @@ use Rattle.es_ledger.specs.LedgerView.{LedgerView}
 use Rattle.es_match.specs.Asks.{Asking, to_open, to_receive, to_refuse, to_pass, to_empty, to_close, between_jobs, asks, asks_did}
 use Rattle.es_match.specs.Patience.{may_do, has_drained}
 use Rattle.es_match.specs.Cluster.{is_refusal_asked}
-use Rattle.es_match.specs.Deeds.{Deed, Opens, Posts, Takes, Spends, Accesses, Passes, Ends, by_holder, taking, deed, is_wait}
+use Rattle.es_match.specs.Deeds.{Deed, Opens, Posts, Takes, Spends, Accesses, Passes, Ends, by_holder, taking, deed, is_sleep, is_wait}
 use Rattle.es_match.specs.Meets.{Tickets, after, refused_in, some_if, ticket_in}
 use Rattle.es_ticket.specs.Stakes.{StakeView, at}
 use Rattle.es_record.specs.AgentView.{AgentView, Records}
@@ -83,23 +83,23 @@ opened_ties old new s l ready is r =
 -- One deed
 
 one_deed : (old new : AgentView) (s : StakeView) (l : LedgerView) (m : Ledger) (e : LedgerEvent) (d : Deed) (told : Event) (r : Request) → IsReady old s l → need old ≡ asks_ledger r
-    → m ≡ e ∷ l.history → deed l.history e ≡ Some (old.number, d) → is_wait d ≡ false → waits (e ∷ l.history) old.number ≡ waits l.history old.number
+    → m ≡ e ∷ l.history → deed l.history e ≡ Some (old.number, d) → is_wait d ≡ false → is_sleep d ≡ false → waits (e ∷ l.history) old.number ≡ waits l.history old.number
     → Records old told new → brings_ticket d ≡ false → is_refusal_asked (asks (between_jobs old.history) told) ≡ false → after (tickets old) (asks (between_jobs old.history) told) (d ∷ []) ≡ Some (tickets new) → IsSettled new m
-one_deed old new s l m e d told r ready is more did wait same records none_comes calm met =
+one_deed old new s l m e d told r ready is more did wait up same records none_comes calm met =
     let none = free old l.history ready.tied (λ s other. let clash : asks_ledger r ≡ asks_message s = sym is ∙ other in cc) in
     let going = open_for old (asks_ledger r) (λ f. cc) is in
     let q = asks (between_jobs old.history) told in
     tells old new None m (d ∷ []) told
-    (does old l.history m [] e d (begun old l.history ready.tied) more did wait (ap (λ w. may_do w d) none) (undrained old l ready.legal ready.seated going))
+    (does old l.history m [] e d (begun old l.history ready.tied) more did wait up (ap (λ w. may_do w d) none) (undrained old l ready.legal ready.seated going))
     records met (unbrought old.over (ticket_in q (d ∷ [])) (no_ticket q d none_comes)) (unnamed old q (d ∷ []) calm) (ap (λ m. waits m old.number) more ∙ same ∙ none)
 
 -- one that answers the due command
 done_ties : (old new : AgentView) (s : StakeView) (l : LedgerView) (m : Ledger) (e : LedgerEvent) (d : Deed) (r : Request) (a : Answer) → IsReady old s l → need old ≡ asks_ledger r
-    → m ≡ e ∷ l.history → deed l.history e ≡ Some (old.number, d) → is_wait d ≡ false → waits (e ∷ l.history) old.number ≡ waits l.history old.number
+    → m ≡ e ∷ l.history → deed l.history e ≡ Some (old.number, d) → is_wait d ≡ false → is_sleep d ≡ false → waits (e ∷ l.history) old.number ≡ waits l.history old.number
     → (done : DoesWith old a new) → brings_ticket d ≡ false → after (tickets old) (asks_did done.1.0 (values_of (receivers old.plan.jobs) old.history (reads done.1.0)) a) (d ∷ []) ≡ Some (tickets old) → IsSettled new m
-done_ties old new s l m e d r a ready is more did wait same done none_comes met =
+done_ties old new s l m e d r a ready is more did wait up same done none_comes met =
     let stays = done_stays old new a done in
-    one_deed old new s l m e d done.0 r ready is more did wait same done.3 none_comes
+    one_deed old new s l m e d done.0 r ready is more did wait up same done.3 none_comes
     (ap (λ e. is_refusal_asked (asks (between_jobs old.history) e)) done.1.2 ∙ did_not_refuse done.1.0 _ a)
     (ap (λ e. after (tickets old) (asks (between_jobs old.history) e) (d ∷ [])) done.1.2 ∙ met ∙ ap Some (sym stays.same))
 
@@ -109,7 +109,7 @@ owned old s l r d same holder here = by_ticket l.history r.serial s.agent r d (h
 pub access_ties : (old new : AgentView) (s : StakeView) (l : LedgerView) (m : Ledger) (o i w : ℕ) (a : Access) (r : Row) → IsReady old s l → need old ≡ asks_ledger (for_access o i a) → Contains s.rows r → Some r ≡ at o (tickets old)
     → m ≡ Accessed r.serial i (change_by a.edit w) w ∷ l.history → DoesWith old (answer_to a w) new → IsSettled new m
 access_ties old new s l m o i w a r ready is mine here more done =
-    done_ties old new s l m (Accessed r.serial i (change_by a.edit w) w) (Accesses r.serial i (change_by a.edit w) w) (for_access o i a) (answer_to a w) ready is more (owned old s l r (Accesses r.serial i (change_by a.edit w) w) ready.held.0 ready.holder mine) refl refl done refl
+    done_ties old new s l m (Accessed r.serial i (change_by a.edit w) w) (Accesses r.serial i (change_by a.edit w) w) (for_access o i a) (answer_to a w) ready is more (owned old s l r (Accesses r.serial i (change_by a.edit w) w) ready.held.0 ready.holder mine) refl refl refl done refl
     (ap (λ q. after (tickets old) q (Accesses r.serial i (change_by a.edit w) w ∷ [])) (access_asks old done.1.0 o i a (answer_to a w) (due_command old done.1.1.0 done.1.0 (for_access o i a) done.1.1.1 is)) ∙ access_met (tickets old) o i w a r here)
 
 pub post_grows : (old : AgentView) (l m : Ledger) (n a : ℕ) (b : Body) → n ≡ old.number → m ≡ Posted n a b ∷ l → GrowsBy old.number l m
@@ -118,22 +118,22 @@ post_grows old l m n a b same more = grows_one old.number l m (Posted n a b) (Po
 pub post_ties : (old new : AgentView) (s : StakeView) (l : LedgerView) (m : Ledger) (n a : ℕ) (v : Value) → IsReady old s l → need old ≡ asks_ledger (for_post a v) → identity v ≡ None → n ≡ old.number
     → m ≡ Posted n a (Plain v) ∷ l.history → DoesWith old Nothing new → IsSettled new m
 post_ties old new s l m n a v ready is plain same more done =
-    done_ties old new s l m (Posted n a (Plain v)) (Posts a (Plain v)) (for_post a v) Nothing ready is more (ap (λ n. Some (n, Posts a (Plain v))) same) refl refl done refl
+    done_ties old new s l m (Posted n a (Plain v)) (Posts a (Plain v)) (for_post a v) Nothing ready is more (ap (λ n. Some (n, Posts a (Plain v))) same) refl refl refl done refl
     (ap (λ q. after (tickets old) q (Posts a (Plain v) ∷ [])) (post_asks old done.1.0 a v Nothing (due_command old done.1.1.0 done.1.0 (for_post a v) done.1.1.1 is)) ∙ post_met (tickets old) a v plain)
 
 pub buffer_ties : (old new : AgentView) (s : StakeView) (l : LedgerView) (m : Ledger) (a o k : ℕ) (r : Row) → IsReady old s l → need old ≡ asks_ledger (for_buffer_post a o) → Some r ≡ at o (tickets old)
     → m ≡ Posted s.agent a (Block r.block k) ∷ l.history → DoesWith old Nothing new → IsSettled new m
 buffer_ties old new s l m a o k r ready is here more done =
-    done_ties old new s l m (Posted s.agent a (Block r.block k)) (Posts a (Block r.block k)) (for_buffer_post a o) Nothing ready is more (ap (λ n. Some (n, Posts a (Block r.block k))) ready.held.0) refl refl done refl
+    done_ties old new s l m (Posted s.agent a (Block r.block k)) (Posts a (Block r.block k)) (for_buffer_post a o) Nothing ready is more (ap (λ n. Some (n, Posts a (Block r.block k))) ready.held.0) refl refl refl done refl
     (ap (λ q. after (tickets old) q (Posts a (Block r.block k) ∷ [])) (buffer_asks old done.1.0 a o Nothing (due_command old done.1.1.0 done.1.0 (for_buffer_post a o) done.1.1.1 is)) ∙ buffer_met (tickets old) a o k r here)
 
 -- A message, a skip
 
 -- the deed ends the wait for this sender
 heard : (old : AgentView) (l m : Ledger) (e : LedgerEvent) (d : Deed) (t : ℕ) → IsTied old l → has_drained l ≡ false → need old ≡ asks_message t → m ≡ e ∷ l → deed l e ≡ Some (old.number, d)
-    → is_wait d ≡ false → ((w : ℕ) → t ≡ w → may_do (Some w) d ≡ true) → Midway old m (d ∷ [])
-heard old l m e d t tied still is more did wait ends =
-    does old l m [] e d (begun old l tied) more did wait (by_wait (waits l old.number) refl) still
+    → is_wait d ≡ false → is_sleep d ≡ false → ((w : ℕ) → t ≡ w → may_do (Some w) d ≡ true) → Midway old m (d ∷ [])
+heard old l m e d t tied still is more did wait up ends =
+    does old l m [] e d (begun old l tied) more did wait up (by_wait (waits l old.number) refl) still
   where
     by_wait : (w : Option ℕ) → waits l old.number ≡ w → may_do w d ≡ true
     by_wait None w = refl
@@ -148,7 +148,7 @@ skip_ties old new l m t tied still is more skips =
     let due' = message_due old (due old.plan old.history) t is in
     let sender : skips.1 ≡ t = (let both : receive skips.0 skips.1 ≡ receive due'.0 t = sym skips.2 ∙ due'.1 in cc) in
     tells old new None m (Passes t ∷ []) (Skipped skips.0 skips.1)
-    (heard old l m (Acted old.number (Passed t)) (Passes t) t tied still is more refl refl (λ w same. eq-eqb t w same))
+    (heard old l m (Acted old.number (Passed t)) (Passes t) t tied still is more refl refl refl (λ w same. eq-eqb t w same))
     skips.4
     (ap (λ q. after (tickets old) (to_pass q) (Passes t ∷ [])) sender ∙ skip_met (tickets old) t ∙ ap Some (sym stays.same))
     (unbrought old.over [] refl)
@@ -159,7 +159,7 @@ skip_ties old new l m t tied still is more skips =
 taken : (old : AgentView) (s : StakeView) (l : LedgerView) (m : Ledger) (t : ℕ) (b : Option Body) (words : ℕ) → IsReady old s l → need old ≡ asks_message t → m ≡ Taken t s.agent ∷ l.history → deed l.history (Taken t s.agent) ≡ Some (s.agent, Takes t b words)
     → Midway old m (Takes t b words ∷ []) × (waits m old.number ≡ None)
 taken old s l m t b words ready is more did = (
-  heard old l.history m (Taken t s.agent) (Takes t b words) t ready.tied (still_undrained old s l t ready is) is more (did ∙ ap (λ n. Some (n, Takes t b words)) ready.held.0) refl (λ w same. eq-eqb t w same),
+  heard old l.history m (Taken t s.agent) (Takes t b words) t ready.tied (still_undrained old s l t ready is) is more (did ∙ ap (λ n. Some (n, Takes t b words)) ready.held.0) refl refl (λ w same. eq-eqb t w same),
   ap (λ m. waits m old.number) more ∙ ap (λ b. cond b None (waits l.history old.number)) (eq-eqb s.agent old.number ready.held.0),
 )
 
@@ -185,7 +185,7 @@ opens old s l m n r ready is words more =
     let still = undrained old l ready.legal ready.seated going in
     record {
       deed = Opens r.block n r.serial;
-      midway = does old l.history m [] (Opened r.block n r.serial s.agent) (Opens r.block n r.serial) (begun old l.history ready.tied) more (ap (λ a. Some (a, Opens r.block n r.serial)) ready.held.0) refl (ap (λ w. may_do w (Opens r.block n r.serial)) none) still;
+      midway = does old l.history m [] (Opened r.block n r.serial s.agent) (Opens r.block n r.serial) (begun old l.history ready.tied) more (ap (λ a. Some (a, Opens r.block n r.serial)) ready.held.0) refl refl (ap (λ w. may_do w (Opens r.block n r.serial)) none) still;
       fetches = subst (λ q. Fetches q r (Opens r.block n r.serial)) (sym is) (words, ap (λ n. Opens r.block n r.serial) (sym words));
       free = ap (λ m. waits m old.number) more ∙ none;
       undrained = ap has_drained more ∙ still;
@@ -267,7 +267,7 @@ refused_ties old new m k r history f n same held more refused =
     let deeds = f.deed ∷ Spends r.serial ∷ [] in
     let fetched : f.deed ≡ Takes refused.0 (Some (Block r.block r.serial)) r.words = subst (λ q. Fetches q r f.deed) refused.1 f.fetches in
     tells old new None k deeds (Refused TooManyValues)
-    (does old m k (f.deed ∷ []) (Spent r.serial) (Spends r.serial) f.midway more mine refl (ap (λ w. may_do w (Spends r.serial)) f.free) f.undrained)
+    (does old m k (f.deed ∷ []) (Spent r.serial) (Spends r.serial) f.midway more mine refl refl (ap (λ w. may_do w (Spends r.serial)) f.free) f.undrained)
     refused.3
     (ap (λ q. after (tickets old) q deeds) asked
     ∙ ap (λ d. after (tickets old) to_refuse (d ∷ Spends r.serial ∷ [])) fetched
@@ -310,7 +310,7 @@ closed_ties old new s l m out ready is records same deeds more =
     let still = undrained old l ready.legal ready.seated (open_for old asks_closing (λ f. cc) is) in
     let all = spends_all old l.history [] out (begun old l.history ready.tied) deeds none still in
     tells old new None m (all_spent out ++ Ends ∷ []) Closed
-    (does old (spent out l.history) m (all_spent out) (Acted old.number Ended) Ends all.0 more refl refl (ap (λ w. may_do w Ends) all.1) all.2)
+    (does old (spent out l.history) m (all_spent out) (Acted old.number Ended) Ends all.0 more refl refl refl (ap (λ w. may_do w Ends) all.1) all.2)
     records
     (ap (λ out. after (tickets old) to_close (all_spent out ++ Ends ∷ [])) same ∙ close_met (tickets old) ∙ ap Some (sym (ap tickets records)))
     (unbrought old.over [] refl)

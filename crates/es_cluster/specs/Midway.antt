@@ -8,6 +8,7 @@ use Rattle.es_event.specs.declared.event.Answer.TheVariants.{Nothing, Gives}
 use Rattle.es_event.specs.declared.ledger_event.Body.TheVariants.{Block}
 use Rattle.es_event.specs.declared.row.Row.{Row}
 use Rattle.es_event.specs.Ledger.{Ledger, ended as has_ended, holder_of, waits}
+use Rattle.es_event.specs.Waiters.{asleep}
 use Rattle.es_event.specs.LegalLedger.{LegalLedger}
 use Rattle.es_ledger.specs.LedgerView.{LedgerView}
 use Rattle.es_match.specs.Patience.{patient, has_drained, drained_last}
@@ -42,6 +43,7 @@ pub record Midway (b : AgentView) (l : Ledger) (ds : List Deed) : Type 0 where
   pub told : List Deed
   pub mine : DeedsMeet b.history told (came_to b)
   pub split : part l b.number ≡ told ++ ds
+  pub awake : asleep l b.number ≡ false
   pub waits_end : patient l ≡ true
   pub drains_end : drained_last l ≡ true
 

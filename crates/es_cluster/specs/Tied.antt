@@ -1,7 +1,8 @@
 -- To believe: what one agent does to the ledger, and that its history, its tickets and its part in the ledger's history go together.
-use Rattle.std.specs.Prelude.{ℕ, ◌≡◌, ⊤, true, List, [], ◌∷◌, ◌++◌, Some, None, reverse}
+use Rattle.std.specs.Prelude.{ℕ, ◌≡◌, ⊤, true, false, List, [], ◌∷◌, ◌++◌, Some, None, reverse}
 use Rattle.es_event.specs.declared.ledger_event.LedgerEvent.{LedgerEvent}
 use Rattle.es_event.specs.Ledger.{Ledger, waits}
+use Rattle.es_event.specs.Waiters.{asleep}
 use Rattle.es_match.specs.Deeds.{Deed, deed, part}
 use Rattle.es_match.specs.Patience.{patient, drained_last}
 use Rattle.es_match.specs.Cluster.{DeedsMeet, refused_senders}
@@ -29,6 +30,7 @@ pub record IsTied (b : AgentView) (l : Ledger) : Type 0 where
   pub ties : DeedsMeet b.history (part l b.number) (came_to b)
   -- where it waits, it asks for a message of that sender
   pub awaits : (s : ℕ) → waits l b.number ≡ Some s → need b ≡ asks_message s
+  pub awake : asleep l b.number ≡ false
   -- what an agent does after a wait ends the wait, and no agent does anything after a drain
   pub waits_end : patient l ≡ true
   pub drains_end : drained_last l ≡ true

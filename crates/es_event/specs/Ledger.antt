@@ -5,7 +5,7 @@ use Rattle.es_event.specs.declared.ledger_event.Body.{Body}
 use Rattle.es_event.specs.declared.ledger_event.Body.TheVariants.{Plain, Block}
 use Rattle.es_event.specs.declared.ledger_event.LedgerEvent.{LedgerEvent}
 use Rattle.es_event.specs.declared.ledger_event.LedgerEvent.TheVariants.{Opened, Posted, Taken, Spent, Accessed, Drained, Acted}
-use Rattle.es_event.specs.declared.ledger_event.Act.TheVariants.{Waiting, Passed, Ended}
+use Rattle.es_event.specs.declared.ledger_event.Act.TheVariants.{Waiting, Passed, Ended, Slept, Notified, Woke, TimedOut}
 use Rattle.es_event.specs.declared.row.Row.{Row}
 use Rattle.es_event.specs.declared.row.Entry.{Entry}
 use Rattle.es_event.specs.declared.row.Holder.{Holder}
@@ -183,6 +183,10 @@ awaited (Accessed s i m old) c before = before
 awaited (Acted a (Waiting s)) c before = if a == c then Some s else before
 awaited (Acted a (Passed s)) c before = if a == c then None else before
 awaited (Acted a Ended) c before = before
+awaited (Acted a (Slept s i w)) c before = before
+awaited (Acted a (Notified s i n k)) c before = before
+awaited (Acted a Woke) c before = before
+awaited (Acted a TimedOut) c before = before
 awaited (Drained s r) c before = before
 
 -- the sender that agent a waits for, if it waits
@@ -199,6 +203,10 @@ is_end_of (Accessed s i m old) c = false
 is_end_of (Acted a (Waiting s)) c = false
 is_end_of (Acted a (Passed s)) c = false
 is_end_of (Acted a Ended) c = a == c
+is_end_of (Acted a (Slept s i w)) c = false
+is_end_of (Acted a (Notified s i n k)) c = false
+is_end_of (Acted a Woke) c = false
+is_end_of (Acted a TimedOut) c = false
 is_end_of (Drained s r) c = false
 
 -- agent a ended

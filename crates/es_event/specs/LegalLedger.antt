@@ -7,10 +7,11 @@ use Rattle.es_event.specs.declared.ledger_event.Body.TheVariants.{Plain, Block}
 use Rattle.es_event.specs.declared.ledger_event.LedgerEvent.{LedgerEvent}
 use Rattle.es_event.specs.declared.ledger_event.LedgerEvent.TheVariants.{Opened, Posted, Taken, Spent, Accessed, Drained, Acted}
 use Rattle.es_event.specs.declared.ledger_event.Act.{Act}
-use Rattle.es_event.specs.declared.ledger_event.Act.TheVariants.{Waiting, Passed, Ended}
+use Rattle.es_event.specs.declared.ledger_event.Act.TheVariants.{Waiting, Passed, Ended, Slept, Notified, Woke, TimedOut}
 use Rattle.es_event.specs.declared.row.Row.{Row}
 use Rattle.es_event.specs.Access.{IsStorable}
 use Rattle.es_event.specs.Rows.{held, count_of}
+use Rattle.es_event.specs.Waiters.{asleep, is_listed, taken_there}
 use Rattle.es_event.specs.Ledger.{Ledger, opened, serials, table, front, serial_in, holder_of, word, waits, ended}
 
 -- Skipping
@@ -19,9 +20,9 @@ use Rattle.es_event.specs.Ledger.{Ledger, opened, serials, table, front, serial_
 abbrev pub has_message : Ledger → ℕ → ℕ → Bool
 has_message l s r = is_some (front l s r)
 
--- agent a waits at an empty port whose sender has not ended
+-- agent a waits at an empty port whose sender has not ended, or sleeps and no notify took it
 abbrev pub is_stuck : Ledger → ℕ → Bool
-is_stuck l a = option_map_or (λ s. not (has_message l s a) && not (ended l s)) (waits l a) false
+is_stuck l a = is_listed l a || option_map_or (λ s. not (has_message l s a) && not (ended l s)) (waits l a) false
 
 -- each agent below n has ended or is stuck
 abbrev pub all_stuck : Ledger → ℕ → Bool
@@ -48,6 +49,11 @@ abbrev pub Reaches : Option (ℕ × Row) → ℕ → (Row → Type 0) → Type 0
 Reaches None i asked = ⊥
 Reaches (Some p) i asked = (i < p.1.words) × asked p.1
 
+-- and that agent is a
+abbrev pub ReachesAs : ℕ → Option (ℕ × Row) → ℕ → (Row → Type 0) → Type 0
+ReachesAs a None i asked = ⊥
+ReachesAs a (Some p) i asked = (p.0 ≡ a) × (i < p.1.words) × asked p.1
+
 -- agent a holds a ticket of block b
 abbrev pub holds_block : Ledger → ℕ → ℕ → Bool
 holds_block l a b = nat_lt 0 (count_of (held a (table l)) b)
@@ -59,9 +65,13 @@ IsPostable l a (Block b s) = (s ≡ serials l + 1) × (holds_block l a b ≡ tru
 
 -- agent a may do this after l
 abbrev pub MayAct : ℕ → Ledger → ℕ → Act → Type 0
-MayAct n l a (Waiting s) = (a < n) × (s < n) × (a ≢ s) × (has_message l s a ≡ false) × (waits l a ≡ None) × (ended l a ≡ false)
+MayAct n l a (Waiting s) = (a < n) × (s < n) × (a ≢ s) × (has_message l s a ≡ false) × (waits l a ≡ None) × (ended l a ≡ false) × (asleep l a ≡ false)
 MayAct n l a (Passed s) = (waits l a ≡ Some s) × (skips l n a s ≡ true)
 MayAct n l a Ended = (a < n) × (ended l a ≡ false)
+MayAct n l a (Slept s i w) = ReachesAs a (holder_of l s) i (λ r. w ≡ word l r.block i) × (waits l a ≡ None) × (ended l a ≡ false) × (asleep l a ≡ false)
+MayAct n l a (Notified s i m k) = ReachesAs a (holder_of l s) i (λ r. k ≡ taken_there l r.block i m)
+MayAct n l a Woke = (asleep l a ≡ true) × (is_listed l a ≡ false)
+MayAct n l a TimedOut = (is_listed l a ≡ true) × (is_chosen l n a ≡ true)
 
 -- the event may come after l
 abbrev pub MayCome : ℕ → Ledger → LedgerEvent → Type 0

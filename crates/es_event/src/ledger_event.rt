@@ -28,11 +28,34 @@ impl Drop for Body {
 #[derive(Clone, Copy, Debug, PartialEq, Eq)]
 pub enum Act {
     /// It began to wait for a message of a sender.
-    Waiting { sender: usize },
+    Waiting {
+        sender: usize,
+    },
     /// It waited, and was told to skip its job.
-    Passed { sender: usize },
+    Passed {
+        sender: usize,
+    },
     /// It ended.
     Ended,
+    /// It read this word through a ticket of its own at an index, and went last into the WaiterList there (ECMA-262,
+    /// Atomics.wait).
+    Slept {
+        serial: u64,
+        index: usize,
+        word: u32,
+    },
+    /// It took the first agents, so many at most, out of the WaiterList at an index of the block of a ticket of its own;
+    /// so many were taken (ECMA-262, Atomics.notify).
+    Notified {
+        serial: u64,
+        index: usize,
+        count: usize,
+        taken: usize,
+    },
+    /// It slept and was taken out of its WaiterList, and goes on.
+    Woke,
+    /// It slept longer than its time-out, and left its WaiterList.
+    TimedOut,
 }
 
 /// What happened in the ledger (ECMA-262, Agent Clusters, Data Blocks; that blocks are counted by

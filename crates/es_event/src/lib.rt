@@ -23,6 +23,7 @@ mod plan_command;
 mod row;
 mod sequence;
 mod shared_list;
+mod waiter;
 
 pub use access::{Access, Change, Edit, Modification, to_uint32};
 pub use atomic::{Atomic, AtomicParts, Operation};
@@ -47,3 +48,4 @@ pub use plan_command::PlanCommand;
 pub use row::{Entry, Holder, Row};
 pub use sequence::Sequence;
 pub use shared_list::SharedList;
+pub use waiter::Waiter;

@@ -5,7 +5,8 @@ use Rattle.es_event.specs.Ledger.{Ledger}
 use Rattle.es_ledger.specs.Blocks.{no_block, block_at, tickets_at}
 use Rattle.es_ledger.specs.Letters.{body_of}
 use Rattle.es_ledger.specs.Ports.{QueueView, no_queue}
-use Rattle.es_ledger.specs.Ties.{left, waiting, AreNamed, Mail, Columns, LedgerTies}
+use Rattle.es_event.specs.declared.waiter.Waiter.{Waiter}
+use Rattle.es_ledger.specs.Ties.{left, waiting, AreNamed, Mail, Sleepers, Columns, LedgerTies}
 
 -- the last of a list, or one before it
 pub got_new : {A : Type 0} (xs : List A) (x s : A) (i : ℕ) → slice_get (xs ++ x ∷ []) i ≡ Some s → (slice_get xs i ≡ Some s) ⊎ ((i ≡ length xs) × (x ≡ s))
@@ -55,11 +56,15 @@ new_mail n l ws qs size empty long quiet = record {
   senders = λ a s below is. cc;
 }
 
+new_sleepers : (n : ℕ) (ws : List Waiter) (bs : List Bool) → ws ≡ [] → length bs ≡ n → ((a : ℕ) → slice_index_or bs a false ≡ false) → Sleepers n [] ws bs
+new_sleepers n ws bs none long awake = record { lists = none; agents = long; each = λ a below. awake a }
+
 pub new_ties : {L : Type 0} (n : ℕ) (l : Ledger) (k : Columns L)
     → n < 9 → l ≡ [] → k.lines ≡ [] → k.blocks ≡ [] → length k.ends ≡ n → ((a : ℕ) → slice_index_or k.ends a false ≡ false)
     → length k.waits ≡ n → ((a : ℕ) → slice_index_or k.waits a None ≡ None) → length k.queues ≡ n * 8 → ((i : ℕ) → (slice_index_or k.queues i no_queue).letters ≡ []) → k.messages ≡ 0
+    → k.listed ≡ [] → length k.sleeping ≡ n → ((a : ℕ) → slice_index_or k.sleeping a false ≡ false)
     → n ≤ k.places → LedgerTies n l k
-new_ties n l k few none no_lines no_blocks agents_are quiet waits_are nobody size empty no_messages room =
+new_ties n l k few none no_lines no_blocks agents_are quiet waits_are nobody size empty no_messages unlisted sleepers_are awake room =
     subst (λ l. LedgerTies n l k) (sym none) (record {
       few = few;
       legal = (tt, refl);
@@ -71,5 +76,6 @@ new_ties n l k few none no_lines no_blocks agents_are quiet waits_are nobody siz
       agents = agents_are;
       over = λ a below. quiet a;
       mail = new_mail n l k.waits k.queues size empty waits_are nobody;
+      sleepers = new_sleepers n k.listed k.sleeping unlisted sleepers_are awake;
       room = let all = left_all n in let waits = none_waits n in omega (arith, all, waits, no_messages, room);
     })

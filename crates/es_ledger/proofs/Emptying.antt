@@ -21,7 +21,7 @@ use Rattle.es_ledger.specs.Ports.{QueueView, no_queue, letters_at}
 use Rattle.std.proofs.lemmas.List.{get_or_past}
 use Rattle.es_ledger.specs.Draining.{drained_one, drained_each, drained_to, drained_below}
 use Rattle.es_ledger.specs.Ties.{Columns, LedgerTies}
-use Rattle.es_ledger.proofs.Mail.{mail_same, mail_popped, waiting_same}
+use Rattle.es_ledger.proofs.Mail.{mail_same, mail_popped, sleepers_same, waiting_same}
 use Rattle.es_ledger.proofs.Tying.{left_same, less_ties}
 use Rattle.es_ledger.proofs.Lain.{front_is, ticket_line, drained_count, drained_length}
 
@@ -63,14 +63,14 @@ drained_block_ties n l k queues number middle more s r x ties sender receiver ov
     let fewer = drained_length n l s r x ties.legal.0 line in
     let left_one = left_same (Drained s r) l n (λ c. refl) in
     let left_two = left_same (Spent x.serial) (Drained s r ∷ l) n (λ c. refl) in
-    let waits_one = waiting_same l (Drained s r) n (λ c. refl) in
-    let waits_two = waiting_same (Drained s r ∷ l) (Spent x.serial) n (λ c. refl) in
+    let waits_one = waiting_same l (Drained s r) n (λ c. refl) (λ c. refl) in
+    let waits_two = waiting_same (Drained s r ∷ l) (Spent x.serial) n (λ c. refl) (λ c. refl) in
     let room = ties.room in
     less_ties n l (Spent x.serial ∷ Drained s r ∷ l) k _ x.block ties some counts
     ((subst (ComesNext n (Drained s r ∷ l) (Spent x.serial)) (sym owes) refl, (subst (ComesNext n l (Drained s r)) (sym ties.legal.1) (over, ap is_some at_front), ties.legal.0)), refl)
     (ap (moved x.serial Nobody) ties.tabled) (zero-add (0 + opened l) ∙ zero-add (opened l)) (λ c. refl) (λ c i. refl) (λ c. refl)
     refl refl (mail_same n (Drained s r ∷ l) k.waits queues (Spent x.serial)
-    (mail_popped n l k.waits k.waits k.queues queues s r (Block x) (Drained s r) ties.mail columns here others (λ t u. refl) refl ties.mail.awaited (λ c t within is. is)) (λ t u. refl) (λ c. refl))
+    (mail_popped n l k.waits k.waits k.queues queues s r (Block x) (Drained s r) ties.mail columns here others (λ t u. refl) refl ties.mail.awaited (λ c t within is. is)) (λ t u. refl) (λ c. refl)) (sleepers_same n l (Spent x.serial ∷ Drained s r ∷ l) k.listed k.sleeping ties.sleepers refl (λ c. refl))
     (omega (arith, fewer, left_one, left_two, waits_one, waits_two, room, one, last, later))
   where
     some_here : (m : ℕ) → count l x.block ≡ cond (x.block == x.block) 1 0 + m → 0 < count l x.block

@@ -1,14 +1,16 @@
 -- An agent ends: one fewer is left.
-use Rattle.std.proofs.Common.{◌≡◌, ◌≢◌, ℕ, zero, suc, ◌+◌, ◌<◌, ◌≤◌, ◌==◌, ◌||◌, ◌∷◌, Bool, true, false, cond, refl, sym, ap, ◌∙◌, subst, arith, length-set, zero-add, eq-eqb, ne_eqb}
+use Rattle.std.proofs.Common.{◌≡◌, ◌≢◌, ℕ, zero, suc, ◌+◌, ◌<◌, ◌≤◌, ◌==◌, ◌||◌, ◌∷◌, Bool, true, false, cond, refl, sym, ap, ◌∙◌, subst, arith, filter, length-set, zero-add, eq-eqb, ne_eqb}
 use Rattle.std.proofs.lemmas.Bool.{eqb-true, false≢true}
 use Rattle.std.proofs.lemmas.List.{get_or-set_same, get_or-set_other}
-use Rattle.std.specs.Prelude.{slice_set, slice_index_or}
+use Rattle.std.specs.Prelude.{slice_set, slice_index_or, not}
 use Rattle.es_event.specs.declared.ledger_event.LedgerEvent.TheVariants.{Acted}
 use Rattle.es_event.specs.declared.ledger_event.Act.TheVariants.{Ended}
 use Rattle.es_event.specs.Ledger.{Ledger, opened, ended}
+use Rattle.es_event.specs.declared.waiter.Waiter.{Waiter}
 use Rattle.es_ledger.specs.Ties.{left, Columns, LedgerTies}
 use Rattle.es_ledger.proofs.Tying.{next_legal}
-use Rattle.es_ledger.proofs.Mail.{mail_same, waiting_same}
+use Rattle.es_ledger.proofs.Mail.{mail_same, sleeping_one}
+use Rattle.es_ledger.proofs.Slept.{sleepers_set}
 
 -- those below an agent are as they were
 left_below : (l : Ledger) (a n : ℕ) → n ≤ a → left (Acted a Ended ∷ l) n ≡ left l n
@@ -34,7 +36,8 @@ left_ended l a (suc n) below before = by_test (a == n) refl (λ smaller. left_en
         omega (arith, rest)
 
 pub ended_ties : {L : Type 0} (n : ℕ) (l : Ledger) (k : Columns L) (more a : ℕ)
-    → LedgerTies n l k → a < n → ended l a ≡ false → k.places ≤ more + 1 → LedgerTies n (Acted a Ended ∷ l) (record k { ends = slice_set k.ends a true; places = more })
+    → LedgerTies n l k → a < n → ended l a ≡ false → k.places ≤ more + 1
+    → LedgerTies n (Acted a Ended ∷ l) (record k { ends = slice_set k.ends a true; listed = filter (λ (w : Waiter). not (w.agent == a)) k.listed; sleeping = slice_set k.sleeping a false; places = more })
 ended_ties n l k more a ties below before room = record {
   few = ties.few;
   legal = next_legal n l (Acted a Ended) ties.legal (below, before) refl;
@@ -46,7 +49,8 @@ ended_ties n l k more a ties below before room = record {
   agents = length-set k.ends a true ∙ ties.agents;
   over = λ c within. by_test c within (a == c) refl;
   mail = mail_same n l k.waits k.queues (Acted a Ended) ties.mail (λ s r. refl) (λ c. refl);
-  room = let fewer = left_ended l a n below before in let waits = waiting_same l (Acted a Ended) n (λ c. refl) in let all = ties.room in omega (arith, room, fewer, waits, all);
+  sleepers = sleepers_set n l (Acted a Ended) k.listed _ k.sleeping a false ties.sleepers below (ap (filter (λ (w : Waiter). not (w.agent == a))) ties.sleepers.lists) (λ c. refl);
+  room = let fewer = left_ended l a n below before in let waits = sleeping_one l (Acted a Ended) n a false below (λ c. refl) (λ c. refl) in let all = ties.room in omega (arith, room, fewer, waits, all);
 }
   where
     by_test : (c : ℕ) → c < n → (s : Bool) → (a == c) ≡ s → slice_index_or (slice_set k.ends a true) c false ≡ (s || ended l c)

@@ -14,6 +14,7 @@ mod InOrder
 pub mod Plain
 mod ExampleBlocks
 mod ExamplePorts
+mod ExampleWaiters
 pub mod Columns
 pub mod Mail
 pub mod Kept
@@ -21,6 +22,9 @@ pub mod Tying
 pub mod Opening
 pub mod Ending
 pub mod Beginning
+pub mod Leaving
+pub mod Waking
+pub mod Slept
 pub mod Waits
 pub mod Lain
 pub mod Sending

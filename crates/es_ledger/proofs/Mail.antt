@@ -17,7 +17,9 @@ use Rattle.es_ledger.specs.declared.message.Letter.TheVariants.{Plain, Block}
 use Rattle.es_ledger.specs.Letters.{body_of}
 use Rattle.es_ledger.specs.Ports.{QueueView, letters_at}
 use Rattle.es_ledger.specs.Laws.{sum_below}
-use Rattle.es_ledger.specs.Ties.{row_at, IsNamed, AreNamed, Mail, waiting}
+use Rattle.es_event.specs.declared.waiter.Waiter.{Waiter}
+use Rattle.es_event.specs.Waiters.{asleep, waiters}
+use Rattle.es_ledger.specs.Ties.{row_at, IsNamed, AreNamed, Mail, Sleepers, waiting}
 
 -- The row of a serial stays
 
@@ -215,23 +217,73 @@ sum_one (suc n) k f g below same = by_test (n == k) refl (λ less. sum_one n k f
         let here = same n off in
         omega (arith, rest, here)
 
-abbrev pub one_if : Option ℕ → ℕ
-one_if o = cond (is_some o) 1 0
+abbrev pub one_if : Bool → ℕ
+one_if b = cond b 1 0
 
-pub waiting_few : (l : Ledger) (n : ℕ) → waiting l n ≤ n
+at_most : (b : Bool) → one_if b ≤ 1
+at_most false = omega arith
+at_most true = omega arith
+
+pub waiting_few : (l : Ledger) (n : ℕ) → waiting l n ≤ n + n
 waiting_few l zero = omega arith
-waiting_few l (suc n) = let rest = waiting_few l n in let one = at_most (awaits l n) in omega (arith, rest, one)
+waiting_few l (suc n) = let rest = waiting_few l n in let one = at_most (is_some (awaits l n)) in let other = at_most (asleep l n) in omega (arith, rest, one, other)
+
+-- what is to end of an agent's rests
+abbrev pub rests : Ledger → ℕ → ℕ
+rests l a = one_if (is_some (awaits l a)) + one_if (asleep l a)
+
+-- one agent's rests are others
+rests_one : (l : Ledger) (e : LedgerEvent) (n a : ℕ) (b c : Bool) → a < n → ((d : ℕ) → is_some (awaits (e ∷ l) d) ≡ cond (a == d) b (is_some (awaits l d))) → ((d : ℕ) → asleep (e ∷ l) d ≡ cond (a == d) c (asleep l d))
+    → waiting (e ∷ l) n + rests l a ≡ waiting l n + (one_if b + one_if c)
+rests_one l e n a b c below waited slept =
+    let w : one_if (is_some (awaits (e ∷ l) a)) ≡ one_if b = ap one_if (waited a ∙ ap (λ t. cond t b (is_some (awaits l a))) (eq-eqb a a refl)) in
+    let s : one_if (asleep (e ∷ l) a) ≡ one_if c = ap one_if (slept a ∙ ap (λ t. cond t c (asleep l a)) (eq-eqb a a refl)) in
+    let all = sum_one n a (rests (e ∷ l)) (rests l) below (λ d apart.
+    let other : (a == d) ≡ false = ne_eqb a d (λ e. absurd (apart (sym e))) in
+    let w : one_if (is_some (awaits (e ∷ l) d)) ≡ one_if (is_some (awaits l d)) = ap one_if (waited d ∙ ap (λ t. cond t b (is_some (awaits l d))) other) in
+    let s : one_if (asleep (e ∷ l) d) ≡ one_if (asleep l d) = ap one_if (slept d ∙ ap (λ t. cond t c (asleep l d)) other) in
+    omega (arith, w, s)) in
+    omega (arith, w, s, all)
+
+-- what is said of one agent alone
+same_if : {X : Type 0} (a d : ℕ) (f : ℕ → X) → f d ≡ cond (a == d) (f a) (f d)
+same_if a d f = by (a == d) refl
   where
-    at_most : (o : Option ℕ) → one_if o ≤ 1
-    at_most None = omega arith
-    at_most (Some s) = omega arith
+    by : (t : Bool) → (a == d) ≡ t → f d ≡ cond t (f a) (f d)
+    by true is = ap f (sym (eqb-true a d is))
+    by false is = refl
+
+some_if : {X : Type 0} (t : Bool) (o p : Option X) → is_some (cond t o p) ≡ cond t (is_some o) (is_some p)
+some_if true o p = refl
+some_if false o p = refl
 
 -- one agent's wait is another
-pub waiting_one : (l : Ledger) (e : LedgerEvent) (n a : ℕ) (o : Option ℕ) → a < n → ((c : ℕ) → awaits (e ∷ l) c ≡ cond (a == c) o (awaits l c)) → waiting (e ∷ l) n + one_if (awaits l a) ≡ waiting l n + one_if o
-waiting_one l e n a o below waited =
-    let here : one_if (awaits (e ∷ l) a) ≡ one_if o = ap one_if (waited a ∙ ap (λ b. cond b o (awaits l a)) (eq-eqb a a refl)) in
-    let all = sum_one n a (λ c. one_if (awaits (e ∷ l) c)) (λ c. one_if (awaits l c)) below (λ c apart. ap one_if (waited c ∙ ap (λ b. cond b o (awaits l c)) (ne_eqb a c (λ e. absurd (apart (sym e)))))) in
-    omega (arith, here, all)
+pub waiting_one : (l : Ledger) (e : LedgerEvent) (n a : ℕ) (o : Option ℕ) → a < n → ((c : ℕ) → awaits (e ∷ l) c ≡ cond (a == c) o (awaits l c)) → ((c : ℕ) → asleep (e ∷ l) c ≡ asleep l c)
+    → waiting (e ∷ l) n + one_if (is_some (awaits l a)) ≡ waiting l n + one_if (is_some o)
+waiting_one l e n a o below waited slept =
+    let all = rests_one l e n a (is_some o) (asleep l a) below (λ d. ap is_some (waited d) ∙ some_if (a == d) o (awaits l d)) (λ d. slept d ∙ same_if a d (asleep l)) in
+    omega (arith, all)
 
-pub waiting_same : (l : Ledger) (e : LedgerEvent) (n : ℕ) → ((a : ℕ) → awaits (e ∷ l) a ≡ awaits l a) → waiting (e ∷ l) n ≡ waiting l n
-waiting_same l e n waited = sum_same n _ _ (λ a below. ap one_if (waited a))
+-- one agent's sleep is another
+pub sleeping_one : (l : Ledger) (e : LedgerEvent) (n a : ℕ) (b : Bool) → a < n → ((c : ℕ) → asleep (e ∷ l) c ≡ cond (a == c) b (asleep l c)) → ((c : ℕ) → awaits (e ∷ l) c ≡ awaits l c)
+    → waiting (e ∷ l) n + one_if (asleep l a) ≡ waiting l n + one_if b
+sleeping_one l e n a b below slept waited =
+    let all = rests_one l e n a (is_some (awaits l a)) b below (λ d. ap is_some (waited d) ∙ same_if a d (λ d. is_some (awaits l d))) slept in
+    omega (arith, all)
+
+pub waiting_same : (l : Ledger) (e : LedgerEvent) (n : ℕ) → ((a : ℕ) → awaits (e ∷ l) a ≡ awaits l a) → ((a : ℕ) → asleep (e ∷ l) a ≡ asleep l a) → waiting (e ∷ l) n ≡ waiting l n
+waiting_same l e n waited slept =
+    sum_same n (rests (e ∷ l)) (rests l) (λ a below.
+    let w : one_if (is_some (awaits (e ∷ l) a)) ≡ one_if (is_some (awaits l a)) = ap (λ o. one_if (is_some o)) (waited a) in
+    let s : one_if (asleep (e ∷ l) a) ≡ one_if (asleep l a) = ap one_if (slept a) in
+    omega (arith, w, s))
+
+-- Sleepers
+
+-- an event that changes no list and no sleep
+pub sleepers_same : (n : ℕ) (l m : Ledger) (ws : List Waiter) (bs : List Bool) → Sleepers n l ws bs → waiters m ≡ waiters l → ((a : ℕ) → asleep m a ≡ asleep l a) → Sleepers n m ws bs
+sleepers_same n l m ws bs are lists slept = record {
+  lists = are.lists ∙ sym lists;
+  agents = are.agents;
+  each = λ a below. are.each a below ∙ sym (slept a);
+}

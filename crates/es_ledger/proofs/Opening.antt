@@ -23,7 +23,7 @@ use Rattle.std.proofs.lemmas.List.{length-map}
 use Rattle.std.proofs.lemmas.List.FromFn.{length-range_with_len}
 use Rattle.es_ledger.proofs.Numbered.{numbered}
 use Rattle.es_ledger.proofs.Tying.{next_legal, left_same, words_in}
-use Rattle.es_ledger.proofs.Mail.{mail_same, waiting_same}
+use Rattle.es_ledger.proofs.Mail.{mail_same, sleepers_same, waiting_same}
 use Rattle.std.proofs.lemmas.Bool.Decides.{nat_tests}
 
 -- Nothing is written into a block that was not made
@@ -111,10 +111,11 @@ opened_ties n l k more a w ties below room = record {
   agents = ties.agents;
   over = ties.over;
   mail = mail_same n l k.waits k.queues (Opened (opened l + 1) w (serials l + 1) a) ties.mail (λ s r. refl) (λ c. refl);
+  sleepers = sleepers_same n l (Opened (opened l + 1) w (serials l + 1) a ∷ l) k.listed k.sleeping ties.sleepers refl (λ c. refl);
   room =
       let one_more = opened_length l (opened l + 1) w (serials l + 1) a in
       let agents_left = left_same (Opened (opened l + 1) w (serials l + 1) a) l n (λ c. refl) in
-      let waits = waiting_same l (Opened (opened l + 1) w (serials l + 1) a) n (λ c. refl) in
+      let waits = waiting_same l (Opened (opened l + 1) w (serials l + 1) a) n (λ c. refl) (λ c. refl) in
       omega (arith, room, one_more, agents_left, waits);
 }
   where

@@ -29,7 +29,7 @@ use Rattle.es_ledger.proofs.Lines.{rows_append, holder_at}
 use Rattle.es_ledger.proofs.Numbered.{numbered, none_next}
 use Rattle.es_ledger.proofs.Kept.{set_here, set_there}
 use Rattle.es_ledger.proofs.Made.{block_made, block_there}
-use Rattle.es_ledger.proofs.Mail.{mail_posted, mail_popped, set_wait, waiting_one, waiting_same}
+use Rattle.es_ledger.proofs.Mail.{mail_posted, mail_popped, set_wait, sleepers_same, waiting_one, waiting_same}
 use Rattle.es_ledger.proofs.Opening.{table_length}
 use Rattle.es_ledger.proofs.Plain.{ArePlain, all_plain}
 use Rattle.es_ledger.proofs.Tying.{next_legal, left_same, still_ties, words_in, rows_short, in_history}
@@ -45,10 +45,10 @@ pub posted_plain_ties : {L : Type 0} (n : ℕ) (l : Ledger) (k : Columns L) (que
 posted_plain_ties n l k queues number more s r v ties sender receiver apart columns here others next room plain =
     let same : table l ++ [] ≡ table l = append-nil (table l) in
     let tickets : length (unspent (table l ++ [])) ≡ length (rows l) = ap (λ t. length (unspent t)) same in
-    let waits = waiting_same l (Posted s r (PlainBody v)) n (λ a. refl) in
+    let waits = waiting_same l (Posted s r (PlainBody v)) n (λ a. refl) (λ a. refl) in
     still_ties n l k _ (Posted s r (PlainBody v)) ties (sender, receiver, apart, plain) refl
     (ties.tabled ∙ sym same) (zero-add (opened l)) (λ b. refl) (λ b. refl) (λ b. ap (λ t. count_of (unspent t) b) same) (λ b i. refl)
-    refl refl (mail_posted n l k.waits k.queues queues s r (Plain v) ties.mail ties.few columns here others tt)
+    refl refl (mail_posted n l k.waits k.queues queues s r (Plain v) ties.mail ties.few columns here others tt) (sleepers_same n l (Posted s r (PlainBody v) ∷ l) k.listed k.sleeping ties.sleepers refl (λ c. refl))
     (omega (arith, tickets, waits, next, room))
 
 -- A block is posted
@@ -146,10 +146,11 @@ posted_block_ties n l k queues number more s r x ties sender receiver apart has 
       over = ties.over;
       mail = mail_posted n l k.waits k.queues queues s r (Block ticket) ties.mail ties.few columns here others
           (row_next (serials l + 1) (table l) (held_by (Port s r) ticket) (none_next l (serials l + 1) (numbered n l ties.legal.0) refl) refl);
+      sleepers = sleepers_same n l (Posted s r (BlockBody x.block (serials l + 1)) ∷ l) k.listed k.sleeping ties.sleepers refl (λ c. refl);
       room =
           let one_more = posted_length l s r x.block (serials l + 1) in
           let agents_left = left_same (Posted s r (BlockBody x.block (serials l + 1))) l n (λ c. refl) in
-          let waits = waiting_same l (Posted s r (BlockBody x.block (serials l + 1))) n (λ c. refl) in
+          let waits = waiting_same l (Posted s r (BlockBody x.block (serials l + 1))) n (λ c. refl) (λ c. refl) in
           omega (arith, room, next, one_more, agents_left, waits);
     }
   where
@@ -212,13 +213,13 @@ taken_ties n l k queues number more s r x ties sender receiver columns here othe
     let moves : moved_if (serial_in (body_of x)) (Agent r) (table l) ≡ table (Taken s r ∷ l) = ap (λ o. moved_if (option_and_then serial_in o) (Agent r) (table l)) (sym at_front) in
     let all : unspent (table (Taken s r ∷ l)) ≡ unspent (table l) = ap unspent (sym moves) ∙ tickets in
     let long : length (rows (Taken s r ∷ l)) ≡ length (rows l) = ap (λ rs. length rs) all in
-    let waits = waiting_one l (Taken s r) n r None receiver (λ c. refl) in
+    let waits = waiting_one l (Taken s r) n r None receiver (λ c. refl) (λ c. refl) in
     let room = ties.room in
     still_ties n l k _ (Taken s r) ties (ap is_some at_front) refl
     (ap (moved_if (serial_in (body_of x)) (Agent r)) ties.tabled ∙ moves) (zero-add (opened l)) (λ b. refl) (λ b. refl) (λ b. ap (λ rs. count_of rs b) all) (λ b i. refl)
     refl refl (mail_popped n l k.waits (slice_set k.waits r None) k.queues queues s r x (Taken s r) ties.mail columns here others (λ t u. refl) (length-set k.waits r None)
     (λ c within. set_wait l k.waits r None c n ties.mail.agents receiver (ties.mail.awaited c within) (r == c) refl)
-    (λ c t within is. still c t (r == c) is))
+    (λ c t within is. still c t (r == c) is)) (sleepers_same n l (Taken s r ∷ l) k.listed k.sleeping ties.sleepers refl (λ c. refl))
     (omega (arith, long, waits, room, one, last))
   where
     still : (c t : ℕ) (b : Bool) → cond b None (awaits l c) ≡ Some t → awaits l c ≡ Some t

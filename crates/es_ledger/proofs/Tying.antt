@@ -19,11 +19,12 @@ use Rattle.es_ledger.specs.declared.blocks.Counted.{Counted}
 use Rattle.es_ledger.specs.Blocks.{no_block, block_at, tickets_at, words_at, rewritten, with_written, with_less, lost}
 use Rattle.es_block.specs.Words.{with_word}
 use Rattle.std.specs.Option.{option_and_then, option_map}
-use Rattle.es_ledger.specs.Ties.{left, waiting, Mail, Columns, LedgerTies}
+use Rattle.es_event.specs.Waiters.{asleep, waiters}
+use Rattle.es_ledger.specs.Ties.{left, waiting, Mail, Sleepers, Columns, LedgerTies}
 use Rattle.es_ledger.proofs.Kept.{set_here, set_there}
 use Rattle.es_ledger.proofs.After.{holder_here, spent_count, spent_length}
 use Rattle.es_ledger.proofs.Made.{block_made, block_there}
-use Rattle.es_ledger.proofs.Mail.{mail_same, waiting_same, waiting_few}
+use Rattle.es_ledger.proofs.Mail.{mail_same, sleepers_same, waiting_same, waiting_few}
 
 -- Agents that have not ended
 
@@ -43,10 +44,10 @@ pub quiet_ties : {L : Type 0} (n : ℕ) (l : Ledger) (k m : Columns L) (e : Ledg
     → ((b : ℕ) → count (e ∷ l) b ≡ count l b)
     → length m.blocks ≡ length k.blocks → ((b : ℕ) → tickets_at m.blocks b ≡ tickets_at k.blocks b) → ((b : ℕ) → 0 < count l b → length (words_at m.blocks b) ≡ length (words_at k.blocks b))
     → ((b i : ℕ) → 0 < count l b → slice_index_or (words_at m.blocks b) i 0 ≡ word (e ∷ l) b i)
-    → m.ends ≡ k.ends → Mail n (e ∷ l) m.waits m.queues
+    → m.ends ≡ k.ends → Mail n (e ∷ l) m.waits m.queues → Sleepers n (e ∷ l) m.listed m.sleeping
     → length (rows (e ∷ l)) + left l n + waiting (e ∷ l) n + m.messages ≤ m.places
     → LedgerTies n (e ∷ l) m
-quiet_ties n l k m e ties may none tabled made sized quiet counted long tickets lengths words ends mail room = record {
+quiet_ties n l k m e ties may none tabled made sized quiet counted long tickets lengths words ends mail sleepers room = record {
   few = ties.few;
   legal = next_legal n l e ties.legal may none;
   tabled = tabled;
@@ -57,6 +58,7 @@ quiet_ties n l k m e ties may none tabled made sized quiet counted long tickets 
   agents = ap (λ bs. length bs) ends ∙ ties.agents;
   over = λ a below. ap (λ bs. slice_index_or bs a false) ends ∙ ties.over a below ∙ sym (ap (λ b. b || ended l a) (quiet a));
   mail = mail;
+  sleepers = sleepers;
   room = let agents_left = left_same e l n quiet in omega (arith, room, agents_left);
 }
 
@@ -65,13 +67,13 @@ pub still_ties : {L : Type 0} (n : ℕ) (l : Ledger) (k m : Columns L) (e : Ledg
     → LedgerTies n l k → MayCome n l e → owed (e ∷ l) ≡ None
     → m.lines ≡ table (e ∷ l) → opened (e ∷ l) ≡ opened l → ((b : ℕ) → size (e ∷ l) b ≡ size l b) → ((a : ℕ) → is_end_of e a ≡ false)
     → ((b : ℕ) → count (e ∷ l) b ≡ count l b) → ((b i : ℕ) → word (e ∷ l) b i ≡ word l b i)
-    → m.blocks ≡ k.blocks → m.ends ≡ k.ends → Mail n (e ∷ l) m.waits m.queues
+    → m.blocks ≡ k.blocks → m.ends ≡ k.ends → Mail n (e ∷ l) m.waits m.queues → Sleepers n (e ∷ l) m.listed m.sleeping
     → length (rows (e ∷ l)) + left l n + waiting (e ∷ l) n + m.messages ≤ m.places
     → LedgerTies n (e ∷ l) m
-still_ties n l k m e ties may none tabled made sized quiet counted worded blocks ends mail room =
+still_ties n l k m e ties may none tabled made sized quiet counted worded blocks ends mail sleepers room =
     quiet_ties n l k m e ties may none tabled made sized quiet counted
     (ap (λ bs. length bs) blocks) (λ b. ap (λ bs. tickets_at bs b) blocks) (λ b some. ap (λ bs. length (words_at bs b)) blocks)
-    (λ b i some. ap (λ bs. slice_index_or (words_at bs b) i 0) blocks ∙ ties.words b i some ∙ sym (worded b i)) ends mail room
+    (λ b i some. ap (λ bs. slice_index_or (words_at bs b) i 0) blocks ∙ ties.words b i some ∙ sym (worded b i)) ends mail sleepers room
 
 -- Words
 
@@ -116,18 +118,18 @@ module _ (blocks : List Counted) (b i w : ℕ) where
 pub written_ties : {L : Type 0} (n : ℕ) (l : Ledger) (k : Columns L) (more a i w : ℕ) (r : Row) (e : LedgerEvent)
     → LedgerTies n l k → Contains (held a (table l)) r → i < r.words
     → MayCome n l e → owed (e ∷ l) ≡ None → table (e ∷ l) ≡ table l → opened (e ∷ l) ≡ opened l → ((b : ℕ) → size (e ∷ l) b ≡ size l b) → ((c : ℕ) → is_end_of e c ≡ false)
-    → ((s r : ℕ) → port_of (e ∷ l) s r ≡ port_of l s r) → ((c : ℕ) → awaits (e ∷ l) c ≡ awaits l c)
+    → ((s r : ℕ) → port_of (e ∷ l) s r ≡ port_of l s r) → ((c : ℕ) → awaits (e ∷ l) c ≡ awaits l c) → waiters (e ∷ l) ≡ waiters l → ((c : ℕ) → asleep (e ∷ l) c ≡ asleep l c)
     → writes l e ≡ Some (r.block, i, w)
     → length (rows l) + left l n + waiting l n + k.messages ≤ more
     → LedgerTies n (e ∷ l) (record k { blocks = rewritten k.blocks r.block (with_word (words_at k.blocks r.block) i w); places = more })
-written_ties n l k more a i w r e ties has inside may none tabled made sized quiet ported waited wrote room =
+written_ties n l k more a i w r e ties has inside may none tabled made sized quiet ported waited lists slept wrote room =
     let b = r.block in
     let there = block_there n l a r ties.legal.0 has in
     let number = block_made n l b ties.legal.0 there.0 in
     let within : b ≤ length k.blocks = subst (λ m. b ≤ m) (sym ties.made) number.1 in
     let long : i < length (words_at k.blocks b) = subst (λ m. i < m) (there.1 ∙ sym (ties.sizes b there.0)) inside in
     let tickets : length (rows (e ∷ l)) ≡ length (rows l) = ap (λ t. length (unspent t)) tabled in
-    let waits = waiting_same l e n waited in
+    let waits = waiting_same l e n waited slept in
     quiet_ties n l k _ e ties may none (ties.tabled ∙ sym tabled) made sized quiet
     (λ c. ap (λ t. count_of (unspent t) c) tabled)
     (length-set k.blocks (b - 1) (new_block k.blocks b i w))
@@ -137,7 +139,7 @@ written_ties n l k more a i w r e ties has inside may none tabled made sized qui
     ap (λ k. slice_index_or (words_in k) j 0) (seen k.blocks b i w c number.0 within)
     ∙ word_kept k.blocks b i w c j (word l c j) (ties.words c j some) long (b == c) refl
     ∙ sym (ap (λ p. newest_word p c j (word l c j)) wrote))
-    refl (mail_same n l k.waits k.queues e ties.mail ported waited)
+    refl (mail_same n l k.waits k.queues e ties.mail ported waited) (sleepers_same n l (e ∷ l) k.listed k.sleeping ties.sleepers lists slept)
     (omega (arith, room, tickets, waits))
 
 -- A ticket is spent
@@ -163,9 +165,9 @@ lost_seen blocks b c positive within = by_test (b == c) refl
 pub less_ties : {L : Type 0} (n : ℕ) (l later : Ledger) (k m : Columns L) (b : ℕ)
     → LedgerTies n l k → 0 < count l b → ((c : ℕ) → count l c ≡ cond (b == c) 1 0 + count later c)
     → LegalLedger n later → m.lines ≡ table later → opened later ≡ opened l → ((c : ℕ) → size later c ≡ size l c) → ((c i : ℕ) → word later c i ≡ word l c i) → ((a : ℕ) → ended later a ≡ ended l a)
-    → m.blocks ≡ lost k.blocks b → m.ends ≡ k.ends → Mail n later m.waits m.queues → length (rows later) + left later n + waiting later n + m.messages ≤ m.places
+    → m.blocks ≡ lost k.blocks b → m.ends ≡ k.ends → Mail n later m.waits m.queues → Sleepers n later m.listed m.sleeping → length (rows later) + left later n + waiting later n + m.messages ≤ m.places
     → LedgerTies n later m
-less_ties n l later k m b ties there counts legal tabled made sized worded over blocks ends mail room =
+less_ties n l later k m b ties there counts legal tabled made sized worded over blocks ends mail sleepers room =
     let number = block_made n l b ties.legal.0 there in
     let within : b ≤ length k.blocks = subst (λ m. b ≤ m) (sym ties.made) number.1 in
     record {
@@ -183,6 +185,7 @@ less_ties n l later k m b ties there counts legal tabled made sized worded over 
       agents = ap (λ bs. length bs) ends ∙ ties.agents;
       over = λ a below. ap (λ bs. slice_index_or bs a false) ends ∙ ties.over a below ∙ sym (over a);
       mail = mail;
+      sleepers = sleepers;
       room = room;
     }
   where
@@ -207,13 +210,13 @@ spent_ties n l k more a r ties has room =
     let there = block_there n l a r ties.legal.0 has in
     let fewer = spent_length n l r.serial a r ties.legal.0 holder in
     let agents_left = left_same (Spent r.serial) l n (λ c. refl) in
-    let waits = waiting_same l (Spent r.serial) n (λ c. refl) in
+    let waits = waiting_same l (Spent r.serial) n (λ c. refl) (λ c. refl) in
     let all = ties.room in
     less_ties n l (Spent r.serial ∷ l) k _ r.block ties there.0
     (spent_count n l r.serial a r ties.legal.0 holder)
     (next_legal n l (Spent r.serial) ties.legal (ap is_some holder) refl)
     (ap (moved r.serial Nobody) ties.tabled) (zero-add (opened l)) (λ c. refl) (λ c i. refl) (λ c. refl)
-    refl refl (mail_same n l k.waits k.queues (Spent r.serial) ties.mail (λ s r. refl) (λ c. refl))
+    refl refl (mail_same n l k.waits k.queues (Spent r.serial) ties.mail (λ s r. refl) (λ c. refl)) (sleepers_same n l (Spent r.serial ∷ l) k.listed k.sleeping ties.sleepers refl (λ c. refl))
     (omega (arith, room, fewer, agents_left, waits, all))
 
 -- What an agent's stake has is held in the history
@@ -277,7 +280,7 @@ left_few l (suc n) = by_test (ended l n) (left_few l n)
     by_test false few = omega (arith, few)
 
 pub reserved_room : {L : Type 0} (n : ℕ) (l : Ledger) (k : Columns L) (made len got more extra : ℕ)
-    → LedgerTies n l k → made ≡ length k.lines → len ≡ length k.ends → made + len + len + k.messages + extra ≤ got → got ≤ more + 1
+    → LedgerTies n l k → made ≡ length k.lines → len ≡ length k.ends → made + len + len + len + k.messages + extra ≤ got → got ≤ more + 1
     → length (rows l) + left l n + waiting l n + k.messages + extra ≤ more + 1
 reserved_room n l k made len got more extra ties is_made is_len room last =
     let short = rows_short is_somebody (table l) in
@@ -308,8 +311,8 @@ accessed_ties n l k more a i m r ties has inside storable room = by_written (wri
         still_ties n l k _ e ties may refl
         ties.tabled (zero-add (opened l)) (λ b. refl) (λ b. refl) (λ b. refl)
         (λ b j. ap (λ o. newest_word (option_and_then (written_by l r.serial i) o) b j (word l b j)) is)
-        refl refl (mail_same n l k.waits k.queues e ties.mail (λ s r. refl) (λ a. refl)) room
+        refl refl (mail_same n l k.waits k.queues e ties.mail (λ s r. refl) (λ a. refl)) (sleepers_same n l (e ∷ l) k.listed k.sleeping ties.sleepers refl (λ c. refl)) room
     by_written (Some w) is =
         written_ties n l k more a i w r e ties has inside may refl
-        refl (zero-add (opened l)) (λ b. refl) (λ c. refl) (λ s r. refl) (λ c. refl)
+        refl (zero-add (opened l)) (λ b. refl) (λ c. refl) (λ s r. refl) (λ c. refl) refl (λ c. refl)
         (ap (option_and_then (written_by l r.serial i)) is ∙ ap (λ o. option_map (λ p. (p.1.block, i, w)) o) holder) room

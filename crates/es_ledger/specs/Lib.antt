@@ -7,4 +7,6 @@ pub mod Ties
 pub mod Laws
 pub mod Audits
 pub mod Turns
+pub mod Sleeps
+pub mod Wakings
 pub mod Draining

@@ -5,6 +5,8 @@ use Rattle.es_event.specs.declared.row.Entry.{Entry}
 use Rattle.es_event.specs.declared.row.Row.{Row}
 use Rattle.es_event.specs.Rows.{line_of}
 use Rattle.es_event.specs.Ledger.{Ledger, opened, size, table, rows, count, word, waits as awaits, ended, port_of}
+use Rattle.es_event.specs.declared.waiter.Waiter.{Waiter}
+use Rattle.es_event.specs.Waiters.{asleep, waiters}
 use Rattle.es_event.specs.LegalLedger.{LegalLedger}
 use Rattle.es_ledger.specs.declared.blocks.Counted.{Counted}
 use Rattle.es_ledger.specs.declared.message.Letter.{Letter}
@@ -19,9 +21,9 @@ abbrev pub left : Ledger → ℕ → ℕ
 left l zero = 0
 left l (suc n) = (if ended l n then 0 else 1) + left l n
 
--- how many agents below n wait
+-- how many waits and sleeps of the agents below n are to end
 abbrev pub waiting : Ledger → ℕ → ℕ
-waiting l n = sum_below n (λ a. if is_some (awaits l a) then 1 else 0)
+waiting l n = sum_below n (λ a. (if is_some (awaits l a) then 1 else 0) + (if asleep l a then 1 else 0))
 
 -- what the table has for the ticket of this serial
 abbrev pub row_at : ℕ → List Entry → Option Row
@@ -46,13 +48,21 @@ pub record Mail {L : Type 0} (n : ℕ) (l : Ledger) (waits : List (Option ℕ)) 
   pub awaited : (a : ℕ) → a < n → slice_index_or waits a None ≡ awaits l a
   pub senders : (a s : ℕ) → a < n → awaits l a ≡ Some s → s < n
 
--- what a ledger keeps beside its history: the lines of the table, the blocks, which agents ended, whom each awaits, the messages and how
--- many there are, and for how many more events there is room
+-- of n agents: the WaiterLists, and which agents sleep
+pub record Sleepers (n : ℕ) (l : Ledger) (listed : List Waiter) (sleeping : List Bool) : Type 0 where
+  pub lists : listed ≡ waiters l
+  pub agents : length sleeping ≡ n
+  pub each : (a : ℕ) → a < n → slice_index_or sleeping a false ≡ asleep l a
+
+-- what a ledger keeps beside its history: the lines of the table, the blocks, which agents ended, whom each awaits, the WaiterLists, which
+-- agents sleep, the messages and how many there are, and for how many more events there is room
 pub record Columns (L : Type 0) : Type 0 where
   pub lines : List Entry
   pub blocks : List Counted
   pub ends : List Bool
   pub waits : List (Option ℕ)
+  pub listed : List Waiter
+  pub sleeping : List Bool
   pub queues : List (QueueView L)
   pub messages : ℕ
   pub places : ℕ
@@ -70,5 +80,6 @@ pub record LedgerTies {L : Type 0} (n : ℕ) (l : Ledger) (k : Columns L) : Type
   pub agents : length k.ends ≡ n
   pub over : (a : ℕ) → a < n → slice_index_or k.ends a false ≡ ended l a
   pub mail : Mail n l k.waits k.queues
-  -- for the spending of each ticket, the end of each agent, the end of each wait, and the leaving of each message
+  pub sleepers : Sleepers n l k.listed k.sleeping
+  -- for the spending of each ticket, the end of each agent, the end of each wait and each sleep, and the leaving of each message
   pub room : length (rows l) + left l n + waiting l n + k.messages ≤ k.places

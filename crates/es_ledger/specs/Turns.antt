@@ -1,16 +1,17 @@
 -- To believe: what an agent is told that asks for a message.
-use Rattle.std.specs.Prelude.{ℕ, Bool, false, ◌&&◌, ◌==◌, ◌∷◌, is_some, if◌then◌else◌}
+use Rattle.std.specs.Prelude.{ℕ, Bool, false, ◌&&◌, ◌||◌, ◌==◌, ◌∷◌, is_some, if◌then◌else◌}
 use Rattle.std.specs.Option.{option_map_or}
 use Rattle.es_event.specs.declared.ledger_event.LedgerEvent.TheVariants.{Acted}
 use Rattle.es_event.specs.declared.ledger_event.Act.TheVariants.{Waiting, Passed}
 use Rattle.es_event.specs.Ledger.{Ledger, waits}
+use Rattle.es_event.specs.Waiters.{asleep}
 use Rattle.es_event.specs.LegalLedger.{has_message, skips}
 use Rattle.es_ledger.specs.declared.turn.Turn.{Turn}
 use Rattle.es_ledger.specs.declared.turn.Turn.TheVariants.{Ready, Stay, Skip}
 
--- an agent begins to wait when it first asks at an empty port; a repeated question records nothing
+-- an agent begins to wait when it first asks at an empty port; a repeated question records nothing, nor does that of an agent that sleeps
 abbrev pub asked : Ledger → ℕ → ℕ → Ledger
-asked l a s = if is_some (waits l a) then l else Acted a (Waiting s) ∷ l
+asked l a s = if is_some (waits l a) || asleep l a then l else Acted a (Waiting s) ∷ l
 
 -- it waits for this sender
 abbrev pub waits_for : Ledger → ℕ → ℕ → Bool

@@ -101,6 +101,17 @@ impl Blocks {
         }
     }
 
+    /// The word at an index of a block that is not released.
+    pub fn word(&self, number: u64, index: usize) -> u32
+        requires { index < length (words_at self.now.all number) }
+        ensures { result ≡ word (words_at self.now.all number) index }
+    {
+        match &self.all[number as usize - 1].words {
+            Some(words) => words.load(index),
+            None => unreachable!(),
+        }
+    }
+
     /// One ticket more of a block that has one.
     pub fn gain(&mut self, number: u64)
         requires there { 0 < tickets_at self.old.all number }

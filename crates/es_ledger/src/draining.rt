@@ -36,6 +36,8 @@ impl<L: LedgerName> LedgerCore<L> {
             blocks: _,
             ended: _,
             waits: _,
+            waiters: _,
+            asleep: _,
             ports,
             history,
             alloc: _,

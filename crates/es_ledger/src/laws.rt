@@ -1,6 +1,7 @@
 //! What holds of every history of the ledger. Each law is the contract of a function that does nothing.
 
 ghost use Rattle.es_ledger.specs.Laws.{TicketsAreNumbered, CountsAreSums, ReleasedWhereNobodyHolds, WhatOneAgentDoesChangesNoOther, PortsAreFirstInFirstOut};
+ghost use Rattle.es_ledger.specs.Wakings.{ANotifyTakesTheFirst, NobodyIsListedTwice, WhoIsListedSleeps};
 
 /// The ledger's table has one line for each ticket that was made, in order of making.
 pub fn tickets_are_numbered()
@@ -27,4 +28,20 @@ pub fn what_one_agent_does_changes_no_other()
 /// doubled or out of turn.
 pub fn ports_are_first_in_first_out()
     ensures { PortsAreFirstInFirstOut }
+{}
+
+/// A notify takes those that sleep at its word, those first that began first, as many as it asks for at most, and
+/// nobody else (ECMA-262, Atomics.notify): no wake-up is lost.
+pub fn a_notify_takes_the_first()
+    ensures { ANotifyTakesTheFirst }
+{}
+
+/// Who is in a WaiterList sleeps (ECMA-262, WaiterList Objects).
+pub fn who_is_listed_sleeps()
+    ensures { WhoIsListedSleeps }
+{}
+
+/// Nobody is in two WaiterLists, or twice in one.
+pub fn nobody_is_listed_twice()
+    ensures { NobodyIsListedTwice }
 {}

@@ -14,8 +14,9 @@ ghost use Rattle.es_event.specs.declared.ledger_event.Act.TheVariants.{Ended as 
 
 use crate::blocks::Blocks;
 use crate::ports::Ports;
+use crate::waiters::leave;
 use es_block::Block;
-use es_event::{Act, Change, Edit, LedgerEvent, Log};
+use es_event::{Act, Change, Edit, LedgerEvent, Log, Waiter};
 use es_ticket::{LedgerName, Opened, Rows, Stake, Ticket};
 use es_value::NoMemory;
 use std::alloc::Global;
@@ -38,6 +39,10 @@ pub struct LedgerCore<L: LedgerName> {
     pub(crate) ended: Vec<bool>,
     // for whose message each agent waits
     pub(crate) waits: Vec<Option<usize>>,
+    // the WaiterLists: who sleeps and was not taken, in the order in which they began to
+    pub(crate) waiters: Vec<Waiter>,
+    // whether each agent sleeps
+    pub(crate) asleep: Vec<bool>,
     pub(crate) ports: Ports<L>,
     pub(crate) history: Log<LedgerEvent>,
     pub(crate) alloc: Global,
@@ -51,7 +56,7 @@ impl<L: LedgerName> Model for LedgerCore<L> {
 
     ghost view = { λ c. record { agents = c.rows.agents; history = c.history.events } };
 
-    ghost invariant = { λ c. LedgerTies c.rows.agents c.history.events (record { lines = c.rows.rows; blocks = c.blocks.all; ends = c.ended.items; waits = c.waits.items; queues = c.ports.queues; messages = c.ports.messages; places = c.history.room }) };
+    ghost invariant = { λ c. LedgerTies c.rows.agents c.history.events (record { lines = c.rows.rows; blocks = c.blocks.all; ends = c.ended.items; waits = c.waits.items; listed = c.waiters.items; sleeping = c.asleep.items; queues = c.ports.queues; messages = c.ports.messages; places = c.history.room }) };
 }
 
 impl<L: LedgerName> LedgerCore<L> {
@@ -70,6 +75,8 @@ impl<L: LedgerName> LedgerCore<L> {
         let mut stakes = Vec::with_capacity(alloc, agents)?;
         let mut ended = Vec::with_capacity(alloc, agents)?;
         let mut waits = Vec::with_capacity(alloc, agents)?;
+        let mut asleep = Vec::with_capacity(alloc, agents)?;
+        let waiters = Vec::with_capacity(alloc, agents)?;
         let mut history = Log::new(alloc);
         history.reserve(agents)?;
         let mut rows = opened.named::<L>(alloc);
@@ -77,6 +84,7 @@ impl<L: LedgerName> LedgerCore<L> {
             stakes.push_reserved(rows.deal());
             ended.push_reserved(false);
             waits.push_reserved(None);
+            asleep.push_reserved(false);
         }
         let ports = Ports::new(alloc, agents)?;
         let ledger = LedgerCore {
@@ -84,6 +92,8 @@ impl<L: LedgerName> LedgerCore<L> {
             blocks: Blocks::new(alloc),
             ended,
             waits,
+            waiters,
+            asleep,
             ports,
             history,
             alloc,
@@ -243,6 +253,8 @@ impl<L: LedgerName> LedgerCore<L> {
         requires before { ended self.old.history agent ≡ false }
         ensures { (self.new.agents ≡ self.old.agents) × (self.new.history ≡ Acted agent EndedEvent ∷ self.old.history) }
     {
+        leave(&mut self.waiters, agent);
+        self.asleep[agent] = false;
         self.ended[agent] = true;
         self.history.append(LedgerEvent::Acted {
             agent,
@@ -282,7 +294,7 @@ impl<L: LedgerName> LedgerCore<L> {
 }
 
 // Makes room for so many more events, beside those that are to come at all events: the spending of
-// each ticket, the end of each agent, the end of each wait and the leaving of each message.
+// each ticket, the end of each agent, of each wait and of each sleep, and the leaving of each message.
 pub(crate) fn make_room<L: LedgerName>(
     history: &mut Log<LedgerEvent>,
     rows: &Rows<L>,
@@ -294,7 +306,7 @@ pub(crate) fn make_room<L: LedgerName>(
     ensures same { history.new.events ≡ history.old.events }
     ensures kept { history.old.room ≤ history.new.room }
     ensures lines { length rows.now.rows < 2 ^ 63 }
-    ensures room { OnOk result (length rows.now.rows + agents + agents + ports.now.messages + more ≤ history.new.room) }
+    ensures room { OnOk result (length rows.now.rows + agents + agents + agents + ports.now.messages + more ≤ history.new.room) }
 {
-    history.reserve(rows.made() + agents + agents + ports.messages() + more)
+    history.reserve(rows.made() + agents + agents + agents + ports.messages() + more)
 }

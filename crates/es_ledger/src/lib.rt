@@ -10,13 +10,16 @@ mod ledger;
 mod message;
 mod ports;
 mod posting;
+mod sleeping;
 mod turn;
+mod waiters;
 mod waiting;
 
 pub use audit::Audit;
 pub use laws::{
-    counts_are_sums, ports_are_first_in_first_out, released_where_nobody_holds,
-    tickets_are_numbered, what_one_agent_does_changes_no_other,
+    a_notify_takes_the_first, counts_are_sums, nobody_is_listed_twice,
+    ports_are_first_in_first_out, released_where_nobody_holds, tickets_are_numbered,
+    what_one_agent_does_changes_no_other, who_is_listed_sleeps,
 };
 pub use ledger::{LedgerCore, Spent};
 pub use message::{Letter, Message};

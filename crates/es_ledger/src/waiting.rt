@@ -1,7 +1,9 @@
 //! Asking for a message: it is there, or the agent waits on, or it skips its job.
 
-ghost use Rattle.std.specs.Prelude.{◌≡◌, ◌≢◌, ◌<◌, ◌≤◌, ◌∷◌, ◌||◌, ◌&&◌, ℕ, false, Some, IfOk, IfSome, OnOk, OnErr, if◌then◌else◌};
+ghost use Rattle.std.specs.Prelude.{◌≡◌, ◌≢◌, ◌<◌, ◌≤◌, ◌∷◌, ◌||◌, ◌&&◌, not, ℕ, false, is_some, Some, IfOk, IfSome, OnOk, OnErr, if◌then◌else◌};
 ghost use Rattle.es_event.specs.Ledger.{waits, ended};
+ghost use Rattle.std.specs.Option.{option_map_or};
+ghost use Rattle.es_event.specs.Waiters.{asleep};
 ghost use Rattle.es_event.specs.LegalLedger.{has_message, is_stuck, all_stuck, all_ended, is_chosen, skips};
 ghost use Rattle.es_ledger.specs.Turns.{told, asked, judged, waits_for};
 ghost use Rattle.es_ledger.specs.declared.turn.Turn.TheVariants.{Ready, Stay};
@@ -16,7 +18,7 @@ impl<L: LedgerName> LedgerCore<L> {
     /// Asks for a message of a sender: whether it is there, or the agent waits on, or skips its job.
     /// Where there is no memory nothing has changed. An agent has one wait at a time: one that waits for
     /// another sender is told that the message is there, where it is, and else to wait on, even where this
-    /// sender has ended; and nothing is recorded.
+    /// sender has ended; and nothing is recorded. So is one that sleeps.
     pub fn await_message(&mut self, agent: usize, sender: usize) -> Result<Turn, NoMemory>
         requires known { (agent < self.old.agents) × (sender < self.old.agents) }
         requires other { agent ≢ sender }
@@ -41,7 +43,7 @@ impl<L: LedgerName> LedgerCore<L> {
         !self.ports.is_empty(sender, receiver)
     }
 
-    // Records that the agent waits, where it waits for nobody yet.
+    // Records that the agent waits, where it waits for nobody yet and does not sleep.
     fn ask(&mut self, agent: usize, sender: usize) -> Result<(), NoMemory>
         requires known { (agent < self.old.agents) × (sender < self.old.agents) }
         requires other { agent ≢ sender }
@@ -51,7 +53,7 @@ impl<L: LedgerName> LedgerCore<L> {
         ensures agents { self.new.agents ≡ self.old.agents }
         ensures err { OnErr result (self.new ≡ self.old) }
     {
-        if self.sender_of(agent).is_some() {
+        if self.rests(agent) {
             return Ok(());
         }
         let agents = self.ended.as_slice().len();
@@ -90,6 +92,14 @@ impl<L: LedgerName> LedgerCore<L> {
         self.waits[agent]
     }
 
+    // Whether it waits for a message, or sleeps.
+    fn rests(&self, agent: usize) -> bool
+        requires { agent < self.now.agents }
+        ensures { result ≡ (is_some (waits self.now.history agent) || asleep self.now.history agent) }
+    {
+        self.sender_of(agent).is_some() || self.is_asleep(agent)
+    }
+
     fn waits_for(&self, agent: usize, sender: usize) -> bool
         requires { agent < self.now.agents }
         ensures { result ≡ waits_for self.now.history agent sender }
@@ -107,7 +117,7 @@ impl<L: LedgerName> LedgerCore<L> {
         !self.has_message(sender, agent) && (self.has_ended(sender) || self.is_chosen(agent))
     }
 
-    fn is_chosen(&self, agent: usize) -> bool
+    pub(crate) fn is_chosen(&self, agent: usize) -> bool
         requires { agent < self.now.agents }
         ensures { result ≡ is_chosen self.now.history self.now.agents agent }
     {
@@ -117,6 +127,13 @@ impl<L: LedgerName> LedgerCore<L> {
     fn is_stuck(&self, agent: usize) -> bool
         requires { agent < self.now.agents }
         ensures { result ≡ is_stuck self.now.history agent }
+    {
+        self.is_listed(agent) || self.waits_in_vain(agent)
+    }
+
+    fn waits_in_vain(&self, agent: usize) -> bool
+        requires { agent < self.now.agents }
+        ensures { result ≡ option_map_or (λ s. not (has_message self.now.history s agent) && not (ended self.now.history s)) (waits self.now.history agent) false }
     {
         match self.sender_of(agent) {
             Some(sender) => !self.has_message(sender, agent) && !self.has_ended(sender),

@@ -9,9 +9,10 @@ use Rattle.es_event.specs.declared.ledger_event.LedgerEvent.{LedgerEvent}
 use Rattle.es_event.specs.declared.ledger_event.LedgerEvent.TheVariants.{Accessed}
 use Rattle.es_event.specs.declared.row.Row.{Row}
 use Rattle.es_event.specs.Ledger.{Ledger, holder_of, waits}
+use Rattle.es_event.specs.Waiters.{asleep}
 use Rattle.es_match.specs.declared.ledger_pass.LedgerPass.{LedgerPass}
 use Rattle.es_match.specs.Deeds.{Deed, Accesses, deed, is_wait, part, part_of}
-use Rattle.es_match.specs.Patience.{has_drained, ends_wait, may_do}
+use Rattle.es_match.specs.Patience.{has_drained, ends_sleep, ends_wait, may_do, may_stir}
 use Rattle.es_match.specs.Orderly.{may_come, orderly}
 use Rattle.es_match.specs.LedgerPass.{Says, HoldsStill}
 use Rattle.es_match.specs.Words.{AreWordsBy, words_said}
@@ -40,13 +41,13 @@ runs n l s a t i m old h within same =
     held a (Accesses t i m old) (holder_of l t) (subst (λ k. option_map (λ q. q.0) (holder_of l k) ≡ Some a) (eqb-true s t same) h.holder) in
     record {
       is = is;
-      comes = rw (is, h.waits, h.drains) (or_true false (nat_lt a n) within);
+      comes = rw (is, h.waits, h.awake, h.drains) (or_true false (nat_lt a n) within);
       no_wait = refl;
-      still = record { holder = h.holder; waits = h.waits; drains = h.drains };
+      still = record { holder = h.holder; waits = h.waits; awake = h.awake; drains = h.drains };
     }
 
 says_more : (l : Ledger) (t i : ℕ) (m : Change) (old : ℕ) (ts : LedgerPass) → Says l ts → Says (Accessed t i m old ∷ l) ts
-says_more l t i m old ts says = record { lines = says.lines; sizes = says.sizes; mail = says.mail; waiting = says.waiting; drains = says.drains }
+says_more l t i m old ts says = record { lines = says.lines; sizes = says.sizes; mail = says.mail; waiting = says.waiting; sleeping = says.sleeping; drains = says.drains }
 
 -- with the words that follow
 
@@ -109,6 +110,10 @@ no_wait : (w : Option ℕ) (x d : Deed) → d ≡ x → ((s : ℕ) → ends_wait
 no_wait None x d is never may = refl
 no_wait (Some s) x d is never may = absurd (true≢false (sym may ∙ ap (ends_wait s) is ∙ never s))
 
+no_sleep : (b : Bool) (x d : Deed) → d ≡ x → ends_sleep x ≡ false → may_stir b d ≡ true → b ≡ false
+no_sleep false x d is never may = refl
+no_sleep true x d is never may = absurd (true≢false (sym may ∙ ap ends_sleep is ∙ never))
+
 not_true : (b : Bool) → not b ≡ true → b ≡ false
 not_true true e = absurd (true≢false (sym e))
 not_true false e = refl
@@ -122,12 +127,14 @@ pub first_holds : (n : ℕ) (l : Ledger) (a : ℕ) (d : Deed) (s i : ℕ) (m : C
     → HoldsStill (Accessed s i m old ∷ l) (s, a) × (nat_lt a n ≡ true) × (is_wait d ≡ false)
 first_holds n l a d s i m old is comes =
     let first = and_parts _ _ comes in
+    let patient = and_parts _ _ first.0 in
     let later = and_parts _ _ first.1 in
     let same : d ≡ Accesses s i m old = deed_back a (Accesses s i m old) d (holder_of l s) (sym is) in
     let does : is_wait d ≡ false = ap is_wait same in (
       record {
         holder = holder_back a (Accesses s i m old) d (holder_of l s) (sym is);
-        waits = no_wait (waits l a) (Accesses s i m old) d same (λ t. refl) first.0;
+        waits = no_wait (waits l a) (Accesses s i m old) d same (λ t. refl) patient.0;
+        awake = no_sleep (asleep l a) (Accesses s i m old) d same refl patient.1;
         drains = not_true (has_drained l) later.0;
       },
       known (is_wait d) (nat_lt a n) does later.1,

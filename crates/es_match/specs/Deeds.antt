@@ -7,7 +7,7 @@ use Rattle.es_event.specs.declared.ledger_event.Body.TheVariants.{Plain, Block}
 use Rattle.es_event.specs.declared.ledger_event.LedgerEvent.{LedgerEvent}
 use Rattle.es_event.specs.declared.ledger_event.LedgerEvent.TheVariants.{Opened, Posted, Taken, Spent, Accessed, Drained, Acted}
 use Rattle.es_event.specs.declared.ledger_event.Act.{Act}
-use Rattle.es_event.specs.declared.ledger_event.Act.TheVariants.{Waiting, Passed, Ended}
+use Rattle.es_event.specs.declared.ledger_event.Act.TheVariants.{Waiting, Passed, Ended, Slept, Notified, Woke, TimedOut}
 use Rattle.es_event.specs.Ledger.{Ledger, size, front, holder_of}
 
 -- what an agent does to the ledger; a message that it takes is none where the port was empty, and comes with the number of
@@ -21,6 +21,10 @@ pub data Deed : Type 0 where
   Waits : (sender : ℕ) → Deed
   Passes : (sender : ℕ) → Deed
   Ends : Deed
+  Sleeps : (serial index word : ℕ) → Deed
+  Notifies : (serial index count taken : ℕ) → Deed
+  Wakes : Deed
+  TimesOut : Deed
 
 -- whose deed it is, and what
 abbrev pub Owned : Type 0
@@ -42,6 +46,10 @@ abbrev pub acting : Act → Deed
 acting (Waiting s) = Waits s
 acting (Passed s) = Passes s
 acting Ended = Ends
+acting (Slept s i w) = Sleeps s i w
+acting (Notified s i n k) = Notifies s i n k
+acting Woke = Wakes
+acting TimedOut = TimesOut
 
 -- what an event after l is; a drain is nobody's deed, nor is the spending of a ticket that no agent holds
 abbrev pub deed : Ledger → LedgerEvent → Owned
@@ -62,6 +70,24 @@ is_wait (Accesses s i m old) = false
 is_wait (Waits s) = true
 is_wait (Passes s) = false
 is_wait Ends = false
+is_wait (Sleeps s i w) = false
+is_wait (Notifies s i n k) = false
+is_wait Wakes = false
+is_wait TimesOut = false
+
+abbrev pub is_sleep : Deed → Bool
+is_sleep (Opens b w s) = false
+is_sleep (Posts r m) = false
+is_sleep (Takes s m w) = false
+is_sleep (Spends s) = false
+is_sleep (Accesses s i m old) = false
+is_sleep (Waits s) = false
+is_sleep (Passes s) = false
+is_sleep Ends = false
+is_sleep (Sleeps s i w) = true
+is_sleep (Notifies s i n k) = false
+is_sleep Wakes = false
+is_sleep TimesOut = false
 
 -- agent a's deed, unless it is a wait
 abbrev pub part_of : ℕ → Owned → List Deed

@@ -16,6 +16,7 @@ use Rattle.es_event.specs.declared.row.Holder.{Holder}
 use Rattle.es_event.specs.declared.row.Holder.TheVariants.{Agent, Port, Nobody}
 use Rattle.es_event.specs.Rows.{row, held_by, line_of}
 use Rattle.es_event.specs.Ledger.{Ledger, size, port_of, front, serial_in, table, holder_of, waits}
+use Rattle.es_event.specs.Waiters.{asleep, asleep_after}
 use Rattle.es_match.specs.declared.ledger_pass.LedgerPass.{LedgerPass}
 use Rattle.es_match.specs.Deeds.{words_in}
 use Rattle.es_match.specs.Patience.{has_drained}
@@ -35,6 +36,10 @@ size_in m b = unwrap_or (get nat_eq m b) 0
 abbrev pub waits_in : Map ℕ (Option ℕ) → ℕ → Option ℕ
 waits_in m a = unwrap_or (get nat_eq m a) None
 
+-- whether an agent sleeps
+abbrev pub asleep_in : Map ℕ Bool → ℕ → Bool
+asleep_in m a = unwrap_or (get nat_eq m a) false
+
 abbrev pub pair_eq : ℕ × ℕ → ℕ × ℕ → Bool
 pair_eq p q = nat_eq p.0 q.0 && nat_eq p.1 q.1
 
@@ -48,10 +53,11 @@ port_in m s r = option_map_or (λ q. bodies q.items) (get pair_eq m (s, r)) []
 abbrev pub body_of : Option (Bor Body) → Option Body
 body_of b = option_map (λ x. x.now) b
 
--- the agent p.1 has the ticket of serial p.0, waits for nobody, and no message was drained
+-- the agent p.1 has the ticket of serial p.0, waits for nobody and is awake, and no message was drained
 pub record HoldsStill (l : Ledger) (p : ℕ × ℕ) : Type 0 where
   pub holder : option_map (λ q. q.0) (holder_of l p.0) ≡ Some p.1
   pub waits : waits l p.1 ≡ None
+  pub awake : asleep l p.1 ≡ false
   pub drains : has_drained l ≡ false
 
 -- the pass say what the history says
@@ -60,7 +66,18 @@ pub record Says (l : Ledger) (t : LedgerPass) : Type 0 where
   pub sizes : (b : ℕ) → size_in t.sizes b ≡ size l b
   pub mail : (s r : ℕ) → port_in t.mail s r ≡ port_of l s r
   pub waiting : (a : ℕ) → waits_in t.waiting a ≡ waits l a
+  pub sleeping : (a : ℕ) → asleep_in t.sleeping a ≡ asleep l a
   pub drains : t.drained ≡ has_drained l
+
+-- whether agent a sleeps after an event, of whether it did before
+abbrev pub sleeps_on : LedgerEvent → ℕ → Bool → Bool
+sleeps_on (Opened b w s c) a before = before
+sleeps_on (Posted c r m) a before = before
+sleeps_on (Taken s r) a before = before
+sleeps_on (Spent s) a before = before
+sleeps_on (Accessed s i m old) a before = before
+sleeps_on (Acted c d) a before = asleep_after c d a before
+sleeps_on (Drained s r) a before = before
 
 -- One serial's line
 

@@ -1,8 +1,9 @@
--- To believe: what an agent does after a wait ends the wait, and no agent does anything after a drain.
+-- To believe: what an agent does after a wait, or asleep, ends the wait or the sleep, and no agent does anything after a drain.
 use Rattle.std.specs.Prelude.{ℕ, Bool, true, false, not, ◌||◌, ◌&&◌, ◌==◌, [], ◌∷◌, Option, Some, None}
 use Rattle.es_event.specs.Ledger.{Ledger, waits}
+use Rattle.es_event.specs.Waiters.{asleep}
 use Rattle.es_event.specs.Totals.{is_drained}
-use Rattle.es_match.specs.Deeds.{Deed, Opens, Posts, Takes, Spends, Accesses, Waits, Passes, Ends, Owned, deed}
+use Rattle.es_match.specs.Deeds.{Deed, Opens, Posts, Takes, Spends, Accesses, Waits, Passes, Ends, Sleeps, Notifies, Wakes, TimesOut, Owned, deed}
 
 -- the deed ends a wait for this sender: the agent takes a message of it, or skips
 abbrev pub ends_wait : ℕ → Deed → Bool
@@ -14,16 +15,39 @@ ends_wait t (Accesses s i m old) = false
 ends_wait t (Waits s) = false
 ends_wait t (Passes s) = s == t
 ends_wait t Ends = false
+ends_wait t (Sleeps s i w) = false
+ends_wait t (Notifies s i n k) = false
+ends_wait t Wakes = false
+ends_wait t TimesOut = false
+
+-- the deed ends a sleep
+abbrev pub ends_sleep : Deed → Bool
+ends_sleep (Opens b w s) = false
+ends_sleep (Posts r m) = false
+ends_sleep (Takes s m w) = false
+ends_sleep (Spends s) = false
+ends_sleep (Accesses s i m old) = false
+ends_sleep (Waits s) = false
+ends_sleep (Passes s) = false
+ends_sleep Ends = false
+ends_sleep (Sleeps s i w) = false
+ends_sleep (Notifies s i n k) = false
+ends_sleep Wakes = true
+ends_sleep TimesOut = true
 
 abbrev pub may_do : Option ℕ → Deed → Bool
 may_do None d = true
 may_do (Some s) d = ends_wait s d
 
+abbrev pub may_stir : Bool → Deed → Bool
+may_stir false d = true
+may_stir true d = ends_sleep d
+
 abbrev pub is_patient : Ledger → Owned → Bool
 is_patient l None = true
-is_patient l (Some p) = may_do (waits l p.0) p.1
+is_patient l (Some p) = may_do (waits l p.0) p.1 && may_stir (asleep l p.0) p.1
 
--- what an agent does after a wait ends the wait
+-- what an agent does after a wait ends the wait, and what it does asleep ends the sleep
 abbrev pub patient : Ledger → Bool
 patient [] = true
 patient (e ∷ earlier) = is_patient earlier (deed earlier e) && patient earlier

@@ -43,4 +43,21 @@ pub enum Deed<'a> {
     },
     /// It ends.
     End,
+    /// It begins to sleep at a word, which is this one.
+    Sleep {
+        serial: u64,
+        index: usize,
+        word: u32,
+    },
+    /// It takes agents out of the WaiterList at a word; so many were taken.
+    Notify {
+        serial: u64,
+        index: usize,
+        count: usize,
+        taken: usize,
+    },
+    /// It was taken, and goes on.
+    Wake,
+    /// Its time-out has passed, and it goes on.
+    TimeOut,
 }

@@ -2,7 +2,8 @@
 
 ghost use Rattle.std.specs.Prelude.{◌≡◌, true};
 ghost use Rattle.es_event.specs.Ledger.{Ledger, front, waits};
-ghost use Rattle.es_match.specs.Patience.{ends_wait, may_do};
+ghost use Rattle.es_event.specs.Waiters.{asleep};
+ghost use Rattle.es_match.specs.Patience.{ends_sleep, ends_wait, may_do, may_stir};
 ghost use Rattle.es_match.specs.Deeds.{acting, by_holder, deed, is_wait, taking};
 ghost use Rattle.es_match.specs.Orderly.{is_known, may_come};
 ghost use Rattle.es_match.specs.DeedsShown.{owned, shown};
@@ -94,6 +95,16 @@ impl<'a> LedgerPass<'a> {
         }
     }
 
+    /// Whether an agent sleeps.
+    fn is_asleep(&self, agent: usize) -> bool
+        ensures { (l : Ledger) → Says l self.now → result ≡ asleep l agent }
+    {
+        match self.sleeping.get(&agent) {
+            Some(asleep) => *asleep,
+            None => false,
+        }
+    }
+
     /// The sender that an agent waits for.
     fn waits(&self, agent: usize) -> Option<usize>
         ensures { (l : Ledger) → Says l self.now → result ≡ waits l agent }
@@ -113,6 +124,7 @@ impl<'a> LedgerPass<'a> {
             None => true,
             Some((agent, deed)) => {
                 may_do(self.waits(*agent), deed)
+                    && may_stir(self.is_asleep(*agent), deed)
                     && !self.drained
                     && (is_wait(deed) || *agent < agents)
             }
@@ -127,6 +139,28 @@ fn acting<'a>(act: Act) -> Deed<'a>
         Act::Waiting { sender } => Deed::Wait { sender },
         Act::Passed { sender } => Deed::Pass { sender },
         Act::Ended => Deed::End,
+        Act::Slept {
+            serial,
+            index,
+            word,
+        } => Deed::Sleep {
+            serial,
+            index,
+            word,
+        },
+        Act::Notified {
+            serial,
+            index,
+            count,
+            taken,
+        } => Deed::Notify {
+            serial,
+            index,
+            count,
+            taken,
+        },
+        Act::Woke => Deed::Wake,
+        Act::TimedOut => Deed::TimeOut,
     }
 }
 
@@ -146,6 +180,18 @@ fn ends_wait(awaited: usize, deed: &Deed<'_>) -> bool
         Deed::Take { sender, .. } | Deed::Pass { sender } => *sender == awaited,
         _ => false,
     }
+}
+
+fn may_stir(asleep: bool, deed: &Deed<'_>) -> bool
+    ensures { result ≡ may_stir asleep (shown deed.now) }
+{
+    !asleep || ends_sleep(deed)
+}
+
+fn ends_sleep(deed: &Deed<'_>) -> bool
+    ensures { result ≡ ends_sleep (shown deed.now) }
+{
+    matches!(deed, Deed::Wake | Deed::TimeOut)
 }
 
 /// Whether the deed is that an agent begins to wait.

@@ -3,7 +3,8 @@
 ghost use Rattle.std.specs.Prelude.{◌≡◌, ℕ, [], ◌∷◌, OnOk, ◌||◌};
 ghost use Rattle.es_event.specs.Ledger.{Ledger, awaited, newest_size, opens};
 ghost use Rattle.es_event.specs.declared.ledger_event.LedgerEvent.{LedgerEvent as Happening};
-ghost use Rattle.es_match.specs.LedgerPass.{Says, body_of, size_in, taken_by, waits_in, words_by};
+ghost use Rattle.es_match.specs.LedgerPass.{Says, body_of, asleep_in, size_in, sleeps_on, taken_by, waits_in, words_by};
+ghost use Rattle.es_event.specs.Waiters.{asleep_after};
 ghost use Rattle.es_match.specs.Deeds.{words_in};
 ghost use Rattle.es_event.specs.Totals.{is_drained};
 
@@ -25,6 +26,8 @@ pub(crate) struct LedgerPass<'a> {
     pub mail: Mail<'a>,
     /// For each agent the sender that it waits for.
     pub waiting: HashMap<usize, Option<usize>>,
+    /// For each agent whether it sleeps.
+    pub sleeping: HashMap<usize, bool>,
     /// Whether a message was drained.
     pub drained: bool,
 }
@@ -39,6 +42,7 @@ impl<'a> LedgerPass<'a> {
             sizes: HashMap::new(alloc),
             mail: HashMap::new(alloc),
             waiting: HashMap::new(alloc),
+            sleeping: HashMap::new(alloc),
             drained: false,
         }
     }
@@ -83,6 +87,7 @@ impl<'a> LedgerPass<'a> {
         note_size(&mut self.sizes, event)?;
         mail::note(alloc, &mut self.mail, event)?;
         note_wait(&mut self.waiting, event)?;
+        note_sleep(&mut self.sleeping, event)?;
         self.drained = drained_after(self.drained, event);
         Ok(())
     }
@@ -138,7 +143,31 @@ fn note_act(
     match act {
         Act::Waiting { sender } => put(waiting, agent, Some(sender)),
         Act::Passed { .. } => put(waiting, agent, None),
-        Act::Ended => Ok(()),
+        Act::Ended | Act::Slept { .. } | Act::Notified { .. } | Act::Woke | Act::TimedOut => Ok(()),
+    }
+}
+
+fn note_sleep(sleeping: &mut HashMap<usize, bool>, event: &LedgerEvent) -> Result<(), NoMemory>
+    ensures { OnOk result ((a : ℕ) → asleep_in sleeping.new a ≡ sleeps_on event.now a (asleep_in sleeping.old a)) }
+{
+    match event {
+        LedgerEvent::Acted { agent, act } => note_rest(sleeping, *agent, *act),
+        LedgerEvent::Opened { .. }
+        | LedgerEvent::Posted { .. }
+        | LedgerEvent::Taken { .. }
+        | LedgerEvent::Spent { .. }
+        | LedgerEvent::Accessed { .. }
+        | LedgerEvent::Drained { .. } => Ok(()),
+    }
+}
+
+fn note_rest(sleeping: &mut HashMap<usize, bool>, agent: usize, act: Act) -> Result<(), NoMemory>
+    ensures { OnOk result ((a : ℕ) → asleep_in sleeping.new a ≡ asleep_after agent act a (asleep_in sleeping.old a)) }
+{
+    match act {
+        Act::Slept { .. } => put(sleeping, agent, true),
+        Act::Ended | Act::Woke | Act::TimedOut => put(sleeping, agent, false),
+        Act::Waiting { .. } | Act::Passed { .. } | Act::Notified { .. } => Ok(()),
     }
 }
 

@@ -1,28 +1,33 @@
 -- What an agent does that is ready leaves of the ledger for another agent.
-use Rattle.std.proofs.Common.{◌≡◌, ℕ, zero, suc, ◌+◌, ◌<◌, ◌==◌, ◌&&◌, ◌||◌, not, Bool, true, false, sym, ◌∙◌, ap, refl, subst, arith, ◌∷◌, Option, Some, None, ne_eqb, eq-eqb}
+use Rattle.std.proofs.Common.{◌≡◌, ℕ, zero, suc, ◌+◌, ◌<◌, ◌==◌, ◌&&◌, ◌||◌, not, Bool, true, false, sym, ◌∙◌, ap, refl, subst, arith, filter, length, take, List, [], ◌∷◌, ◌++◌, if◌then◌else◌, Option, Some, None, ne_eqb, eq-eqb, eqb-true}
 use Rattle.std.specs.Prelude.{is_some, nat_lt, slice_get}
+use Rattle.std.specs.List.{list_any}
 use Rattle.std.specs.Option.{option_map, option_map_or}
 use Rattle.std.proofs.lemmas.Bool.{false≢true, or_right}
 use Rattle.es_event.specs.declared.ledger_event.Body.{Body}
 use Rattle.es_event.specs.declared.ledger_event.Body.TheVariants.{Plain, Block}
 use Rattle.es_event.specs.declared.ledger_event.LedgerEvent.{LedgerEvent}
 use Rattle.es_event.specs.declared.ledger_event.LedgerEvent.TheVariants.{Opened, Posted, Taken, Spent, Accessed, Drained, Acted}
-use Rattle.es_event.specs.declared.ledger_event.Act.TheVariants.{Waiting, Passed, Ended}
+use Rattle.es_event.specs.declared.ledger_event.Act.{Act}
+use Rattle.es_event.specs.declared.ledger_event.Act.TheVariants.{Waiting, Passed, Ended, Slept, Notified, Woke, TimedOut}
+use Rattle.es_event.specs.declared.waiter.Waiter.{Waiter}
 use Rattle.es_event.specs.declared.row.Row.{Row}
 use Rattle.es_event.specs.declared.row.Holder.TheVariants.{Agent, Nobody}
 use Rattle.es_event.specs.Access.{IsStorable}
 use Rattle.es_event.specs.Rows.{count_of, held, is_agent}
 use Rattle.es_event.specs.Ledger.{Ledger, ended, front, holder_of, opened, port_of, serials, size, table, waits, word}
-use Rattle.es_event.specs.LegalLedger.{ComesNext, IsPostable, LegalSoFar, MayCome, Reaches, all_ended, all_stuck, has_message, is_stuck, owed, skips}
+use Rattle.es_event.specs.Waiters.{asleep, asleep_after, block_by, is_at, is_listed, taken_there, waiter, waiters, waiters_after, without_first}
+use Rattle.es_event.specs.LegalLedger.{ComesNext, IsPostable, LegalSoFar, MayAct, MayCome, Reaches, ReachesAs, all_ended, all_stuck, has_message, is_chosen, is_stuck, owed, skips}
 use Rattle.es_ledger.proofs.Lines.{rows_moved}
 use Rattle.es_match.specs.Deeds.{Deed, Accesses, Ends, Passes, Spends, Takes, deed, taking, words_in}
-use Rattle.es_match.specs.Patience.{has_drained, may_do}
+use Rattle.es_match.specs.Patience.{has_drained, may_do, may_stir}
 use Rattle.es_theorems.specs.Ahead.{Acts, May}
 use Rattle.es_theorems.specs.Ready.{Goes, Ready}
-use Rattle.es_theorems.proofs.Choosing.{Skips, chosen_one, skips_is, stuck_here, stuck_is}
+use Rattle.es_theorems.proofs.Choosing.{Chosen, Skips, Stuck, chosen_is, chosen_one, skips_is, stuck_here, stuck_is}
 use Rattle.es_cluster.proofs.Growing.{doer, ended_other, waits_other}
+use Rattle.es_ledger.proofs.Waking.{awake_unlisted}
 use Rattle.es_theorems.proofs.Framing.{holder_agent, holder_other, spender}
-use Rattle.es_theorems.proofs.Doing.{reaches_so}
+use Rattle.es_theorems.proofs.Doing.{reaches_as, reaches_so}
 use Rattle.es_ledger.proofs.Numbered.{numbered, only_by}
 
 pub record Beside (k : ℕ) (l : Ledger) (f : LedgerEvent) (b : ℕ) : Type 0 where
@@ -35,6 +40,9 @@ pub record Beside (k : ℕ) (l : Ledger) (f : LedgerEvent) (b : ℕ) : Type 0 wh
   pub waits : waits (f ∷ l) b ≡ waits l b
   pub holders : (q : ℕ) (r : Row) → holder_of l q ≡ Some (b, r) → holder_of (f ∷ l) q ≡ Some (b, r)
   pub held : held b (table (f ∷ l)) ≡ held b (table l)
+  pub lists : waiters (f ∷ l) ≡ waiters l
+  pub asleep : (c : ℕ) → asleep (f ∷ l) c ≡ asleep l c
+  pub chosen : is_chosen l k b ≡ true → is_chosen (f ∷ l) k b ≡ true
   pub skips : (t : ℕ) → skips l k b t ≡ true → skips (f ∷ l) k b t ≡ true
   pub owes : owed (f ∷ l) ≡ None
 
@@ -51,10 +59,13 @@ spent_ended : (l : Ledger) (s n : ℕ) → all_ended (Spent s ∷ l) n ≡ all_e
 spent_ended l s zero = refl
 spent_ended l s (suc n) = ap (λ r. ended l n && r) (spent_ended l s n)
 
+spent_chosen : (l : Ledger) (s n b : ℕ) → is_chosen (Spent s ∷ l) n b ≡ is_chosen l n b
+spent_chosen l s n b =
+    ap (λ c. c && (all_ended (Spent s ∷ l) b && not (ended l b))) (spent_stuck l s n)
+    ∙ ap (λ c. all_stuck l n && (c && not (ended l b))) (spent_ended l s b)
+
 spent_skips : (l : Ledger) (s n b t : ℕ) → skips (Spent s ∷ l) n b t ≡ skips l n b t
-spent_skips l s n b t =
-    ap (λ c. not (has_message l t b) && (ended l t || (c && (all_ended (Spent s ∷ l) b && not (ended l b))))) (spent_stuck l s n)
-    ∙ ap (λ c. not (has_message l t b) && (ended l t || (all_stuck l n && (c && not (ended l b))))) (spent_ended l s b)
+spent_skips l s n b t = ap (λ c. not (has_message l t b) && (ended l t || c)) (spent_chosen l s n b)
 
 pub beside_spent : (k : ℕ) (l : Ledger) (s a b : ℕ) (r : Row) → LegalSoFar k l → holder_of l s ≡ Some (a, r) → (b ≡ a → ⊥) → Beside k l (Spent s) b
 beside_spent k l s a b r legal is other = record {
@@ -67,17 +78,45 @@ beside_spent k l s a b r legal is other = record {
   waits = refl;
   holders = λ q p held. holder_other k l (Spent s) a b (Spends s) q p legal (ap (option_map (λ p. (p.0, Spends s))) is) other held;
   held = rows_moved (is_agent b) s (Agent a) Nobody (table l) (ne_eqb b a other) refl (only_by l s (Agent a) (numbered k l legal) (holder_agent l s a r is));
+  lists = refl;
+  asleep = λ c. refl;
+  chosen = λ is. spent_chosen l s k b ∙ is;
   skips = λ t skip. spent_skips l s k b t ∙ skip;
   owes = refl;
 }
 
+-- Where one is chosen, an agent that goes on waits in vain
+
+stuck_beside : (k : ℕ) (l : Ledger) (a b : ℕ) → LegalSoFar k l → Goes k l a → Chosen l k b → Stuck l a
+stuck_beside k l a b legal goes chosen = stuck_is l a (awake_unlisted k l a legal goes.awake) (stuck_here l k a chosen.stuck goes.known goes.going)
+
 -- An end
+
+-- who is in no list leaves none
+none_leaves : (ws : List Waiter) (a : ℕ) → list_any (λ (w : Waiter). w.agent == a) ws ≡ false → filter (λ (w : Waiter). not (w.agent == a)) ws ≡ ws
+none_leaves [] a none = refl
+none_leaves (w ∷ ws) a none = by (w.agent == a) none (none_leaves ws a)
+  where
+    by : (t : Bool) → (t || list_any (λ (w : Waiter). w.agent == a) ws) ≡ false → (list_any (λ (w : Waiter). w.agent == a) ws ≡ false → filter (λ (w : Waiter). not (w.agent == a)) ws ≡ ws) → (if not t then w ∷ filter (λ (w : Waiter). not (w.agent == a)) ws else filter (λ (w : Waiter). not (w.agent == a)) ws) ≡ w ∷ ws
+    by true none rest = cc
+    by false none rest = ap (λ ws. w ∷ ws) (rest none)
+
+end_lists : (k : ℕ) (l : Ledger) (a : ℕ) → LegalSoFar k l → asleep l a ≡ false → waiters (Acted a Ended ∷ l) ≡ waiters l
+end_lists k l a legal awake = none_leaves (waiters l) a (awake_unlisted k l a legal awake)
+
+-- who is awake sleeps no less by its end
+end_asleep : (l : Ledger) (a c : ℕ) → asleep l a ≡ false → asleep (Acted a Ended ∷ l) c ≡ asleep l c
+end_asleep l a c awake = by (a == c) refl
+  where
+    by : (t : Bool) → (a == c) ≡ t → (if t then false else asleep l c) ≡ asleep l c
+    by true e = sym (ap (asleep l) (sym (eqb-true a c e)) ∙ awake)
+    by false e = refl
 
 still_skips : (m : Bool) (e : Bool) (c : Bool) → m ≡ false → e ≡ true → (not m && (e || c)) ≡ true
 still_skips m e c none is = rw (none, is) refl
 
-pub beside_ended : (k : ℕ) (l : Ledger) (a b : ℕ) → Goes k l a → waits l a ≡ None → (b ≡ a → ⊥) → Beside k l (Acted a Ended) b
-beside_ended k l a b goes free other = record {
+pub beside_ended : (k : ℕ) (l : Ledger) (a b : ℕ) → LegalSoFar k l → Goes k l a → waits l a ≡ None → (b ≡ a → ⊥) → Beside k l (Acted a Ended) b
+beside_ended k l a b legal goes free other = record {
   opened = none_more (opened l);
   serials = none_more (serials l);
   sizes = λ c. refl;
@@ -87,20 +126,26 @@ beside_ended k l a b goes free other = record {
   waits = refl;
   holders = λ q p held. held;
   held = refl;
+  lists = end_lists k l a legal goes.awake;
+  asleep = λ c. end_asleep l a c goes.awake;
+  chosen = λ is. absurd (busy (chosen_is l k b is));
   skips = λ t skip. (let is = skips_is l k b t skip in by_over t is.0 is.1);
   owes = refl;
 }
   where
+    busy : Chosen l k b → ⊥
+    busy chosen =
+        let stuck = stuck_beside k l a b legal goes chosen in
+        let clash : Some stuck.sender ≡ None = sym stuck.waiting ∙ free in cc
+
     by_over : (t : ℕ) (over : Bool) → Skips l k b t over → skips (Acted a Ended ∷ l) k b t ≡ true
     by_over t true is = still_skips (has_message l t b) ((a == t) || ended l t) _ is.none (ap (λ e. (a == t) || e) is.ends ∙ or_right (a == t) true refl)
-    by_over t false is =
-        let stuck = stuck_is l a (stuck_here l k a (is.chosen refl).stuck goes.known goes.going) in
-        let clash : Some stuck.sender ≡ None = sym stuck.waiting ∙ free in cc
+    by_over t false is = absurd (busy (is.chosen refl))
 
 -- A skip
 
-pub beside_passed : (k : ℕ) (l : Ledger) (a b s : ℕ) → Goes k l a → waits l a ≡ Some s → skips l k a s ≡ true → (b ≡ a → ⊥) → Beside k l (Acted a (Passed s)) b
-beside_passed k l a b s goes waiting skip other = record {
+pub beside_passed : (k : ℕ) (l : Ledger) (a b s : ℕ) → LegalSoFar k l → Goes k l a → waits l a ≡ Some s → skips l k a s ≡ true → (b ≡ a → ⊥) → Beside k l (Acted a (Passed s)) b
+beside_passed k l a b s legal goes waiting skip other = record {
   opened = none_more (opened l);
   serials = none_more (serials l);
   sizes = λ c. refl;
@@ -110,29 +155,46 @@ beside_passed k l a b s goes waiting skip other = record {
   waits = waits_other l (Acted a (Passed s)) a b (Passes s) refl other;
   holders = λ q p held. held;
   held = refl;
+  lists = refl;
+  asleep = λ c. refl;
+  chosen = λ is. absurd (by_mine (skips_is l k a s skip).0 (skips_is l k a s skip).1 (chosen_is l k b is));
   skips = λ t skip. (let is = skips_is l k b t skip in by_over t is.0 is.1);
   owes = refl;
 }
   where
-    by_mine : (over : Bool) → Skips l k a s over → (t : ℕ) → Skips l k b t false → skips (Acted a (Passed s) ∷ l) k b t ≡ true
-    by_mine false mine t is = absurd (other (chosen_one l k b a (is.chosen refl) (mine.chosen refl)))
-    by_mine true mine t is =
-        let stuck = stuck_is l a (stuck_here l k a (is.chosen refl).stuck goes.known goes.going) in
+    by_mine : (over : Bool) → Skips l k a s over → Chosen l k b → ⊥
+    by_mine false mine chosen = other (chosen_one l k b a chosen (mine.chosen refl))
+    by_mine true mine chosen =
+        let stuck = stuck_beside k l a b legal goes chosen in
         let same : Some stuck.sender ≡ Some s = sym stuck.waiting ∙ waiting in
         let it : stuck.sender ≡ s = ap (λ o. option_map_or (λ n. n) o s) same in
-        absurd (false≢true (sym stuck.going ∙ ap (ended l) it ∙ mine.ends))
+        false≢true (sym stuck.going ∙ ap (ended l) it ∙ mine.ends)
 
     by_over : (t : ℕ) (over : Bool) → Skips l k b t over → skips (Acted a (Passed s) ∷ l) k b t ≡ true
     by_over t true is = still_skips (has_message l t b) (ended l t) _ is.none is.ends
-    by_over t false is = let mine = skips_is l k a s skip in by_mine mine.0 mine.1 t is
+    by_over t false is = let mine = skips_is l k a s skip in absurd (by_mine mine.0 mine.1 (is.chosen refl))
 
 -- Each of them
 
 pub beside : (k : ℕ) (l : Ledger) (f : LedgerEvent) (a b : ℕ) → LegalSoFar k l → Goes k l a → Ready k l a f → (b ≡ a → ⊥) → Beside k l f b
 beside k l (Spent s) a b legal goes ready other = beside_spent k l s a b ready.0.0 legal ready.0.1 other
-beside k l (Acted c (Passed s)) a b legal goes ready other = subst (λ c. Beside k l (Acted c (Passed s)) b) (sym ready.0) (beside_passed k l a b s goes ready.1 ready.2 other)
-beside k l (Acted c Ended) a b legal goes ready other = subst (λ c. Beside k l (Acted c Ended) b) (sym ready.0) (beside_ended k l a b goes ready.1 other)
+beside k l (Acted c (Passed s)) a b legal goes ready other = subst (λ c. Beside k l (Acted c (Passed s)) b) (sym ready.0) (beside_passed k l a b s legal goes ready.1 ready.2 other)
+beside k l (Acted c Ended) a b legal goes ready other = subst (λ c. Beside k l (Acted c Ended) b) (sym ready.0) (beside_ended k l a b legal goes ready.1 other)
 beside k l _ a b legal goes ready other = absurd ready
+
+-- What is ready leaves the WaiterLists alone
+
+pub ready_lists : (k : ℕ) (l : Ledger) (a : ℕ) (f : LedgerEvent) → LegalSoFar k l → asleep l a ≡ false → Ready k l a f → waiters (f ∷ l) ≡ waiters l
+ready_lists k l a (Spent s) legal awake ready = refl
+ready_lists k l a (Acted c (Passed s)) legal awake ready = refl
+ready_lists k l a (Acted c Ended) legal awake ready = end_lists k l c legal (ap (asleep l) ready.0 ∙ awake)
+ready_lists k l a _ legal awake ready = absurd ready
+
+pub ready_asleep : (k : ℕ) (l : Ledger) (a c : ℕ) (f : LedgerEvent) → asleep l a ≡ false → Ready k l a f → asleep (f ∷ l) c ≡ asleep l c
+ready_asleep k l a c (Spent s) awake ready = refl
+ready_asleep k l a c (Acted b (Passed s)) awake ready = refl
+ready_asleep k l a c (Acted b Ended) awake ready = end_asleep l b c (ap (asleep l) ready.0 ∙ awake)
+ready_asleep k l a c _ awake ready = absurd ready
 
 -- It may be done
 
@@ -153,7 +215,7 @@ ready_may k l a f goes ready =
     let does = ready_deed k l a f ready in
     record {
       legal = subst (ComesNext k l f) (sym goes.paid) (ready_comes k l a f goes ready);
-      acts = subst (Acts k l) (sym does.1) (goes.known, goes.going, goes.undrained, does.2);
+      acts = subst (Acts k l) (sym does.1) (goes.known, goes.going, goes.undrained, does.2, ap (λ b. may_stir b does.0) goes.awake);
     }
 
 -- Another's event still may come
@@ -181,6 +243,36 @@ postable_beside : (k : ℕ) (l : Ledger) (f : LedgerEvent) (b : ℕ) (m : Body) 
 postable_beside k l f b (Plain v) is may = may
 postable_beside k l f b (Block c q) is may = (may.0 ∙ ap (λ n. n + 1) (sym is.serials), ap (λ rs. nat_lt 0 (count_of rs c)) is.held ∙ may.1)
 
+-- the ticket that an agent reaches a word by
+held_as : (o : Option (ℕ × Row)) (a i : ℕ) (asked : Row → Type 0) → ReachesAs a o i asked → (r : Row) × (o ≡ Some (a, r))
+held_as None a i asked is = absurd is
+held_as (Some p) a i asked is = (p.1, ap (λ n. Some (n, p.1)) is.0)
+
+pub holder_beside : (k : ℕ) (l : Ledger) (f : LedgerEvent) (b s i : ℕ) (asked : Row → Type 0) → Beside k l f b → ReachesAs b (holder_of l s) i asked → holder_of (f ∷ l) s ≡ holder_of l s
+holder_beside k l f b s i asked is may = let held = held_as (holder_of l s) b i asked may in is.holders s held.0 held.1 ∙ sym held.1
+
+reach_beside : (k : ℕ) (l : Ledger) (f : LedgerEvent) (b s i : ℕ) (asked now : Row → Type 0) → Beside k l f b → ((r : Row) → asked r → now r) → ReachesAs b (holder_of l s) i asked → ReachesAs b (holder_of (f ∷ l) s) i now
+reach_beside k l f b s i asked now is so may = subst (λ o. ReachesAs b o i now) (sym (holder_beside k l f b s i asked is may)) (reaches_as (holder_of l s) b i asked now so may)
+
+listed_beside : (k : ℕ) (l : Ledger) (f : LedgerEvent) (b u : ℕ) → Beside k l f b → is_listed (f ∷ l) u ≡ is_listed l u
+listed_beside k l f b u is = ap (λ ws. list_any (λ (w : Waiter). w.agent == u) ws) is.lists
+
+-- what agent b does itself may come
+act_beside : (k : ℕ) (l : Ledger) (f : LedgerEvent) (b : ℕ) (act : Act) → Beside k l f b → MayAct k l b act → MayAct k (f ∷ l) b act
+act_beside k l f b (Waiting t) is may = (may.0, may.1, may.2, message_beside k l f b t b is ∙ may.3, is.waits ∙ may.4, is.ends ∙ may.5, is.asleep b ∙ may.6)
+act_beside k l f b (Passed t) is may = (is.waits ∙ may.0, is.skips t may.1)
+act_beside k l f b Ended is may = (may.0, is.ends ∙ may.1)
+act_beside k l f b (Slept s i w) is may = (
+  reach_beside k l f b s i (λ r. w ≡ word l r.block i) (λ r. w ≡ word (f ∷ l) r.block i) is (λ r e. e ∙ sym (is.words r.block i)) may.0,
+  is.waits ∙ may.1,
+  is.ends ∙ may.2,
+  is.asleep b ∙ may.3,
+)
+act_beside k l f b (Notified s i m c) is may =
+    reach_beside k l f b s i (λ r. c ≡ taken_there l r.block i m) (λ r. c ≡ taken_there (f ∷ l) r.block i m) is (λ r e. e ∙ ap (λ ws. length (take m (filter (is_at r.block i) ws))) (sym is.lists)) may
+act_beside k l f b Woke is may = (is.asleep b ∙ may.0, listed_beside k l f b b is ∙ may.1)
+act_beside k l f b TimedOut is may = (listed_beside k l f b b is ∙ may.0, is.chosen may.1)
+
 comes_beside : (k : ℕ) (l : Ledger) (f x : LedgerEvent) (b : ℕ) (d : Deed) → Beside k l f b → deed l x ≡ Some (b, d) → MayCome k l x → MayCome k (f ∷ l) x
 comes_beside k l f (Opened c w q u) b d is mine may = (may.0 ∙ ap (λ n. n + 1) (sym is.opened), may.1 ∙ ap (λ n. n + 1) (sym is.serials), may.2)
 comes_beside k l f (Posted u r m) b d is mine may =
@@ -192,21 +284,35 @@ comes_beside k l f (Accessed q i m old) b d is mine may =
     let by = spender l q b d _ mine in
     subst (λ o. Reaches o i (λ r. (old ≡ word (f ∷ l) r.block i) × IsStorable m)) (by.1 ∙ sym (is.holders q by.0 by.1))
     (reaches_so (holder_of l q) i (λ r. (old ≡ word l r.block i) × IsStorable m) (λ r. (old ≡ word (f ∷ l) r.block i) × IsStorable m) (λ r e. (e.0 ∙ sym (is.words r.block i), e.1)) may)
-comes_beside k l f (Acted u (Waiting t)) b d is mine may =
-    let same : u ≡ b = doer (deed l (Acted u (Waiting t))) b u d mine in
-    (may.0, may.1, may.2, message_beside k l f b t u is ∙ may.3, ap (waits (f ∷ l)) same ∙ is.waits ∙ ap (waits l) (sym same) ∙ may.4, ap (ended (f ∷ l)) same ∙ is.ends ∙ ap (ended l) (sym same) ∙ may.5)
-comes_beside k l f (Acted u (Passed t)) b d is mine may =
-    let same : u ≡ b = doer (deed l (Acted u (Passed t))) b u d mine in
-    (ap (waits (f ∷ l)) same ∙ is.waits ∙ ap (waits l) (sym same) ∙ may.0, ap (λ u. skips (f ∷ l) k u t) same ∙ is.skips t (ap (λ u. skips l k u t) (sym same) ∙ may.1))
-comes_beside k l f (Acted u Ended) b d is mine may =
-    let same : u ≡ b = doer (deed l (Acted u Ended)) b u d mine in
-    (may.0, ap (ended (f ∷ l)) same ∙ is.ends ∙ ap (ended l) (sym same) ∙ may.1)
+comes_beside k l f (Acted u act) b d is mine may =
+    let same : u ≡ b = doer (deed l (Acted u act)) b u d mine in
+    subst (λ u. MayAct k (f ∷ l) u act) (sym same) (act_beside k l f b act is (subst (λ u. MayAct k l u act) same may))
 comes_beside k l f (Drained t u) b d is mine may = cc
+
+-- and after another's event it leaves the same
+pub lists_beside : (k : ℕ) (l : Ledger) (f x : LedgerEvent) (b : ℕ) (d : Deed) → Beside k l f b → deed l x ≡ Some (b, d) → MayCome k l x → waiters (x ∷ f ∷ l) ≡ waiters (x ∷ l)
+lists_beside k l f (Acted u act) b d is mine may = by act (subst (λ u. MayAct k l u act) same may) ∙ ap (waiters_after l u act) is.lists
+  where
+    same : u ≡ b
+    same = doer (deed l (Acted u act)) b u d mine
+
+    block : (s i : ℕ) (asked : Row → Type 0) → ReachesAs b (holder_of l s) i asked → block_by (f ∷ l) s ≡ block_by l s
+    block s i asked reach = ap (λ o. option_map_or (λ p. p.1.block) o 0) (holder_beside k l f b s i asked is reach)
+
+    by : (act : Act) → MayAct k l b act → waiters_after (f ∷ l) u act (waiters (f ∷ l)) ≡ waiters_after l u act (waiters (f ∷ l))
+    by (Slept s i w) may = ap (λ c. waiters (f ∷ l) ++ waiter u c i ∷ []) (block s i (λ r. w ≡ word l r.block i) may.0)
+    by (Notified s i m c) may = ap (λ b. without_first b i m (waiters (f ∷ l))) (block s i (λ r. c ≡ taken_there l r.block i m) may)
+    by _ may = refl
+lists_beside k l f _ b d is mine may = is.lists
+
+pub asleep_beside : (k : ℕ) (l : Ledger) (f x : LedgerEvent) (b c : ℕ) → Beside k l f b → asleep (x ∷ f ∷ l) c ≡ asleep (x ∷ l) c
+asleep_beside k l f (Acted u act) b c is = ap (asleep_after u act c) (is.asleep c)
+asleep_beside k l f _ b c is = is.asleep c
 
 pub may_beside : (k : ℕ) (l : Ledger) (f x : LedgerEvent) (b : ℕ) (d : Deed) → Beside k l f b → has_drained (f ∷ l) ≡ false → owed l ≡ None → deed l x ≡ Some (b, d) → May k l x → May k (f ∷ l) x
 may_beside k l f x b d is undrained paid mine may =
     let acts : Acts k l (Some (b, d)) = subst (Acts k l) mine may.acts in
     record {
       legal = subst (ComesNext k (f ∷ l) x) (sym is.owes) (comes_beside k l f x b d is mine (subst (ComesNext k l x) paid may.legal));
-      acts = subst (Acts k (f ∷ l)) (sym (deed_beside k l f x b d is mine ∙ mine)) (acts.0, is.ends ∙ acts.1, undrained, ap (λ w. may_do w d) is.waits ∙ acts.3);
+      acts = subst (Acts k (f ∷ l)) (sym (deed_beside k l f x b d is mine ∙ mine)) (acts.0, is.ends ∙ acts.1, undrained, ap (λ w. may_do w d) is.waits ∙ acts.3, ap (λ t. may_stir t d) (is.asleep b) ∙ acts.4);
     }

@@ -1,17 +1,17 @@
 -- Where all agents wait in vain, one alone may skip its job, and nobody else does anything before it.
 use Rattle.std.proofs.Common.{◌≡◌, ℕ, zero, suc, ◌<◌, ◌==◌, ◌&&◌, ◌||◌, not, Bool, true, false, sym, ◌∙◌, ap, refl, subst, arith, Option, Some, None, inl, inr, eqb-true}
-use Rattle.std.specs.Option.{option_map, option_map_or}
+use Rattle.std.specs.Option.{option_map_or}
 use Rattle.std.proofs.lemmas.Bool.{and_parts, cases_Bool, false≢true, eqb-false, not-true}
 use Rattle.es_event.specs.declared.ledger_event.LedgerEvent.{LedgerEvent}
-use Rattle.es_event.specs.declared.ledger_event.LedgerEvent.TheVariants.{Opened, Posted, Taken, Spent, Accessed, Drained, Acted}
-use Rattle.es_event.specs.declared.ledger_event.Act.TheVariants.{Waiting, Passed, Ended}
-use Rattle.es_event.specs.declared.row.Row.{Row}
-use Rattle.es_event.specs.Ledger.{Ledger, ended, holder_of, waits}
-use Rattle.es_event.specs.LegalLedger.{MayCome, all_ended, all_stuck, has_message, is_chosen, is_stuck, skips}
-use Rattle.es_match.specs.Deeds.{Deed, Opens, Posts, Spends, Accesses, Waits, Ends, deed}
-use Rattle.es_match.specs.Patience.{ends_wait, may_do}
-use Rattle.es_cluster.proofs.Growing.{doer}
+use Rattle.es_event.specs.Ledger.{Ledger, ended, waits}
+use Rattle.es_event.specs.LegalLedger.{LegalSoFar, MayCome, all_ended, all_stuck, has_message, is_chosen, is_stuck, skips}
+use Rattle.es_event.specs.Waiters.{asleep, is_listed}
+use Rattle.es_match.specs.Deeds.{Deed, Passes, Takes, TimesOut, Wakes, deed}
+use Rattle.es_match.specs.Patience.{ends_sleep, ends_wait, may_do, may_stir}
 use Rattle.es_cluster.proofs.Mover.{settled_at}
+use Rattle.es_ledger.proofs.Waking.{listed_asleep}
+use Rattle.es_theorems.specs.Doing.{event_of}
+use Rattle.es_theorems.proofs.Doing.{meant}
 
 pub ended_below : (l : Ledger) (n i : ℕ) → all_ended l n ≡ true → i < n → ended l i ≡ true
 ended_below l zero i all less = absurd (omega (arith, less))
@@ -27,14 +27,15 @@ ended_below l (suc n) i all less = elim (cases_Bool (i == n)) [
 pub stuck_here : (l : Ledger) (n i : ℕ) → all_stuck l n ≡ true → i < n → ended l i ≡ false → is_stuck l i ≡ true
 stuck_here l n i all less going = ap (λ e. e || is_stuck l i) (sym going) ∙ settled_at l n i all less
 
+-- one that waits for a message
 pub record Stuck (l : Ledger) (i : ℕ) : Type 0 where
   pub sender : ℕ
   pub waiting : waits l i ≡ Some sender
   pub none : has_message l sender i ≡ false
   pub going : ended l sender ≡ false
 
-pub stuck_is : (l : Ledger) (i : ℕ) → is_stuck l i ≡ true → Stuck l i
-stuck_is l i is = at (waits l i) refl is
+pub stuck_is : (l : Ledger) (i : ℕ) → is_listed l i ≡ false → is_stuck l i ≡ true → Stuck l i
+stuck_is l i unlisted is = at (waits l i) refl (sym (ap (λ t. t || option_map_or (λ s. not (has_message l s i) && not (ended l s)) (waits l i) false) unlisted) ∙ is)
   where
     at : (w : Option ℕ) → waits l i ≡ w → option_map_or (λ s. not (has_message l s i) && not (ended l s)) w false ≡ true → Stuck l i
     at None w is = cc
@@ -81,38 +82,30 @@ skips_is l n a s is =
 none_taken : (l : Ledger) (b t s : ℕ) → has_message l s b ≡ false → (t == s) ≡ true → has_message l t b ≡ true → ⊥
 none_taken l b t s none same may = false≢true (sym none ∙ ap (λ t. has_message l t b) (sym (eqb-true t s same)) ∙ may)
 
-pub alone_goes : (n : ℕ) (l : Ledger) (a b : ℕ) (x : LedgerEvent) (d : Deed) → Chosen l n a → MayCome n l x → deed l x ≡ Some (b, d) → b < n → ended l b ≡ false → may_do (waits l b) d ≡ true → b ≡ a
-alone_goes n l a b x d chosen may is known going patient = at x is may (ap (λ w. may_do w d) (sym stuck.waiting) ∙ patient)
+pub alone_goes : (n : ℕ) (l : Ledger) (a b : ℕ) (x : LedgerEvent) (d : Deed) → LegalSoFar n l → Chosen l n a → MayCome n l x → deed l x ≡ Some (b, d) → b < n → ended l b ≡ false → may_do (waits l b) d ≡ true → may_stir (asleep l b) d ≡ true → b ≡ a
+alone_goes n l a b x d legal chosen may is known going patient stirs = at (is_listed l b) refl
   where
-    stuck : Stuck l b
-    stuck = stuck_is l b (stuck_here l n b chosen.stuck known going)
+    here : MayCome n l (event_of b d)
+    here = subst (MayCome n l) (meant n l x b d may is).event may
 
-    the_deed : (o : Option (ℕ × Deed)) (e : Deed) (c : ℕ) → ◌≡◌ {A = Option (ℕ × Deed)} (Some (c, e)) (Some (b, d)) → e ≡ d
-    the_deed o e c same = ap (λ o. option_map_or (λ p. p.1) o e) same
+    -- it sleeps, and its time-out passes
+    by_sleep : (d : Deed) → is_listed l b ≡ true → ends_sleep d ≡ true → MayCome n l (event_of b d) → b ≡ a
+    by_sleep Wakes listed ends may = absurd (false≢true (sym may.1 ∙ listed))
+    by_sleep TimesOut listed ends may = chosen_one l n b a (chosen_is l n b may.1) chosen
+    by_sleep _ listed ends may = cc
 
-    no_end : (e : Deed) → e ≡ d → ends_wait stuck.sender e ≡ false → ends_wait stuck.sender d ≡ true → b ≡ a
-    no_end e same none ends = absurd (false≢true (sym none ∙ ap (ends_wait stuck.sender) same ∙ ends))
-
-    by_held : (e : Deed) (o : Option (ℕ × Row)) → option_map {U = ℕ × Deed} (λ p. (p.0, e)) o ≡ Some (b, d) → ends_wait stuck.sender e ≡ false → ends_wait stuck.sender d ≡ true → b ≡ a
-    by_held e None same none ends = cc
-    by_held e (Some p) same none ends = no_end e (the_deed None e p.0 same) none ends
-
-    at : (x : LedgerEvent) → deed l x ≡ Some (b, d) → MayCome n l x → ends_wait stuck.sender d ≡ true → b ≡ a
-    at (Opened c w q u) is may ends = no_end (Opens c w q) (the_deed None _ u is) refl ends
-    at (Posted u r m) is may ends = no_end (Posts r m) (the_deed None _ u is) refl ends
-    at (Taken t u) is may ends =
-        let same : u ≡ b = doer (deed l (Taken t u)) b u d is in
-        let it = the_deed None _ u is in
-        absurd (none_taken l b t stuck.sender stuck.none (ap (ends_wait stuck.sender) it ∙ ends) (ap (λ u. has_message l t u) (sym same) ∙ may))
-    at (Spent q) is may ends = by_held (Spends q) (holder_of l q) is refl ends
-    at (Accessed q i m old) is may ends = by_held (Accesses q i m old) (holder_of l q) is refl ends
-    at (Acted u (Waiting t)) is may ends = no_end (Waits t) (the_deed None _ u is) refl ends
-    at (Acted u (Passed t)) is may ends =
-        let same : u ≡ b = doer (deed l (Acted u (Passed t))) b u d is in
-        let it = the_deed None _ u is in
-        let target : t ≡ stuck.sender = eqb-true t stuck.sender (ap (ends_wait stuck.sender) it ∙ ends) in
-        let skip = skips_is l n u t may.1 in
+    -- it waits for a message, and skips its job
+    by_wait : (stuck : Stuck l b) (d : Deed) → ends_wait stuck.sender d ≡ true → MayCome n l (event_of b d) → b ≡ a
+    by_wait stuck (Takes t m w) ends may = absurd (none_taken l b t stuck.sender stuck.none ends may)
+    by_wait stuck (Passes t) ends may =
+        let target : t ≡ stuck.sender = eqb-true t stuck.sender ends in
+        let skip = skips_is l n b t may.1 in
         let over = sym skip.1.ends ∙ ap (ended l) target ∙ stuck.going in
-        chosen_one l n b a (subst (Chosen l n) same (skip.1.chosen over)) chosen
-    at (Acted u Ended) is may ends = no_end Ends (the_deed None _ u is) refl ends
-    at (Drained t u) is may ends = cc
+        chosen_one l n b a (skip.1.chosen over) chosen
+    by_wait stuck _ ends may = cc
+
+    at : (t : Bool) → is_listed l b ≡ t → b ≡ a
+    at true listed = by_sleep d listed (sym (ap (λ t. may_stir t d) (listed_asleep n l b legal listed)) ∙ stirs) here
+    at false unlisted =
+        let stuck = stuck_is l b unlisted (stuck_here l n b chosen.stuck known going) in
+        by_wait stuck d (sym (ap (λ w. may_do w d) stuck.waiting) ∙ patient) here

@@ -1,17 +1,19 @@
 -- What an agent's deeds find in a ledger they find in each that tells the same, and they leave the same of it.
-use Rattle.std.proofs.Common.{◌≡◌, ℕ, ◌+◌, ◌∙◌, not, true, sym, ap, refl, subst, List, [], ◌∷◌, ◌++◌, Option, Some, None}
+use Rattle.std.proofs.Common.{◌≡◌, ℕ, ◌+◌, ◌==◌, ◌∙◌, not, true, filter, length, take, sym, ap, refl, subst, List, [], ◌∷◌, ◌++◌, Option, Some, None}
+use Rattle.std.specs.List.{list_any}
 use Rattle.std.specs.Option.{option_map, option_map_or}
 use Rattle.std.proofs.lemmas.Bool.{and_parts, not-true}
 use Rattle.es_event.specs.declared.ledger_event.Body.{Body}
 use Rattle.es_event.specs.declared.ledger_event.Body.TheVariants.{Plain, Block}
 use Rattle.es_event.specs.declared.ledger_event.LedgerEvent.{LedgerEvent}
 use Rattle.es_event.specs.declared.ledger_event.LedgerEvent.TheVariants.{Opened, Posted, Taken, Spent, Accessed, Drained, Acted}
-use Rattle.es_event.specs.declared.ledger_event.Act.TheVariants.{Waiting, Passed, Ended}
+use Rattle.es_event.specs.declared.ledger_event.Act.TheVariants.{Waiting, Passed, Ended, Slept, Notified, Woke, TimedOut}
 use Rattle.es_event.specs.declared.row.Row.{Row}
 use Rattle.es_event.specs.Access.{IsStorable}
 use Rattle.es_event.specs.Ledger.{Ledger, front, holder_of, word}
-use Rattle.es_event.specs.LegalLedger.{Reaches, has_message, IsPostable, MayCome}
-use Rattle.es_match.specs.Deeds.{Deed, Opens, Posts, Takes, Spends, Accesses, Waits, Passes, Ends, Owned, deed, is_wait, taking, words_in}
+use Rattle.es_event.specs.Waiters.{is_at, is_listed, taken_there}
+use Rattle.es_event.specs.LegalLedger.{Reaches, ReachesAs, has_message, IsPostable, MayCome}
+use Rattle.es_match.specs.Deeds.{Deed, Opens, Posts, Takes, Spends, Accesses, Waits, Passes, Ends, Sleeps, Notifies, Wakes, TimesOut, Owned, deed, is_wait, taking, words_in}
 use Rattle.es_theorems.specs.Alike.{Alike}
 use Rattle.es_theorems.specs.Doing.{event_of, did, IsNew, Fits, AllFit}
 use Rattle.es_theorems.proofs.Telling.{same_front, same_message, same_holder, after_one, after_wait}
@@ -21,6 +23,10 @@ use Rattle.es_theorems.proofs.Telling.{same_front, same_message, same_holder, af
 pub reaches_so : (o : Option (ℕ × Row)) (i : ℕ) (f g : Row → Type 0) → ((r : Row) → f r → g r) → Reaches o i f → Reaches o i g
 reaches_so None i f g so is = is
 reaches_so (Some p) i f g so is = (is.0, so p.1 is.1)
+
+pub reaches_as : (o : Option (ℕ × Row)) (a i : ℕ) (f g : Row → Type 0) → ((r : Row) → f r → g r) → ReachesAs a o i f → ReachesAs a o i g
+reaches_as None a i f g so is = is
+reaches_as (Some p) a i f g so is = (is.0, is.1, so p.1 is.2)
 
 reaches_same : (l m : Ledger) (s i w : ℕ) → Alike l m → Reaches (holder_of l s) i (λ r. w ≡ word l r.block i) → Reaches (holder_of m s) i (λ r. w ≡ word m r.block i)
 reaches_same l m s i w a is =
@@ -36,12 +42,25 @@ same_words_in l m None a = refl
 same_words_in l m (Some (Plain v)) a = refl
 same_words_in l m (Some (Block b s)) a = a.sizes b
 
+pub same_taken : (l m : Ledger) (b i c : ℕ) → Alike l m → taken_there l b i c ≡ taken_there m b i c
+same_taken l m b i c a = ap (λ ws. length (take c (filter (is_at b i) ws))) a.waiters
+
+pub same_listed : (l m : Ledger) (n : ℕ) → Alike l m → is_listed l n ≡ is_listed m n
+same_listed l m n a = ap (λ ws. list_any (λ w. w.agent == n) ws) a.waiters
+
 pub fits_same : (l m : Ledger) (n : ℕ) (d : Deed) → Alike l m → Fits l n d → Fits m n d
 fits_same l m n (Opens b w s) a is = (is.0 ∙ ap (λ n. n + 1) a.opened, is.1 ∙ ap (λ n. n + 1) a.serials)
 fits_same l m n (Posts r b) a is = new_same l m b a is
 fits_same l m n (Takes s b w) a is = (is.0 ∙ same_front l m s n a, is.1 ∙ same_words_in l m b a, sym (same_message l m s n a) ∙ is.2)
 fits_same l m n (Accesses s i done old) a is = reaches_same l m s i old a is
 fits_same l m n (Passes s) a is = sym (same_message l m s n a) ∙ is
+fits_same l m n (Sleeps s i w) a is =
+    subst (λ o. ReachesAs n o i (λ r. w ≡ word m r.block i)) (same_holder l m s a) (reaches_as (holder_of l s) n i (λ r. w ≡ word l r.block i) (λ r. w ≡ word m r.block i) (λ r e. e ∙ a.words r.block i) is)
+fits_same l m n (Notifies s i c k) a is =
+    subst (λ o. ReachesAs n o i (λ r. k ≡ taken_there m r.block i c)) (same_holder l m s a)
+    (reaches_as (holder_of l s) n i (λ r. k ≡ taken_there l r.block i c) (λ r. k ≡ taken_there m r.block i c) (λ r e. e ∙ same_taken l m r.block i c a) is)
+fits_same l m n Wakes a is = sym (same_listed l m n a) ∙ is
+fits_same l m n TimesOut a is = sym (same_listed l m n a) ∙ is
 fits_same l m n _ a is = is
 
 pub all_fit_same : (l m : Ledger) (n : ℕ) (ds : List Deed) → Alike l m → AllFit n ds l → AllFit n ds m
@@ -98,4 +117,8 @@ meant k l (Accessed s i m old) n d may is =
 meant k l (Acted a (Waiting s)) n d may is = meant_here l (Acted a (Waiting s)) a n (Waits s) d is refl tt
 meant k l (Acted a (Passed s)) n d may is = meant_here l (Acted a (Passed s)) a n (Passes s) d is refl (not-true (has_message l s a) (and_parts (not (has_message l s a)) _ may.1).0)
 meant k l (Acted a Ended) n d may is = meant_here l (Acted a Ended) a n Ends d is refl tt
+meant k l (Acted a (Slept s i w)) n d may is = meant_here l (Acted a (Slept s i w)) a n (Sleeps s i w) d is refl may.0
+meant k l (Acted a (Notified s i m c)) n d may is = meant_here l (Acted a (Notified s i m c)) a n (Notifies s i m c) d is refl may
+meant k l (Acted a Woke) n d may is = meant_here l (Acted a Woke) a n Wakes d is refl may.1
+meant k l (Acted a TimedOut) n d may is = meant_here l (Acted a TimedOut) a n TimesOut d is refl may.0
 meant k l (Drained s r) n d may is = cc

@@ -67,7 +67,7 @@ ownerless_ahead (e ∷ es) l a none = ap (λ o. part_of a o ++ ahead es (e ∷ l
 -- What is left alone
 
 pub unmoved_same : (l : Ledger) → Unmoved l l
-unmoved_same l = record { opened = refl; serials = refl; sizes = λ b. refl; rows = refl; words = λ b i. refl; ends = λ a. refl; posted = refl; taken = refl; parts = λ a. refl }
+unmoved_same l = record { opened = refl; serials = refl; sizes = λ b. refl; rows = refl; words = λ b i. refl; lists = refl; asleep = λ a. refl; ends = λ a. refl; posted = refl; taken = refl; parts = λ a. refl }
 
 none_more : (n : ℕ) → 0 + n ≡ n
 none_more n = omega arith
@@ -79,6 +79,8 @@ unmoved_drained l m s r u = record {
   sizes = u.sizes;
   rows = u.rows;
   words = u.words;
+  lists = u.lists;
+  asleep = u.asleep;
   ends = u.ends;
   posted = uncounted is_posted m (Drained s r) refl ∙ u.posted;
   taken = uncounted is_taken m (Drained s r) refl ∙ u.taken;
@@ -100,6 +102,8 @@ unmoved_spent l m k none u = record {
   sizes = u.sizes;
   rows = rows_still k Nobody (table m) ∙ u.rows;
   words = u.words;
+  lists = u.lists;
+  asleep = u.asleep;
   ends = u.ends;
   posted = uncounted is_posted m (Spent k) refl ∙ u.posted;
   taken = uncounted is_taken m (Spent k) refl ∙ u.taken;
@@ -123,6 +127,8 @@ unmoved_far (e ∷ es) l m none u = unmoved_far es l (e ∷ m) none.1 (at e none
       sizes = u.sizes;
       rows = u.rows;
       words = λ b j. ap (λ o. newest_word o b j (word m b j)) (unwritten (written c old) (holder_of m s) (nobody_holds (holder_of m s) (Accesses s i c old) none)) ∙ u.words b j;
+      lists = u.lists;
+      asleep = u.asleep;
       ends = u.ends;
       posted = uncounted is_posted m (Accessed s i c old) refl ∙ u.posted;
       taken = uncounted is_taken m (Accessed s i c old) refl ∙ u.taken;

@@ -50,6 +50,7 @@ made_up_tied : IsTied made_up nine
 made_up_tied = record {
   ties = ([], Opens 9 2 77 ∷ [], nothing_came, refl, ([], [], nothing_came, refl, (refl, refl), refl), refl);
   awaits = λ s e. cc;
+  awake = refl;
   waits_end = refl;
   drains_end = refl;
 }
@@ -106,6 +107,7 @@ loaded_tied : IsTied loaded five
 loaded_tied = record {
   ties = (Opens 1 1 1 ∷ [], Accesses 1 0 Keep 5 ∷ [], one_came, refl, ([], Opens 1 1 1 ∷ [], nothing_came, refl, ([], [], nothing_came, refl, (refl, refl), refl), refl), refl);
   awaits = λ s e. cc;
+  awake = refl;
   waits_end = refl;
   drains_end = refl;
 }
@@ -153,7 +155,7 @@ abbrev passed : Ledger
 passed = Acted 1 (Passed 0) ∷ sent
 
 skipped_tied : IsTied skipped passed
-skipped_tied = record { ties = ([], Passes 0 ∷ [], nothing_came, refl, (refl, refl), refl); awaits = λ s e. cc; waits_end = refl; drains_end = refl }
+skipped_tied = record { ties = ([], Passes 0 ∷ [], nothing_came, refl, (refl, refl), refl); awaits = λ s e. cc; awake = refl; waits_end = refl; drains_end = refl }
 
 but_for_its_skip : LegalLedger 2 passed → Turned Moved 1 (cluster 2 (sender ∷ waiting ∷ []) sent) (cluster 2 (sender ∷ skipped ∷ []) passed)
 but_for_its_skip legal = record {

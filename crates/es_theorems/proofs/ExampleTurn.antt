@@ -58,6 +58,7 @@ tied : IsTied made opened
 tied = record {
   ties = ([], Opens 1 2 1 ∷ [], nothing_came, refl, ([], [], nothing_came, refl, (refl, refl), refl), refl);
   awaits = λ s e. cc;
+  awake = refl;
   waits_end = refl;
   drains_end = refl;
 }

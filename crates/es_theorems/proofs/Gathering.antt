@@ -6,7 +6,7 @@ use Rattle.std.proofs.lemmas.Bool.{and_right, cases_Bool, eqb-false, false≢tru
 use Rattle.es_event.specs.declared.ledger_event.Body.TheVariants.{Plain, Block}
 use Rattle.es_event.specs.declared.ledger_event.LedgerEvent.{LedgerEvent}
 use Rattle.es_event.specs.declared.ledger_event.LedgerEvent.TheVariants.{Opened, Posted, Taken, Spent, Accessed, Drained, Acted}
-use Rattle.es_event.specs.declared.ledger_event.Act.TheVariants.{Waiting, Passed, Ended}
+use Rattle.es_event.specs.declared.ledger_event.Act.TheVariants.{Waiting, Ended}
 use Rattle.es_event.specs.declared.row.Row.{Row}
 use Rattle.es_event.specs.declared.row.Entry.{Entry}
 use Rattle.es_event.specs.declared.row.Holder.{Holder}
@@ -14,7 +14,7 @@ use Rattle.es_event.specs.declared.row.Holder.TheVariants.{Agent, Port, Nobody}
 use Rattle.es_event.specs.Rows.{held_by, line_of, moved, row}
 use Rattle.es_event.specs.Ledger.{Ledger, by_agent, front, holder_of, moved_if, serial_in, size, table, waits}
 use Rattle.es_event.specs.LegalLedger.{ComesNext, LegalSoFar, MayCome}
-use Rattle.es_match.specs.Deeds.{Deed, Owned, Opens, Posts, Spends, Accesses, Waits, Passes, Ends, deed, is_wait, part_of}
+use Rattle.es_match.specs.Deeds.{Deed, Owned, Opens, Posts, Spends, Accesses, Waits, Ends, deed, is_wait, part_of}
 use Rattle.es_match.specs.Patience.{ends_wait, may_do}
 use Rattle.es_theorems.proofs.Doing.{meant}
 use Rattle.es_theorems.specs.Ahead.{Acts, Elsewhere, May, Rearranged, Steps, ahead, played}
@@ -188,7 +188,7 @@ next_ends k a es l d ds s goes steps waiting is =
     ap (ends_wait s) (sym (same_head f.does d (ahead f.behind (f.event ∷ played f.before l) a) ds whole)) ∙ ends
 
 wait_goes : (k l' : ℕ) (a s : ℕ) (l : Ledger) → Goes k l a → Goes k (Acted a (Waiting s) ∷ l) a
-wait_goes k l' a s l goes = record { known = goes.known; going = goes.going; paid = refl; undrained = goes.undrained }
+wait_goes k l' a s l goes = record { known = goes.known; going = goes.going; awake = goes.awake; paid = refl; undrained = goes.undrained }
 
 pub waits_now : (l : Ledger) (a s : ℕ) → waits (Acted a (Waiting s) ∷ l) a ≡ Some s
 waits_now l a s = ap (λ b. cond b (Some s) (waits l a)) (eq-eqb a a refl)
@@ -279,7 +279,7 @@ gather k a (Spends q ∷ ds) more es l legal steps goes free spends is =
     let f = spends_first k a es l q (ds ++ more) legal g steps w is in
     gathered_more k a (Spends q) ds (ds ++ more) es l f refl
     (gather k a ds more f.behind (f.event ∷ l) (f.same.steps.0.legal, legal) f.same.steps.1
-    (λ some. subst (λ e. Goes k (e ∷ l) a) (sym f.is) (record { known = g.known; going = g.going; paid = refl; undrained = g.undrained }))
+    (λ some. subst (λ e. Goes k (e ∷ l) a) (sym f.is) (record { known = g.known; going = g.going; awake = g.awake; paid = refl; undrained = g.undrained }))
     (λ some. subst (λ e. waits (e ∷ l) a ≡ None) (sym f.is) w)
     spends f.deeds)
 gather k a (Ends ∷ ds) more es l legal steps goes free spends is =

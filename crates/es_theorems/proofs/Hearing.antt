@@ -1,5 +1,5 @@
 -- The next event of the ledger is a wait: its agent takes its turns up to it, and waits, or is told to skip its job at once.
-use Rattle.std.proofs.Common.{◌≡◌, ℕ, suc, ◌<◌, ◌==◌, ◌&&◌, Bool, true, false, cond, sym, ◌∙◌, ap, refl, subst, arith, List, [], ◌∷◌, ◌++◌, append-nil, take, length, Some, None, eq-eqb, eqb-true}
+use Rattle.std.proofs.Common.{◌≡◌, ◌||◌, ℕ, suc, ◌<◌, ◌==◌, ◌&&◌, Bool, true, false, cond, sym, ◌∙◌, ap, refl, subst, arith, List, [], ◌∷◌, ◌++◌, append-nil, take, length, Some, None, eq-eqb, eqb-true}
 use Rattle.std.specs.Prelude.{is_some, slice_get}
 use Rattle.std.specs.Option.{option_map_or}
 use Rattle.std.proofs.lemmas.Bool.{false≢true}
@@ -10,6 +10,7 @@ use Rattle.es_event.specs.declared.ledger_event.Act.TheVariants.{Waiting as Wait
 use Rattle.es_event.specs.Ledger.{Ledger, ended as has_ended, waits}
 use Rattle.es_event.specs.LegalLedger.{ComesNext, LegalSoFar, MayCome, has_message, skips}
 use Rattle.es_event.specs.Order.{phase}
+use Rattle.es_event.specs.Waiters.{asleep}
 use Rattle.es_match.specs.Deeds.{Deed, Takes, Waits, Passes, deed, is_wait, part}
 use Rattle.es_match.specs.Patience.{ends_wait, may_do}
 use Rattle.es_match.specs.Cluster.{Account, account_of}
@@ -51,11 +52,12 @@ use Rattle.es_theorems.proofs.TurningThreads.{next_of, turn}
 -- What is told where a wait begins
 
 -- a wait that is recorded now
-told_here : (m : Ledger) (n i s : ℕ) (skip : Bool) → has_message m s i ≡ false → waits m i ≡ None → skips (Acted i (WaitingEvent s) ∷ m) n i s ≡ skip
+told_here : (m : Ledger) (n i s : ℕ) (skip : Bool) → has_message m s i ≡ false → waits m i ≡ None → asleep m i ≡ false → skips (Acted i (WaitingEvent s) ∷ m) n i s ≡ skip
     → ◌≡◌ {A = Told × Ledger} (told m n i s) (cond skip (Skip, Acted i (Passed s) ∷ Acted i (WaitingEvent s) ∷ m) (Stay, Acted i (WaitingEvent s) ∷ m))
-told_here m n i s skip none free is =
+told_here m n i s skip none free awake is =
     ap (λ b. cond b (IsReadyTurn, m) (judged (asked m i s) n i s)) none
-    ∙ ap (λ w. judged (cond (is_some w) m (Acted i (WaitingEvent s) ∷ m)) n i s) free
+    ∙ ap (λ w. judged (cond (is_some w || asleep m i) m (Acted i (WaitingEvent s) ∷ m)) n i s) free
+    ∙ ap (λ b. judged (cond b m (Acted i (WaitingEvent s) ∷ m)) n i s) awake
     ∙ ap (λ w. cond (w && skips (Acted i (WaitingEvent s) ∷ m) n i s) (Skip, Acted i (Passed s) ∷ Acted i (WaitingEvent s) ∷ m) (Stay, Acted i (WaitingEvent s) ∷ m))
     (ap (λ b. option_map_or (λ t. t == s) (cond b (Some s) (waits m i)) false) (eq-eqb i i refl) ∙ eq-eqb s s refl)
     ∙ ap (λ b. cond b (Skip, Acted i (Passed s) ∷ Acted i (WaitingEvent s) ∷ m) (Stay, Acted i (WaitingEvent s) ∷ m)) is
@@ -106,7 +108,7 @@ stays n all c es i s b u here may wants skip = record {
     was = u.stands.each i b here
 
     told_stay : ◌≡◌ {A = Told × Ledger} (Stay, Acted i (WaitingEvent s) ∷ m) (told m c.ledger.agents b.number s)
-    told_stay = sym (ap (λ k. told m k b.number s) u.number ∙ ap (λ k. told m n k s) was.number ∙ told_here m n i s false may.3 may.4 skip)
+    told_stay = sym (ap (λ k. told m k b.number s) u.number ∙ ap (λ k. told m n k s) was.number ∙ told_here m n i s false may.3 may.4 may.6 skip)
 
     acts : Acts n m (Some (i, Waits s))
     acts = u.steps.0.acts
@@ -224,7 +226,7 @@ skips_now n all c es i s b e rest j d ds whole u here left is asks may wants som
     was = u.stands.each i b here
 
     goes : Goes n l i
-    goes = record { known = may.0; going = may.5; paid = refl; undrained = u.steps.0.acts.2 }
+    goes = record { known = may.0; going = may.5; awake = may.6; paid = refl; undrained = u.steps.0.acts.2 }
 
     waiting : waits l i ≡ Some s
     waiting = ap (λ t. cond t (Some s) (waits m i)) (eq-eqb i i refl)
@@ -285,7 +287,7 @@ skips_now n all c es i s b e rest j d ds whole u here left is asks may wants som
 
     tells : WaitsRightly Moved b c.ledger (record { agents = c.ledger.agents; history = first.event ∷ l })
     tells t asked' stay =
-        let it : (told m n i s).0 ≡ Skip = ap turn_of (told_here m n i s true may.3 may.4 skip) in
+        let it : (told m n i s).0 ≡ Skip = ap turn_of (told_here m n i s true may.3 may.4 may.6 skip) in
         let same : t ≡ s = same_sender b t s asked' wants in
         let there : (told m n i s).0 ≡ Stay = ap (λ t. turn_of (told m n i t)) (sym same) ∙ ap (λ k. turn_of (told m k i t)) (sym u.number) ∙ ap (λ k. turn_of (told m c.ledger.agents k t)) (sym was.number) ∙ stay in
         let clash : ◌≡◌ {A = Told} Skip Stay = sym it ∙ there in cc
@@ -315,7 +317,7 @@ waits_or_skips n all c es i s b e rest j d ds whole u here left is asks some = a
     may = subst (ComesNext n m (Acted i (WaitingEvent s))) u.stands.undrained u.steps.0.legal
 
     goes : Goes n l i
-    goes = record { known = may.0; going = may.5; paid = refl; undrained = u.steps.0.acts.2 }
+    goes = record { known = may.0; going = may.5; awake = may.6; paid = refl; undrained = u.steps.0.acts.2 }
 
     ends : ends_wait s d ≡ true
     ends = next_ends n i es l d ds s goes u.steps.1 (waits_now m i s) some

@@ -14,7 +14,7 @@ use Rattle.es_event.specs.Access.{written, change_by}
 use Rattle.es_event.specs.Ledger.{Ledger, holder_of, opened, table}
 use Rattle.es_event.specs.LegalLedger.{LegalSoFar}
 use Rattle.es_event.specs.Rows.{held_by, line_of}
-use Rattle.es_match.specs.Deeds.{Deed, Opens, Posts, Takes, Spends, Accesses, Waits, Passes, Ends, part}
+use Rattle.es_match.specs.Deeds.{Deed, Opens, Posts, Takes, Spends, Accesses, Waits, Passes, Ends, part, Sleeps, Notifies, Wakes, TimesOut}
 use Rattle.es_laws.specs.Memory.{WordAccess, access_by, accessed, accesses, is_write}
 use Rattle.es_laws.specs.Races.{Mark, MarkedAccess, first_of, known, mark_of, marked, marked_after, marks_of}
 use Rattle.es_ledger.proofs.Made.{IsMade, all_made}
@@ -128,6 +128,10 @@ silent_none (d ∷ ds) are = one d are.0 (silent_none ds are.1)
     one (Waits s) is rest = rest
     one (Passes s) is rest = rest
     one Ends is rest = rest
+    one (Sleeps s i w) is rest = rest
+    one (Notifies s i m k) is rest = rest
+    one Wakes is rest = rest
+    one TimesOut is rest = rest
     one _ is rest = cc
 
 pub learns : (n : ℕ) (c : ClusterView) (words : Words) (i : ℕ) (m : Ledger) (b : AgentView) (e : Event) (r : Option Row) (ds : List Deed) → HasWords n c.ledger.history words → AtTurn n c i m b e r ds → Does n c.ledger.history i (renamed (name n c.ledger.history) b.over) e ds

@@ -32,6 +32,7 @@ mod Coming
 mod Unfolding
 mod Gathering
 pub mod Playing
+pub mod Sleepless
 mod TurningThreads
 mod Needing
 mod Settling

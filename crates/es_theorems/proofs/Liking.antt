@@ -1,23 +1,24 @@
 -- After two histories that tell the same, of waits too, the same may come, and means the same.
-use Rattle.std.proofs.Common.{◌≡◌, ℕ, zero, suc, ◌+◌, ◌&&◌, ◌||◌, not, false, sym, ◌∙◌, ap, refl, subst, List, [], ◌∷◌, ◌++◌, Option, Some, None}
+use Rattle.std.proofs.Common.{◌≡◌, ℕ, zero, suc, ◌+◌, ◌&&◌, ◌||◌, Bool, not, false, sym, ◌∙◌, ap, refl, subst, List, [], ◌∷◌, ◌++◌, Option, Some, None}
 use Rattle.std.specs.Prelude.{nat_lt, is_some}
 use Rattle.std.specs.Option.{option_and_then, option_map, option_map_or}
 use Rattle.es_event.specs.declared.ledger_event.Body.{Body}
 use Rattle.es_event.specs.declared.ledger_event.Body.TheVariants.{Plain, Block}
 use Rattle.es_event.specs.declared.ledger_event.LedgerEvent.{LedgerEvent}
 use Rattle.es_event.specs.declared.ledger_event.LedgerEvent.TheVariants.{Opened, Posted, Taken, Spent, Accessed, Drained, Acted}
-use Rattle.es_event.specs.declared.ledger_event.Act.TheVariants.{Waiting, Passed, Ended}
+use Rattle.es_event.specs.declared.ledger_event.Act.TheVariants.{Waiting, Passed, Ended, Slept, Notified, Woke, TimedOut}
 use Rattle.es_event.specs.Access.{IsStorable}
 use Rattle.es_event.specs.Rows.{count_of, held}
 use Rattle.es_event.specs.Ledger.{Ledger, awaited, ended, front, holder_of, serial_in, waits, word}
-use Rattle.es_event.specs.LegalLedger.{ComesNext, IsPostable, MayCome, Reaches, all_ended, all_stuck, has_message, is_chosen, is_stuck, owed, skips}
+use Rattle.es_event.specs.Waiters.{is_listed, taken_there}
+use Rattle.es_event.specs.LegalLedger.{ComesNext, IsPostable, MayCome, Reaches, ReachesAs, all_ended, all_stuck, has_message, is_chosen, is_stuck, owed, skips}
 use Rattle.es_event.specs.Totals.{is_drained}
 use Rattle.es_match.specs.Deeds.{Owned, Accesses, Spends, Takes, deed, part_of, taking}
-use Rattle.es_match.specs.Patience.{may_do}
+use Rattle.es_match.specs.Patience.{may_do, may_stir}
 use Rattle.es_theorems.specs.Alike.{Alike}
 use Rattle.es_theorems.specs.Ahead.{Acts, Like, May, Steps, ahead, played}
 use Rattle.es_theorems.proofs.Telling.{after_one, same, same_front, same_holder, same_message, through}
-use Rattle.es_theorems.proofs.Doing.{reaches_so, same_words_in}
+use Rattle.es_theorems.proofs.Doing.{reaches_as, reaches_so, same_listed, same_taken, same_words_in}
 
 pub like : (l : Ledger) → Like l l
 like l = record { alike = same l; waits = λ a. refl; owes = refl; drained = refl }
@@ -60,8 +61,11 @@ same_ahead (e ∷ es) l m a k = ap (λ o. part_of a o ++ ahead es (e ∷ l) a) (
 
 -- What may come
 
+abbrev vain : Ledger → ℕ → Bool
+vain l a = option_map_or (λ s. not (has_message l s a) && not (ended l s)) (waits l a) false
+
 same_stuck : (l m : Ledger) (a : ℕ) → Like l m → is_stuck l a ≡ is_stuck m a
-same_stuck l m a k = at (waits l a) (waits m a) (k.waits a)
+same_stuck l m a k = ap (λ b. b || vain l a) (same_listed l m a k.alike) ∙ ap (λ b. is_listed m a || b) (at (waits l a) (waits m a) (k.waits a))
   where
     at : (v w : Option ℕ) → v ≡ w → option_map_or (λ s. not (has_message l s a) && not (ended l s)) v false ≡ option_map_or (λ s. not (has_message m s a) && not (ended m s)) w false
     at None None is = refl
@@ -103,9 +107,20 @@ may_come n l m (Spent s) k is = ap is_some (sym (same_holder l m s k.alike)) ∙
 may_come n l m (Accessed s i d old) k is =
     subst (λ o. Reaches o i (λ r. (old ≡ word m r.block i) × IsStorable d)) (same_holder l m s k.alike)
     (reaches_so (holder_of l s) i (λ r. (old ≡ word l r.block i) × IsStorable d) (λ r. (old ≡ word m r.block i) × IsStorable d) (λ r e. (e.0 ∙ k.alike.words r.block i, e.1)) is)
-may_come n l m (Acted a (Waiting s)) k is = (is.0, is.1, is.2, sym (same_message l m s a k.alike) ∙ is.3, sym (k.waits a) ∙ is.4, sym (k.alike.ends a) ∙ is.5)
+may_come n l m (Acted a (Waiting s)) k is = (is.0, is.1, is.2, sym (same_message l m s a k.alike) ∙ is.3, sym (k.waits a) ∙ is.4, sym (k.alike.ends a) ∙ is.5, sym (k.alike.asleep a) ∙ is.6)
 may_come n l m (Acted a (Passed s)) k is = (sym (k.waits a) ∙ is.0, sym (same_skips l m n a s k) ∙ is.1)
 may_come n l m (Acted a Ended) k is = (is.0, sym (k.alike.ends a) ∙ is.1)
+may_come n l m (Acted a (Slept s i w)) k is = (
+  subst (λ o. ReachesAs a o i (λ r. w ≡ word m r.block i)) (same_holder l m s k.alike) (reaches_as (holder_of l s) a i (λ r. w ≡ word l r.block i) (λ r. w ≡ word m r.block i) (λ r e. e ∙ k.alike.words r.block i) is.0),
+  sym (k.waits a) ∙ is.1,
+  sym (k.alike.ends a) ∙ is.2,
+  sym (k.alike.asleep a) ∙ is.3,
+)
+may_come n l m (Acted a (Notified s i c t)) k is =
+    subst (λ o. ReachesAs a o i (λ r. t ≡ taken_there m r.block i c)) (same_holder l m s k.alike)
+    (reaches_as (holder_of l s) a i (λ r. t ≡ taken_there l r.block i c) (λ r. t ≡ taken_there m r.block i c) (λ r e. e ∙ same_taken l m r.block i c k.alike) is)
+may_come n l m (Acted a Woke) k is = (sym (k.alike.asleep a) ∙ is.0, sym (same_listed l m a k.alike) ∙ is.1)
+may_come n l m (Acted a TimedOut) k is = (sym (same_listed l m a k.alike) ∙ is.0, sym (same_chosen l m n a k) ∙ is.1)
 may_come n l m (Drained s r) k is = (sym (same_all_ended l m n k.alike) ∙ is.0, sym (same_message l m s r k.alike) ∙ is.1)
 
 comes_next : (n : ℕ) (l m : Ledger) (e : LedgerEvent) (o : Option ℕ) → Like l m → ComesNext n l e o → ComesNext n m e o
@@ -114,7 +129,7 @@ comes_next n l m e (Some s) k is = is
 
 same_acts : (n : ℕ) (l m : Ledger) (o : Owned) → Like l m → Acts n l o → Acts n m o
 same_acts n l m None k is = is
-same_acts n l m (Some p) k is = (is.0, sym (k.alike.ends p.0) ∙ is.1, sym k.drained ∙ is.2, ap (λ w. may_do w p.1) (sym (k.waits p.0)) ∙ is.3)
+same_acts n l m (Some p) k is = (is.0, sym (k.alike.ends p.0) ∙ is.1, sym k.drained ∙ is.2, ap (λ w. may_do w p.1) (sym (k.waits p.0)) ∙ is.3, ap (λ b. may_stir b p.1) (sym (k.alike.asleep p.0)) ∙ is.4)
 
 pub same_may : (n : ℕ) (l m : Ledger) (e : LedgerEvent) → Like l m → May n l e → May n m e
 same_may n l m e k is = record {

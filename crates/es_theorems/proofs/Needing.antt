@@ -1,7 +1,7 @@
 -- An agent asks for a message exactly where the first deed of its next event ends a wait for it.
-use Rattle.std.proofs.Common.{◌≡◌, ℕ, ◌==◌, ◌&&◌, not, Bool, true, false, cond, sym, ◌∙◌, ap, refl, subst, List, [], ◌∷◌, Option, Some, None, eq-eqb, eqb-true}
+use Rattle.std.proofs.Common.{◌≡◌, ◌||◌, ℕ, ◌==◌, ◌&&◌, not, Bool, true, false, cond, sym, ◌∙◌, ap, refl, subst, List, [], ◌∷◌, Option, Some, None, eq-eqb, eqb-true}
 use Rattle.std.specs.Prelude.{ℤ, is_some, slice_get}
-use Rattle.std.specs.Option.{option_and_then, option_map, option_map_or}
+use Rattle.std.specs.Option.{option_and_then, option_map_or}
 use Rattle.std.proofs.lemmas.Bool.{and_parts, false≢true, not-true}
 use Rattle.es_value.specs.declared.value.Value.{Value}
 use Rattle.es_event.specs.declared.access.Access.{Access}
@@ -11,20 +11,23 @@ use Rattle.es_event.specs.declared.event.Answer.{Answer}
 use Rattle.es_event.specs.declared.event.Event.{Event}
 use Rattle.es_event.specs.declared.event.Event.TheVariants.{Received, Did, Refused, Emptied, Skipped, Closed}
 use Rattle.es_event.specs.declared.ledger_event.LedgerEvent.{LedgerEvent}
-use Rattle.es_event.specs.declared.ledger_event.LedgerEvent.TheVariants.{Opened, Posted, Taken, Spent, Accessed, Drained, Acted}
-use Rattle.es_event.specs.declared.ledger_event.Act.TheVariants.{Waiting, Passed, Ended}
+use Rattle.es_event.specs.declared.ledger_event.LedgerEvent.TheVariants.{Acted}
+use Rattle.es_event.specs.declared.ledger_event.Act.TheVariants.{Waiting, Passed}
 use Rattle.es_event.specs.declared.row.Row.{Row}
 use Rattle.es_event.specs.Commands.{first}
 use Rattle.es_event.specs.Numbers.{access_of, index_of}
 use Rattle.es_event.specs.Follows.{Permits}
 use Rattle.es_event.specs.History.{History}
 use Rattle.es_event.specs.Jobs.{Receivers, job, receivers}
-use Rattle.es_event.specs.Ledger.{Ledger, front, holder_of, waits}
+use Rattle.es_event.specs.Ledger.{Ledger, waits}
 use Rattle.es_event.specs.LegalLedger.{MayCome, has_message, skips}
 use Rattle.es_event.specs.Order.{Due, receive, run as run_due, due, phase}
 use Rattle.es_event.specs.Runs.{IsRunOver}
 use Rattle.es_event.specs.Sharing.{Buffers}
-use Rattle.es_match.specs.Deeds.{Deed, Owned, Opens, Posts, Takes, Spends, Accesses, Waits, Passes, Ends, deed, taking}
+use Rattle.es_event.specs.Waiters.{asleep}
+use Rattle.es_theorems.proofs.Doing.{meant}
+use Rattle.es_theorems.specs.Doing.{event_of}
+use Rattle.es_match.specs.Deeds.{Deed, Opens, Posts, Takes, Spends, Accesses, Passes, Ends, deed}
 use Rattle.es_match.specs.Patience.{ends_wait}
 use Rattle.es_match.specs.Asks.{nothing, to_receive, to_refuse, to_pass, asks_did, between_jobs, given, wants_room}
 use Rattle.es_match.specs.Cluster.{awaited, is_refusal_asked}
@@ -42,7 +45,6 @@ use Rattle.es_theorems.specs.Grown.{asked_by}
 use Rattle.es_theorems.specs.Underway.{closes}
 use Rattle.es_theorems.proofs.Commands.{some_if_true}
 use Rattle.es_theorems.proofs.Unfolding.{refused_between}
-use Rattle.es_cluster.proofs.Growing.{doer}
 
 -- The first deed of a message
 
@@ -200,41 +202,27 @@ closes_is b r e next = sym (open_after b.history e (λ f. cc) (open_before (with
 
 -- What it is told
 
-held_none : (o : Option (ℕ × Row)) (a : ℕ) (e d : Deed) (s : ℕ) → ends_wait s e ≡ false → option_map {U = ℕ × Deed} (λ p. (p.0, e)) o ≡ Some (a, d) → ends_wait s d ≡ true → ⊥
-held_none None a e d s none is ends = cc
-held_none (Some p) a e d s none is ends = false≢true (sym none ∙ ap (λ o. option_map_or (λ p. ends_wait s p.1) o false) is ∙ ends)
-
-its : (a b : ℕ) (e d : Deed) (s : ℕ) → ◌≡◌ {A = Owned} (Some (a, e)) (Some (b, d)) → ends_wait s d ≡ true → ends_wait s e ≡ true
-its a b e d s is ends = ap (λ o. option_map_or (λ p. ends_wait s p.1) o false) is ∙ ends
-
 abbrev pub turn_of : Turn × Ledger → Turn
 turn_of p = p.0
 
 pub told_right : (n : ℕ) (m : Ledger) (x : LedgerEvent) (i s : ℕ) (d : Deed) → MayCome n m x → deed m x ≡ Some (i, d) → ends_wait s d ≡ true → (told m n i s).0 ≡ Stay → ⊥
-told_right n m (Taken t u) i s d may is ends stay =
-    let user : u ≡ i = doer (deed m (Taken t u)) i u d is in
-    let sender : t ≡ s = eqb-true t s (its u i (taking m t (front m t u)) d s is ends) in
-    let there : has_message m s i ≡ true = ap (λ t. has_message m t i) (sym sender) ∙ ap (has_message m t) (sym user) ∙ may in
-    let ready : (told m n i s).0 ≡ Ready = ap (λ b. turn_of (cond b (Ready, m) (judged (asked m i s) n i s))) there in
-    let clash : ◌≡◌ {A = Turn} Ready Stay = sym ready ∙ stay in cc
-told_right n m (Acted u (Passed t)) i s d may is ends stay =
-    let user : u ≡ i = doer (deed m (Acted u (Passed t))) i u d is in
-    let sender : t ≡ s = eqb-true t s (its u i (Passes t) d s is ends) in
-    let waiting : waits m i ≡ Some s = ap (waits m) (sym user) ∙ may.0 ∙ ap Some sender in
-    let skip : skips m n i s ≡ true = ap (λ t. skips m n i t) (sym sender) ∙ ap (λ u. skips m n u t) (sym user) ∙ may.1 in
-    let none : has_message m s i ≡ false = not-true (has_message m s i) (and_parts (not (has_message m s i)) _ skip).0 in
-    let same : asked m i s ≡ m = ap (λ w. cond (is_some w) m (Acted i (Waiting s) ∷ m)) waiting in
-    let skipping : (told m n i s).0 ≡ Skip =
-    ap (λ b. turn_of (cond b (Ready, m) (judged (asked m i s) n i s))) none ∙ ap (λ l. turn_of (judged l n i s)) same
-    ∙ ap (λ w. turn_of (cond (option_map_or (λ t. t == s) w false && skips m n i s) (Skip, Acted i (Passed s) ∷ m) (Stay, m))) waiting
-    ∙ ap (λ b. turn_of (cond (b && skips m n i s) (Skip, Acted i (Passed s) ∷ m) (Stay, m))) (eq-eqb s s refl)
-    ∙ ap (λ b. turn_of (cond b (Skip, Acted i (Passed s) ∷ m) (Stay, m))) skip
-    in
-    let clash : ◌≡◌ {A = Turn} Skip Stay = sym skipping ∙ stay in cc
-told_right n m (Opened b w q u) i s d may is ends stay = let clash = its u i (Opens b w q) d s is ends in cc
-told_right n m (Posted u r b) i s d may is ends stay = let clash = its u i (Posts r b) d s is ends in cc
-told_right n m (Spent q) i s d may is ends stay = held_none (holder_of m q) i (Spends q) d s refl is ends
-told_right n m (Accessed q j c old) i s d may is ends stay = held_none (holder_of m q) i (Accesses q j c old) d s refl is ends
-told_right n m (Acted u (Waiting t)) i s d may is ends stay = let clash = its u i (Waits t) d s is ends in cc
-told_right n m (Acted u Ended) i s d may is ends stay = let clash = its u i Ends d s is ends in cc
-told_right n m (Drained t u) i s d may is ends stay = cc
+told_right n m x i s d may is ends stay = by d ends (subst (MayCome n m) (meant n m x i d may is).event may)
+  where
+    by : (d : Deed) → ends_wait s d ≡ true → MayCome n m (event_of i d) → ⊥
+    by (Takes t b w) ends may =
+        let there : has_message m s i ≡ true = ap (λ t. has_message m t i) (sym (eqb-true t s ends)) ∙ may in
+        let ready : (told m n i s).0 ≡ Ready = ap (λ b. turn_of (cond b (Ready, m) (judged (asked m i s) n i s))) there in
+        let clash : ◌≡◌ {A = Turn} Ready Stay = sym ready ∙ stay in cc
+    by (Passes t) ends may =
+        let waiting : waits m i ≡ Some s = may.0 ∙ ap Some (eqb-true t s ends) in
+        let skip : skips m n i s ≡ true = ap (λ t. skips m n i t) (sym (eqb-true t s ends)) ∙ may.1 in
+        let none : has_message m s i ≡ false = not-true (has_message m s i) (and_parts (not (has_message m s i)) _ skip).0 in
+        let same : asked m i s ≡ m = ap (λ w. cond (is_some w || asleep m i) m (Acted i (Waiting s) ∷ m)) waiting in
+        let skipping : (told m n i s).0 ≡ Skip =
+        ap (λ b. turn_of (cond b (Ready, m) (judged (asked m i s) n i s))) none ∙ ap (λ l. turn_of (judged l n i s)) same
+        ∙ ap (λ w. turn_of (cond (option_map_or (λ t. t == s) w false && skips m n i s) (Skip, Acted i (Passed s) ∷ m) (Stay, m))) waiting
+        ∙ ap (λ b. turn_of (cond (b && skips m n i s) (Skip, Acted i (Passed s) ∷ m) (Stay, m))) (eq-eqb s s refl)
+        ∙ ap (λ b. turn_of (cond b (Skip, Acted i (Passed s) ∷ m) (Stay, m))) skip
+        in
+        let clash : ◌≡◌ {A = Turn} Skip Stay = sym skipping ∙ stay in cc
+    by _ ends may = cc

@@ -7,7 +7,7 @@ use Rattle.es_event.specs.declared.ledger_event.Body.{Body}
 use Rattle.es_event.specs.declared.ledger_event.Body.TheVariants.{Plain, Block}
 use Rattle.es_event.specs.declared.ledger_event.LedgerEvent.{LedgerEvent}
 use Rattle.es_event.specs.declared.ledger_event.LedgerEvent.TheVariants.{Opened, Posted, Taken, Spent, Accessed, Drained, Acted}
-use Rattle.es_event.specs.declared.ledger_event.Act.TheVariants.{Waiting, Passed, Ended}
+use Rattle.es_event.specs.declared.ledger_event.Act.TheVariants.{Waiting}
 use Rattle.es_event.specs.declared.row.Entry.{Entry}
 use Rattle.es_event.specs.declared.row.Holder.{Holder}
 use Rattle.es_event.specs.declared.row.Holder.TheVariants.{Agent, Nobody}
@@ -16,7 +16,8 @@ use Rattle.es_event.specs.Ledger.{Ledger, front, holder_of, is_at, moved_if, ope
 use Rattle.es_event.specs.LegalLedger.{LegalSoFar}
 use Rattle.es_event.specs.Rows.{held_by, line_of, moved, row}
 use Rattle.es_event.specs.Sharing.{Buffers, row_at}
-use Rattle.es_match.specs.Deeds.{Deed, Opens, Posts, Spends, Accesses, Waits, Passes, Ends, deed, part, part_of, taking}
+use Rattle.es_event.specs.declared.ledger_event.Act.{Act}
+use Rattle.es_match.specs.Deeds.{Deed, Opens, Posts, Spends, Accesses, deed, part, part_of, taking, acting}
 use Rattle.es_ledger.proofs.Made.{Each, IsMade, all_made}
 use Rattle.es_theorems.specs.Renamed.{AreOpened, AreSent, IsOpened, IsSent}
 use Rattle.es_theorems.proofs.Holding.{held_line, held_taken, line_first, line_moved, line_other, none_moved}
@@ -61,15 +62,17 @@ sent_by_ticket : (l : Ledger) (a : ℕ) (o : Option (ℕ × Row)) (d : Deed) →
 sent_by_ticket l a None d is = tt
 sent_by_ticket l a (Some p) d is = sent_if l _ d is
 
+act_sent : (m : Ledger) (act : Act) → IsSent m (acting act)
+act_sent m (Waiting s) = tt
+act_sent m _ = tt
+
 sent_newest : (n : ℕ) (l : Ledger) (e : LedgerEvent) (a : ℕ) → LegalSoFar n (e ∷ l) → AreSent (e ∷ l) (part_of a (deed l e))
 sent_newest n l (Posted t u m) a legal = sent_if (Posted t u m ∷ l) _ (Posts u m) (opened_later l (Posted t u m) m (posted_opened n l t u m legal))
 sent_newest n l (Opened b w k c) a legal = sent_if (Opened b w k c ∷ l) _ (Opens b w k) tt
 sent_newest n l (Taken t u) a legal = sent_if (Taken t u ∷ l) _ (taking l t (front l t u)) tt
 sent_newest n l (Spent k) a legal = sent_by_ticket (Spent k ∷ l) a (holder_of l k) (Spends k) tt
 sent_newest n l (Accessed k i m old) a legal = sent_by_ticket (Accessed k i m old ∷ l) a (holder_of l k) (Accesses k i m old) tt
-sent_newest n l (Acted c (Waiting s)) a legal = sent_if (Acted c (Waiting s) ∷ l) _ (Waits s) tt
-sent_newest n l (Acted c (Passed s)) a legal = sent_if (Acted c (Passed s) ∷ l) _ (Passes s) tt
-sent_newest n l (Acted c Ended) a legal = sent_if (Acted c Ended ∷ l) _ Ends tt
+sent_newest n l (Acted c act) a legal = sent_if (Acted c act ∷ l) _ (acting act) (act_sent (Acted c act ∷ l) act)
 sent_newest n l (Drained t u) a legal = tt
 
 pub all_sent : (n : ℕ) (l : Ledger) → LegalSoFar n l → (a : ℕ) → AreSent l (part l a)

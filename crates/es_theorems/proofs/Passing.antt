@@ -3,11 +3,11 @@ use Rattle.std.proofs.Common.{◌≡◌, ◌≢◌, ℕ, ◌<◌, ◌==◌, ◌&
 use Rattle.std.specs.Option.{option_map}
 use Rattle.es_event.specs.declared.ledger_event.LedgerEvent.{LedgerEvent}
 use Rattle.es_event.specs.declared.ledger_event.LedgerEvent.TheVariants.{Opened, Posted, Taken, Spent, Accessed, Drained, Acted}
-use Rattle.es_event.specs.declared.ledger_event.Act.TheVariants.{Waiting, Passed, Ended}
+use Rattle.es_event.specs.declared.ledger_event.Act.TheVariants.{Waiting, Passed, Ended, Slept, Notified, Woke, TimedOut}
 use Rattle.es_event.specs.declared.row.Row.{Row}
 use Rattle.es_event.specs.Ledger.{Ledger, front, holder_of}
 use Rattle.es_event.specs.LegalLedger.{ComesNext, LegalSoFar, owed}
-use Rattle.es_match.specs.Deeds.{Deed, Opens, Posts, Spends, Accesses, Waits, Passes, Ends, deed, part, part_of, taking}
+use Rattle.es_match.specs.Deeds.{Deed, Opens, Posts, Spends, Accesses, Waits, Passes, Ends, deed, part, part_of, taking, Sleeps, Notifies, Wakes, TimesOut}
 use Rattle.std.proofs.lemmas.Bool.{and_parts, eqb-true}
 use Rattle.es_theorems.proofs.Known.{waits_known}
 
@@ -50,6 +50,10 @@ newest_aims n l (Spent k) a legal = by_ticket n a (holder_of l k) (Spends k) tt
 newest_aims n l (Accessed k i m old) a legal = by_ticket n a (holder_of l k) (Accesses k i m old) tt
 newest_aims n l (Acted c (Waiting s)) a legal = aim_if n a _ (Waits s) (λ t. tt)
 newest_aims n l (Acted c Ended) a legal = aim_if n a _ Ends (λ t. tt)
+newest_aims n l (Acted c (Slept s i w)) a legal = aim_if n a _ (Sleeps s i w) (λ t. tt)
+newest_aims n l (Acted c (Notified s i m k)) a legal = aim_if n a _ (Notifies s i m k) (λ t. tt)
+newest_aims n l (Acted c Woke) a legal = aim_if n a _ Wakes (λ t. tt)
+newest_aims n l (Acted c TimedOut) a legal = aim_if n a _ TimesOut (λ t. tt)
 newest_aims n l (Drained t u) a legal = tt
 
 all_aim : (n : ℕ) (l : Ledger) → LegalSoFar n l → (a : ℕ) → AllAim n a (part l a)

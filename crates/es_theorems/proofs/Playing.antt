@@ -6,11 +6,12 @@ use Rattle.es_event.specs.declared.ledger_event.Body.{Body}
 use Rattle.es_event.specs.declared.ledger_event.Body.TheVariants.{Plain, Block}
 use Rattle.es_event.specs.declared.ledger_event.LedgerEvent.{LedgerEvent}
 use Rattle.es_event.specs.declared.ledger_event.LedgerEvent.TheVariants.{Opened, Posted, Taken, Spent, Accessed, Drained, Acted}
-use Rattle.es_event.specs.declared.ledger_event.Act.TheVariants.{Waiting, Passed, Ended}
+use Rattle.es_event.specs.declared.ledger_event.Act.TheVariants.{Waiting, Passed, Ended, Slept, Notified, Woke, TimedOut}
 use Rattle.es_event.specs.declared.row.Row.{Row}
 use Rattle.es_event.specs.Ledger.{Ledger, ended, front, holder_of, is_end_of, waits}
-use Rattle.es_match.specs.Deeds.{Deed, Owned, Opens, Posts, Takes, Spends, Accesses, Waits, Passes, Ends, deed, is_wait, part, part_of, taking}
-use Rattle.es_match.specs.Patience.{drained_last, ends_wait, has_drained, is_nobodys, is_patient, may_do, patient}
+use Rattle.es_event.specs.Waiters.{asleep}
+use Rattle.es_match.specs.Deeds.{Deed, Owned, Opens, Posts, Takes, Spends, Accesses, Waits, Passes, Ends, deed, is_wait, part, part_of, taking, Sleeps, Notifies, Wakes, TimesOut}
+use Rattle.es_match.specs.Patience.{drained_last, ends_wait, has_drained, is_nobodys, is_patient, may_do, patient, may_stir}
 use Rattle.es_match.specs.Asks.{Asking, nothing, to_open, to_measure, to_compare, to_access, to_post, to_receive, to_refuse, to_pass, to_empty, to_close}
 use Rattle.es_match.specs.Meets.{Tickets, after, is_access, is_one, is_pass, is_post, is_refusal, no_more, opening, pair, receiving, serials_of, sole, spends, strike, within}
 use Rattle.es_cluster.specs.Tied.{GrowsBy}
@@ -51,7 +52,7 @@ mine_grows a (e ∷ es) l mine = grows_on a l (e ∷ l) (played es (e ∷ l)) (g
 
 patient_one : (k : ℕ) (l : Ledger) (o : Owned) → Acts k l o → is_patient l o ≡ true
 patient_one k l None acts = refl
-patient_one k l (Some p) acts = acts.3
+patient_one k l (Some p) acts = ap (λ b. b && may_stir (asleep l p.0) p.1) acts.3 ∙ acts.4
 
 last_one : (k : ℕ) (l : Ledger) (o : Owned) → Acts k l o → (is_nobodys o || not (has_drained l)) ≡ true
 last_one k l None acts = refl
@@ -86,6 +87,10 @@ free_after l (Spent s) a d is quick may = free_unless (waits l a) d may (λ s'. 
 free_after l (Accessed s i m old) a d is quick may = free_unless (waits l a) d may (λ s'. ap (ends_wait s') (sym (held_deed (holder_of l s) a (Accesses s i m old) d is)))
 free_after l (Acted c (Waiting s)) a d is quick may = let same = its_deed c a (Waits s) d is in let clash = ap is_wait same ∙ quick in cc
 free_after l (Acted c (Passed s)) a d is quick may = ap (λ t. cond t None (waits l a)) (eq-eqb c a (doer (deed l (Acted c (Passed s))) a c d is))
+free_after l (Acted c (Slept s i w)) a d is quick may = free_unless (waits l a) d may (λ s'. ap (ends_wait s') (sym (its_deed c a _ d is)))
+free_after l (Acted c (Notified s i m k)) a d is quick may = free_unless (waits l a) d may (λ s'. ap (ends_wait s') (sym (its_deed c a _ d is)))
+free_after l (Acted c Woke) a d is quick may = free_unless (waits l a) d may (λ s'. ap (ends_wait s') (sym (its_deed c a _ d is)))
+free_after l (Acted c TimedOut) a d is quick may = free_unless (waits l a) d may (λ s'. ap (ends_wait s') (sym (its_deed c a _ d is)))
 free_after l (Acted c Ended) a d is quick may = free_unless (waits l a) d may (λ s'. ap (ends_wait s') (sym (its_deed c a _ d is)))
 free_after l (Drained s r) a d is quick may = cc
 
@@ -105,6 +110,10 @@ end_is l (Accessed s i m old) a d is = ap is_end (held_deed (holder_of l s) a (A
 end_is l (Acted c (Waiting s)) a d is = ap is_end (its_deed c a (Waits s) d is)
 end_is l (Acted c (Passed s)) a d is = ap is_end (its_deed c a (Passes s) d is)
 end_is l (Acted c Ended) a d is = eq-eqb c a (doer (deed l (Acted c Ended)) a c d is) ∙ ap is_end (its_deed c a Ends d is)
+end_is l (Acted c (Slept s i w)) a d is = ap is_end (its_deed c a (Sleeps s i w) d is)
+end_is l (Acted c (Notified s i m k)) a d is = ap is_end (its_deed c a (Notifies s i m k) d is)
+end_is l (Acted c Woke) a d is = ap is_end (its_deed c a Wakes d is)
+end_is l (Acted c TimedOut) a d is = ap is_end (its_deed c a TimesOut d is)
 end_is l (Drained s r) a d is = cc
 
 or_swapped : (a b c : Bool) → (a || (b || c)) ≡ ((b || a) || c)
@@ -188,6 +197,10 @@ is_alone (Accesses s i m old) = true
 is_alone (Waits s) = true
 is_alone (Passes s) = true
 is_alone Ends = true
+is_alone (Sleeps s i w) = true
+is_alone (Notifies s i m k) = true
+is_alone Wakes = true
+is_alone TimesOut = true
 
 sole_alone : {A : Type 0} (f : Deed → Option A) (d : Deed) (ds : List Deed) (x : A) → option_and_then f (sole (d ∷ ds)) ≡ Some x → ds ≡ []
 sole_alone f d [] x e = refl

@@ -9,7 +9,7 @@ use Rattle.es_event.specs.declared.row.Row.{Row}
 use Rattle.es_event.specs.Ledger.{Ledger, by_agent, holder_of, is_at, table}
 use Rattle.es_event.specs.LegalLedger.{ComesNext, LegalSoFar, MayCome, owed}
 use Rattle.es_event.specs.Rows.{line_of}
-use Rattle.es_match.specs.Deeds.{Deed, Opens, Spends, Accesses, Waits, Passes, Ends, deed, is_wait, part}
+use Rattle.es_match.specs.Deeds.{Deed, Opens, Spends, Accesses, Waits, Passes, Ends, deed, is_wait, part, Sleeps, Notifies, Wakes, TimesOut}
 use Rattle.es_laws.specs.Memory.{access_by, accesses}
 use Rattle.es_laws.specs.Races.{carried_after, known, knows_after, mark_of, marked, marks_of}
 use Rattle.es_record.specs.AgentView.{AgentView}
@@ -75,6 +75,10 @@ silent_leave n (d ∷ ds) l are = onward (did n ds (event_of n d ∷ l)) (event_
     one (Waits s) is = record { known = refl; told = refl; marked = refl; accesses = refl }
     one (Passes s) is = record { known = refl; told = refl; marked = refl; accesses = refl }
     one Ends is = record { known = refl; told = refl; marked = refl; accesses = refl }
+    one (Sleeps s i w) is = record { known = refl; told = refl; marked = refl; accesses = refl }
+    one (Notifies s i m k) is = record { known = refl; told = refl; marked = refl; accesses = refl }
+    one Wakes is = record { known = refl; told = refl; marked = refl; accesses = refl }
+    one TimesOut is = record { known = refl; told = refl; marked = refl; accesses = refl }
     one _ is = cc
 
 -- What an agent accesses is through a ticket of its own

@@ -56,7 +56,7 @@ first_at agents n (p ∷ ps) (suc i) b is =
 stands_first_at : (p : Plan) (n : ℕ) (a : AgentPlan) → n < length p.agents → StandsAt (first_state p) n (first_view (length p.agents) n a)
 stands_first_at p n a known = record {
   number = refl;
-  tied = record { ties = (refl, refl); awaits = λ s is. cc; waits_end = refl; drains_end = refl };
+  tied = record { ties = (refl, refl); awaits = λ s is. cc; awake = refl; waits_end = refl; drains_end = refl };
   seated = record { known = known; agents = refl; over = refl };
   run = (tt, tt);
 }
@@ -228,7 +228,7 @@ waited : (n : ℕ) (c d : ClusterView) → Stands c → Turned Waiting n c d →
 waited n c d stands turn =
     let b = turn.before in
     let was : StandsAt c n b = stands.each n b turn.agent in
-    let stays = stays_here b c.ledger.history d.ledger.history c.ledger.agents turn.told.0 was.tied.awaits turn.told.1 turn.told.2 in
+    let stays = stays_here b c.ledger.history d.ledger.history c.ledger.agents turn.told.0 was.tied.awake was.tied.awaits turn.told.1 turn.told.2 in
     record {
       agents = turn.agents ∙ ap (slice_set c.agents n) turn.turn.2 ∙ set_same c.agents n b turn.agent;
       number = turn.number;

@@ -4,6 +4,7 @@ use Rattle.std.specs.Prelude.{is_some, slice_get}
 use Rattle.std.specs.Option.{option_map, option_map_or}
 use Rattle.es_event.specs.declared.ledger_event.Body.{Body}
 use Rattle.es_event.specs.Ledger.{ended, port_of, waits}
+use Rattle.es_event.specs.Waiters.{asleep}
 use Rattle.es_event.specs.LegalLedger.{LegalSoFar, has_message, is_stuck, skips}
 use Rattle.es_event.specs.Order.{due}
 use Rattle.es_match.specs.Deeds.{part}
@@ -19,6 +20,7 @@ use Rattle.es_theorems.specs.Together.{Stands, StandsAt}
 use Rattle.es_theorems.specs.Alone.{Letter, LetsWait, Local, Locals, MaySkip, Rests, addressed, is_done, letters, sent_by, times}
 use Rattle.es_theorems.specs.Renamed.{got_in, letter_of, local_of, locals_of, sent_in}
 use Rattle.es_cluster.proofs.Mover.{settled_at}
+use Rattle.es_ledger.proofs.Waking.{awake_unlisted}
 use Rattle.es_theorems.proofs.Choosing.{Chosen, Skips, ended_below, skips_is, stuck_is}
 use Rattle.es_theorems.proofs.Ports.{is_port}
 
@@ -111,8 +113,8 @@ rests_there c stands legal dry j b at is = by_end (ended c.ledger.history j) ref
     by_end : (e : Bool) → ended c.ledger.history j ≡ e → (e || is_stuck c.ledger.history j) ≡ true → Rests (locals_of c) j (local_of c.ledger.agents c.ledger.history b)
     by_end true e is = inl (done_is c stands j b at ∙ e)
     by_end false e is =
-        let stuck = stuck_is c.ledger.history j is in
         let was : StandsAt c j b = stands.each j b at in
+        let stuck = stuck_is c.ledger.history j (awake_unlisted c.ledger.agents c.ledger.history j legal (ap (asleep c.ledger.history) (sym was.number) ∙ was.tied.awake)) is in
         let asks : need b ≡ asks_message stuck.sender = was.tied.awaits stuck.sender (ap (λ k. waits c.ledger.history k) was.number ∙ stuck.waiting) in
         inr (stuck.sender, message_due b (due b.plan b.history) stuck.sender asks, lets_wait c stands legal dry stuck.sender j b at stuck.none stuck.going)
 

@@ -1,5 +1,5 @@
 -- Tickets that are spent leave the same of a ledger in whatever order.
-use Rattle.std.proofs.Common.{◌≡◌, ℕ, ◌+◌, ◌==◌, ◌||◌, ◌∙◌, Bool, true, false, cond, sym, ap, refl, arith, List, [], ◌∷◌, map, Option, Some, None, eqb-true}
+use Rattle.std.proofs.Common.{◌≡◌, ℕ, ◌+◌, ◌==◌, ◌||◌, ◌∙◌, Bool, true, false, cond, sym, ap, refl, arith, filter, not, List, [], ◌∷◌, map, Option, Some, None, eqb-true}
 use Rattle.std.specs.Prelude.{count_by}
 use Rattle.std.specs.Option.{option_map, option_map_or}
 use Rattle.std.proofs.lemmas.Bool.{eqb-false}
@@ -11,6 +11,8 @@ use Rattle.es_event.specs.declared.row.Entry.{Entry}
 use Rattle.es_event.specs.declared.row.Holder.TheVariants.{Nobody}
 use Rattle.es_event.specs.Rows.{held_by, moved}
 use Rattle.es_event.specs.Ledger.{Ledger, opened, serials, size, port_of, table, word, ended}
+use Rattle.es_event.specs.declared.waiter.Waiter.{Waiter}
+use Rattle.es_event.specs.Waiters.{asleep, waiters}
 use Rattle.es_event.specs.Totals.{is_posted, is_taken, is_drained, posted, taken, drained}
 use Rattle.es_match.specs.Deeds.{Deed, Spends, Ends}
 use Rattle.es_match.specs.Meets.{ends, spends, strike}
@@ -93,6 +95,8 @@ record Still (closing : Bool) (n : ℕ) (ns : List ℕ) (l m : Ledger) : Type 0 
   ports : (s r : ℕ) → port_of m s r ≡ port_of l s r
   tables : table m ≡ map (off ns) (table l)
   words : (b i : ℕ) → word m b i ≡ word l b i
+  lists : waiters m ≡ cond closing (filter (λ (w : Waiter). not (w.agent == n)) (waiters l)) (waiters l)
+  asleep : (a : ℕ) → asleep m a ≡ cond closing (cond (n == a) false (asleep l a)) (asleep l a)
   ends : (a : ℕ) → ended m a ≡ cond closing ((n == a) || ended l a) (ended l a)
   posted : posted m ≡ posted l
   taken : taken m ≡ taken l
@@ -109,6 +113,8 @@ still_at_end false n l [] is = record {
   ports = λ s r. refl;
   tables = sym (off_none (table l));
   words = λ b i. refl;
+  lists = refl;
+  asleep = λ a. refl;
   ends = λ a. refl;
   posted = refl;
   taken = refl;
@@ -121,6 +127,8 @@ still_at_end true n l (Ends ∷ []) is = record {
   ports = λ s r. refl;
   tables = sym (off_none (table l));
   words = λ b i. refl;
+  lists = refl;
+  asleep = λ a. refl;
   ends = λ a. refl;
   posted = uncounted is_posted l (Acted n Ended) refl;
   taken = uncounted is_taken l (Acted n Ended) refl;
@@ -136,6 +144,8 @@ still_one closing n s ns ms l m is rest = record {
   ports = rest.ports;
   tables = rest.tables ∙ off_each s ns ms is (table l);
   words = rest.words;
+  lists = rest.lists;
+  asleep = rest.asleep;
   ends = rest.ends;
   posted = rest.posted ∙ uncounted is_posted l (Spent s) refl;
   taken = rest.taken ∙ uncounted is_taken l (Spent s) refl;
@@ -163,6 +173,8 @@ in_any_order closing n l ns ds es a b =
       ports = λ s r. x.ports s r ∙ sym (y.ports s r);
       tables = x.tables ∙ sym y.tables;
       words = λ b i. x.words b i ∙ sym (y.words b i);
+      waiters = x.lists ∙ sym y.lists;
+      asleep = λ a. x.asleep a ∙ sym (y.asleep a);
       ends = λ a. x.ends a ∙ sym (y.ends a);
       posted = x.posted ∙ sym y.posted;
       taken = x.taken ∙ sym y.taken;

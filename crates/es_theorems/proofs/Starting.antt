@@ -21,8 +21,9 @@ use Rattle.es_event.specs.Ledger.{Ledger, ended as has_ended, holder_of, is_end_
 use Rattle.es_event.specs.LegalLedger.{ComesNext, LegalSoFar, MayCome, owed}
 use Rattle.es_event.specs.Order.{Phase, between, handed, inside, stopped, ended, phase, due_at}
 use Rattle.es_event.specs.Sharing.{Buffers}
+use Rattle.es_event.specs.Waiters.{asleep}
 use Rattle.es_match.specs.Deeds.{Deed, Owned, Ends, Spends, Waits, deed, is_wait, part, part_of}
-use Rattle.es_match.specs.Patience.{drained_last, has_drained, is_nobodys, is_patient, may_do, patient}
+use Rattle.es_match.specs.Patience.{drained_last, has_drained, is_nobodys, is_patient, may_do, patient, may_stir}
 use Rattle.es_match.specs.Asks.{Asking, to_close, asks, between_jobs}
 use Rattle.es_match.specs.Cluster.{Account, DeedsMeet, account_of, nobody}
 use Rattle.es_match.specs.Goes.{goes}
@@ -174,8 +175,14 @@ acts_of : (n : ℕ) (x : LedgerEvent) (es : List LedgerEvent) (l : Ledger) (o : 
 acts_of n x es l None parted comes is patience last = tt
 acts_of n x es l (Some p) parted comes is patience last = at (is_wait p.1) refl
   where
+    patient_here : (may_do (waits l p.0) p.1 ≡ true) × (may_stir (asleep l p.0) p.1 ≡ true)
+    patient_here = and_parts _ _ (ap (is_patient l) (sym is) ∙ (and_parts (is_patient l (deed l x)) (patient l) patience).0)
+
     may : may_do (waits l p.0) p.1 ≡ true
-    may = ap (is_patient l) (sym is) ∙ (and_parts (is_patient l (deed l x)) (patient l) patience).0
+    may = patient_here.0
+
+    stirs : may_stir (asleep l p.0) p.1 ≡ true
+    stirs = patient_here.1
 
     undrained : has_drained l ≡ false
     undrained = not-true _ (ap (λ o. is_nobodys o || not (has_drained l)) (sym is) ∙ (and_parts (is_nobodys (deed l x) || not (has_drained l)) (drained_last l) last).0)
@@ -188,8 +195,8 @@ acts_of n x es l (Some p) parted comes is patience last = at (is_wait p.1) refl
     waits_so s (Some k) owes comes wait = absurd (no_wait l k p.0 s (ap (deed l) (sym comes) ∙ is ∙ ap (λ d. Some (p.0, d)) wait))
 
     at : (w : Bool) → is_wait p.1 ≡ w → Acts n l (Some p)
-    at true w = let wait = a_wait p.1 w in let so = waits_so wait.0 (owed l) refl comes wait.1 in (so.0, so.1, undrained, may)
-    at false quick = (known, going (has_ended l p.0) refl, undrained, may)
+    at true w = let wait = a_wait p.1 w in let so = waits_so wait.0 (owed l) refl comes wait.1 in (so.0, so.1, undrained, may, stirs)
+    at false quick = (known, going (has_ended l p.0) refl, undrained, may, stirs)
       where
         later : List Deed
         later = ahead es (x ∷ l) p.0

@@ -7,6 +7,9 @@ use Rattle.es_event.specs.declared.ledger_event.LedgerEvent.{LedgerEvent}
 use Rattle.es_event.specs.Ledger.{Ledger, ended as has_ended, waits}
 use Rattle.es_event.specs.LegalLedger.{ComesNext, MayCome}
 use Rattle.es_event.specs.Order.{phase}
+use Rattle.es_event.specs.Waiters.{asleep}
+use Rattle.es_cluster.proofs.Midway.{still_awake}
+use Rattle.es_theorems.proofs.Sleepless.{first_awake, met_awake}
 use Rattle.es_match.specs.Deeds.{Deed, deed, is_wait, part}
 use Rattle.es_match.specs.Patience.{ends_wait, has_drained}
 use Rattle.es_match.specs.Cluster.{Account, account_of}
@@ -120,6 +123,7 @@ moves n all c x es i d b e rest j whole u mine quick here left is asks = record 
     goes some = record {
       known = acts.0;
       going = ap (λ t. t || has_ended m i) (end_is m x i d mine ∙ no_end (is_end d) refl) ∙ acts.1;
+      awake = still_awake m x i d mine (first_awake d (take j later) (met_awake (tickets b) met.0 (asked_by b e) (d ∷ take j later) met_now)) (ap (asleep m) (sym was.number) ∙ was.tied.awake);
       paid = owes_nothing m x i d mine;
       undrained = ap (λ t. t || has_drained m) (drains_nothing m x i d mine) ∙ acts.2;
     }

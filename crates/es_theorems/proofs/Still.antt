@@ -1,11 +1,12 @@
 -- A turn of an agent that waits, or has ended, changes nothing by the agents' own names.
-use Rattle.std.proofs.Common.{◌≡◌, ℕ, Bool, true, false, cond, sym, ◌∙◌, ap, refl, subst, arith, List, [], ◌∷◌, ◌++◌, map}
+use Rattle.std.proofs.Common.{◌≡◌, ◌||◌, ℕ, Bool, true, false, cond, sym, ◌∙◌, ap, refl, subst, arith, List, [], ◌∷◌, ◌++◌, map}
 use Rattle.std.specs.Prelude.{is_some, slice_set}
 use Rattle.es_event.specs.declared.ledger_event.Body.{Body}
 use Rattle.es_event.specs.declared.ledger_event.Body.TheVariants.{Plain, Block}
 use Rattle.es_event.specs.declared.ledger_event.LedgerEvent.TheVariants.{Acted}
 use Rattle.es_event.specs.declared.ledger_event.Act.TheVariants.{Waiting as WaitingEvent}
 use Rattle.es_event.specs.Ledger.{Ledger, waits}
+use Rattle.es_event.specs.Waiters.{asleep}
 use Rattle.es_ledger.specs.LedgerView.{LedgerView}
 use Rattle.es_ledger.specs.Turns.{told}
 use Rattle.es_ledger.specs.declared.turn.Turn.{Turn}
@@ -45,7 +46,7 @@ waits_locals n l a s (b ∷ bs) = ap (λ x. x ∷ map (local_of n (Acted a (Wait
 
 -- what is the same after a recorded wait is the same after a turn that waits
 told_same : {A : Type 0} (f : Ledger → A) (l m : Ledger) (k a s : ℕ) → f (Acted a (WaitingEvent s) ∷ l) ≡ f l → ◌≡◌ {A = Turn × Ledger} (Stay, m) (told l k a s) → f m ≡ f l
-told_same f l m k a s same is = ap f (where_stay l m k a s is) ∙ at (is_some (waits l a))
+told_same f l m k a s same is = ap f (where_stay l m k a s is) ∙ at (is_some (waits l a) || asleep l a)
   where
     at : (t : Bool) → f (cond t l (Acted a (WaitingEvent s) ∷ l)) ≡ f l
     at true = refl
@@ -64,7 +65,7 @@ waits_still i c d words turn =
 
 pub waits_words : (n i : ℕ) (c d : ClusterView) (words : Words) → Turned Waiting i c d → HasWords n c.ledger.history words → HasWords n d.ledger.history words
 waits_words n i c d words turn holds =
-    subst (λ l. HasWords n l words) (sym (where_stay c.ledger.history d.ledger.history c.ledger.agents turn.before.number turn.told.0 turn.told.2)) (at (is_some (waits c.ledger.history turn.before.number)))
+    subst (λ l. HasWords n l words) (sym (where_stay c.ledger.history d.ledger.history c.ledger.agents turn.before.number turn.told.0 turn.told.2)) (at (is_some (waits c.ledger.history turn.before.number) || asleep c.ledger.history turn.before.number))
   where
     at : (t : Bool) → HasWords n (cond t c.ledger.history (Acted turn.before.number (WaitingEvent turn.told.0) ∷ c.ledger.history)) words
     at true = holds

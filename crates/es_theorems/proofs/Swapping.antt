@@ -23,9 +23,9 @@ use Rattle.es_match.specs.Deeds.{Deed, Spends, deed}
 use Rattle.es_match.specs.Patience.{has_drained, may_do}
 use Rattle.es_theorems.specs.Ahead.{Acts, Like, May}
 use Rattle.es_theorems.specs.Ready.{Goes, Ready}
-use Rattle.es_theorems.proofs.Beside.{Beside, beside, deed_beside, may_beside, ready_deed, ready_may}
+use Rattle.es_theorems.proofs.Beside.{Beside, beside, deed_beside, lists_beside, may_beside, ready_deed, ready_lists, ready_may, ready_asleep, asleep_beside}
 use Rattle.es_theorems.proofs.Choosing.{Skips, alone_goes, skips_is}
-use Rattle.es_cluster.proofs.Growing.{doer, ended_other, waits_other}
+use Rattle.es_cluster.proofs.Growing.{doer, ended_other, asleep_other, waits_other}
 use Rattle.es_theorems.proofs.Turning.{owes_nothing}
 use Rattle.es_theorems.proofs.Framing.{drains_nothing, holder_agent, holder_other, moved_append, moved_twice, not_in_port, spender}
 use Rattle.es_theorems.proofs.Spending.{or_swapped}
@@ -37,6 +37,7 @@ pub goes_after : (k : ℕ) (l : Ledger) (a b : ℕ) (x : LedgerEvent) (d : Deed)
 goes_after k l a b x d is other goes = record {
   known = goes.known;
   going = ended_other l x b a d is other ∙ goes.going;
+  awake = asleep_other l x b a d is other ∙ goes.awake;
   paid = owes_nothing l x b d is;
   undrained = ap (λ e. e || has_drained l) (drains_nothing l x b d is) ∙ goes.undrained;
 }
@@ -54,8 +55,8 @@ port_other l (Taken t u) b s a d is not_a not_s =
 port_other l (Drained t u) b s a d is not_a not_s = cc
 port_other l _ b s a d is not_a not_s = refl
 
-skips_still : (k : ℕ) (l : Ledger) (a b s : ℕ) (x : LedgerEvent) (d : Deed) → deed l x ≡ Some (b, d) → (a ≡ b → ⊥) → owed l ≡ None → May k l x → skips l k a s ≡ true → skips (x ∷ l) k a s ≡ true
-skips_still k l a b s x d is other paid may skip = let how = skips_is l k a s skip in at how.0 how.1
+skips_still : (k : ℕ) (l : Ledger) (a b s : ℕ) (x : LedgerEvent) (d : Deed) → LegalSoFar k l → deed l x ≡ Some (b, d) → (a ≡ b → ⊥) → owed l ≡ None → May k l x → skips l k a s ≡ true → skips (x ∷ l) k a s ≡ true
+skips_still k l a b s x d legal is other paid may skip = let how = skips_is l k a s skip in at how.0 how.1
   where
     acts : Acts k l (Some (b, d))
     acts = subst (Acts k l) is may.acts
@@ -69,11 +70,11 @@ skips_still k l a b s x d is other paid may skip = let how = skips_is l k a s sk
         still (has_message (x ∷ l) s a) (ended (x ∷ l) s) _
         (ap (λ q. is_some (slice_get q 0)) (port_other l x b s a d is other not_s) ∙ how.none)
         (ap (λ e. is_end_of x s || e) how.ends ∙ or_right (is_end_of x s) true refl)
-    at false how = absurd (other (sym (alone_goes k l a b x d (how.chosen refl) (subst (ComesNext k l x) paid may.legal) is acts.0 acts.1 acts.3)))
+    at false how = absurd (other (sym (alone_goes k l a b x d legal (how.chosen refl) (subst (ComesNext k l x) paid may.legal) is acts.0 acts.1 acts.3 acts.4)))
 
 pub ready_after : (k : ℕ) (l : Ledger) (a b : ℕ) (f x : LedgerEvent) (d : Deed) → LegalSoFar k l → deed l x ≡ Some (b, d) → (a ≡ b → ⊥) → owed l ≡ None → May k l x → Ready k l a f → Ready k (x ∷ l) a f
 ready_after k l a b (Spent s) x d legal is other paid may ready = ((ready.0.0, holder_other k l x b a d s ready.0.0 legal is other ready.0.1), waits_other l x b a d is other ∙ ready.1)
-ready_after k l a b (Acted c (Passed s)) x d legal is other paid may ready = (ready.0, waits_other l x b a d is other ∙ ready.1, skips_still k l a b s x d is other paid may ready.2)
+ready_after k l a b (Acted c (Passed s)) x d legal is other paid may ready = (ready.0, waits_other l x b a d is other ∙ ready.1, skips_still k l a b s x d legal is other paid may ready.2)
 ready_after k l a b (Acted c Ended) x d legal is other paid may ready = (ready.0, waits_other l x b a d is other ∙ ready.1)
 ready_after k l a b _ x d legal is other paid may ready = absurd ready
 
@@ -197,6 +198,8 @@ swap k l f x a b d legal goes ready may is other = record {
           ap (λ o. newest_word o c i (word (x ∷ l) c i)) (plain.writes (x ∷ l))
           ∙ sym (ap (λ o. newest_word o c i (word (f ∷ l) c i)) (writes_beside k l f x b d next is)
           ∙ ap (λ o. newest_word (writes l x) c i (newest_word o c i (word l c i))) (plain.writes l));
+      waiters = ready_lists k (x ∷ l) a f (may.legal, legal) (goes_after k l a b x d is other goes).awake still ∙ sym (lists_beside k l f x b d next is comes);
+      asleep = λ c. ready_asleep k (x ∷ l) a c f (goes_after k l a b x d is other goes).awake still ∙ sym (asleep_beside k l f x b c next);
       ends = λ c. or_swapped (is_end_of f c) (is_end_of x c) (ended l c);
       posted = counted_twice is_posted f x l;
       taken = counted_twice is_taken f x l;

@@ -9,12 +9,15 @@ use Rattle.es_event.specs.declared.ledger_event.Body.{Body}
 use Rattle.es_event.specs.declared.ledger_event.Body.TheVariants.{Plain, Block}
 use Rattle.es_event.specs.declared.ledger_event.LedgerEvent.{LedgerEvent}
 use Rattle.es_event.specs.declared.ledger_event.LedgerEvent.TheVariants.{Posted, Taken, Accessed, Acted}
-use Rattle.es_event.specs.declared.ledger_event.Act.TheVariants.{Waiting}
+use Rattle.es_event.specs.declared.ledger_event.Act.{Act}
+use Rattle.es_event.specs.declared.ledger_event.Act.TheVariants.{Waiting, Slept, Notified}
+use Rattle.es_event.specs.declared.waiter.Waiter.{Waiter}
 use Rattle.es_event.specs.declared.row.Entry.{Entry}
 use Rattle.es_event.specs.declared.row.Holder.TheVariants.{Agent, Port}
 use Rattle.es_event.specs.Access.{written}
 use Rattle.es_event.specs.Rows.{count_of, unspent, line_of, row, held_by}
 use Rattle.es_event.specs.Ledger.{Ledger, opened, word, opens, newest_size, issues, queued, front, posted_line, serial_in, moved_if, table, table_after, by_agent, holder_of, writes, written_by, newest_word, is_end_of}
+use Rattle.es_event.specs.Waiters.{asleep, asleep_after, block_by, waiter, waiters, waiters_after, without_first}
 use Rattle.es_event.specs.LegalLedger.{has_message}
 use Rattle.es_event.specs.Totals.{is_posted, is_taken, is_drained, released}
 use Rattle.es_event.specs.declared.outcome.Outcome.{Outcome}
@@ -24,7 +27,7 @@ use Rattle.es_theorems.specs.Alike.{Alike, SameEnd}
 -- With itself, and from both sides
 
 pub same : (l : Ledger) → Alike l l
-same l = record { opened = refl; serials = refl; sizes = λ b. refl; ports = λ s r. refl; tables = refl; words = λ b i. refl; ends = λ a. refl; posted = refl; taken = refl; drained = refl }
+same l = record { opened = refl; serials = refl; sizes = λ b. refl; ports = λ s r. refl; tables = refl; words = λ b i. refl; waiters = refl; asleep = λ a. refl; ends = λ a. refl; posted = refl; taken = refl; drained = refl }
 
 pub turned : (l m : Ledger) → Alike l m → Alike m l
 turned l m a = record {
@@ -34,6 +37,8 @@ turned l m a = record {
   ports = λ s r. sym (a.ports s r);
   tables = sym a.tables;
   words = λ b i. sym (a.words b i);
+  waiters = sym a.waiters;
+  asleep = λ n. sym (a.asleep n);
   ends = λ n. sym (a.ends n);
   posted = sym a.posted;
   taken = sym a.taken;
@@ -48,6 +53,8 @@ through l m k a b = record {
   ports = λ s r. a.ports s r ∙ b.ports s r;
   tables = a.tables ∙ b.tables;
   words = λ n i. a.words n i ∙ b.words n i;
+  waiters = a.waiters ∙ b.waiters;
+  asleep = λ n. a.asleep n ∙ b.asleep n;
   ends = λ n. a.ends n ∙ b.ends n;
   posted = a.posted ∙ b.posted;
   taken = a.taken ∙ b.taken;
@@ -87,6 +94,22 @@ same_writes l m (Accessed s i done old) alike = by_written (written done old)
     by_written (Some w) = same_written l m s i w alike
 same_writes l m _ alike = refl
 
+same_block : (l m : Ledger) (s : ℕ) → Alike l m → block_by l s ≡ block_by m s
+same_block l m s alike = ap (λ o. option_map_or (λ p. p.1.block) o 0) (same_holder l m s alike)
+
+same_lists : (l m : Ledger) (a : ℕ) (d : Act) (ws : List Waiter) → Alike l m → waiters_after l a d ws ≡ waiters_after m a d ws
+same_lists l m a (Slept s i w) ws alike = ap (λ b. ws ++ waiter a b i ∷ []) (same_block l m s alike)
+same_lists l m a (Notified s i n k) ws alike = ap (λ b. without_first b i n ws) (same_block l m s alike)
+same_lists l m a _ ws alike = refl
+
+same_waiters : (l m : Ledger) (e : LedgerEvent) → Alike l m → waiters (e ∷ l) ≡ waiters (e ∷ m)
+same_waiters l m (Acted a d) alike = same_lists l m a d (waiters l) alike ∙ ap (waiters_after m a d) alike.waiters
+same_waiters l m _ alike = alike.waiters
+
+same_asleep : (l m : Ledger) (e : LedgerEvent) (n : ℕ) → Alike l m → asleep (e ∷ l) n ≡ asleep (e ∷ m) n
+same_asleep l m (Acted a d) n alike = ap (asleep_after a d n) (alike.asleep n)
+same_asleep l m _ n alike = alike.asleep n
+
 counted : (p : LedgerEvent → Bool) (l m : Ledger) (e : LedgerEvent) → count_by p l ≡ count_by p m → count_by p (e ∷ l) ≡ count_by p (e ∷ m)
 counted p l m e is = sum_by-cons (λ e. cond {A = ℕ} (p e) 1 0) e l ∙ ap (λ n. cond {A = ℕ} (p e) 1 0 + n) is ∙ sym (sum_by-cons (λ e. cond {A = ℕ} (p e) 1 0) e m)
 
@@ -98,6 +121,8 @@ after_one l m e a = record {
   ports = λ s r. ap (queued e s r) (a.ports s r);
   tables = same_table l m e (table l) a ∙ ap (table_after m e) a.tables;
   words = λ b i. ap (λ o. newest_word o b i (word l b i)) (same_writes l m e a) ∙ ap (newest_word (writes m e) b i) (a.words b i);
+  waiters = same_waiters l m e a;
+  asleep = λ n. same_asleep l m e n a;
   ends = λ n. ap (λ b. is_end_of e n || b) (a.ends n);
   posted = counted is_posted l m e a.posted;
   taken = counted is_taken l m e a.taken;
@@ -109,7 +134,7 @@ uncounted p l a s is = sum_by-cons (λ e. cond {A = ℕ} (p e) 1 0) (Acted a (Wa
 
 -- a wait tells nothing of these
 pub after_wait : (l : Ledger) (a s : ℕ) → Alike (Acted a (Waiting s) ∷ l) l
-after_wait l a s = record { opened = omega arith; serials = omega arith; sizes = λ b. refl; ports = λ s r. refl; tables = refl; words = λ b i. refl; ends = λ n. refl; posted = uncounted is_posted l a s refl; taken = uncounted is_taken l a s refl; drained = uncounted is_drained l a s refl }
+after_wait l a s = record { opened = omega arith; serials = omega arith; sizes = λ b. refl; ports = λ s r. refl; tables = refl; words = λ b i. refl; waiters = refl; asleep = λ n. refl; ends = λ n. refl; posted = uncounted is_posted l a s refl; taken = uncounted is_taken l a s refl; drained = uncounted is_drained l a s refl }
 
 -- What a report says of it
 

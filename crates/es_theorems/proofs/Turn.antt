@@ -481,13 +481,13 @@ refused b l s c k x is there is_front full =
 -- the wait is recorded, where it is not yet
 
 asked_legal : (b : AgentView) (l : LedgerView) (s : ℕ) → Standing b l → need b ≡ asks_message s → has_message l.history s b.number ≡ false → LegalLedger l.agents (asked l.history b.number s)
-asked_legal b l s x is none = at (waits l.history b.number) refl
+asked_legal b l s x is none = subst (λ z. LegalLedger l.agents (cond (is_some (waits l.history b.number) || z) l.history (Acted b.number (WaitingEvent s) ∷ l.history))) (sym x.tied.awake) (at (waits l.history b.number) refl)
   where
     others : (s < l.agents) × (b.number ≢ s)
     others = subst (λ d. NamesOthers d b.number l.agents) is x.others
 
-    at : (w : Option ℕ) → waits l.history b.number ≡ w → LegalLedger l.agents (cond (is_some w) l.history (Acted b.number (WaitingEvent s) ∷ l.history))
-    at None w = next_legal l.agents l.history (Acted b.number (WaitingEvent s)) x.legal (x.seated.known, others.0, others.1, none, w, x.seated.over ∙ open_for b (asks_message s) (λ f. cc) is) refl
+    at : (w : Option ℕ) → waits l.history b.number ≡ w → LegalLedger l.agents (cond (is_some w || false) l.history (Acted b.number (WaitingEvent s) ∷ l.history))
+    at None w = next_legal l.agents l.history (Acted b.number (WaitingEvent s)) x.legal (x.seated.known, others.0, others.1, none, w, x.seated.over ∙ open_for b (asks_message s) (λ f. cc) is, x.tied.awake) refl
     at (Some t) w = x.legal
 
 asked_held : (b : AgentView) (l : LedgerView) (s : ℕ) → Standing b l → AllHeld b.number (asked l.history b.number s) (tickets b)
@@ -532,7 +532,7 @@ skipped b l s x is none may heard =
     let grows = grows_on b.number l.history k m (asked_grows l.history b.number s) (grows_one b.number k m (Acted b.number (Passed s)) (Passes s) refl refl) in
     moves_to b new l m x stays.step stays.moves (goes_on b l (with_history l m) s Skip m is heard (λ f. cc)) grows
     (skipped_ties b new (stake b) l m b.number s (ready b l x) is refl refl skip) (asked_ends l.history b.number s b.number)
-    (next_legal l.agents k (Acted b.number (Passed s)) legal (asked_awaits b l.history s x.tied.awaits is, may) refl)
+    (next_legal l.agents k (Acted b.number (Passed s)) legal (asked_awaits b l.history s x.tied.awake x.tied.awaits is, may) refl)
     (going_still b l.history m (Skipped at.0 s) x.going stays (held_after l.agents k (Acted b.number (Passed s)) b.number (tickets b) legal.0 (λ k f. cc) (asked_held b l s x))
     (only_after b.number k (Acted b.number (Passed s)) (tickets b) (λ k gives. gives) (asked_only b l s x)))
 

@@ -13,7 +13,7 @@ use Rattle.es_event.specs.declared.ledger_event.Body.TheVariants.{Plain, Block}
 use Rattle.es_event.specs.declared.ledger_event.LedgerEvent.{LedgerEvent}
 use Rattle.es_event.specs.declared.ledger_event.LedgerEvent.TheVariants.{Opened, Posted, Taken, Spent, Accessed, Drained, Acted}
 use Rattle.es_event.specs.declared.ledger_event.Act.{Act}
-use Rattle.es_event.specs.declared.ledger_event.Act.TheVariants.{Waiting, Passed, Ended}
+use Rattle.es_event.specs.declared.ledger_event.Act.TheVariants.{Waiting}
 use Rattle.es_event.specs.declared.row.Row.{Row}
 use Rattle.es_event.specs.Commands.{opens_words}
 use Rattle.es_event.specs.History.{History}
@@ -162,8 +162,7 @@ by_ticket n x y z (Some p) d none = light n x y z (Some (p.0, d)) (λ k c is. ap
 
 act_weight : (x y z : ℕ) (act : Act) → weight x y z (acting act) ≡ 0
 act_weight x y z (Waiting s) = refl
-act_weight x y z (Passed s) = refl
-act_weight x y z Ended = refl
+act_weight x y z _ = refl
 
 event_once : (n x y z : ℕ) (l : Ledger) (e : LedgerEvent) (o : Option ℕ) → LegalSoFar n l → ComesNext n l e o → sum_below n (λ a. weigh x y z (part_of a (deed l e))) ≡ event_weight x y z e
 event_once n x y z l e (Some k) legal comes = subst (λ e. sum_below n (λ a. weigh x y z (part_of a (deed l e))) ≡ event_weight x y z e) (sym comes) (by_ticket n x y z (holder_of l k) (Spends k) refl)

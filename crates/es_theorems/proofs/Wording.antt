@@ -9,7 +9,7 @@ use Rattle.es_event.specs.declared.row.Row.{Row}
 use Rattle.es_event.specs.Access.{written, change_by}
 use Rattle.es_event.specs.Ledger.{Ledger, newest_word, opened, word}
 use Rattle.es_event.specs.LegalLedger.{LegalSoFar}
-use Rattle.es_match.specs.Deeds.{Deed, Opens, Spends, Accesses, Waits, Passes, Ends}
+use Rattle.es_match.specs.Deeds.{Deed, Opens, Spends, Accesses, Waits, Passes, Ends, Sleeps, Notifies, Wakes, TimesOut}
 use Rattle.es_ledger.proofs.Made.{IsMade}
 use Rattle.es_ledger.proofs.Opening.{unwritten}
 use Rattle.es_record.specs.AgentView.{AgentView}
@@ -33,6 +33,10 @@ silent_words i (d ∷ ds) l are b x = silent_words i ds (event_of i d ∷ l) are
     one (Waits s) is = refl
     one (Passes s) is = refl
     one Ends is = refl
+    one (Sleeps s j w) is = refl
+    one (Notifies s j m k) is = refl
+    one Wakes is = refl
+    one TimesOut is = refl
     one _ is = cc
 
 -- what becomes of a word by a change

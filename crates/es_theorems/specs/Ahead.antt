@@ -2,15 +2,16 @@
 use Rattle.std.specs.Prelude.{ℕ, ◌≡◌, ◌<◌, ⊤, true, false, List, [], ◌∷◌, ◌++◌, Some, None, length}
 use Rattle.es_event.specs.declared.ledger_event.LedgerEvent.{LedgerEvent}
 use Rattle.es_event.specs.Ledger.{Ledger, ended, waits}
+use Rattle.es_event.specs.Waiters.{asleep}
 use Rattle.es_event.specs.LegalLedger.{ComesNext, owed}
 use Rattle.es_match.specs.Deeds.{Deed, Owned, deed, part_of}
-use Rattle.es_match.specs.Patience.{has_drained, may_do}
+use Rattle.es_match.specs.Patience.{has_drained, may_do, may_stir}
 use Rattle.es_theorems.specs.Alike.{Alike}
 
--- who does it is one of n agents and has not ended, nothing was drained, and a wait is ended by it
+-- who does it is one of n agents and has not ended, nothing was drained, and a wait or a sleep is ended by it
 abbrev pub Acts : ℕ → Ledger → Owned → Type 0
 Acts n l None = ⊤
-Acts n l (Some p) = (p.0 < n) × (ended l p.0 ≡ false) × (has_drained l ≡ false) × (may_do (waits l p.0) p.1 ≡ true)
+Acts n l (Some p) = (p.0 < n) × (ended l p.0 ≡ false) × (has_drained l ≡ false) × (may_do (waits l p.0) p.1 ≡ true) × (may_stir (asleep l p.0) p.1 ≡ true)
 
 -- the event may come next, and its agent may do it
 pub record May (n : ℕ) (l : Ledger) (e : LedgerEvent) : Type 0 where

@@ -2,9 +2,10 @@
 use Rattle.std.specs.Prelude.{ℕ, ◌≡◌, reverse}
 use Rattle.es_event.specs.declared.outcome.Outcome.{Outcome}
 use Rattle.es_event.specs.Ledger.{Ledger, opened, size, serials, port_of, table, word, ended}
+use Rattle.es_event.specs.Waiters.{asleep, waiters}
 use Rattle.es_event.specs.Totals.{posted, taken, drained}
 
--- they say the same of blocks, tickets, messages, words and ends; which agents waited in between may differ, and in which order an
+-- they say the same of blocks, tickets, messages, words, WaiterLists, sleepers and ends; which agents waited in between may differ, and in which order an
 -- agent spent the tickets that it gave up at once
 pub record Alike (l m : Ledger) : Type 0 where
   pub opened : opened l ≡ opened m
@@ -13,6 +14,8 @@ pub record Alike (l m : Ledger) : Type 0 where
   pub ports : (s r : ℕ) → port_of l s r ≡ port_of m s r
   pub tables : table l ≡ table m
   pub words : (b i : ℕ) → word l b i ≡ word m b i
+  pub waiters : waiters l ≡ waiters m
+  pub asleep : (a : ℕ) → asleep l a ≡ asleep m a
   pub ends : (a : ℕ) → ended l a ≡ ended m a
   pub posted : posted l ≡ posted m
   pub taken : taken l ≡ taken m

@@ -5,10 +5,11 @@ use Rattle.es_event.specs.declared.ledger_event.Body.{Body}
 use Rattle.es_event.specs.declared.ledger_event.Body.TheVariants.{Plain, Block}
 use Rattle.es_event.specs.declared.ledger_event.LedgerEvent.{LedgerEvent}
 use Rattle.es_event.specs.declared.ledger_event.LedgerEvent.TheVariants.{Opened, Posted, Taken, Spent, Accessed, Acted}
-use Rattle.es_event.specs.declared.ledger_event.Act.TheVariants.{Waiting, Passed, Ended}
+use Rattle.es_event.specs.declared.ledger_event.Act.TheVariants.{Waiting, Passed, Ended, Slept, Notified, Woke, TimedOut}
 use Rattle.es_event.specs.Ledger.{Ledger, opened, serials, front, holder_of, word}
-use Rattle.es_event.specs.LegalLedger.{Reaches, has_message}
-use Rattle.es_match.specs.Deeds.{Deed, Opens, Posts, Takes, Spends, Accesses, Waits, Passes, Ends, words_in}
+use Rattle.es_event.specs.LegalLedger.{Reaches, ReachesAs, has_message}
+use Rattle.es_event.specs.Waiters.{is_listed, taken_there}
+use Rattle.es_match.specs.Deeds.{Deed, Opens, Posts, Takes, Spends, Accesses, Waits, Passes, Ends, Sleeps, Notifies, Wakes, TimesOut, words_in}
 
 -- the event that is this deed of agent n
 abbrev pub event_of : ℕ → Deed → LedgerEvent
@@ -20,6 +21,10 @@ event_of n (Accesses s i m old) = Accessed s i m old
 event_of n (Waits s) = Acted n (Waiting s)
 event_of n (Passes s) = Acted n (Passed s)
 event_of n Ends = Acted n Ended
+event_of n (Sleeps s i w) = Acted n (Slept s i w)
+event_of n (Notifies s i m k) = Acted n (Notified s i m k)
+event_of n Wakes = Acted n Woke
+event_of n TimesOut = Acted n TimedOut
 
 -- the ledger after these deeds of agent n, the oldest first
 abbrev pub did : ℕ → List Deed → Ledger → Ledger
@@ -41,6 +46,10 @@ Fits l n (Accesses s i m old) = Reaches (holder_of l s) i (λ r. old ≡ word l 
 Fits l n (Waits s) = ⊤
 Fits l n (Passes s) = has_message l s n ≡ false
 Fits l n Ends = ⊤
+Fits l n (Sleeps s i w) = ReachesAs n (holder_of l s) i (λ r. w ≡ word l r.block i)
+Fits l n (Notifies s i m k) = ReachesAs n (holder_of l s) i (λ r. k ≡ taken_there l r.block i m)
+Fits l n Wakes = is_listed l n ≡ false
+Fits l n TimesOut = is_listed l n ≡ true
 
 -- so does each of these, the oldest first
 abbrev pub AllFit : ℕ → List Deed → Ledger → Type 0

@@ -5,13 +5,15 @@ use Rattle.es_event.specs.declared.ledger_event.LedgerEvent.TheVariants.{Spent, 
 use Rattle.es_event.specs.declared.ledger_event.Act.TheVariants.{Passed, Ended}
 use Rattle.es_event.specs.declared.row.Row.{Row}
 use Rattle.es_event.specs.Ledger.{Ledger, ended, holder_of, waits}
+use Rattle.es_event.specs.Waiters.{asleep}
 use Rattle.es_event.specs.LegalLedger.{owed, skips}
 use Rattle.es_match.specs.Patience.{has_drained}
 
--- of k agents, a has not ended, and nothing was drained
+-- of k agents, a has not ended and is awake, and nothing was drained
 pub record Goes (k : ℕ) (l : Ledger) (a : ℕ) : Type 0 where
   pub known : a < k
   pub going : ended l a ≡ false
+  pub awake : asleep l a ≡ false
   pub paid : owed l ≡ None
   pub undrained : has_drained l ≡ false
 

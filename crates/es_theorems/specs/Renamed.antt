@@ -9,7 +9,7 @@ use Rattle.es_event.specs.declared.row.Row.{Row}
 use Rattle.es_event.specs.Ledger.{Ledger, is_at, opened, port_of, size, word}
 use Rattle.es_event.specs.Rows.{row}
 use Rattle.es_event.specs.Sharing.{Buffers, block_of}
-use Rattle.es_match.specs.Deeds.{Deed, Opens, Posts, Takes, Spends, Accesses, Waits, Passes, Ends, part}
+use Rattle.es_match.specs.Deeds.{Deed, Opens, Posts, Takes, Spends, Accesses, Waits, Passes, Ends, part, Sleeps, Notifies, Wakes, TimesOut}
 use Rattle.es_record.specs.AgentView.{AgentView}
 use Rattle.es_laws.specs.Memory.{is_write}
 use Rattle.es_laws.specs.Races.{Mark, MarkedAccess, known, marked}
@@ -65,6 +65,10 @@ posted_in f (Accesses s i m old) = []
 posted_in f (Waits s) = []
 posted_in f (Passes s) = []
 posted_in f Ends = []
+posted_in f (Sleeps s i w) = []
+posted_in f (Notifies s i n k) = []
+posted_in f Wakes = []
+posted_in f TimesOut = []
 
 abbrev pub took_in : Deed → List ℕ
 took_in (Opens b w s) = []
@@ -75,6 +79,10 @@ took_in (Accesses s i m old) = []
 took_in (Waits s) = []
 took_in (Passes s) = []
 took_in Ends = []
+took_in (Sleeps s i w) = []
+took_in (Notifies s i n k) = []
+took_in Wakes = []
+took_in TimesOut = []
 
 -- what these deeds sent, and of whom they took messages, the oldest first
 abbrev pub sent_in : (Body → Letter) → List Deed → List (ℕ × Letter)
@@ -140,6 +148,10 @@ IsSent l (Accesses s i m old) = ⊤
 IsSent l (Waits s) = ⊤
 IsSent l (Passes s) = ⊤
 IsSent l Ends = ⊤
+IsSent l (Sleeps s i w) = ⊤
+IsSent l (Notifies s i n k) = ⊤
+IsSent l Wakes = ⊤
+IsSent l TimesOut = ⊤
 
 abbrev pub AreSent : Ledger → List Deed → Type 0
 AreSent l [] = ⊤

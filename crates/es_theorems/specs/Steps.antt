@@ -13,7 +13,7 @@ use Rattle.es_event.specs.LegalLedger.{LegalSoFar}
 use Rattle.es_event.specs.Order.{due}
 use Rattle.es_event.specs.Rows.{line_of}
 use Rattle.es_event.specs.Sharing.{Buffers}
-use Rattle.es_match.specs.Deeds.{Deed, Opens, Posts, Takes, Spends, Accesses, Waits, Passes, Ends, part}
+use Rattle.es_match.specs.Deeds.{Deed, Opens, Posts, Takes, Spends, Accesses, Waits, Passes, Ends, Sleeps, Notifies, Wakes, TimesOut, part}
 use Rattle.es_match.specs.Patience.{has_drained}
 use Rattle.es_ticket.specs.Stakes.{is_rising_from}
 use Rattle.es_ledger.specs.Turns.{told}
@@ -82,6 +82,10 @@ is_silent (Accesses s i m old) = false
 is_silent (Waits s) = true
 is_silent (Passes s) = true
 is_silent Ends = true
+is_silent (Sleeps s i w) = true
+is_silent (Notifies s i n k) = true
+is_silent Wakes = true
+is_silent TimesOut = true
 
 abbrev pub AreSilent : List Deed → Type 0
 AreSilent [] = ⊤

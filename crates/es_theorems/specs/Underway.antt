@@ -4,7 +4,7 @@ use Rattle.es_event.specs.declared.event.Event.{Event}
 use Rattle.es_event.specs.declared.ledger_event.LedgerEvent.{LedgerEvent}
 use Rattle.es_event.specs.Ledger.{Ledger}
 use Rattle.es_event.specs.LegalLedger.{LegalSoFar}
-use Rattle.es_match.specs.Deeds.{Deed, Opens, Posts, Takes, Spends, Accesses, Waits, Passes, Ends, part}
+use Rattle.es_match.specs.Deeds.{Deed, Opens, Posts, Takes, Spends, Accesses, Waits, Passes, Ends, Sleeps, Notifies, Wakes, TimesOut, part}
 use Rattle.es_match.specs.Patience.{drained_last, patient}
 use Rattle.es_match.specs.Asks.{Asking, nothing, to_open, to_measure, to_compare, to_access, to_post, to_receive, to_refuse, to_pass, to_empty, to_close, between_jobs}
 use Rattle.es_match.specs.Cluster.{Account, IsSaid, account_of}
@@ -86,6 +86,10 @@ is_end (Accesses s i m old) = false
 is_end (Waits s) = false
 is_end (Passes s) = false
 is_end Ends = true
+is_end (Sleeps s i w) = false
+is_end (Notifies s i n k) = false
+is_end Wakes = false
+is_end TimesOut = false
 
 abbrev pub has_end : List Deed → Bool
 has_end [] = false

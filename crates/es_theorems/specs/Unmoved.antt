@@ -3,6 +3,7 @@ use Rattle.std.specs.Prelude.{ℕ, ◌≡◌, ⊤, List, [], ◌∷◌, None, le
 use Rattle.es_event.specs.declared.ledger_event.LedgerEvent.{LedgerEvent}
 use Rattle.es_event.specs.Ledger.{Ledger, ended, opened, port_of, serials, size, table, word}
 use Rattle.es_event.specs.Rows.{held}
+use Rattle.es_event.specs.Waiters.{asleep, waiters}
 use Rattle.es_event.specs.Totals.{posted, taken}
 use Rattle.es_ledger.specs.Laws.{sum_below}
 use Rattle.es_match.specs.Deeds.{deed, part}
@@ -20,6 +21,8 @@ pub record Unmoved (l m : Ledger) : Type 0 where
   pub sizes : (b : ℕ) → size m b ≡ size l b
   pub rows : map (λ e. e.row) (table m) ≡ map (λ e. e.row) (table l)
   pub words : (b i : ℕ) → word m b i ≡ word l b i
+  pub lists : waiters m ≡ waiters l
+  pub asleep : (a : ℕ) → asleep m a ≡ asleep l a
   pub ends : (a : ℕ) → ended m a ≡ ended l a
   pub posted : posted m ≡ posted l
   pub taken : taken m ≡ taken l

@@ -5,7 +5,7 @@ use Rattle.es_event.specs.declared.ledger_event.LedgerEvent.{LedgerEvent}
 use Rattle.es_event.specs.declared.ledger_event.LedgerEvent.TheVariants.{Opened, Posted, Taken, Spent, Accessed, Drained, Acted}
 use Rattle.es_event.specs.History.{History}
 use Rattle.es_event.specs.Ledger.{Ledger}
-use Rattle.es_match.specs.Deeds.{Deed, Opens, Posts, Takes, Spends, Accesses, Waits, Passes, Ends}
+use Rattle.es_match.specs.Deeds.{Deed, Opens, Posts, Takes, Spends, Accesses, Waits, Passes, Ends, Sleeps, Notifies, Wakes, TimesOut}
 use Rattle.es_match.specs.Asks.{Asking, nothing, to_open, to_measure, to_compare, to_access, to_post, to_receive, to_refuse, to_pass, to_empty, to_close, asks, between_jobs}
 
 -- what is opened weighs x, what is posted y, and what is taken z
@@ -18,6 +18,10 @@ weight x y z (Accesses s i m old) = 0
 weight x y z (Waits s) = 0
 weight x y z (Passes s) = 0
 weight x y z Ends = 0
+weight x y z (Sleeps s i w) = 0
+weight x y z (Notifies s i n k) = 0
+weight x y z Wakes = 0
+weight x y z TimesOut = 0
 
 abbrev pub weigh : ℕ → ℕ → ℕ → List Deed → ℕ
 weigh x y z [] = 0

@@ -8,7 +8,7 @@ use Rattle.es_event.specs.declared.ledger_event.Body.TheVariants.{Plain, Block}
 use Rattle.es_event.specs.declared.ledger_event.LedgerEvent.{LedgerEvent}
 use Rattle.es_event.specs.declared.ledger_event.LedgerEvent.TheVariants.{Opened, Posted, Taken, Spent, Accessed, Drained, Acted}
 use Rattle.es_event.specs.declared.ledger_event.Act.{Act}
-use Rattle.es_event.specs.declared.ledger_event.Act.TheVariants.{Waiting, Passed, Ended}
+use Rattle.es_event.specs.declared.ledger_event.Act.TheVariants.{Waiting, Passed, Ended, Slept, Notified, Woke, TimedOut}
 use Rattle.es_trace.specs.Columns.{label, row, widest}
 use Rattle.es_trace.specs.Commands.{name_at}
 
@@ -27,11 +27,15 @@ change_text Change.Keep = codes " loaded"
 change_text (Change.Write w) = codes " stored"
 change_text (Change.Add n) = codes " added to"
 
--- what an agent did
-abbrev pub act_text : List (List ℕ) → Act → List ℕ
-act_text names (Waiting s) = codes " waits for " ++ name_at names s
-act_text names (Passed s) = codes " waits no more for " ++ name_at names s
-act_text names Ended = codes " ended"
+-- what agent a did; a notify is told by its ticket, as other commands on words are, and why an agent wakes is told besides
+abbrev pub act_text : List (List ℕ) → ℕ → Act → List ℕ
+act_text names a (Waiting s) = name_at names a ++ (codes " waits for " ++ name_at names s)
+act_text names a (Passed s) = name_at names a ++ (codes " waits no more for " ++ name_at names s)
+act_text names a Ended = name_at names a ++ codes " ended"
+act_text names a (Slept s i w) = name_at names a ++ (codes " sleeps at word " ++ (decimal i ++ (codes " by ticket " ++ decimal s)))
+act_text names a (Notified s i n k) = word_text i s (codes " notified")
+act_text names a Woke = name_at names a ++ codes " wakes"
+act_text names a TimedOut = name_at names a ++ codes " wakes"
 
 abbrev pub ledger_text : List (List ℕ) → LedgerEvent → List ℕ
 ledger_text names (Opened b w s a) = codes "block " ++ (decimal b ++ codes " opened")
@@ -39,10 +43,20 @@ ledger_text names (Posted a r m) = message_text names a r (codes " posted")
 ledger_text names (Taken a r) = message_text names a r (codes " taken")
 ledger_text names (Spent s) = codes "ticket " ++ (decimal s ++ codes " spent")
 ledger_text names (Accessed s i m old) = word_text i s (change_text m)
-ledger_text names (Acted a d) = name_at names a ++ act_text names d
+ledger_text names (Acted a d) = act_text names a d
 ledger_text names (Drained a r) = message_text names a r (codes " drained")
 
 -- Answers
+
+-- acts on words tell something besides, and so does the end of a sleep
+abbrev pub act_tells : Act → Bool
+act_tells (Waiting s) = false
+act_tells (Passed s) = false
+act_tells Ended = false
+act_tells (Slept s i w) = true
+act_tells (Notified s i n k) = true
+act_tells Woke = true
+act_tells TimedOut = true
 
 abbrev pub tells : LedgerEvent → Bool
 tells (Opened b w s a) = true
@@ -50,7 +64,7 @@ tells (Posted a r m) = true
 tells (Taken a r) = false
 tells (Spent s) = false
 tells (Accessed s i m old) = true
-tells (Acted a d) = false
+tells (Acted a d) = act_tells d
 tells (Drained a r) = false
 
 abbrev pub body_text : Body → List ℕ
@@ -63,14 +77,24 @@ told_of Change.Keep old = decimal old ++ codes "\n"
 told_of (Change.Write w) old = decimal w ++ codes "\n"
 told_of (Change.Add n) old = decimal old ++ (codes " + " ++ (decimal n ++ codes "\n"))
 
--- the ticket that was made and the block's number of words, what a message carries, or the word; of an added number, what was there before
+-- the word that a sleeping agent read, how many agents a notify took, and of one that wakes the text that its wait gives
+abbrev pub told_act : Act → List ℕ
+told_act (Waiting s) = []
+told_act (Passed s) = []
+told_act Ended = []
+told_act (Slept s i w) = decimal w ++ codes "\n"
+told_act (Notified s i n k) = decimal k ++ codes "\n"
+told_act Woke = codes "\"ok\"\n"
+told_act TimedOut = codes "\"timed-out\"\n"
+
+-- the ticket that was made and the block's number of words, what a message carries, what an act tells, or the word; of an added number, what was there before
 abbrev pub told_text : List (List ℕ) → LedgerEvent → List ℕ
 told_text names (Opened b w s a) = codes "ticket " ++ (decimal s ++ (codes " of " ++ (name_at names a ++ (codes ", words " ++ (decimal w ++ codes "\n")))))
 told_text names (Posted a r m) = body_text m
 told_text names (Taken a r) = []
 told_text names (Spent s) = []
 told_text names (Accessed s i m old) = told_of m old
-told_text names (Acted a d) = []
+told_text names (Acted a d) = told_act d
 told_text names (Drained a r) = []
 
 -- Rows

@@ -145,12 +145,15 @@ fn write_act<W: Write>(
     act: Act,
     writer: &mut W,
 ) -> Result<(), io::Error>
-    ensures { OnOk result (Appends (W.contents writer.old) (W.contents writer.new) (name_said names.now agent ++ act_text names.now act)) }
+    ensures { OnOk result (Appends (W.contents writer.old) (W.contents writer.new) (act_text names.now agent act)) }
 {
     match act {
         Act::Waiting { sender } => write_wait(names, agent, sender, " waits for ", writer),
         Act::Passed { sender } => write_wait(names, agent, sender, " waits no more for ", writer),
-        Act::Ended => write_end(names, agent, writer),
+        Act::Ended => write_deed(names, agent, " ended", writer),
+        Act::Slept { serial, index, .. } => write_sleep(names, agent, serial, index, writer),
+        Act::Notified { serial, index, .. } => write_word(index, serial, " notified", writer),
+        Act::Woke | Act::TimedOut => write_deed(names, agent, " wakes", writer),
     }
 }
 
@@ -209,9 +212,28 @@ fn write_wait<W: Write>(
     write!(writer, "{agent}{what}{sender}")
 }
 
-fn write_end<W: Write>(names: &[Name], agent: usize, writer: &mut W) -> Result<(), io::Error>
-    ensures { OnOk result (Appends (W.contents writer.old) (W.contents writer.new) (name_said names.now agent ++ codes " ended")) }
+fn write_sleep<W: Write>(
+    names: &[Name],
+    agent: usize,
+    serial: u64,
+    index: usize,
+    writer: &mut W,
+) -> Result<(), io::Error>
+    ensures { OnOk result (Appends (W.contents writer.old) (W.contents writer.new) (name_said names.now agent ++ (codes " sleeps at word " ++ (decimal index ++ (codes " by ticket " ++ decimal serial))))) }
 {
     let agent = name_at(names, agent);
-    write!(writer, "{agent} ended")
+    write!(writer, "{agent} sleeps at word {index} by ticket {serial}")
+}
+
+/// Writes what an agent did, of which its name is all that there is to tell.
+fn write_deed<W: Write>(
+    names: &[Name],
+    agent: usize,
+    what: &str,
+    writer: &mut W,
+) -> Result<(), io::Error>
+    ensures { OnOk result (Appends (W.contents writer.old) (W.contents writer.new) (name_said names.now agent ++ what.now)) }
+{
+    let agent = name_at(names, agent);
+    write!(writer, "{agent}{what}")
 }

@@ -4,10 +4,10 @@ ghost use Rattle.std.specs.Prelude.{◌≡◌, ◌++◌, codes, decimal, OnOk};
 ghost use Rattle.std.specs.Io.KnownBytes.{Appends};
 ghost use Rattle.es_value.specs.Printed.{value_text};
 ghost use Rattle.es_trace.specs.Commands.{name_at as name_said};
-ghost use Rattle.es_trace.specs.Ledger.{body_text, tells as tells_said, told_of, told_text};
+ghost use Rattle.es_trace.specs.Ledger.{act_tells as act_tells_said, body_text, tells as tells_said, told_act, told_of, told_text};
 
 use crate::naming::name_at;
-use es_event::{Body, Change, LedgerEvent};
+use es_event::{Act, Body, Change, LedgerEvent};
 use es_value::{Name, Value, write_value};
 use std::io;
 use std::io::Write;
@@ -19,10 +19,19 @@ pub(crate) fn tells(event: &LedgerEvent) -> bool
     match event {
         LedgerEvent::Opened { .. } | LedgerEvent::Posted { .. } | LedgerEvent::Accessed { .. } =>
             true,
-        LedgerEvent::Taken { .. }
-        | LedgerEvent::Spent { .. }
-        | LedgerEvent::Acted { .. }
-        | LedgerEvent::Drained { .. } => false,
+        LedgerEvent::Acted { act, .. } => act_tells(*act),
+        LedgerEvent::Taken { .. } | LedgerEvent::Spent { .. } | LedgerEvent::Drained { .. } =>
+            false,
+    }
+}
+
+/// Whether what an agent did tells something besides.
+fn act_tells(act: Act) -> bool
+    ensures { result ≡ act_tells_said act }
+{
+    match act {
+        Act::Slept { .. } | Act::Notified { .. } | Act::Woke | Act::TimedOut => true,
+        Act::Waiting { .. } | Act::Passed { .. } | Act::Ended => false,
     }
 }
 
@@ -43,10 +52,23 @@ pub(crate) fn write_told<W: Write>(
         } => write_ticket(names, *serial, *agent, *words, writer),
         LedgerEvent::Posted { body, .. } => write_body(body, writer),
         LedgerEvent::Accessed { change, old, .. } => write_word(*change, *old, writer),
-        LedgerEvent::Taken { .. }
-        | LedgerEvent::Spent { .. }
-        | LedgerEvent::Acted { .. }
-        | LedgerEvent::Drained { .. } => Ok(()),
+        LedgerEvent::Acted { act, .. } => write_act(*act, writer),
+        LedgerEvent::Taken { .. } | LedgerEvent::Spent { .. } | LedgerEvent::Drained { .. } => {
+            Ok(())
+        }
+    }
+}
+
+/// Writes the word that a sleeping agent read, how many agents a notify took, or the text that a wait gives.
+fn write_act<W: Write>(act: Act, writer: &mut W) -> Result<(), io::Error>
+    ensures { OnOk result (Appends (W.contents writer.old) (W.contents writer.new) (told_act act)) }
+{
+    match act {
+        Act::Slept { word, .. } => writeln!(writer, "{word}"),
+        Act::Notified { taken, .. } => writeln!(writer, "{taken}"),
+        Act::Woke => writer.write_all(b"\"ok\"\n"),
+        Act::TimedOut => writer.write_all(b"\"timed-out\"\n"),
+        Act::Waiting { .. } | Act::Passed { .. } | Act::Ended => Ok(()),
     }
 }
 

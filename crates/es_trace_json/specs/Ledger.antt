@@ -8,7 +8,7 @@ use Rattle.es_event.specs.declared.ledger_event.Body.TheVariants.{Plain, Block}
 use Rattle.es_event.specs.declared.ledger_event.LedgerEvent.{LedgerEvent}
 use Rattle.es_event.specs.declared.ledger_event.LedgerEvent.TheVariants.{Opened, Posted, Taken, Spent, Accessed, Drained, Acted}
 use Rattle.es_event.specs.declared.ledger_event.Act.{Act}
-use Rattle.es_event.specs.declared.ledger_event.Act.TheVariants.{Waiting, Passed, Ended}
+use Rattle.es_event.specs.declared.ledger_event.Act.TheVariants.{Waiting, Passed, Ended, Slept, Notified, Woke, TimedOut}
 use Rattle.es_trace.specs.Commands.{name_at}
 use Rattle.es_trace_json.specs.Values.{value_json}
 
@@ -34,10 +34,15 @@ change_members s i old Change.Keep = codes "\"loaded\"" ++ (place_json s i ++ (c
 change_members s i old (Change.Write w) = codes "\"stored\"" ++ (place_json s i ++ (codes ",\"word\":" ++ decimal w))
 change_members s i old (Change.Add n) = codes "\"added\"" ++ (place_json s i ++ (codes ",\"old\":" ++ (decimal old ++ (codes ",\"addend\":" ++ decimal n))))
 
+-- what agent a did; of a notify the members of other commands on words, and how many agents it woke
 abbrev pub act_members : List (List ℕ) → ℕ → Act → List ℕ
 act_members names a (Waiting s) = codes "\"waiting\",\"agent\":" ++ (name_json names a ++ (codes ",\"sender\":" ++ name_json names s))
 act_members names a (Passed s) = codes "\"passed\",\"agent\":" ++ (name_json names a ++ (codes ",\"sender\":" ++ name_json names s))
 act_members names a Ended = codes "\"ended\",\"agent\":" ++ name_json names a
+act_members names a (Slept s i w) = codes "\"slept\",\"agent\":" ++ (name_json names a ++ (place_json s i ++ (codes ",\"word\":" ++ decimal w)))
+act_members names a (Notified s i n k) = codes "\"notified\"" ++ (place_json s i ++ (codes ",\"woken\":" ++ decimal k))
+act_members names a Woke = codes "\"woke\",\"agent\":" ++ name_json names a
+act_members names a TimedOut = codes "\"timed out\",\"agent\":" ++ name_json names a
 
 abbrev pub ledger_members : List (List ℕ) → LedgerEvent → List ℕ
 ledger_members names (Opened b w s a) = codes "\"opened\",\"block\":" ++ (decimal b ++ (codes ",\"words\":" ++ (decimal w ++ (codes ",\"ticket\":" ++ (decimal s ++ (codes ",\"agent\":" ++ name_json names a))))))

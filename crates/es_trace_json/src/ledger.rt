@@ -119,7 +119,20 @@ fn write_act<W: Write>(
     match act {
         Act::Waiting { sender } => write_wait("waiting", names, agent, sender, writer),
         Act::Passed { sender } => write_wait("passed", names, agent, sender, writer),
-        Act::Ended => write_end(names, agent, writer),
+        Act::Ended => write_deed("ended", names, agent, writer),
+        Act::Slept {
+            serial,
+            index,
+            word,
+        } => write_sleep(names, agent, serial, index, word, writer),
+        Act::Notified {
+            serial,
+            index,
+            taken,
+            ..
+        } => write_notify(serial, index, taken, writer),
+        Act::Woke => write_deed("woke", names, agent, writer),
+        Act::TimedOut => write_deed("timed out", names, agent, writer),
     }
 }
 
@@ -268,9 +281,46 @@ fn write_wait<W: Write>(
     write_agent("sender", names, sender, writer)
 }
 
-fn write_end<W: Write>(names: &[Name], agent: usize, writer: &mut W) -> Result<(), io::Error>
-    ensures { OnOk result (Appends (W.contents writer.old) (W.contents writer.new) (codes "\"ended\",\"agent\":" ++ name_json names.now agent)) }
+/// Writes that an agent went to sleep at a word, and the word that it read there.
+fn write_sleep<W: Write>(
+    names: &[Name],
+    agent: usize,
+    serial: u64,
+    index: usize,
+    word: u32,
+    writer: &mut W,
+) -> Result<(), io::Error>
+    ensures { OnOk result (Appends (W.contents writer.old) (W.contents writer.new) (codes "\"slept\",\"agent\":" ++ (name_json names.now agent ++ (place_json serial index ++ (codes ",\"word\":" ++ decimal word))))) }
 {
-    let agent = name_at(names, agent);
-    write!(writer, "\"ended\",\"agent\":\"{agent}\"")
+    writer.write_all(b"\"slept\"")?;
+    write_agent("agent", names, agent, writer)?;
+    write_place(serial, index, writer)?;
+    write!(writer, ",\"word\":{word}")
+}
+
+/// Writes that agents at a word were notified, and how many.
+fn write_notify<W: Write>(
+    serial: u64,
+    index: usize,
+    taken: usize,
+    writer: &mut W,
+) -> Result<(), io::Error>
+    ensures { OnOk result (Appends (W.contents writer.old) (W.contents writer.new) (codes "\"notified\"" ++ (place_json serial index ++ (codes ",\"woken\":" ++ decimal taken)))) }
+{
+    writer.write_all(b"\"notified\"")?;
+    write_place(serial, index, writer)?;
+    write!(writer, ",\"woken\":{taken}")
+}
+
+/// Writes what an agent did, of which its name is all that there is to tell.
+fn write_deed<W: Write>(
+    what: &str,
+    names: &[Name],
+    agent: usize,
+    writer: &mut W,
+) -> Result<(), io::Error>
+    ensures { OnOk result (Appends (W.contents writer.old) (W.contents writer.new) (quoted what.now ++ (codes ",\"agent\":" ++ name_json names.now agent))) }
+{
+    write_quoted(what, writer)?;
+    write_agent("agent", names, agent, writer)
 }

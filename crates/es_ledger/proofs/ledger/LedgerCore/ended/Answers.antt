@@ -7,5 +7,5 @@ append-requires g c =
 
 pub invariant_of-self : goal.invariant_of-self
 invariant_of-self g c =
-    rw (c.append.ensures.events)
+    rw (c.append.ensures.events, c.leave.ensures)
     (ended_ties _ c.self.inside.history.events _ _ c.args.agent c.self.invariant (rw (← c.self.view_is) at c.requires.known) (rw (← c.self.view_is) at c.requires.before) c.append.ensures.room)

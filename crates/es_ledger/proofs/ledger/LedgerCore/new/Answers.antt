@@ -11,6 +11,7 @@ loop-preserved g c =
     let p = c.push_reserved.ensures in
     let e = c.push_reserved-in-loop.ensures in
     let w = c.push_reserved-in-loop-2.ensures in
+    let b = c.push_reserved-in-loop-3.ensures in
     let x : StakeView = c.deal.result in
     record {
       empty = d.table.0;
@@ -27,6 +28,9 @@ loop-preserved g c =
       waits = ap (λ l. length l) w.items ∙ length-append c.loop.waits.items (None ∷ []) ∙ ap (λ n. n + 1) v.waits;
       wait_room = (let q = w.capacity in let r = v.wait_room in omega arith);
       nobody = λ a. ap (λ l. slice_index_or l a None) w.items ∙ still_none c.loop.waits.items a v.nobody;
+      sleeps = ap (λ l. length l) b.items ∙ length-append c.loop.asleep.items (false ∷ []) ∙ ap (λ n. n + 1) v.sleeps;
+      sleep_room = (let q = b.capacity in let r = v.sleep_room in omega arith);
+      awake = λ a. ap (λ l. slice_index_or l a false) b.items ∙ still_false c.loop.asleep.items a v.awake;
     }
 
 pub invariant_of-ledger : goal.invariant_of-ledger
@@ -36,4 +40,4 @@ invariant_of-ledger g c =
     let last = c.loop.auto.counter-end in
     let few = c.requires.few in
     let room = c.in_ok-reserve.ensures.room in
-    new_ties _ _ _ (omega (arith, dealt, last, few)) (c.in_ok-reserve.ensures.same ∙ c.new-history.ensures) v.empty c.new-2.ensures (v.ends ∙ sym v.dealt) v.quiet (v.waits ∙ sym v.dealt) v.nobody (c.in_ok-ports.ensures.size ∙ ap (λ m. m * 8) (let e : c.args.agents ≡ _ = omega (arith, dealt, last) in e)) c.in_ok-ports.ensures.empty c.in_ok-ports.ensures.none (omega (arith, dealt, last, room))
+    new_ties _ _ _ (omega (arith, dealt, last, few)) (c.in_ok-reserve.ensures.same ∙ c.new-history.ensures) v.empty c.new-2.ensures (v.ends ∙ sym v.dealt) v.quiet (v.waits ∙ sym v.dealt) v.nobody (c.in_ok-ports.ensures.size ∙ ap (λ m. m * 8) (let e : c.args.agents ≡ _ = omega (arith, dealt, last) in e)) c.in_ok-ports.ensures.empty c.in_ok-ports.ensures.none c.in_ok-waiters.ensures.items (v.sleeps ∙ sym v.dealt) v.awake (omega (arith, dealt, last, room))

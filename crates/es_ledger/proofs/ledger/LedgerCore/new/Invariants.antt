@@ -16,4 +16,7 @@ invariant-loop g l = record {
   waits : length l.waits.items ≡ l.counter;
   wait_room : l.agents ≤ vec_capacity l.waits;
   nobody : (a : ℕ) → slice_index_or l.waits.items a None ≡ None;
+  sleeps : length l.asleep.items ≡ l.counter;
+  sleep_room : l.agents ≤ vec_capacity l.asleep;
+  awake : (a : ℕ) → slice_index_or l.asleep.items a false ≡ false;
 }
