@@ -4,10 +4,10 @@ use Rattle.es_value.specs.declared.value.Value.{Value}
 use Rattle.es_value.specs.Values.{identity}
 use Rattle.es_ticket.specs.Stakes.{StakeView}
 use Rattle.es_record.specs.AgentView.{AgentView}
-use Rattle.es_rules.specs.Needs.{need, asks_message, TakesTicket, TakesWord, TakesDone}
+use Rattle.es_rules.specs.Needs.{need, asks_message, TakesTicket, TakesWord, TakesWaitResult, TakesDone}
 use Rattle.es_cluster.specs.Members.{Holds, HoldsBeside}
 use Rattle.calls.specs.declared.given.Given.{Given}
-use Rattle.calls.specs.declared.given.Given.TheVariants.{Alone, Block, Plain, Word, Done, Skip, Wait, End}
+use Rattle.calls.specs.declared.given.Given.TheVariants.{Alone, Block, Plain, Word, WaitEnded, Done, Skip, Wait, End}
 
 -- the agent asks for a message
 abbrev pub AsksMessage : AgentView → Type 0
@@ -28,6 +28,7 @@ Suits Alone b s = Holds b s
 Suits (Block ticket) b s = Ready (TakesTicket (need b) ticket) (HoldsBeside ticket b s)
 Suits (Plain v) b s = Ready (Comes v b) (Holds b s)
 Suits (Word w) b s = Ready (TakesWord (need b)) (Holds b s)
+Suits (WaitEnded r) b s = Ready (TakesWaitResult (need b)) (Holds b s)
 Suits Done b s = Ready (TakesDone (need b)) (Holds b s)
 Suits Skip b s = Ready (AsksMessage b) (Holds b s)
 Suits Wait b s = Holds b s

@@ -3,13 +3,13 @@
 
 ghost use Rattle.std.specs.Prelude.{◌≡◌, ◌<◌, false, IfOk, OnErr};
 ghost use Rattle.es_event.specs.Ledger.{ended};
-ghost use Rattle.es_rules.specs.Needs.{need, asks_ledger, asks_message, for_block, for_post, for_buffer_post, for_access};
+ghost use Rattle.es_rules.specs.Needs.{need, asks_ledger, asks_message, for_block, for_post, for_buffer_post, for_word};
 ghost use Rattle.es_cluster.specs.Members.{Holds};
 ghost use Rattle.calls.specs.Suiting.{Suits};
 
 use crate::given::Given;
 use es_agent::{AgentCore, Need, Request};
-use es_event::Access;
+use es_event::{Access, Task, WaitResult};
 use es_ledger::{LedgerCore, Letter, Message, Turn};
 use es_ticket::{LedgerName, Stake};
 use es_value::{Id, NoMemory, Value};
@@ -39,11 +39,11 @@ pub(crate) fn ask<L: LedgerName>(
             Request::PostBuffer { receiver, buffer } => {
                 post_buffer(core, stake, ledger, receiver, buffer)
             }
-            Request::Access {
+            Request::Word {
                 buffer,
                 index,
-                access,
-            } => access_word(core, stake, ledger, buffer, index, access),
+                task,
+            } => do_at_word(core, stake, ledger, buffer, index, task),
         },
         Need::Message(sender) => hear(core, stake, ledger, sender),
         Need::Local | Need::Collect | Need::Later | Need::Finish | Need::Close => Ok(Given::Alone),
@@ -116,7 +116,31 @@ fn post_buffer<L: LedgerName>(
     Ok(Given::Done)
 }
 
-/// The word of a buffer object's block that was there, or that the access was done where it gives none.
+/// What came of this at the word at an index of a buffer object's block.
+fn do_at_word<L: LedgerName>(
+    core: &AgentCore<L>,
+    stake: &mut Stake<L>,
+    ledger: &mut LedgerCore<L>,
+    buffer: Id,
+    index: usize,
+    task: Task,
+) -> Result<Given<L>, NoMemory>
+    requires due { need core.now ≡ asks_ledger (for_word buffer index task) }
+    requires held { Holds core.now stake.old }
+    requires known { core.now.number < ledger.old.agents }
+    requires going { ended ledger.old.history core.now.number ≡ false }
+    ensures ok { IfOk result (λ g. Suits g core.now stake.new) }
+    ensures err { OnErr result (Holds core.now stake.new) }
+    ensures agents { ledger.new.agents ≡ ledger.old.agents }
+{
+    match task {
+        Task::Access(access) => access_word(core, stake, ledger, buffer, index, access),
+        Task::Sleep(word) => wait(core, stake, ledger, buffer, index, word),
+        Task::Notify(count) => notify(core, stake, ledger, buffer, index, count),
+    }
+}
+
+/// The word that was there, or that the access was done where it gives none.
 fn access_word<L: LedgerName>(
     core: &AgentCore<L>,
     stake: &mut Stake<L>,
@@ -125,7 +149,7 @@ fn access_word<L: LedgerName>(
     index: usize,
     access: Access,
 ) -> Result<Given<L>, NoMemory>
-    requires due { need core.now ≡ asks_ledger (for_access buffer index access) }
+    requires due { need core.now ≡ asks_ledger (for_word buffer index (Task.Access access)) }
     requires held { Holds core.now stake.old }
     ensures ok { IfOk result (λ g. Suits g core.now stake.new) }
     ensures err { OnErr result (Holds core.now stake.new) }
@@ -138,6 +162,54 @@ fn access_word<L: LedgerName>(
     } else {
         Ok(Given::Done)
     }
+}
+
+/// How the wait ended, or nothing where the agent sleeps on.
+fn wait<L: LedgerName>(
+    core: &AgentCore<L>,
+    stake: &mut Stake<L>,
+    ledger: &mut LedgerCore<L>,
+    buffer: Id,
+    index: usize,
+    word: u32,
+) -> Result<Given<L>, NoMemory>
+    requires due { need core.now ≡ asks_ledger (for_word buffer index (Task.Sleep word)) }
+    requires held { Holds core.now stake.old }
+    requires known { core.now.number < ledger.old.agents }
+    requires going { ended ledger.old.history core.now.number ≡ false }
+    ensures ok { IfOk result (λ g. Suits g core.now stake.new) }
+    ensures err { OnErr result (Holds core.now stake.new) }
+    ensures agents { ledger.new.agents ≡ ledger.old.agents }
+{
+    let _ = core.history();
+    match ledger.wait_at(stake, core.ticket(buffer), index, word)? {
+        None => Ok(Given::WaitEnded(WaitResult::NotEqual)),
+        Some(turn) => match turn {
+            Turn::Ready => Ok(Given::WaitEnded(WaitResult::Woken)),
+            Turn::Stay => Ok(Given::Wait),
+            Turn::Skip => Ok(Given::WaitEnded(WaitResult::TimedOut)),
+        },
+    }
+}
+
+/// How many agents were woken.
+fn notify<L: LedgerName>(
+    core: &AgentCore<L>,
+    stake: &mut Stake<L>,
+    ledger: &mut LedgerCore<L>,
+    buffer: Id,
+    index: usize,
+    count: u32,
+) -> Result<Given<L>, NoMemory>
+    requires due { need core.now ≡ asks_ledger (for_word buffer index (Task.Notify count)) }
+    requires held { Holds core.now stake.old }
+    ensures ok { IfOk result (λ g. Suits g core.now stake.new) }
+    ensures err { OnErr result (Holds core.now stake.new) }
+    ensures agents { ledger.new.agents ≡ ledger.old.agents }
+{
+    let _ = core.history();
+    let taken = ledger.notify(stake, core.ticket(buffer), index, count)?;
+    Ok(Given::Word(taken))
 }
 
 /// What came in a message, that none comes any more, or nothing.

@@ -11,6 +11,7 @@ use crate::repeats::{Call, Calls};
 use crate::taking::take_in;
 use es_agent::{AgentCore, Need, Request};
 use es_cluster::Progress;
+use es_event::Task;
 use es_ledger::LedgerCore;
 use es_ticket::{LedgerName, Stake};
 use es_value::NoMemory;
@@ -50,7 +51,7 @@ impl<L: LedgerName> Player<L> {
         &self.core
     }
 
-    /// One turn: the agent's next event, or none where it waits on or has ended. Where a call finds no
+    /// One turn: the agent's next event, or none where it waits on, sleeps or has ended. Where a call finds no
     /// memory it is made once more, or the turn ends there: then what came to the agent is given up.
     pub(crate) fn turn(
         &mut self,
@@ -164,6 +165,7 @@ fn give_back<L: LedgerName>(
         }
         Given::Plain(value) => drop(value),
         Given::Word(_) => (),
+        Given::WaitEnded(_) => (),
         Given::Alone => (),
         Given::Done => (),
         Given::Skip => (),
@@ -185,7 +187,11 @@ fn call_of(need: &Need<'_>) -> Call {
             Request::NewBlock { .. } => Call::OpenBlock,
             Request::Post { .. } => Call::Post,
             Request::PostBuffer { .. } => Call::PostBuffer,
-            Request::Access { .. } => Call::Access,
+            Request::Word { task, .. } => match task {
+                Task::Access(_) => Call::Access,
+                Task::Sleep(_) => Call::WaitAt,
+                Task::Notify(_) => Call::Notify,
+            },
         },
     }
 }
@@ -196,6 +202,7 @@ fn taker_of<L: LedgerName>(given: &Given<L>, need: &Need<'_>) -> Call {
         Given::Block(_) => Call::Admit,
         Given::Plain(_) => Call::Receive,
         Given::Word(_) => Call::AnswerWord,
+        Given::WaitEnded(_) => Call::AnswerWait,
         Given::Done => Call::AnswerDone,
         Given::Skip => Call::Skip,
         Given::Alone | Given::Wait | Given::End => call_of(need),

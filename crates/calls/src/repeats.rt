@@ -19,6 +19,8 @@ pub(crate) enum Call {
     Receive,
     /// A word comes.
     AnswerWord,
+    /// A wait has ended.
+    AnswerWait,
     /// What was asked for was done.
     AnswerDone,
     /// A job is skipped.
@@ -35,6 +37,10 @@ pub(crate) enum Call {
     AwaitMessage,
     /// It reads a word, or writes one, or does both.
     Access,
+    /// It lets the agent sleep at a word.
+    WaitAt,
+    /// It wakes those that sleep at a word.
+    Notify,
 }
 
 /// How calls are made that find no memory, and which were.

@@ -3,13 +3,14 @@
 
 ghost use Rattle.std.specs.Prelude.{◌≡◌, None, OnOk, IfErr};
 ghost use Rattle.es_value.specs.Values.{identity};
-ghost use Rattle.es_rules.specs.Needs.{need, TakesTicket, TakesWord, TakesDone};
+ghost use Rattle.es_rules.specs.Needs.{need, TakesTicket, TakesWord, TakesWaitResult, TakesDone};
 ghost use Rattle.es_cluster.specs.Members.{Holds, HoldsBeside};
 ghost use Rattle.calls.specs.Suiting.{AsksMessage, Comes, Suits};
 
 use crate::alone::go_on;
 use crate::given::Given;
 use es_agent::{AdmitFault, AgentCore};
+use es_event::WaitResult;
 use es_ledger::LedgerCore;
 use es_ticket::{LedgerName, Stake, Ticket};
 use es_value::Value;
@@ -31,6 +32,7 @@ pub(crate) fn take_in<L: LedgerName>(
         Given::Block(ticket) => admit(core, stake, ledger, ticket),
         Given::Plain(value) => receive(core, stake, value),
         Given::Word(word) => answer_word(core, stake, word),
+        Given::WaitEnded(ended) => answer_wait(core, stake, ended),
         Given::Done => answer_done(core, stake),
         Given::Skip => skip(core, stake),
         Given::Wait => Ok(()),
@@ -101,7 +103,7 @@ fn receive<L: LedgerName>(
     }
 }
 
-/// A word.
+/// A word, or how many agents were woken.
 fn answer_word<L: LedgerName>(
     core: &mut AgentCore<L>,
     stake: &Stake<L>,
@@ -115,6 +117,23 @@ fn answer_word<L: LedgerName>(
     match core.answer_word(word) {
         Ok(()) => Ok(()),
         Err(_) => Err(Given::Word(word)),
+    }
+}
+
+/// How its wait ended.
+fn answer_wait<L: LedgerName>(
+    core: &mut AgentCore<L>,
+    stake: &Stake<L>,
+    ended: WaitResult,
+) -> Result<(), Given<L>>
+    requires takes { TakesWaitResult (need core.old) }
+    requires held { Holds core.old stake.now }
+    ensures ok { OnOk result (Holds core.new stake.now) }
+    ensures err { IfErr result (λ g. Suits g core.new stake.now) }
+{
+    match core.answer_wait(ended) {
+        Ok(()) => Ok(()),
+        Err(_) => Err(Given::WaitEnded(ended)),
     }
 }
 

@@ -2,6 +2,7 @@
 
 ghost use Rattle.std.specs.Prelude.{◌≡◌, ◌+◌, ◌↔◌, ℕ, [], true, false, IsTrue, Option, List, Some, None, pos, is_some, length, reverse, IfOk, IfErr, OnOk, OnErr};
 ghost use Rattle.es_value.specs.Values.{identity};
+ghost use Rattle.es_event.specs.Access.{wait_text};
 ghost use Rattle.es_event.specs.Identities.{gone, is_in, made};
 ghost use Rattle.es_event.specs.Jobs.{receivers};
 ghost use Rattle.es_event.specs.WeakRefs.{kept};
@@ -17,7 +18,7 @@ ghost use Rattle.es_record.specs.AgentView.{Records};
 ghost use Rattle.es_event.specs.Later.{snapshot};
 ghost use Rattle.es_record.specs.Graph.{AreMarksOf, AreLateMarks};
 ghost use Rattle.std.specs.Arc.{arc_value};
-ghost use Rattle.es_rules.specs.Needs.{need, asks_nobody, asks_marks, asks_copy, asks_late_marks, asks_message, asks_closing, TakesTicket, TakesWord, TakesDone};
+ghost use Rattle.es_rules.specs.Needs.{need, asks_nobody, asks_marks, asks_copy, asks_late_marks, asks_message, asks_closing, TakesTicket, TakesWord, TakesWaitResult, TakesDone};
 ghost use Rattle.es_rules.specs.Shown.{shown};
 ghost use Rattle.es_agent.specs.Tickets.{is_command, tickets, RecordsNext, Collects, Finishes, Admits, Receives, DoesWith, Skips};
 ghost use Rattle.es_agent.specs.Failing.{FailsToAdmit};
@@ -27,14 +28,14 @@ mod reach;
 
 use crate::admission::{AdmitFault, enter};
 use crate::recorder::Recorder;
-use es_event::{AgentPlan, Answer, Due, Event, Row, Sequence, catch_refusal};
+use es_event::{AgentPlan, Answer, Due, Event, Row, Sequence, WaitResult, catch_refusal};
 use es_mark::{Graph, Marks};
 use es_parmark::Snapshot;
 use es_record::AgentRecord;
 use es_registry::Tally;
 use es_rules::{
-    Need, Stop, answered_done, answered_word, asks, asks_nobody, asks_somebody, begun, do_alone,
-    next_event, received, skipped,
+    Need, Stop, answered_done, answered_wait, answered_word, asks, asks_nobody, asks_somebody,
+    begun, do_alone, next_event, received, skipped,
 };
 use es_ticket::{LedgerName, Rack, Ticket};
 use es_value::{Id, NoMemory, Value};
@@ -350,14 +351,24 @@ impl<L: LedgerName> AgentCore<L> {
         self.record.record(event)
     }
 
-    /// Takes the word that its next command, a load or an add, read of shared memory (Atomics.load and
-    /// add). Where there is no memory nothing has changed.
+    /// Takes the word of shared memory that its next command read, or how many agents its notify took (The Atomics
+    /// Object). Where there is no memory nothing has changed.
     pub fn answer_word(&mut self, word: u32) -> Result<(), NoMemory>
         requires { TakesWord (need self.old) }
         ensures ok { OnOk result (DoesWith self.old (Answer.Gives (Value.Number (pos word))) self.new) }
         ensures err { OnErr result (self.new ≡ self.old) }
     {
         let done = answered_word(self.record.read(), word)?;
+        self.record.record_done(done)
+    }
+
+    /// Takes how its next command, a wait, ended (Atomics.wait). Where there is no memory nothing has changed.
+    pub fn answer_wait(&mut self, ended: WaitResult) -> Result<(), NoMemory>
+        requires { TakesWaitResult (need self.old) }
+        ensures ok { OnOk result (DoesWith self.old (Answer.Gives (Value.Text (wait_text ended))) self.new) }
+        ensures err { OnErr result (self.new ≡ self.old) }
+    {
+        let done = answered_wait(self.record.read(), ended)?;
         self.record.record_done(done)
     }
 

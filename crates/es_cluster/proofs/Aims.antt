@@ -7,7 +7,7 @@ use Rattle.std.proofs.lemmas.Bool.{cases_Bool, eqb-true, false≢true, ltb-true}
 use Rattle.std.proofs.lemmas.List.{reverse-append}
 use Rattle.es_value.specs.declared.value.Value.{Value}
 use Rattle.es_value.specs.declared.value.Value.TheVariants.{Object, Symbol}
-use Rattle.es_event.specs.declared.access.Access.{Access}
+use Rattle.es_event.specs.declared.access.Task.{Task}
 use Rattle.es_event.specs.declared.command.Command.{Command}
 use Rattle.es_event.specs.declared.command.Command.TheVariants.{SharedArrayBuffer, Atomic, Post}
 use Rattle.es_event.specs.declared.event.Event.{Event}
@@ -15,7 +15,7 @@ use Rattle.es_event.specs.declared.event.Event.TheVariants.{Received, Did}
 use Rattle.es_event.specs.declared.event.Refusal.TheVariants.{NotPostable}
 use Rattle.es_event.specs.declared.plan.AgentPlan.{AgentPlan}
 use Rattle.es_event.specs.declared.row.Row.{Row}
-use Rattle.es_event.specs.Numbers.{access_of, index_of, index_read, words_read}
+use Rattle.es_event.specs.Numbers.{task_of, index_of, index_read, words_read}
 use Rattle.es_event.specs.Commands.{reads, Kind, kind_made, opens_words}
 use Rattle.es_event.specs.History.{History}
 use Rattle.es_event.specs.Identities.{identity, object_of, made, kind, born, is_gone}
@@ -32,7 +32,7 @@ use Rattle.es_event.proofs.Births.{birth, received, born_next}
 use Rattle.es_event.proofs.LookBacks.{at_either}
 use Rattle.es_ticket.specs.Stakes.{at}
 use Rattle.es_record.specs.AgentView.{AgentView}
-use Rattle.es_rules.specs.Needs.{Request, for_block, for_post, for_buffer_post, for_access, access_at, posts_to, asked, Need, asks_ledger, asks_nothing, need_of, need}
+use Rattle.es_rules.specs.Needs.{Request, for_block, for_post, for_buffer_post, for_word, at_word, posts_to, asked, Need, asks_ledger, asks_nothing, need_of, need}
 use Rattle.es_rules.proofs.Needs.{ledger_due, not_refused}
 use Rattle.es_cluster.proofs.Asking.{word_asked}
 use Rattle.es_agent.specs.Tickets.{is_ended, tickets}
@@ -139,14 +139,14 @@ abbrev pub aim : Request → Option ℕ
 aim (for_block n) = None
 aim (for_post a v) = None
 aim (for_buffer_post a o) = Some o
-aim (for_access o i a) = Some o
+aim (for_word o i a) = Some o
 
 -- and the index
 abbrev pub place : Request → Option ℕ
 place (for_block n) = None
 place (for_post a v) = None
 place (for_buffer_post a o) = None
-place (for_access o i a) = Some i
+place (for_word o i a) = Some i
 
 at_object : (v : Value) (o : ℕ) → object_of v ≡ Some o → v ≡ Object o
 at_object (Object i) o e = let same : i ≡ o = cc in ap Object same
@@ -160,10 +160,10 @@ pub aimed_at : (into : Receivers) (h : History) (x : List ℕ) (o : ℕ) → obj
 aimed_at into h x o e b = record { name = x; holds = at_object (var into h x) o e; buffer = ap (λ q. is_buffer (option_and_then (kind h) q)) (sym e) ∙ b }
 
 -- an access: the value is a buffer object, and its block has a word there
-word_aimed : (over : Buffers) (into : Receivers) (h : History) (x : List ℕ) (n : Test) (j : ℤ) (ts : List Test) (a : Access) (r : Request) (o : ℕ)
-    → access_at (var into h x) j a ≡ Some r → first_refusal (of_buffer h (var into h x) ∷ n ∷ of_index over (var into h x) j ∷ ts) ≡ None → aim r ≡ Some o → Aimed into h o
+word_aimed : (over : Buffers) (into : Receivers) (h : History) (x : List ℕ) (n : Test) (j : ℤ) (ts : List Test) (a : Task) (r : Request) (o : ℕ)
+    → at_word (var into h x) j a ≡ Some r → first_refusal (of_buffer h (var into h x) ∷ n ∷ of_index over (var into h x) j ∷ ts) ≡ None → aim r ≡ Some o → Aimed into h o
 word_aimed over into h x n j ts a r o is none e =
-    let m = mapped (λ o. for_access o (unsigned_abs j) a) (object_of (var into h x)) r is in
+    let m = mapped (λ o. for_word o (unsigned_abs j) a) (object_of (var into h x)) r is in
     let here : ◌≡◌ {A = Option ℕ} (Some m.0) (Some o) = ap aim m.2 ∙ e in
     let same : m.0 ≡ o = cc in
     aimed_at into h x o (m.1 ∙ ap Some same) (word_holds over h (var into h x) n j ts none).0
@@ -181,7 +181,7 @@ post_aimed into h x a v r o holds is may e =
 command_aims : (over : Buffers) (into : Receivers) (h : History) (c : Command) (r : Request) (o : ℕ) → asked c (values_of into h (reads c)) ≡ Some r → refusal over h c (values_of into h (reads c)) ≡ None → aim r ≡ Some o → Aimed into h o
 command_aims over into h (Atomic c) r o is none e =
     let vs = values_of into h (reads (Atomic c)) in
-    word_aimed over into h c.buffer (of_number (index_read c vs)) (index_of c vs) (map of_number (words_read c vs)) (access_of c vs) r o is none e
+    word_aimed over into h c.buffer (of_number (index_read c vs)) (index_of c vs) (map of_number (words_read c vs)) (task_of c vs) r o is none e
 command_aims over into h (Post a y) r o is none e = post_aimed into h y a (var into h y) r o refl is (first_holds _ NotPostable (room_for_post h ∷ []) none).0 e
 command_aims over into h (SharedArrayBuffer to n) r o is none e =
     let m : for_block n ≡ r = cc in
@@ -206,10 +206,10 @@ index_within : (j : ℤ) (words : ℕ) → is_index j words ≡ true → unsigne
 index_within (pos i) words e = ltb-true i words e
 index_within (negsuc i) words e = cc
 
-word_placed : (over : Buffers) (h : History) (v : Value) (n : Test) (j : ℤ) (ts : List Test) (a : Access) (r : Request) (o i : ℕ) → access_at v j a ≡ Some r → first_refusal (of_buffer h v ∷ n ∷ of_index over v j ∷ ts) ≡ None → aim r ≡ Some o → place r ≡ Some i
+word_placed : (over : Buffers) (h : History) (v : Value) (n : Test) (j : ℤ) (ts : List Test) (a : Task) (r : Request) (o i : ℕ) → at_word v j a ≡ Some r → first_refusal (of_buffer h v ∷ n ∷ of_index over v j ∷ ts) ≡ None → aim r ≡ Some o → place r ≡ Some i
     → (w : Row) → Some w ≡ row_at over o → i < w.words
 word_placed over h v n j ts a r o i is none aims places w here =
-    let m = mapped (λ o. for_access o (unsigned_abs j) a) (object_of v) r is in
+    let m = mapped (λ o. for_word o (unsigned_abs j) a) (object_of v) r is in
     let first : ◌≡◌ {A = Option ℕ} (Some m.0) (Some o) = ap aim m.2 ∙ aims in
     let second : ◌≡◌ {A = Option ℕ} (Some (unsigned_abs j)) (Some i) = ap place m.2 ∙ places in
     let same : m.0 ≡ o = cc in
@@ -222,7 +222,7 @@ command_places : (over : Buffers) (into : Receivers) (h : History) (c : Command)
     → aim r ≡ Some o → place r ≡ Some i → (w : Row) → Some w ≡ row_at over o → i < w.words
 command_places over into h (Atomic c) r o i is none aims places =
     let vs = values_of into h (reads (Atomic c)) in
-    word_placed over h (var into h c.buffer) (of_number (index_read c vs)) (index_of c vs) (map of_number (words_read c vs)) (access_of c vs) r o i is none aims places
+    word_placed over h (var into h c.buffer) (of_number (index_read c vs)) (index_of c vs) (map of_number (words_read c vs)) (task_of c vs) r o i is none aims places
 command_places over into h (Post a y) r o i is none aims places = absurd (no_place a (var into h y) r i is places)
   where
     no_place : (a : ℕ) (v : Value) (r : Request) (i : ℕ) → Some (posts_to a v) ≡ Some r → place r ≡ Some i → ⊥
@@ -253,7 +253,7 @@ command_posts : (over : Buffers) (into : Receivers) (h : History) (c : Command) 
 command_posts over into h (Post b y) a w is none = plain_post h b a (var into h y) w is (first_holds _ NotPostable (room_for_post h ∷ []) none).0
 command_posts over into h (Atomic c) a w is none =
     let vs = values_of into h (reads (Atomic c)) in
-    absurd (false≢true (word_asked (var into h c.buffer) (index_of c vs) (access_of c vs) (for_post a w) is))
+    absurd (false≢true (word_asked (var into h c.buffer) (index_of c vs) (task_of c vs) (for_post a w) is))
 command_posts over into h _ a w is none = cc
 
 -- a value that is posted has no identity

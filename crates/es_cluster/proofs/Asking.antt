@@ -10,6 +10,9 @@ use Rattle.es_value.specs.Values.{identity, is_same}
 use Rattle.es_value.specs.declared.value.Value.{Value}
 use Rattle.es_value.specs.declared.value.Value.TheVariants.{Undefined, Boolean, Number, Text, Registered, Object, Symbol}
 use Rattle.es_event.specs.declared.access.Access.{Access}
+use Rattle.es_event.specs.declared.access.Change.{Change}
+use Rattle.es_event.specs.declared.access.Task.{Task}
+use Rattle.es_event.specs.declared.access.WaitResult.{WaitResult}
 use Rattle.es_event.specs.declared.atomic.AtomicParts.{AtomicParts}
 use Rattle.es_event.specs.declared.command.Command.{Command}
 use Rattle.es_event.specs.declared.command.Command.TheVariants.{SharedArrayBuffer, Atomic, Post}
@@ -21,8 +24,8 @@ use Rattle.es_event.specs.declared.plan.AgentPlan.{AgentPlan}
 use Rattle.es_event.specs.declared.plan.Job.{Job}
 use Rattle.es_event.specs.declared.ledger_event.Body.TheVariants.{Plain, Block}
 use Rattle.es_event.specs.declared.row.Row.{Row}
-use Rattle.es_event.specs.Access.{change_by, is_same_change}
-use Rattle.es_event.specs.Numbers.{access_of, index_of, index_read, words_read}
+use Rattle.es_event.specs.Access.{change_by, is_same_change, wait_text}
+use Rattle.es_event.specs.Numbers.{task_of, index_of, index_read, words_read}
 use Rattle.es_event.specs.Commands.{reads, first}
 use Rattle.es_event.specs.History.{History}
 use Rattle.es_event.specs.Identities.{object_of}
@@ -38,13 +41,14 @@ use Rattle.es_event.specs.Order.{Phase, between, handed, inside, stopped, ended,
 use Rattle.es_event.proofs.Accepted.{word_holds}
 use Rattle.es_event.proofs.Accesses.{same_as_itself}
 use Rattle.es_event.proofs.Left.{is_first}
-use Rattle.es_match.specs.Asks.{to_open, to_access, to_post, to_receive, to_pass, given, asks_did, between_jobs}
+use Rattle.es_match.specs.Asks.{to_open, to_access, to_miss, to_notify, to_post, to_receive, to_pass, asks_did, asks_wait, asks_word, between_jobs, given}
 use Rattle.es_match.specs.Cluster.{awaited}
-use Rattle.es_match.specs.Deeds.{Opens, Posts, Takes, Accesses, Passes}
-use Rattle.es_match.specs.Meets.{Tickets, after, answers, has_ticket, is_number, is_ticket, some_if}
+use Rattle.es_match.specs.declared.deed.Sleep.{Sleep}
+use Rattle.es_match.specs.Deeds.{Opens, Posts, Takes, Accesses, Notifies, Passes}
+use Rattle.es_match.specs.Meets.{Tickets, after, answers, has_ticket, is_number, is_sleep_at, is_ticket, some_if}
 use Rattle.es_ticket.specs.Stakes.{at}
 use Rattle.es_record.specs.AgentView.{AgentView}
-use Rattle.es_rules.specs.Needs.{Request, for_block, for_post, for_buffer_post, for_access, access_at, posts_to, asked, asks_ledger, need, need_of}
+use Rattle.es_rules.specs.Needs.{Request, for_block, for_post, for_buffer_post, for_word, at_word, posts_to, asked, asks_ledger, need, need_of}
 use Rattle.es_cluster.specs.Midway.{answer_to}
 use Rattle.es_rules.proofs.Needs.{ledger_command, not_refused}
 
@@ -72,6 +76,14 @@ has_this ts o r test here is = ap (λ q. option_map_or test q false) (at_row ts 
 pub this_ticket : (ts : Tickets) (o : ℕ) (r : Row) → Some r ≡ at o ts → is_ticket ts (Object o) r.serial ≡ true
 this_ticket ts o r here = has_this ts o r (λ q. q.serial == r.serial) here (eq-eqb r.serial r.serial refl)
 
+-- a ticket that is there has its row
+pub ticket_row : (ts : Tickets) (o k : ℕ) → is_ticket ts (Object o) k ≡ true → (r : Row) × (Some r ≡ at o ts)
+ticket_row ts o k is = by (row_at ts o) refl is
+  where
+    by : (q : Option Row) → row_at ts o ≡ q → option_map_or (λ r. r.serial == k) q false ≡ true → (r : Row) × (Some r ≡ at o ts)
+    by None q is = cc
+    by (Some r) q is = (r, sym q ∙ at_row ts o)
+
 -- The due command
 
 pub record DueCommand (b : AgentView) (c : Command) (r : Request) : Type 0 where
@@ -88,21 +100,21 @@ pub object_at : (v : Value) (o : ℕ) → object_of v ≡ Some o → v ≡ Objec
 object_at (Object i) o e = let same : i ≡ o = cc in ap Object same
 object_at _ o e = cc
 
-abbrev asks_word : Request → Bool
-asks_word (for_block n) = false
-asks_word (for_post a v) = false
-asks_word (for_buffer_post a o) = false
-asks_word (for_access o i a) = true
+abbrev is_on_word : Request → Bool
+is_on_word (for_block n) = false
+is_on_word (for_post a v) = false
+is_on_word (for_buffer_post a o) = false
+is_on_word (for_word o i t) = true
 
--- a command on a word asks for an access, and for nothing else
-pub word_asked : (v : Value) (j : ℤ) (c : Access) (r : Request) → access_at v j c ≡ Some r → asks_word r ≡ true
-word_asked (Object p) j c r e = let same : for_access p (unsigned_abs j) c ≡ r = cc in ap asks_word (sym same)
+-- a command on a word asks for what it does there, and for nothing else
+pub word_asked : (v : Value) (j : ℤ) (c : Task) (r : Request) → at_word v j c ≡ Some r → is_on_word r ≡ true
+word_asked (Object p) j c r e = let same : for_word p (unsigned_abs j) c ≡ r = cc in ap is_on_word (sym same)
 word_asked _ j c r e = cc
 
-word_only : (b : AgentView) (c : AtomicParts) (r : Request) → asks_word r ≡ false → DueCommand b (Atomic c) r → ⊥
+word_only : (b : AgentView) (c : AtomicParts) (r : Request) → is_on_word r ≡ false → DueCommand b (Atomic c) r → ⊥
 word_only b c r other d =
     let vs = values_of (receivers b.plan.jobs) b.history (reads (Atomic c)) in
-    false≢true (sym other ∙ word_asked (first vs) (index_of c vs) (access_of c vs) r d.asks)
+    false≢true (sym other ∙ word_asked (first vs) (index_of c vs) (task_of c vs) r d.asks)
 
 positive : (j : ℤ) (words : ℕ) → is_index j words ≡ true → j ≡ pos (unsigned_abs j)
 positive (pos i) words e = refl
@@ -112,37 +124,39 @@ positive (negsuc i) words e = cc
 index_positive : (over : Buffers) (h : History) (v : Value) (n : Test) (j : ℤ) (ts : List Test) (i : ℕ) → first_refusal (of_buffer h v ∷ n ∷ of_index over v j ∷ ts) ≡ None → unsigned_abs j ≡ i → j ≡ pos i
 index_positive over h v n j ts i none is = positive j (words_of over v) (word_holds over h v n j ts none).1 ∙ ap pos is
 
--- An access
+-- What is done at a word
 
-access_asked : (v : Value) (j : ℤ) (c : Access) (o i : ℕ) (a : Access) → access_at v j c ≡ Some (for_access o i a) → (object_of v ≡ Some o) × (unsigned_abs j ≡ i) × (c ≡ a)
-access_asked (Object p) j c o i a e = (cc, cc, cc)
-access_asked _ j c o i a e = cc
+task_asked : (v : Value) (j : ℤ) (c : Task) (o i : ℕ) (t : Task) → at_word v j c ≡ Some (for_word o i t) → (object_of v ≡ Some o) × (unsigned_abs j ≡ i) × (c ≡ t)
+task_asked (Object p) j c o i t e = (cc, cc, cc)
+task_asked _ j c o i t e = cc
 
--- the access that a command asks for is the one that it makes, at a buffer object, and its index is not negative
-record Accessed (v : Value) (j : ℤ) (c : Access) (o i : ℕ) (a : Access) : Type 0 where
+-- what a command asks for at a word is what it does, at a buffer object, and its index is not negative
+record AtWord (v : Value) (j : ℤ) (c : Task) (o i : ℕ) (t : Task) : Type 0 where
   pub object : v ≡ Object o
   pub index : j ≡ pos i
-  pub access : c ≡ a
+  pub task : c ≡ t
 
-accessed : (over : Buffers) (h : History) (v : Value) (n : Test) (j : ℤ) (ts : List Test) (c : Access) (o i : ℕ) (a : Access) → first_refusal (of_buffer h v ∷ n ∷ of_index over v j ∷ ts) ≡ None → access_at v j c ≡ Some (for_access o i a) → Accessed v j c o i a
-accessed over h v n j ts c o i a none asks =
-    let is = access_asked v j c o i a asks in
-    record { object = object_at v o is.0; index = index_positive over h v n j ts i none is.1; access = is.2 }
+placed : (over : Buffers) (h : History) (v : Value) (n : Test) (j : ℤ) (ts : List Test) (c : Task) (o i : ℕ) (t : Task) → first_refusal (of_buffer h v ∷ n ∷ of_index over v j ∷ ts) ≡ None → at_word v j c ≡ Some (for_word o i t) → AtWord v j c o i t
+placed over h v n j ts c o i t none asks =
+    let is = task_asked v j c o i t asks in
+    record { object = object_at v o is.0; index = index_positive over h v n j ts i none is.1; task = is.2 }
 
-post_no_access : (t : ℕ) (u : Value) (o i : ℕ) (a : Access) → Some (posts_to t u) ≡ Some (for_access o i a) → ⊥
-post_no_access t (Object p) o i a e = cc
-post_no_access t u o i a e = cc
+post_no_word : (r : ℕ) (u : Value) (o i : ℕ) (t : Task) → Some (posts_to r u) ≡ Some (for_word o i t) → ⊥
+post_no_word r (Object p) o i t e = cc
+post_no_word r u o i t e = cc
 
-access_so : (v : Value) (j : ℤ) (c : Access) (o i : ℕ) (a : Access) (u : Value) → Accessed v j c o i a → to_access v j c u ≡ to_access (Object o) (pos i) a u
-access_so v j c o i a u is = ap (λ v. to_access v j c u) is.object ∙ ap (λ j. to_access (Object o) j c u) is.index ∙ ap (λ c. to_access (Object o) (pos i) c u) is.access
+word_so : (v : Value) (j : ℤ) (c : Task) (o i : ℕ) (t : Task) (u : Value) → AtWord v j c o i t → asks_word v j c u ≡ asks_word (Object o) (pos i) t u
+word_so v j c o i t u is = ap (λ v. asks_word v j c u) is.object ∙ ap (λ j. asks_word (Object o) j c u) is.index ∙ ap (λ c. asks_word (Object o) (pos i) c u) is.task
 
-pub access_asks : (b : AgentView) (c : Command) (o i : ℕ) (a : Access) (r : Answer) → DueCommand b c (for_access o i a)
-    → asks_did c (values_of (receivers b.plan.jobs) b.history (reads c)) r ≡ to_access (Object o) (pos i) a (given r)
-access_asks b (Atomic c) o i a r d =
+pub word_asks : (b : AgentView) (c : Command) (o i : ℕ) (t : Task) (r : Answer) → DueCommand b c (for_word o i t)
+    → asks_did c (values_of (receivers b.plan.jobs) b.history (reads c)) r ≡ asks_word (Object o) (pos i) t (given r)
+word_asks b (Atomic c) o i t r d =
     let vs = values_of (receivers b.plan.jobs) b.history (reads (Atomic c)) in
-    access_so _ (index_of c vs) (access_of c vs) o i a (given r) (accessed b.over b.history _ (of_number (index_read c vs)) (index_of c vs) (map of_number (words_read c vs)) (access_of c vs) o i a d.accepted d.asks)
-access_asks b (Post t y) o i a r d = absurd (post_no_access t _ o i a d.asks)
-access_asks b c o i a r d = let e = d.asks in cc
+    word_so _ (index_of c vs) (task_of c vs) o i t (given r) (placed b.over b.history _ (of_number (index_read c vs)) (index_of c vs) (map of_number (words_read c vs)) (task_of c vs) o i t d.accepted d.asks)
+word_asks b (Post a y) o i t r d = absurd (post_no_word a _ o i t d.asks)
+word_asks b c o i t r d = let e = d.asks in cc
+
+-- An access
 
 answered : (a : Access) (w : ℕ) → answers a (given (answer_to a w)) w ≡ true
 answered a w = by_gift a.gives_word
@@ -157,6 +171,37 @@ access_met ts o i w a r here =
     ∙ ap (λ b. some_if (b && (is_same_change (change_by a.edit w) (change_by a.edit w) && answers a (given (answer_to a w)) w)) ts) ((Decides-int_eq (pos i) (pos i)).1 refl)
     ∙ ap (λ b. some_if (b && answers a (given (answer_to a w)) w) ts) (same_as_itself (change_by a.edit w))
     ∙ ap (λ b. some_if b ts) (answered a w)
+
+-- A wait
+
+-- what the variable of a wait holds says how it ended
+pub ended_so : (b : Value) (j : ℤ) (w : ℕ) (e : WaitResult) → asks_word b j (Task.Sleep w) (given (Gives (Text (wait_text e)))) ≡ asks_wait b j w e
+ended_so b j w WaitResult.Woken = refl
+ended_so b j w WaitResult.NotEqual = refl
+ended_so b j w WaitResult.TimedOut = refl
+
+-- another word was there
+pub miss_met : (ts : Tickets) (o i w v : ℕ) (r : Row) → Some r ≡ at o ts → (v == w) ≡ false → after ts (to_miss (Object o) (pos i) w) (Accesses r.serial i Change.Keep v ∷ []) ≡ Some ts
+miss_met ts o i w v r here other =
+    ap (λ b. some_if (b && (int_eq (pos i) (pos i) && (is_same_change Change.Keep Change.Keep && not (v == w)))) ts) (this_ticket ts o r here)
+    ∙ ap (λ b. some_if (b && (is_same_change Change.Keep Change.Keep && not (v == w))) ts) ((Decides-int_eq (pos i) (pos i)).1 refl)
+    ∙ ap (λ b. some_if (b && not (v == w)) ts) (same_as_itself Change.Keep)
+    ∙ ap (λ b. some_if (not b) ts) other
+
+pub sleep_met : (ts : Tickets) (o w : ℕ) (s : Sleep) → is_ticket ts (Object o) s.serial ≡ true → s.word ≡ w → is_sleep_at ts (Object o) (pos s.index) w (Some s) ≡ true
+sleep_met ts o w s here same =
+    ap (λ b. b && (int_eq (pos s.index) (pos s.index) && (s.word == w))) here
+    ∙ ap (λ b. b && (s.word == w)) ((Decides-int_eq (pos s.index) (pos s.index)).1 refl)
+    ∙ eq-eqb s.word w same
+
+-- A notify
+
+pub notify_met : (ts : Tickets) (o i n k : ℕ) (r : Row) → Some r ≡ at o ts → after ts (to_notify (Object o) (pos i) n (Number (pos k))) (Notifies r.serial i n k ∷ []) ≡ Some ts
+notify_met ts o i n k r here =
+    ap (λ b. some_if (b && (int_eq (pos i) (pos i) && ((n == n) && int_eq (pos k) (pos k)))) ts) (this_ticket ts o r here)
+    ∙ ap (λ b. some_if (b && ((n == n) && int_eq (pos k) (pos k))) ts) ((Decides-int_eq (pos i) (pos i)).1 refl)
+    ∙ ap (λ b. some_if (b && int_eq (pos k) (pos k)) ts) (eq-eqb n n refl)
+    ∙ ap (λ b. some_if b ts) ((Decides-int_eq (pos k) (pos k)).1 refl)
 
 -- A new block
 

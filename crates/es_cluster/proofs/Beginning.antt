@@ -90,7 +90,7 @@ tied_view : (agents n : ℕ) (p : AgentPlan) (l : LedgerView) → l.history ≡ 
 tied_view agents n p l none = subst (IsTied (first_view agents n p)) (sym none) (record {
   ties = (refl, refl);
   awaits = λ s is. cc;
-  awake = refl;
+  sleeps = λ s is. cc;
   waits_end = refl;
   drains_end = refl;
 })

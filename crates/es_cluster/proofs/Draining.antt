@@ -12,7 +12,6 @@ use Rattle.es_event.specs.declared.row.Entry.{Entry}
 use Rattle.es_event.specs.declared.row.Holder.{Holder}
 use Rattle.es_event.specs.declared.row.Holder.TheVariants.{Agent, Port, Nobody}
 use Rattle.es_event.specs.Rows.{held_by, line_of}
-use Rattle.es_event.specs.Waiters.{asleep}
 use Rattle.es_event.specs.Ledger.{Ledger, front, port_of, serial_in, table, by_agent, holder_of, waits, ended}
 use Rattle.es_event.specs.LegalLedger.{ComesNext, LegalLedger, LegalSoFar, all_ended, owed}
 use Rattle.es_ledger.specs.LedgerView.{LedgerView}
@@ -21,7 +20,7 @@ use Rattle.es_ledger.proofs.Lying.{lies_in_front, lying_all}
 use Rattle.es_match.specs.Patience.{is_patient, patient, is_nobodys, drained_last}
 use Rattle.es_match.specs.Cluster.{DeedsMeet, IsCluster, history_of}
 use Rattle.es_match.specs.Patience.{has_drained as was_drained}
-use Rattle.es_match.specs.Deeds.{Spends, deed, part, part_of}
+use Rattle.es_match.specs.Deeds.{Spends, deed, part, part_of, sleep_of}
 use Rattle.es_cluster.proofs.Midway.{still_over}
 use Rattle.es_cluster.specs.Tied.{came_to}
 use Rattle.es_record.specs.AgentView.{AgentView}
@@ -126,7 +125,7 @@ Stands bs n l = ArePlaced bs (record { agents = n; history = l }) × AreTied bs 
 part_still : (l : Ledger) (e : LedgerEvent) (a : ℕ) → deed l e ≡ None → part (e ∷ l) a ≡ part l a
 part_still l e a none = ap (λ o. part l a ++ part_of a o) none ∙ append-nil (part l a)
 
-still : (bs : List AgentView) (n : ℕ) (l : Ledger) (e : LedgerEvent) → deed l e ≡ None → ((a : ℕ) → waits (e ∷ l) a ≡ waits l a) → ((a : ℕ) → asleep (e ∷ l) a ≡ asleep l a) → ((a : ℕ) → ended (e ∷ l) a ≡ ended l a) → Stands bs n l → Stands bs n (e ∷ l)
+still : (bs : List AgentView) (n : ℕ) (l : Ledger) (e : LedgerEvent) → deed l e ≡ None → ((a : ℕ) → waits (e ∷ l) a ≡ waits l a) → ((a : ℕ) → sleep_of (e ∷ l) a ≡ sleep_of l a) → ((a : ℕ) → ended (e ∷ l) a ≡ ended l a) → Stands bs n l → Stands bs n (e ∷ l)
 still bs n l e none same slept ends stands = (
   record {
     size = stands.0.size;
@@ -144,7 +143,7 @@ still bs n l e none same slept ends stands = (
         record {
           ties = subst (λ p. DeedsMeet b.history p (came_to b)) (sym (part_still l e b.number none)) was.ties;
           awaits = λ s waiting. was.awaits s (sym (same b.number) ∙ waiting);
-          awake = slept b.number ∙ was.awake;
+          sleeps = λ s is. was.sleeps s (sym (slept b.number) ∙ is);
           waits_end = ap (λ o. is_patient l o && patient l) none ∙ was.waits_end;
           drains_end = ap (λ o. (is_nobodys o || not (was_drained l)) && drained_last l) none ∙ was.drains_end;
         });

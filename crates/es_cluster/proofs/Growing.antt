@@ -1,5 +1,5 @@
 -- What one agent does: its part grows by it, and no other agent's part, wait, sleep or end changes.
-use Rattle.std.proofs.Common.{◌≡◌, ℕ, ◌==◌, ◌&&◌, ◌||◌, Bool, true, false, cond, not, sym, ◌∙◌, ap, refl, List, [], ◌∷◌, ◌++◌, append-nil, append_assoc, eq-eqb, Some, None, inl, inr}
+use Rattle.std.proofs.Common.{◌≡◌, ℕ, ◌==◌, ◌&&◌, ◌||◌, Bool, true, false, cond, not, sym, ◌∙◌, ap, refl, List, [], ◌∷◌, ◌++◌, append-nil, append_assoc, eq-eqb, Option, Some, None, inl, inr}
 use Rattle.std.specs.Option.{option_map_or, option_map}
 use Rattle.std.proofs.lemmas.Bool.{cases_Bool, eqb-true}
 use Rattle.es_event.specs.declared.ledger_event.LedgerEvent.{LedgerEvent}
@@ -7,8 +7,8 @@ use Rattle.es_event.specs.declared.ledger_event.LedgerEvent.TheVariants.{Taken, 
 use Rattle.es_event.specs.declared.ledger_event.Act.TheVariants.{Waiting, Passed, Ended, Slept, Woke, TimedOut}
 use Rattle.es_event.specs.declared.row.Row.{Row}
 use Rattle.es_event.specs.Ledger.{Ledger, waits, ended, holder_of}
-use Rattle.es_event.specs.Waiters.{asleep}
-use Rattle.es_match.specs.Deeds.{Deed, Owned, deed, is_wait, part, part_of, by_holder}
+use Rattle.es_match.specs.declared.deed.Sleep.{Sleep}
+use Rattle.es_match.specs.Deeds.{Deed, Owned, deed, is_wait, part, part_of, by_holder, sleep_of}
 use Rattle.es_cluster.specs.Tied.{AreDeedsOf, GrowsBy}
 
 pub apart : (n a : ℕ) → (a ≡ n → ⊥) → (n == a) ≡ false
@@ -56,16 +56,16 @@ waits_other l (Acted r (Waiting s)) n a d is other = ap (λ b. cond b (Some s) (
 waits_other l (Acted r (Passed s)) n a d is other = ap (λ b. cond b None (waits l a)) (other_than r n a (doer (deed l (Acted r (Passed s))) n r d is) other)
 waits_other l _ n a d is other = refl
 
--- an act that sets whether one agent sleeps
-set_other : (l : Ledger) (r n a : ℕ) (v : Bool) → r ≡ n → (a ≡ n → ⊥) → cond (r == a) v (asleep l a) ≡ asleep l a
-set_other l r n a v is other = ap (λ b. cond b v (asleep l a)) (other_than r n a is other)
+-- an act that sets one agent's sleep
+set_other : (l : Ledger) (r n a : ℕ) (v : Option Sleep) → r ≡ n → (a ≡ n → ⊥) → cond (r == a) v (sleep_of l a) ≡ sleep_of l a
+set_other l r n a v is other = ap (λ b. cond b v (sleep_of l a)) (other_than r n a is other)
 
-pub asleep_other : (l : Ledger) (e : LedgerEvent) (n a : ℕ) (d : Deed) → deed l e ≡ Some (n, d) → (a ≡ n → ⊥) → asleep (e ∷ l) a ≡ asleep l a
-asleep_other l (Acted r (Slept s i w)) n a d is other = set_other l r n a true (doer (deed l (Acted r (Slept s i w))) n r d is) other
-asleep_other l (Acted r Woke) n a d is other = set_other l r n a false (doer (deed l (Acted r Woke)) n r d is) other
-asleep_other l (Acted r TimedOut) n a d is other = set_other l r n a false (doer (deed l (Acted r TimedOut)) n r d is) other
-asleep_other l (Acted r Ended) n a d is other = set_other l r n a false (doer (deed l (Acted r Ended)) n r d is) other
-asleep_other l _ n a d is other = refl
+pub sleep_other : (l : Ledger) (e : LedgerEvent) (n a : ℕ) (d : Deed) → deed l e ≡ Some (n, d) → (a ≡ n → ⊥) → sleep_of (e ∷ l) a ≡ sleep_of l a
+sleep_other l (Acted r (Slept s i w)) n a d is other = set_other l r n a (Some (record { serial = s; index = i; word = w })) (doer (deed l (Acted r (Slept s i w))) n r d is) other
+sleep_other l (Acted r Woke) n a d is other = set_other l r n a None (doer (deed l (Acted r Woke)) n r d is) other
+sleep_other l (Acted r TimedOut) n a d is other = set_other l r n a None (doer (deed l (Acted r TimedOut)) n r d is) other
+sleep_other l (Acted r Ended) n a d is other = set_other l r n a None (doer (deed l (Acted r Ended)) n r d is) other
+sleep_other l _ n a d is other = refl
 
 pub ended_other : (l : Ledger) (e : LedgerEvent) (n a : ℕ) (d : Deed) → deed l e ≡ Some (n, d) → (a ≡ n → ⊥) → ended (e ∷ l) a ≡ ended l a
 ended_other l (Acted r Ended) n a d is other = ap (λ b. b || ended l a) (other_than r n a (doer (deed l (Acted r Ended)) n r d is) other)
@@ -105,8 +105,8 @@ part_stays n a l m g other = grown part n a l m (λ l e d is. part_other l e n a
 pub waits_stay : (n a : ℕ) (l m : Ledger) → GrowsBy n l m → (a ≡ n → ⊥) → waits m a ≡ waits l a
 waits_stay n a l m g other = grown waits n a l m (λ l e d is. waits_other l e n a d is other) g
 
-pub asleep_stays : (n a : ℕ) (l m : Ledger) → GrowsBy n l m → (a ≡ n → ⊥) → asleep m a ≡ asleep l a
-asleep_stays n a l m g other = grown asleep n a l m (λ l e d is. asleep_other l e n a d is other) g
+pub sleep_stays : (n a : ℕ) (l m : Ledger) → GrowsBy n l m → (a ≡ n → ⊥) → sleep_of m a ≡ sleep_of l a
+sleep_stays n a l m g other = grown sleep_of n a l m (λ l e d is. sleep_other l e n a d is other) g
 
 pub ended_stays : (n a : ℕ) (l m : Ledger) → GrowsBy n l m → (a ≡ n → ⊥) → ended m a ≡ ended l a
 ended_stays n a l m g other = grown ended n a l m (λ l e d is. ended_other l e n a d is other) g

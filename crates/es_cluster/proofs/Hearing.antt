@@ -14,15 +14,16 @@ use Rattle.es_match.specs.Patience.{has_drained}
 use Rattle.es_match.specs.Deeds.{Waits, Passes}
 use Rattle.es_ticket.specs.Stakes.{StakeView}
 use Rattle.es_record.specs.AgentView.{AgentView}
-use Rattle.es_rules.specs.Needs.{asks_message, need}
+use Rattle.es_event.specs.declared.access.Task.{Task}
+use Rattle.es_rules.specs.Needs.{for_word, asks_ledger, asks_message, need}
 use Rattle.es_agent.specs.Tickets.{Skips}
-use Rattle.es_cluster.specs.Midway.{IsHeld, IsReady}
+use Rattle.es_cluster.specs.Midway.{IsHeld, IsReady, asks_to_sleep}
 use Rattle.es_cluster.specs.Members.{Holds}
 use Rattle.es_cluster.specs.Tied.{GrowsBy, IsSettled, IsTied}
 use Rattle.es_cluster.specs.Turned.{WaitsRightly, Keeps}
 use Rattle.es_cluster.specs.declared.member.Progress.TheVariants.{Moved}
 use Rattle.es_cluster.proofs.Growing.{grows_none, grows_one, grows_on}
-use Rattle.es_cluster.proofs.Midway.{awaits}
+use Rattle.es_cluster.proofs.Midway.{awaits, awake}
 use Rattle.es_cluster.proofs.MovingMembers.{Stays, keeps, kept_after, skipped_stays, holds_still}
 use Rattle.es_cluster.proofs.Tying.{still_undrained, skip_ties, taking_grows}
 
@@ -60,9 +61,13 @@ where_skip l k n a s is =
 -- An agent that goes on was not told to stay
 
 pub goes_on : (b : AgentView) (l m : LedgerView) (s : ℕ) (t : Turn) (k : Ledger) → need b ≡ asks_message s → ◌≡◌ {A = Turn × Ledger} (t, k) (told l.history l.agents b.number s) → (t ≡ Stay → ⊥) → WaitsRightly Moved b l m
-goes_on b l m s t k is heard other u asks stays =
-    let same : s ≡ u = cc in
-    other (ap (λ p. p.0) heard ∙ ap (λ s. (told l.history l.agents b.number s).0) same ∙ stays)
+goes_on b l m s t k is heard other = (
+  λ u asks stays.
+      let both : asks_message s ≡ asks_message u = sym is ∙ asks in
+      let same : s ≡ u = cc in
+      other (ap (λ p. p.0) heard ∙ ap (λ s. (told l.history l.agents b.number s).0) same ∙ stays),
+  λ o i w r asks here stays. let clash : asks_message s ≡ asks_ledger (for_word o i (Task.Sleep w)) = sym is ∙ asks in cc,
+)
 
 pub goes_on_ready : (b : AgentView) (l m : LedgerView) (s : ℕ) → need b ≡ asks_message s → has_message l.history s b.number ≡ true → WaitsRightly Moved b l m
 goes_on_ready b l m s is there =
@@ -71,7 +76,7 @@ goes_on_ready b l m s is there =
 -- The wait is recorded, where it is not yet
 
 asked_tied : (b : AgentView) (l : Ledger) (s : ℕ) → IsTied b l → has_drained l ≡ false → need b ≡ asks_message s → IsTied b (asked l b.number s) × (has_drained (asked l b.number s) ≡ false)
-asked_tied b l s tied still is = subst (λ z. IsTied b (cond (is_some (waits l b.number) || z) l (Acted b.number (Waiting s) ∷ l)) × (has_drained (cond (is_some (waits l b.number) || z) l (Acted b.number (Waiting s) ∷ l)) ≡ false)) (sym tied.awake) (by_wait (waits l b.number) refl)
+asked_tied b l s tied still is = subst (λ z. IsTied b (cond (is_some (waits l b.number) || z) l (Acted b.number (Waiting s) ∷ l)) × (has_drained (cond (is_some (waits l b.number) || z) l (Acted b.number (Waiting s) ∷ l)) ≡ false)) (sym (awake b l tied (ap asks_to_sleep is))) (by_wait (waits l b.number) refl)
   where
     by_wait : (w : Option ℕ) → waits l b.number ≡ w → IsTied b (cond (is_some w || false) l (Acted b.number (Waiting s) ∷ l)) × (has_drained (cond (is_some w || false) l (Acted b.number (Waiting s) ∷ l)) ≡ false)
     by_wait None w = (awaits b l (Acted b.number (Waiting s) ∷ l) s tied refl w still is, still)

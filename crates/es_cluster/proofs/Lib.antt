@@ -24,5 +24,6 @@ pub mod Opening
 pub mod Taking
 pub mod Tying
 pub mod Hearing
+pub mod Sleeping
 pub mod Audited
 pub mod Needless

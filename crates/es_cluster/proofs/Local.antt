@@ -22,7 +22,8 @@ use Rattle.es_event.specs.Variables.{var}
 use Rattle.es_event.specs.Sharing.{row_at, words_of, block_of}
 use Rattle.es_event.specs.Numbers.{index_of, index_read, words_read}
 use Rattle.es_event.specs.Rules.{is_buffer, kind_of, of_index, of_number, of_buffer, refusal, first_refusal, tests, result}
-use Rattle.es_event.specs.Legal.{values_of, word_in, Lawful}
+use Rattle.es_event.specs.Heard.{Heard, heard_by}
+use Rattle.es_event.specs.Legal.{values_of, Lawful}
 use Rattle.es_event.specs.Order.{Due, begin, receive, run, clean, take_cell, finish, end_job, close, nothing, phase, due}
 use Rattle.es_event.specs.Follows.{Permits, refused_now}
 use Rattle.es_event.proofs.Coming.{IsDoneFor, itself, caught, done_so}
@@ -109,7 +110,7 @@ no_object h (Object o) f is none = cc
 no_object h v f is none = cc
 
 did_met : (b : AgentView) (c : Command) → IsRunOver b.over b.plan b.history → AreNamed b → is_ended (phase b.history) ≡ false
-    → first_refusal (tests b.over b.history c (values_of (receivers b.plan.jobs) b.history (reads c))) ≡ None → asked c (values_of (receivers b.plan.jobs) b.history (reads c)) ≡ None → (w : ℕ)
+    → first_refusal (tests b.over b.history c (values_of (receivers b.plan.jobs) b.history (reads c))) ≡ None → asked c (values_of (receivers b.plan.jobs) b.history (reads c)) ≡ None → (w : Heard)
     → after (tickets b) (asks_did c (values_of (receivers b.plan.jobs) b.history (reads c)) (result b.over b.history c (values_of (receivers b.plan.jobs) b.history (reads c)) w)) [] ≡ Some (tickets b)
 did_met b (Length to x) history named going none silent w = measured b _ (buffer_in b x history named going (first_holds _ NotASharedArrayBuffer [] none).0)
 did_met b (SameBlock to x y) history named going none silent w =
@@ -128,13 +129,13 @@ did_itself : (b : AgentView) (x : Option (List ℕ)) (c : Command) (vs : List Va
     → Lawful b.over (receivers b.plan.jobs) b.history (Did (c, vs, r)) → after (tickets b) (asks_did c vs r) [] ≡ Some (tickets b)
 did_itself b x c vs r is history named going lawful =
     let into = receivers b.plan.jobs in
-    let accepted = is_accepted b.over b.history c vs (word_in r) r lawful.1 in
-    let answer = is_result b.over b.history c vs (word_in r) r lawful.1 in
+    let accepted = is_accepted b.over b.history c vs (heard_by c r) r lawful.1 in
+    let answer = is_result b.over b.history c vs (heard_by c r) r lawful.1 in
     let values = lawful.0 in
     let nothing = no_request _ (asked c (values_of into b.history (reads c))) (ap (refusal b.over b.history c) (sym values) ∙ accepted) (local_command b x c is).1 in
     ap (λ r. after (tickets b) (asks_did c vs r) []) (sym answer)
-    ∙ ap (λ vs. after (tickets b) (asks_did c vs (result b.over b.history c vs (word_in r))) []) values
-    ∙ did_met b c history named going (ap (refusal b.over b.history c) (sym values) ∙ accepted) nothing (word_in r)
+    ∙ ap (λ vs. after (tickets b) (asks_did c vs (result b.over b.history c vs (heard_by c r))) []) values
+    ∙ did_met b c history named going (ap (refusal b.over b.history c) (sym values) ∙ accepted) nothing (heard_by c r)
 
 -- the command itself, or the assignment that catches its refusal, which asks for nothing
 done_met : (b : AgentView) (x : Option (List ℕ)) (c d : Command) (vs : List Value) (r : Answer) → need_of b (run x c) ≡ asks_nobody → IsRunOver b.over b.plan b.history → AreNamed b → is_ended (phase b.history) ≡ false

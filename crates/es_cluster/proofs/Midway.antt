@@ -1,9 +1,11 @@
 -- An agent that has done something in the ledger that its history does not tell yet.
 use Rattle.std.proofs.Common.{◌≡◌, ℕ, suc, zero, ◌<◌, ◌==◌, ◌&&◌, ◌||◌, Bool, true, false, cond, not, sym, ◌∙◌, ap, refl, subst, arith, List, [], ◌∷◌, ◌++◌, append-nil, append_assoc, eq-eqb, Option, Some, None, inl, inr}
-use Rattle.std.specs.Prelude.{reverse}
+use Rattle.std.specs.Prelude.{ℤ, is_some, reverse, unwrap_or}
 use Rattle.std.specs.Option.{option_map, option_map_or}
 use Rattle.std.proofs.lemmas.Bool.{cases_Bool, and_parts, eqb-true, eqb-false}
 use Rattle.es_value.specs.declared.value.Value.{Value}
+use Rattle.es_event.specs.declared.access.Task.{Task}
+use Rattle.es_event.specs.declared.access.WaitResult.{WaitResult}
 use Rattle.es_event.specs.declared.command.Command.{Command}
 use Rattle.es_event.specs.declared.command.Command.TheVariants.{SharedArrayBuffer, Length, SameBlock, Atomic, Post}
 use Rattle.es_event.specs.declared.event.Answer.{Answer}
@@ -11,7 +13,10 @@ use Rattle.es_event.specs.declared.event.Event.{Event}
 use Rattle.es_event.specs.declared.ledger_event.Body.TheVariants.{Plain, Block}
 use Rattle.es_event.specs.declared.plan.AgentPlan.{AgentPlan}
 use Rattle.es_event.specs.declared.row.Row.{Row}
+use Rattle.es_event.specs.Commands.{first}
+use Rattle.es_event.specs.Heard.{wait_given}
 use Rattle.es_event.specs.History.{History}
+use Rattle.es_event.specs.Numbers.{index_of, task_of}
 use Rattle.es_event.specs.Jobs.{job}
 use Rattle.es_event.specs.declared.ledger_event.LedgerEvent.{LedgerEvent}
 use Rattle.es_event.specs.declared.ledger_event.LedgerEvent.TheVariants.{Spent, Drained, Acted}
@@ -22,17 +27,19 @@ use Rattle.es_event.specs.Waiters.{asleep}
 use Rattle.es_event.specs.LegalLedger.{ComesNext, LegalSoFar, LegalLedger, all_ended, owed}
 use Rattle.es_event.specs.Order.{phase}
 use Rattle.es_ledger.specs.LedgerView.{LedgerView}
-use Rattle.es_match.specs.Asks.{Asking, to_open, to_receive, to_refuse, between_jobs, asks, asks_did}
-use Rattle.es_match.specs.Patience.{patient, may_do, may_stir, is_patient, has_drained, drained_last, is_nobodys}
+use Rattle.es_match.specs.Asks.{Asking, to_open, to_receive, to_refuse, between_jobs, asks, asks_did, asks_wait, asks_word, given}
+use Rattle.es_match.specs.Patience.{ends_sleep, patient, may_do, may_stir, is_patient, has_drained, drained_last, is_nobodys}
 use Rattle.es_match.specs.Cluster.{DeedsMeet, awaited, is_refusal_asked, refused_senders}
-use Rattle.es_match.specs.Deeds.{Deed, Owned, Opens, Takes, Waits, deed, is_sleep, is_wait, part}
+use Rattle.es_match.specs.declared.deed.Sleep.{Sleep}
+use Rattle.es_match.specs.Deeds.{Deed, Owned, Opens, Sleeps, Takes, Waits, deed, is_sleep, is_wait, part, sleep_of}
+use Rattle.es_match.proofs.Sleeping.{has_a_sleep}
 use Rattle.es_match.specs.Meets.{Tickets, after, came_after, opened_ticket, refused_in, taken_ticket, ticket_in}
 use Rattle.es_record.specs.AgentView.{AgentView, Records, with_row}
 use Rattle.es_rules.specs.Needs.{asks_message, need}
 use Rattle.es_agent.specs.Tickets.{is_ended, tickets}
 use Rattle.es_ticket.specs.Stakes.{StakeView}
-use Rattle.es_cluster.specs.Midway.{IsHeld, IsReady, Midway}
-use Rattle.es_cluster.specs.Tied.{IsSettled, IsTied, came_to}
+use Rattle.es_cluster.specs.Midway.{IsHeld, IsReady, Midway, asks_to_sleep}
+use Rattle.es_cluster.specs.Tied.{AsksFor, IsSettled, IsTied, came_to}
 use Rattle.es_cluster.specs.Turned.{IsSeated}
 use Rattle.es_cluster.proofs.Growing.{part_own, part_waits}
 
@@ -40,12 +47,26 @@ use Rattle.es_cluster.proofs.Growing.{part_own, part_waits}
 pub whole : {b : AgentView} {s : StakeView} {l : LedgerView} → IsHeld b s l → IsSeated b l → IsTied b l.history → IsReady b s l
 whole held seated tied = record { held = held.held; seated = seated; tied = tied; legal = held.legal; holder = held.holder }
 
-pub begun : (b : AgentView) (l : Ledger) → IsTied b l → Midway b l []
-begun b l tied = record {
+-- Who is awake
+
+-- an agent that does not ask to sleep
+pub awake : (b : AgentView) (l : Ledger) → IsTied b l → asks_to_sleep (need b) ≡ false → asleep l b.number ≡ false
+awake b l tied other = by_sleep (sleep_of l b.number) refl
+  where
+    by_sleep : (s : Option Sleep) → sleep_of l b.number ≡ s → asleep l b.number ≡ false
+    by_sleep None is = sym (has_a_sleep l b.number) ∙ ap is_some is
+    by_sleep (Some s) is = let clash : true ≡ false = sym (ap asks_to_sleep (tied.sleeps s is).1) ∙ other in cc
+
+-- who is awake has no sleep
+pub no_sleep : (l : Ledger) (a : ℕ) (s : Sleep) → asleep l a ≡ false → sleep_of l a ≡ Some s → ⊥
+no_sleep l a s awake is = let clash : true ≡ false = sym (ap is_some is) ∙ has_a_sleep l a ∙ awake in cc
+
+pub begun : (b : AgentView) (l : Ledger) → IsTied b l → asleep l b.number ≡ false → Midway b l []
+begun b l tied awake = record {
   told = part l b.number;
   mine = tied.ties;
   split = sym (append-nil (part l b.number));
-  awake = tied.awake;
+  awake = awake;
   waits_end = tied.waits_end;
   drains_end = tied.drains_end;
 }
@@ -126,11 +147,21 @@ pub refused_alone : (t u : Tickets) (q : Asking) → after t q [] ≡ Some u →
 refused_alone t u to_refuse met = cc
 refused_alone t u _ met = refl
 
+wait_not_refused : (v : Value) (j : ℤ) (w : ℕ) (e : WaitResult) → is_refusal_asked (asks_wait v j w e) ≡ false
+wait_not_refused v j w WaitResult.Woken = refl
+wait_not_refused v j w WaitResult.NotEqual = refl
+wait_not_refused v j w WaitResult.TimedOut = refl
+
+word_not_refused : (v : Value) (j : ℤ) (t : Task) (u : Value) → is_refusal_asked (asks_word v j t u) ≡ false
+word_not_refused v j (Task.Access a) u = refl
+word_not_refused v j (Task.Sleep w) u = wait_not_refused v j w (wait_given u)
+word_not_refused v j (Task.Notify n) u = refl
+
 pub did_not_refuse : (c : Command) (vs : List Value) (r : Answer) → is_refusal_asked (asks_did c vs r) ≡ false
 did_not_refuse (SharedArrayBuffer to n) vs r = refl
 did_not_refuse (Length to b) vs r = refl
 did_not_refuse (SameBlock to b c) vs r = refl
-did_not_refuse (Atomic a) vs r = refl
+did_not_refuse (Atomic a) vs r = word_not_refused (first vs) (index_of a vs) (task_of a vs) (given r)
 did_not_refuse (Post a y) vs r = refl
 did_not_refuse _ vs r = refl
 
@@ -159,11 +190,12 @@ tells old new row l ds e mid records met came named free =
       tied = record {
         ties = subst (λ h. DeedsMeet h (part l new.number) (came_to new)) (sym grown) (mid.told, ds, came_to old, ap (part l) same ∙ mid.split, mid.mine, brought);
         awaits = λ s is. (let none : ◌≡◌ {A = Option ℕ} None (Some s) = sym free ∙ ap (waits l) (sym same) ∙ is in cc);
-        awake = ap (asleep l) same ∙ mid.awake;
+        sleeps = λ s is. absurd (no_sleep l old.number s mid.awake (ap (sleep_of l) (sym same) ∙ is));
         waits_end = mid.waits_end;
         drains_end = mid.drains_end;
       };
       free = ap (waits l) same ∙ free;
+      awake = ap (asleep l) same ∙ mid.awake;
     }
 
 -- the agent begins to wait
@@ -171,13 +203,48 @@ pub awaits : (b : AgentView) (l m : Ledger) (s : ℕ) → IsTied b l → m ≡ A
 awaits b l m s tied more free none is = subst (IsTied b) (sym more) (record {
   ties = subst (λ p. DeedsMeet b.history p (came_to b)) (sym (part_waits l (Acted b.number (Waiting s)) b.number b.number (Waits s) refl refl)) tied.ties;
   awaits = λ t w. is ∙ ap asks_message (awaited t w);
-  awake = tied.awake;
-  waits_end = still_patient l (Acted b.number (Waiting s)) b.number (Waits s) tied.waits_end refl (ap (λ w. may_do w (Waits s)) free) tied.awake;
+  sleeps = tied.sleeps;
+  waits_end = still_patient l (Acted b.number (Waiting s)) b.number (Waits s) tied.waits_end refl (ap (λ w. may_do w (Waits s)) free) (awake b l tied (ap asks_to_sleep is));
   drains_end = still_last l (Acted b.number (Waiting s)) b.number (Waits s) tied.drains_end refl none;
 })
   where
     awaited : (t : ℕ) → waits (Acted b.number (Waiting s) ∷ l) b.number ≡ Some t → s ≡ t
     awaited t w = let same : ◌≡◌ {A = Option ℕ} (Some s) (Some t) = sym (ap (λ c. cond c (Some s) (waits l b.number)) (eq-eqb b.number b.number refl)) ∙ w in cc
+
+-- Sleeps
+
+-- the agent begins to sleep
+pub lies_down : (b : AgentView) (l m : Ledger) (s : Sleep) → IsTied b l → m ≡ Acted b.number (Slept s.serial s.index s.word) ∷ l → waits l b.number ≡ None → asleep l b.number ≡ false → has_drained l ≡ false → AsksFor b s → IsTied b m
+lies_down b l m s tied more free awake none asks = subst (IsTied b) (sym more) (record {
+  ties = subst (λ p. DeedsMeet b.history p (came_to b)) (sym (part_waits l e b.number b.number d refl refl)) tied.ties;
+  awaits = λ t w. (let clash : ◌≡◌ {A = Option ℕ} None (Some t) = sym free ∙ w in cc);
+  sleeps = λ t is. subst (AsksFor b) (let same : ◌≡◌ {A = Option Sleep} (Some s) (Some t) = sym (ap (λ c. cond c (Some s) (sleep_of l b.number)) (eq-eqb b.number b.number refl)) ∙ is in inner same) asks;
+  waits_end = still_patient l e b.number d tied.waits_end refl (ap (λ w. may_do w d) free) awake;
+  drains_end = still_last l e b.number d tied.drains_end refl none;
+})
+  where
+    e : LedgerEvent
+    e = Acted b.number (Slept s.serial s.index s.word)
+
+    d : Deed
+    d = Sleeps s.serial s.index s.word
+
+    inner : {s t : Sleep} → ◌≡◌ {A = Option Sleep} (Some s) (Some t) → s ≡ t
+    inner {s} is = ap (λ o. unwrap_or o s) is
+
+-- an agent that sleeps goes on: by this deed, which ends its sleep
+pub rises : (b : AgentView) (l m : Ledger) (e : LedgerEvent) (d : Deed) → IsTied b l → asleep l b.number ≡ true → m ≡ e ∷ l → deed l e ≡ Some (b.number, d) → is_wait d ≡ false → ends_sleep d ≡ true → asleep (e ∷ l) b.number ≡ false → waits l b.number ≡ None
+    → has_drained l ≡ false → Midway b m (d ∷ [])
+rises b l m e d tied sleeping more is w ends awake free none = subst (λ m. Midway b m (d ∷ [])) (sym more) (record {
+  told = part l b.number;
+  mine = tied.ties;
+  split = part_own l e b.number d is w;
+  awake = awake;
+  waits_end =
+      ap (λ o. is_patient l o && patient l) is ∙ ap (λ w. (may_do w d && may_stir (asleep l b.number) d) && patient l) free ∙ ap (λ b. may_stir b d && patient l) sleeping
+      ∙ ap (λ b. b && patient l) ends ∙ tied.waits_end;
+  drains_end = still_last l e b.number d tied.drains_end is none;
+})
 
 -- Who waits for nobody
 

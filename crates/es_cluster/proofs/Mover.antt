@@ -8,16 +8,15 @@ use Rattle.es_event.specs.declared.ledger_event.LedgerEvent.TheVariants.{Acted}
 use Rattle.es_event.specs.declared.ledger_event.Act.TheVariants.{Waiting as WaitingEvent, Passed}
 use Rattle.es_event.specs.Ledger.{Ledger, ended, waits}
 use Rattle.es_event.specs.Waiters.{asleep, is_listed}
-use Rattle.es_event.specs.LegalLedger.{has_message, is_stuck, all_stuck, all_ended, is_chosen, skips}
+use Rattle.es_event.specs.LegalLedger.{has_message, is_stuck, all_stuck, is_chosen, skips}
 use Rattle.es_event.specs.Order.{Phase, between, handed, inside, stopped, ended as at_end, phase, due_at}
 use Rattle.es_agent.specs.Tickets.{is_ended}
 use Rattle.es_ledger.specs.Turns.{asked, judged, told}
 use Rattle.es_ledger.specs.declared.turn.Turn.{Turn}
 use Rattle.es_ledger.specs.declared.turn.Turn.TheVariants.{Ready, Stay, Skip}
 use Rattle.es_cluster.proofs.Hearing.{where_stay}
-use Rattle.es_cluster.proofs.Midway.{still_over}
 use Rattle.es_record.specs.AgentView.{AgentView}
-use Rattle.es_rules.specs.Needs.{asks_message, asks_nothing, need_of, need}
+use Rattle.es_rules.specs.Needs.{Request, asks_ledger, asks_message, asks_nothing, need_of, need}
 use Rattle.es_cluster.specs.Moves.{goes_on_by, goes_on, is_over}
 
 -- The first that passes
@@ -71,12 +70,12 @@ over_at b at_end is = refl
 pub over_asks_nothing : (b : AgentView) → is_over b ≡ true → need b ≡ asks_nothing
 over_asks_nothing b is = over_at b (phase b.history) is
 
-abbrev vain : Ledger → ℕ → Bool
+abbrev pub vain : Ledger → ℕ → Bool
 vain l a = option_map_or (λ s. not (has_message l s a) && not (ended l s)) (waits l a) false
 
 -- it does not go on
-pub settled_stays : (l : Ledger) (b : AgentView) → ended l b.number ≡ is_over b → is_listed l b.number ≡ false → ((s : ℕ) → waits l b.number ≡ Some s → need b ≡ asks_message s) → is_settled l b.number ≡ true → goes_on l b ≡ false
-settled_stays l b over unlisted awaits is = by_end (ended l b.number) refl is
+pub settled_stays : (l : Ledger) (b : AgentView) → ended l b.number ≡ is_over b → (is_listed l b.number ≡ true → (r : Request) × (need b ≡ asks_ledger r)) → ((s : ℕ) → waits l b.number ≡ Some s → need b ≡ asks_message s) → is_settled l b.number ≡ true → goes_on l b ≡ false
+settled_stays l b over lists awaits is = by_end (ended l b.number) refl is
   where
     by_wait : (w : Option ℕ) → waits l b.number ≡ w → option_map_or (λ s. not (has_message l s b.number) && not (ended l s)) w false ≡ true → goes_on l b ≡ false
     by_wait None w stuck = cc
@@ -91,7 +90,11 @@ settled_stays l b over unlisted awaits is = by_end (ended l b.number) refl is
 
     by_end : (e : Bool) → ended l b.number ≡ e → (e || is_stuck l b.number) ≡ true → goes_on l b ≡ false
     by_end true e stuck = ap (goes_on_by l b.number) (over_asks_nothing b (sym over ∙ e))
-    by_end false e stuck = by_wait (waits l b.number) refl (sym (ap (λ t. t || vain l b.number) unlisted) ∙ stuck)
+    by_end false e stuck = by_list (is_listed l b.number) refl stuck
+      where
+        by_list : (t : Bool) → is_listed l b.number ≡ t → (t || vain l b.number) ≡ true → goes_on l b ≡ false
+        by_list true t stuck = ap (goes_on_by l b.number) (lists t).1 ∙ ap not t
+        by_list false t stuck = by_wait (waits l b.number) refl stuck
 
 -- An agent that asks for a message
 
@@ -141,7 +144,7 @@ asked_vain l a s t other = at (waits (asked l a s) t) (waits l t) (asked_waits l
         subst (λ w. (not (has_message (asked l a s) v t) && not (ended (asked l a s) v)) ≡ (not (has_message l w t) && not (ended l w))) u
         (rw (asked_message l a s v t, asked_ends l a s v) refl)
 
-asked_settled : (l : Ledger) (a s t : ℕ) → (t ≡ a → ⊥) → is_settled (asked l a s) t ≡ is_settled l t
+pub asked_settled : (l : Ledger) (a s t : ℕ) → (t ≡ a → ⊥) → is_settled (asked l a s) t ≡ is_settled l t
 asked_settled l a s t other =
     ap (λ e. e || is_stuck (asked l a s) t) (asked_ends l a s t)
     ∙ ap (λ b. ended l t || (b || vain (asked l a s) t)) (asked_lists l a s t)
@@ -150,20 +153,6 @@ asked_settled l a s t other =
 or_right : (b c : Bool) → c ≡ true → (b || c) ≡ true
 or_right true c is = refl
 or_right false c is = is
-
--- where it waits in vain itself, so do those that did before
-pub asked_stuck : (l : Ledger) (a s n : ℕ) → is_settled (asked l a s) a ≡ true → all_stuck l n ≡ true → all_stuck (asked l a s) n ≡ true
-asked_stuck l a s zero here all = refl
-asked_stuck l a s (suc n) here all =
-    let parts = and_parts (is_settled l n) (all_stuck l n) all in
-    rw (at (n == a) refl parts.0, asked_stuck l a s n here parts.1) refl
-  where
-    at : (b : Bool) → (n == a) ≡ b → is_settled l n ≡ true → is_settled (asked l a s) n ≡ true
-    at true e was = ap (is_settled (asked l a s)) (eqb-true n a e) ∙ here
-    at false e was = asked_settled l a s n (eqb-false n a e) ∙ was
-
-pub asked_all_ended : (l : Ledger) (a s n : ℕ) → all_ended l n ≡ true → all_ended (asked l a s) n ≡ true
-asked_all_ended l a s n all = by_asked (λ k. all_ended k n ≡ true) l a s all (still_over (Acted a (WaitingEvent s)) l n all)
 
 -- one that is told to stay waits in vain from then on, and is not the lowest of agents that all do
 pub record StaysHere (l k : Ledger) (n : ℕ) (b : AgentView) (s : ℕ) : Type 0 where

@@ -1,7 +1,9 @@
--- An agent that asks for a message, or for nothing, rests; and each turn leaves less of an agent's work.
-use Rattle.std.proofs.Common.{◌≡◌, ℕ, ◌<◌, Bool, true, false, cond, sym, ◌∙◌, ap, refl, List, [], ◌∷◌, Option, Some, None}
+-- An agent that asks for a message, or for nothing, rests; each turn leaves less of an agent's work; and one that was at its cleanup queue
+-- is still, or rests.
+use Rattle.std.proofs.Common.{◌≡◌, ℕ, ◌<◌, Bool, true, false, cond, sym, ◌∙◌, ap, refl, List, [], ◌∷◌, Option, Some, None, ◌⊎◌, inl, inr}
 use Rattle.es_event.specs.declared.command.Command.{Command}
 use Rattle.es_event.specs.declared.event.Event.{Event}
+use Rattle.es_event.specs.declared.event.Event.TheVariants.{Did, Emptied, Refused, Taken}
 use Rattle.es_event.specs.declared.plan.AgentPlan.{AgentPlan}
 use Rattle.es_event.specs.Later.{snapshot, collects_now}
 use Rattle.es_event.specs.Follows.{Follows}
@@ -12,7 +14,7 @@ use Rattle.es_event.specs.Runs.{IsRunOver}
 use Rattle.es_event.specs.Sharing.{Buffers}
 use Rattle.es_event.proofs.Awaiting.{between_clean}
 use Rattle.es_event.proofs.Coming.{Comes, begins_job, begins_handed, receives, skips, refuses_message, begins_cleanup, does, refuses, empties_dead, takes, ends, stops, finishes, finishes_stopped, closes, comes, next_cell}
-use Rattle.es_event.proofs.Work.{plan_work, cleanup_work, cleanup_less, plan_less}
+use Rattle.es_event.proofs.Work.{plan_work, cleanup_work, cleanup_less, in_cleanup, not_due, not_handed, plan_less}
 use Rattle.es_agent.specs.Tickets.{is_ended}
 use Rattle.es_cluster.specs.Turned.{GrowsByOne}
 use Rattle.es_record.specs.AgentView.{AgentView, with_row}
@@ -156,3 +158,44 @@ less_cleaning old new quiet run up step =
 
 pub less_next : (old new : AgentView) → IsRunOver old.over old.plan old.history → is_cleaning_up old.history ≡ false → GrowsByOne old new → plan_work new.plan new.history < plan_work old.plan old.history
 less_next old new run still step = rw step.3 (plan_less old.over (with_row step.1 old).over old.plan old.history step.0 run.1 still (step.2.lawful, step.2.permitted))
+
+-- One that was at its cleanup queue is still, or rests
+
+kept_cleaning : (h : History) (e : Event) (at : Phase) → is_cleaning_up h ≡ true → phase h ≡ at → (at ≡ between → ⊥) → cleaning (e ∷ h) ≡ cleaning h → is_cleaning_up (e ∷ h) ≡ true
+kept_cleaning h e at up here busy same = let clean = in_cleanup h at up here busy in ap (λ o. cleans_up o (phase (e ∷ h)) (queue (e ∷ h))) (same ∙ clean.1)
+
+sweep_next : (over other : Buffers) (plan : AgentPlan) (h : History) (at : Phase) (e : Event) → Comes other (receivers plan.jobs) plan h at e → phase h ≡ at → Follows over plan h → is_cleaning_up h ≡ true → (is_cleaning_up (e ∷ h) ≡ true) ⊎ (is_between (e ∷ h) ≡ true)
+sweep_next over other plan h at _ (begins_job k j b none is same) here f up = absurd (not_due h (here ∙ b) none up)
+sweep_next over other plan h at _ (begins_handed k i same) here f up = absurd (not_handed over plan h f (here ∙ i) up)
+sweep_next over other plan h at _ (receives j s v b none is on room) here f up = absurd (not_due h (here ∙ b) none up)
+sweep_next over other plan h at _ (skips k j s b none is on same) here f up = absurd (not_due h (here ∙ b) none up)
+sweep_next over other plan h at _ (refuses_message j code b none is on same) here f up = absurd (not_due h (here ∙ b) none up)
+sweep_next over other plan h at _ (begins_cleanup r rs b is) here f up = inl refl
+sweep_next over other plan h at _ (does b c cs vs a i is by) here f up = inl (kept_cleaning h (Did (c, vs, a)) inside up (here ∙ i) (λ e. cc) refl)
+sweep_next over other plan h at _ (refuses c cs code i is) here f up = inl (kept_cleaning h (Refused code) inside up (here ∙ i) (λ e. cc) refl)
+sweep_next over other plan h at _ (empties_dead c cs ids i is co dead) here f up = inl (kept_cleaning h (Emptied ids) inside up (here ∙ i) (λ e. cc) refl)
+sweep_next over other plan h at _ (takes n v i is next) here f up = inl (kept_cleaning h (Taken n v) inside up (here ∙ i) (λ e. cc) refl)
+sweep_next over other plan h at _ (ends i is none shut) here f up = inr refl
+sweep_next over other plan h at _ (stops s shut) here f up = inr refl
+sweep_next over other plan h at _ (finishes ids i is none fin) here f up = inl (kept_cleaning h (Emptied ids) inside up (here ∙ i) (λ e. cc) refl)
+sweep_next over other plan h at _ (finishes_stopped ids s fin) here f up = inl (kept_cleaning h (Emptied ids) stopped up (here ∙ s) (λ e. cc) refl)
+sweep_next over other plan h at _ (closes b none) here f up = absurd (not_due h (here ∙ b) none up)
+
+pub sweeps : (old new : AgentView) → IsRunOver old.over old.plan old.history → is_cleaning_up old.history ≡ true → GrowsByOne old new → (is_cleaning_up new.history ≡ true) ⊎ (rests new ≡ true)
+sweeps old new run up step = by (is_cleaning_up new.history) refl
+  where
+    e : Event
+    e = step.0
+
+    next : (is_cleaning_up (e ∷ old.history) ≡ true) ⊎ (is_between (e ∷ old.history) ≡ true)
+    next = sweep_next old.over (with_row step.1 old).over old.plan old.history (phase old.history) e (comes (with_row step.1 old).over old.plan old.history e step.2.permitted) refl run.1 up
+
+    grown : new.history ≡ e ∷ old.history
+    grown = ap (λ b. b.history) step.3
+
+    by : (c : Bool) → is_cleaning_up new.history ≡ c → (is_cleaning_up new.history ≡ true) ⊎ (rests new ≡ true)
+    by true c = inl c
+    by false c = elim next [
+      | inl again ↦ (let clash : true ≡ false = sym again ∙ ap is_cleaning_up (sym grown) ∙ c in cc)
+      | inr over ↦ inr (rw (ap is_between grown ∙ over, c) refl)
+    ]

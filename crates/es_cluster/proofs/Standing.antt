@@ -1,6 +1,6 @@
 -- A turn of one agent leaves the others as they are.
-use Rattle.std.proofs.Common.{◌≡◌, ℕ, zero, suc, ◌<◌, ◌≤◌, ◌==◌, sym, ◌∙◌, ap, refl, subst, arith, List, [], ◌∷◌, map, length, Option, Some, None, inl, inr}
-use Rattle.std.specs.Prelude.{slice_get, slice_set, slice_index_or}
+use Rattle.std.proofs.Common.{◌≡◌, ℕ, zero, suc, ◌<◌, ◌≤◌, ◌==◌, sym, ◌∙◌, ap, refl, subst, arith, List, [], ◌∷◌, map, length, Option, Some, None, Result, Ok, Err, inl, inr}
+use Rattle.std.specs.Prelude.{IfOk, slice_get, slice_set, slice_index_or}
 use Rattle.std.proofs.lemmas.Bool.{cases_Bool, eqb-true, eqb-false}
 use Rattle.es_event.specs.Others.{names_others}
 use Rattle.es_event.specs.Ledger.{Ledger}
@@ -11,11 +11,12 @@ use Rattle.es_match.specs.Meets.{Came, nothing_came}
 use Rattle.es_record.specs.AgentView.{AgentView}
 use Rattle.es_cluster.specs.Members.{MemberView}
 use Rattle.es_cluster.specs.Tied.{GrowsBy, IsTied, came_to}
-use Rattle.es_cluster.specs.Turned.{IsSeated, IsTiedAfter, OthersStay, Proceeds}
+use Rattle.es_value.specs.declared.error.NoMemory.{NoMemory}
+use Rattle.es_cluster.specs.Turned.{IsSeated, IsTiedAfter, OthersStay, Proceeds, ProceedsBeside}
 use Rattle.es_cluster.specs.declared.member.Progress.{Progress}
 use Rattle.es_cluster.specs.declared.member.Progress.TheVariants.{Moved, Waiting, Ended}
 use Rattle.es_cluster.specs.Turns.{Takes}
-use Rattle.es_cluster.proofs.Growing.{asleep_stays, part_stays, waits_stay, ended_stays}
+use Rattle.es_cluster.proofs.Growing.{part_stays, sleep_stays, waits_stay, ended_stays}
 use Rattle.es_cluster.specs.State.{account, accounts, cores, IsPlaced, ArePlaced, AreTied}
 
 -- Lists in which one is changed
@@ -75,7 +76,7 @@ pub tied_still : (b : AgentView) (l m : Ledger) (n : ℕ) → (b.number ≡ n �
 tied_still b l m n other grows tied new after = record {
   ties = subst (λ p. DeedsMeet b.history p (came_to b)) (sym (part_stays n b.number l m grows other)) tied.ties;
   awaits = λ s is. tied.awaits s (sym (waits_stay n b.number l m grows other) ∙ is);
-  awake = asleep_stays n b.number l m grows other ∙ tied.awake;
+  sleeps = λ s is. tied.sleeps s (sym (sleep_stays n b.number l m grows other) ∙ is);
   waits_end = after.waits_end;
   drains_end = after.drains_end;
 }
@@ -156,8 +157,14 @@ found_at (m ∷ ms) (suc i) d within = found_at ms i d (omega (arith, within))
 
 pub takes_of : (p : Progress) (old new : MemberView) → Proceeds p old new → Takes p old.core new.core
 takes_of Moved old new turn = turn
-takes_of Waiting old new turn = (turn.0, turn.1, ap (λ m. m.core) turn.2)
+takes_of Waiting old new turn = (turn.0, ap (λ m. m.core) turn.1)
 takes_of Ended old new turn = (turn.0, ap (λ m. m.core) turn.1)
+
+pub beside_too : (r : Result Progress NoMemory) (old new : MemberView) → IfOk r (λ p. Proceeds p old new) → IfOk r (λ p. ProceedsBeside p old new)
+beside_too (Ok Moved) old new turn = turn
+beside_too (Ok Waiting) old new turn = turn
+beside_too (Ok Ended) old new turn = turn.1
+beside_too (Err e) old new turn = tt
 
 pub tied_of : (p : Progress) (b : AgentView) (l : Ledger) → IsTiedAfter p b l → IsTied b l
 tied_of Moved b l settled = settled.tied

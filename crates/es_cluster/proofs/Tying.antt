@@ -4,10 +4,14 @@ use Rattle.std.proofs.lemmas.List.{reverse-append}
 use Rattle.std.specs.List.{Contains}
 use Rattle.es_value.specs.Values.{identity}
 use Rattle.es_value.specs.declared.value.Value.{Value}
-use Rattle.es_value.specs.declared.value.Value.TheVariants.{Object}
+use Rattle.es_value.specs.declared.value.Value.TheVariants.{Number, Object, Text}
+use Rattle.std.specs.Prelude.{pos, ◌==◌}
 use Rattle.es_event.specs.declared.access.Access.{Access}
+use Rattle.es_event.specs.declared.access.Change.{Change}
+use Rattle.es_event.specs.declared.access.Task.{Task}
+use Rattle.es_event.specs.declared.access.WaitResult.{WaitResult}
 use Rattle.es_event.specs.declared.event.Answer.{Answer}
-use Rattle.es_event.specs.declared.event.Answer.TheVariants.{Nothing}
+use Rattle.es_event.specs.declared.event.Answer.TheVariants.{Nothing, Gives}
 use Rattle.es_event.specs.declared.event.Event.{Event}
 use Rattle.es_event.specs.declared.event.Event.TheVariants.{Received, Refused, Emptied, Skipped, Closed}
 use Rattle.es_event.specs.declared.event.Refusal.TheVariants.{TooManyValues}
@@ -15,13 +19,14 @@ use Rattle.es_event.specs.declared.ledger_event.Body.{Body}
 use Rattle.es_event.specs.declared.ledger_event.Body.TheVariants.{Plain, Block}
 use Rattle.es_event.specs.declared.ledger_event.LedgerEvent.{LedgerEvent}
 use Rattle.es_event.specs.declared.ledger_event.LedgerEvent.TheVariants.{Opened, Posted, Taken, Spent, Accessed, Acted}
-use Rattle.es_event.specs.declared.ledger_event.Act.TheVariants.{Passed, Ended}
+use Rattle.es_event.specs.declared.ledger_event.Act.TheVariants.{Notified, Passed, Ended}
 use Rattle.es_event.specs.declared.row.Row.{Row}
-use Rattle.es_event.specs.Access.{change_by}
+use Rattle.es_event.specs.Access.{change_by, wait_text}
 use Rattle.es_event.specs.Commands.{reads}
 use Rattle.es_event.specs.Jobs.{receivers}
 use Rattle.es_event.specs.Identities.{made}
 use Rattle.es_event.specs.Ledger.{Ledger, size, front as front_of, holder_of, waits}
+use Rattle.es_event.specs.Waiters.{asleep}
 use Rattle.es_event.specs.Rows.{row}
 use Rattle.es_event.specs.Sharing.{Buffers}
 use Rattle.es_event.specs.Legal.{values_of}
@@ -31,23 +36,23 @@ use Rattle.es_ledger.specs.LedgerView.{LedgerView}
 use Rattle.es_match.specs.Asks.{Asking, to_open, to_receive, to_refuse, to_pass, to_empty, to_close, between_jobs, asks, asks_did}
 use Rattle.es_match.specs.Patience.{may_do, has_drained}
 use Rattle.es_match.specs.Cluster.{is_refusal_asked}
-use Rattle.es_match.specs.Deeds.{Deed, Opens, Posts, Takes, Spends, Accesses, Passes, Ends, by_holder, taking, deed, is_sleep, is_wait}
+use Rattle.es_match.specs.Deeds.{Deed, Opens, Posts, Takes, Spends, Accesses, Notifies, Passes, Ends, by_holder, taking, deed, is_sleep, is_wait}
 use Rattle.es_match.specs.Meets.{Tickets, after, refused_in, some_if, ticket_in}
 use Rattle.es_ticket.specs.Stakes.{StakeView, at}
 use Rattle.es_record.specs.AgentView.{AgentView, Records}
-use Rattle.es_rules.specs.Needs.{Request, for_block, for_post, for_buffer_post, for_access, Need, asks_nobody, asks_marks, asks_copy, asks_late_marks, asks_ledger, asks_message, asks_closing, asks_nothing, need, need_of, Brings}
+use Rattle.es_rules.specs.Needs.{Request, for_block, for_post, for_buffer_post, for_word, Need, asks_nobody, asks_marks, asks_copy, asks_late_marks, asks_ledger, asks_message, asks_closing, asks_nothing, need, need_of, Brings}
 use Rattle.es_rules.proofs.Needs.{message_due}
 use Rattle.es_agent.specs.Tickets.{tickets, RecordsNext, Empties, Collects, Finishes, Admits, RefusesMessage, Receives, DoesWith, Skips}
 use Rattle.es_agent.specs.Later.{opening}
 use Rattle.es_agent.proofs.Racks.{emptied_tickets}
-use Rattle.es_cluster.specs.Midway.{IsReady, Midway, HasFetched, Fetches, answer_to}
+use Rattle.es_cluster.specs.Midway.{IsReady, Midway, HasFetched, Fetches, answer_to, asks_to_sleep}
 use Rattle.es_cluster.specs.Tied.{AreDeedsOf, GrowsBy, IsSettled, IsTied}
 use Rattle.es_cluster.specs.Turned.{spent}
 use Rattle.es_cluster.proofs.Aims.{open_for}
-use Rattle.es_cluster.proofs.Asking.{due_command, access_asks, access_met, open_asks, open_met, post_asks, post_met, buffer_asks, buffer_met, receive_met, admit_met, skip_met, at_message, awaited_at}
+use Rattle.es_cluster.proofs.Asking.{due_command, ended_so, miss_met, notify_met, word_asks, access_met, open_asks, open_met, post_asks, post_met, buffer_asks, buffer_met, receive_met, admit_met, skip_met, at_message, awaited_at}
 use Rattle.es_cluster.proofs.Growing.{by_ticket, grows_one}
 use Rattle.es_cluster.proofs.Local.{AreNamed, local_met}
-use Rattle.es_cluster.proofs.Midway.{brings_ticket, begun, did_not_refuse, does, no_ticket, no_ticket_alone, refused_alone, tells, unnamed, free, undrained}
+use Rattle.es_cluster.proofs.Midway.{awake, brings_ticket, begun, did_not_refuse, does, no_ticket, no_ticket_alone, refused_alone, tells, unnamed, free, undrained}
 use Rattle.es_cluster.proofs.MovingMembers.{local_leaves, opened_leaves, done_stays, received_stays, skipped_stays, refused_stays, admitted_tickets}
 use Rattle.es_cluster.proofs.SpentAll.{all_spent, spends_all, empty_met, close_met}
 
@@ -62,7 +67,7 @@ local_ties old new s l ready is history named r =
     let stays = local_leaves old new is r in
     let met = local_met old r.0 is r.1 history named in
     let q = asks (between_jobs old.history) r.0 in
-    tells old new None l.history [] r.0 (begun old l.history ready.tied) r.2
+    tells old new None l.history [] r.0 (begun old l.history ready.tied (awake old l.history ready.tied (ap asks_to_sleep is))) r.2
     (met ∙ ap Some (sym stays.same))
     (unbrought old.over (ticket_in q []) (no_ticket_alone q))
     (unnamed old q [] (refused_alone (tickets old) (tickets old) q met))
@@ -74,7 +79,7 @@ opened_ties old new s l ready is r =
     let stays = opened_leaves old new is r in
     let met : after (tickets old) (asks (between_jobs old.history) opening) [] ≡ Some (tickets old) = refl in
     let q = asks (between_jobs old.history) opening in
-    tells old new None l.history [] opening (begun old l.history ready.tied) r
+    tells old new None l.history [] opening (begun old l.history ready.tied (awake old l.history ready.tied (ap asks_to_sleep is))) r
     (met ∙ ap Some (sym stays.same))
     (unbrought old.over (ticket_in q []) (no_ticket_alone q))
     (unnamed old q [] (refused_alone (tickets old) (tickets old) q met))
@@ -82,35 +87,60 @@ opened_ties old new s l ready is r =
 
 -- One deed
 
-one_deed : (old new : AgentView) (s : StakeView) (l : LedgerView) (m : Ledger) (e : LedgerEvent) (d : Deed) (told : Event) (r : Request) → IsReady old s l → need old ≡ asks_ledger r
-    → m ≡ e ∷ l.history → deed l.history e ≡ Some (old.number, d) → is_wait d ≡ false → is_sleep d ≡ false → waits (e ∷ l.history) old.number ≡ waits l.history old.number
-    → Records old told new → brings_ticket d ≡ false → is_refusal_asked (asks (between_jobs old.history) told) ≡ false → after (tickets old) (asks (between_jobs old.history) told) (d ∷ []) ≡ Some (tickets new) → IsSettled new m
-one_deed old new s l m e d told r ready is more did wait up same records none_comes calm met =
-    let none = free old l.history ready.tied (λ s other. let clash : asks_ledger r ≡ asks_message s = sym is ∙ other in cc) in
-    let going = open_for old (asks_ledger r) (λ f. cc) is in
+told_one : (old new : AgentView) (m : Ledger) (d : Deed) (told : Event) → Midway old m (d ∷ []) → Records old told new → brings_ticket d ≡ false → is_refusal_asked (asks (between_jobs old.history) told) ≡ false
+    → after (tickets old) (asks (between_jobs old.history) told) (d ∷ []) ≡ Some (tickets new) → waits m old.number ≡ None → IsSettled new m
+told_one old new m d told mid records none_comes calm met free =
     let q = asks (between_jobs old.history) told in
-    tells old new None m (d ∷ []) told
-    (does old l.history m [] e d (begun old l.history ready.tied) more did wait up (ap (λ w. may_do w d) none) (undrained old l ready.legal ready.seated going))
-    records met (unbrought old.over (ticket_in q (d ∷ [])) (no_ticket q d none_comes)) (unnamed old q (d ∷ []) calm) (ap (λ m. waits m old.number) more ∙ same ∙ none)
+    tells old new None m (d ∷ []) told mid records met (unbrought old.over (ticket_in q (d ∷ [])) (no_ticket q d none_comes)) (unnamed old q (d ∷ []) calm) free
 
 -- one that answers the due command
-done_ties : (old new : AgentView) (s : StakeView) (l : LedgerView) (m : Ledger) (e : LedgerEvent) (d : Deed) (r : Request) (a : Answer) → IsReady old s l → need old ≡ asks_ledger r
-    → m ≡ e ∷ l.history → deed l.history e ≡ Some (old.number, d) → is_wait d ≡ false → is_sleep d ≡ false → waits (e ∷ l.history) old.number ≡ waits l.history old.number
-    → (done : DoesWith old a new) → brings_ticket d ≡ false → after (tickets old) (asks_did done.1.0 (values_of (receivers old.plan.jobs) old.history (reads done.1.0)) a) (d ∷ []) ≡ Some (tickets old) → IsSettled new m
-done_ties old new s l m e d r a ready is more did wait up same done none_comes met =
+pub told_done : (old new : AgentView) (m : Ledger) (d : Deed) (a : Answer) → Midway old m (d ∷ []) → (done : DoesWith old a new) → brings_ticket d ≡ false
+    → after (tickets old) (asks_did done.1.0 (values_of (receivers old.plan.jobs) old.history (reads done.1.0)) a) (d ∷ []) ≡ Some (tickets old) → waits m old.number ≡ None → IsSettled new m
+told_done old new m d a mid done none_comes met free =
     let stays = done_stays old new a done in
-    one_deed old new s l m e d done.0 r ready is more did wait up same done.3 none_comes
+    told_one old new m d done.0 mid done.3 none_comes
     (ap (λ e. is_refusal_asked (asks (between_jobs old.history) e)) done.1.2 ∙ did_not_refuse done.1.0 _ a)
     (ap (λ e. after (tickets old) (asks (between_jobs old.history) e) (d ∷ [])) done.1.2 ∙ met ∙ ap Some (sym stays.same))
+    free
+
+done_ties : (old new : AgentView) (s : StakeView) (l : LedgerView) (m : Ledger) (e : LedgerEvent) (d : Deed) (r : Request) (a : Answer) → IsReady old s l → need old ≡ asks_ledger r → asleep l.history old.number ≡ false
+    → m ≡ e ∷ l.history → deed l.history e ≡ Some (old.number, d) → is_wait d ≡ false → is_sleep d ≡ false → waits (e ∷ l.history) old.number ≡ waits l.history old.number
+    → (done : DoesWith old a new) → brings_ticket d ≡ false → after (tickets old) (asks_did done.1.0 (values_of (receivers old.plan.jobs) old.history (reads done.1.0)) a) (d ∷ []) ≡ Some (tickets old) → IsSettled new m
+done_ties old new s l m e d r a ready is up more did wait quick same done none_comes met =
+    let none = free old l.history ready.tied (λ s other. let clash : asks_ledger r ≡ asks_message s = sym is ∙ other in cc) in
+    let going = open_for old (asks_ledger r) (λ f. cc) is in
+    told_done old new m d a
+    (does old l.history m [] e d (begun old l.history ready.tied up) more did wait quick (ap (λ w. may_do w d) none) (undrained old l ready.legal ready.seated going))
+    done none_comes met (ap (λ m. waits m old.number) more ∙ same ∙ none)
 
 pub owned : (old : AgentView) (s : StakeView) (l : LedgerView) (r : Row) (d : Deed) → s.agent ≡ old.number → ((r : Row) → Contains s.rows r → holder_of l.history r.serial ≡ Some (s.agent, r)) → Contains s.rows r → by_holder l.history r.serial d ≡ Some (old.number, d)
 owned old s l r d same holder here = by_ticket l.history r.serial s.agent r d (holder r here) ∙ ap (λ n. Some (n, d)) same
 
-pub access_ties : (old new : AgentView) (s : StakeView) (l : LedgerView) (m : Ledger) (o i w : ℕ) (a : Access) (r : Row) → IsReady old s l → need old ≡ asks_ledger (for_access o i a) → Contains s.rows r → Some r ≡ at o (tickets old)
+pub access_ties : (old new : AgentView) (s : StakeView) (l : LedgerView) (m : Ledger) (o i w : ℕ) (a : Access) (r : Row) → IsReady old s l → need old ≡ asks_ledger (for_word o i (Task.Access a)) → Contains s.rows r → Some r ≡ at o (tickets old)
     → m ≡ Accessed r.serial i (change_by a.edit w) w ∷ l.history → DoesWith old (answer_to a w) new → IsSettled new m
 access_ties old new s l m o i w a r ready is mine here more done =
-    done_ties old new s l m (Accessed r.serial i (change_by a.edit w) w) (Accesses r.serial i (change_by a.edit w) w) (for_access o i a) (answer_to a w) ready is more (owned old s l r (Accesses r.serial i (change_by a.edit w) w) ready.held.0 ready.holder mine) refl refl refl done refl
-    (ap (λ q. after (tickets old) q (Accesses r.serial i (change_by a.edit w) w ∷ [])) (access_asks old done.1.0 o i a (answer_to a w) (due_command old done.1.1.0 done.1.0 (for_access o i a) done.1.1.1 is)) ∙ access_met (tickets old) o i w a r here)
+    let e = Accessed r.serial i (change_by a.edit w) w in
+    let d = Accesses r.serial i (change_by a.edit w) w in
+    done_ties old new s l m e d (for_word o i (Task.Access a)) (answer_to a w) ready is (awake old l.history ready.tied (ap asks_to_sleep is)) more (owned old s l r d ready.held.0 ready.holder mine) refl refl refl done refl
+    (ap (λ q. after (tickets old) q (d ∷ [])) (word_asks old done.1.0 o i (Task.Access a) (answer_to a w) (due_command old done.1.1.0 done.1.0 (for_word o i (Task.Access a)) done.1.1.1 is)) ∙ access_met (tickets old) o i w a r here)
+
+-- agents were taken out of a WaiterList
+pub notify_ties : (old new : AgentView) (s : StakeView) (l : LedgerView) (m : Ledger) (o i n k : ℕ) (r : Row) → IsReady old s l → need old ≡ asks_ledger (for_word o i (Task.Notify n)) → Some r ≡ at o (tickets old)
+    → m ≡ Acted s.agent (Notified r.serial i n k) ∷ l.history → DoesWith old (Gives (Number (pos k))) new → IsSettled new m
+notify_ties old new s l m o i n k r ready is here more done =
+    let d = Notifies r.serial i n k in
+    done_ties old new s l m (Acted s.agent (Notified r.serial i n k)) d (for_word o i (Task.Notify n)) (Gives (Number (pos k))) ready is (awake old l.history ready.tied (ap asks_to_sleep is)) more (ap (λ a. Some (a, d)) ready.held.0) refl refl refl done refl
+    (ap (λ q. after (tickets old) q (d ∷ [])) (word_asks old done.1.0 o i (Task.Notify n) (Gives (Number (pos k))) (due_command old done.1.1.0 done.1.0 (for_word o i (Task.Notify n)) done.1.1.1 is)) ∙ notify_met (tickets old) o i n k r here)
+
+-- another word was there than the one to sleep at
+pub miss_ties : (old new : AgentView) (s : StakeView) (l : LedgerView) (m : Ledger) (o i w v : ℕ) (r : Row) → IsReady old s l → need old ≡ asks_ledger (for_word o i (Task.Sleep w)) → asleep l.history old.number ≡ false → Contains s.rows r → Some r ≡ at o (tickets old)
+    → (v == w) ≡ false → m ≡ Accessed r.serial i Change.Keep v ∷ l.history → DoesWith old (Gives (Text (wait_text WaitResult.NotEqual))) new → IsSettled new m
+miss_ties old new s l m o i w v r ready is up mine here other more done =
+    let d = Accesses r.serial i Change.Keep v in
+    let a = Gives (Text (wait_text WaitResult.NotEqual)) in
+    done_ties old new s l m (Accessed r.serial i Change.Keep v) d (for_word o i (Task.Sleep w)) a ready is up more (owned old s l r d ready.held.0 ready.holder mine) refl refl refl done refl
+    (ap (λ q. after (tickets old) q (d ∷ [])) (word_asks old done.1.0 o i (Task.Sleep w) a (due_command old done.1.1.0 done.1.0 (for_word o i (Task.Sleep w)) done.1.1.1 is) ∙ ended_so (Object o) (pos i) w WaitResult.NotEqual)
+    ∙ miss_met (tickets old) o i w v r here other)
 
 pub post_grows : (old : AgentView) (l m : Ledger) (n a : ℕ) (b : Body) → n ≡ old.number → m ≡ Posted n a b ∷ l → GrowsBy old.number l m
 post_grows old l m n a b same more = grows_one old.number l m (Posted n a b) (Posts a b) more (ap (λ n. Some (n, Posts a b)) same)
@@ -118,13 +148,13 @@ post_grows old l m n a b same more = grows_one old.number l m (Posted n a b) (Po
 pub post_ties : (old new : AgentView) (s : StakeView) (l : LedgerView) (m : Ledger) (n a : ℕ) (v : Value) → IsReady old s l → need old ≡ asks_ledger (for_post a v) → identity v ≡ None → n ≡ old.number
     → m ≡ Posted n a (Plain v) ∷ l.history → DoesWith old Nothing new → IsSettled new m
 post_ties old new s l m n a v ready is plain same more done =
-    done_ties old new s l m (Posted n a (Plain v)) (Posts a (Plain v)) (for_post a v) Nothing ready is more (ap (λ n. Some (n, Posts a (Plain v))) same) refl refl refl done refl
+    done_ties old new s l m (Posted n a (Plain v)) (Posts a (Plain v)) (for_post a v) Nothing ready is (awake old l.history ready.tied (ap asks_to_sleep is)) more (ap (λ n. Some (n, Posts a (Plain v))) same) refl refl refl done refl
     (ap (λ q. after (tickets old) q (Posts a (Plain v) ∷ [])) (post_asks old done.1.0 a v Nothing (due_command old done.1.1.0 done.1.0 (for_post a v) done.1.1.1 is)) ∙ post_met (tickets old) a v plain)
 
 pub buffer_ties : (old new : AgentView) (s : StakeView) (l : LedgerView) (m : Ledger) (a o k : ℕ) (r : Row) → IsReady old s l → need old ≡ asks_ledger (for_buffer_post a o) → Some r ≡ at o (tickets old)
     → m ≡ Posted s.agent a (Block r.block k) ∷ l.history → DoesWith old Nothing new → IsSettled new m
 buffer_ties old new s l m a o k r ready is here more done =
-    done_ties old new s l m (Posted s.agent a (Block r.block k)) (Posts a (Block r.block k)) (for_buffer_post a o) Nothing ready is more (ap (λ n. Some (n, Posts a (Block r.block k))) ready.held.0) refl refl refl done refl
+    done_ties old new s l m (Posted s.agent a (Block r.block k)) (Posts a (Block r.block k)) (for_buffer_post a o) Nothing ready is (awake old l.history ready.tied (ap asks_to_sleep is)) more (ap (λ n. Some (n, Posts a (Block r.block k))) ready.held.0) refl refl refl done refl
     (ap (λ q. after (tickets old) q (Posts a (Block r.block k) ∷ [])) (buffer_asks old done.1.0 a o Nothing (due_command old done.1.1.0 done.1.0 (for_buffer_post a o) done.1.1.1 is)) ∙ buffer_met (tickets old) a o k r here)
 
 -- A message, a skip
@@ -133,7 +163,7 @@ buffer_ties old new s l m a o k r ready is here more done =
 heard : (old : AgentView) (l m : Ledger) (e : LedgerEvent) (d : Deed) (t : ℕ) → IsTied old l → has_drained l ≡ false → need old ≡ asks_message t → m ≡ e ∷ l → deed l e ≡ Some (old.number, d)
     → is_wait d ≡ false → is_sleep d ≡ false → ((w : ℕ) → t ≡ w → may_do (Some w) d ≡ true) → Midway old m (d ∷ [])
 heard old l m e d t tied still is more did wait up ends =
-    does old l m [] e d (begun old l tied) more did wait up (by_wait (waits l old.number) refl) still
+    does old l m [] e d (begun old l tied (awake old l tied (ap asks_to_sleep is))) more did wait up (by_wait (waits l old.number) refl) still
   where
     by_wait : (w : Option ℕ) → waits l old.number ≡ w → may_do w d ≡ true
     by_wait None w = refl
@@ -185,7 +215,7 @@ opens old s l m n r ready is words more =
     let still = undrained old l ready.legal ready.seated going in
     record {
       deed = Opens r.block n r.serial;
-      midway = does old l.history m [] (Opened r.block n r.serial s.agent) (Opens r.block n r.serial) (begun old l.history ready.tied) more (ap (λ a. Some (a, Opens r.block n r.serial)) ready.held.0) refl refl (ap (λ w. may_do w (Opens r.block n r.serial)) none) still;
+      midway = does old l.history m [] (Opened r.block n r.serial s.agent) (Opens r.block n r.serial) (begun old l.history ready.tied (awake old l.history ready.tied (ap asks_to_sleep is))) more (ap (λ a. Some (a, Opens r.block n r.serial)) ready.held.0) refl refl (ap (λ w. may_do w (Opens r.block n r.serial)) none) still;
       fetches = subst (λ q. Fetches q r (Opens r.block n r.serial)) (sym is) (words, ap (λ n. Opens r.block n r.serial) (sym words));
       free = ap (λ m. waits m old.number) more ∙ none;
       undrained = ap has_drained more ∙ still;
@@ -280,12 +310,12 @@ refused_ties old new m k r history f n same held more refused =
 -- Many tickets
 
 -- an emptying
-emptied_ties : {chosen : List ℕ → Type 0} (old new : AgentView) (s : StakeView) (l : LedgerView) (m : Ledger) (out : List (ℕ × Row)) (n : Need) → IsReady old s l → need old ≡ n → ((s : ℕ) → n ≡ asks_message s → ⊥) → (asks_nothing ≡ n → ⊥)
+emptied_ties : {chosen : List ℕ → Type 0} (old new : AgentView) (s : StakeView) (l : LedgerView) (m : Ledger) (out : List (ℕ × Row)) (n : Need) → IsReady old s l → need old ≡ n → asks_to_sleep n ≡ false → ((s : ℕ) → n ≡ asks_message s → ⊥) → (asks_nothing ≡ n → ⊥)
     → Empties chosen old out new → AreDeedsOf old.number (map (λ t. Spent t.1.serial) out) l.history → m ≡ spent out l.history → IsSettled new m
-emptied_ties old new s l m out n ready is no_message some c deeds more =
+emptied_ties old new s l m out n ready is quick no_message some c deeds more =
     let none = free old l.history ready.tied (λ s other. no_message s (sym is ∙ other)) in
     let still = undrained old l ready.legal ready.seated (open_for old n some is) in
-    let all = spends_all old l.history [] out (begun old l.history ready.tied) deeds none still in
+    let all = spends_all old l.history [] out (begun old l.history ready.tied (awake old l.history ready.tied (ap asks_to_sleep is ∙ quick))) deeds none still in
     tells old new None m (all_spent out) (Emptied c.0) (subst (λ m. Midway old m (all_spent out)) (sym more) all.0) c.3
     (ap (λ out. after (tickets old) (to_empty c.0) (all_spent out)) c.4 ∙ empty_met (tickets old) c.0 ∙ ap Some (sym (ap tickets c.3 ∙ emptied_tickets old c.0 c.2)))
     (unbrought old.over [] refl)
@@ -295,12 +325,12 @@ emptied_ties old new s l m out n ready is no_message some c deeds more =
 -- a collection
 pub collected_ties : (old new : AgentView) (s : StakeView) (l : LedgerView) (m : Ledger) (out : List (ℕ × Row)) → IsReady old s l → need old ≡ asks_marks → Collects old out new → AreDeedsOf old.number (map (λ t. Spent t.1.serial) out) l.history → m ≡ spent out l.history
     → IsSettled new m
-collected_ties old new s l m out ready is c deeds more = emptied_ties old new s l m out asks_marks ready is (λ s f. cc) (λ f. cc) c deeds more
+collected_ties old new s l m out ready is c deeds more = emptied_ties old new s l m out asks_marks ready is refl (λ s f. cc) (λ f. cc) c deeds more
 
 -- a later collection that is finished
 pub finished_ties : (old new : AgentView) (s : StakeView) (l : LedgerView) (m : Ledger) (out : List (ℕ × Row)) → IsReady old s l → need old ≡ asks_late_marks → Finishes old out new → AreDeedsOf old.number (map (λ t. Spent t.1.serial) out) l.history → m ≡ spent out l.history
     → IsSettled new m
-finished_ties old new s l m out ready is c deeds more = emptied_ties old new s l m out asks_late_marks ready is (λ s f. cc) (λ f. cc) c deeds more
+finished_ties old new s l m out ready is c deeds more = emptied_ties old new s l m out asks_late_marks ready is refl (λ s f. cc) (λ f. cc) c deeds more
 
 -- a closing
 pub closed_ties : (old new : AgentView) (s : StakeView) (l : LedgerView) (m : Ledger) (out : List (ℕ × Row)) → IsReady old s l → need old ≡ asks_closing → Records old Closed new → out ≡ tickets old → AreDeedsOf old.number (map (λ t. Spent t.1.serial) out) l.history
@@ -308,7 +338,7 @@ pub closed_ties : (old new : AgentView) (s : StakeView) (l : LedgerView) (m : Le
 closed_ties old new s l m out ready is records same deeds more =
     let none = free old l.history ready.tied (λ s other. let clash : asks_closing ≡ asks_message s = sym is ∙ other in cc) in
     let still = undrained old l ready.legal ready.seated (open_for old asks_closing (λ f. cc) is) in
-    let all = spends_all old l.history [] out (begun old l.history ready.tied) deeds none still in
+    let all = spends_all old l.history [] out (begun old l.history ready.tied (awake old l.history ready.tied (ap asks_to_sleep is))) deeds none still in
     tells old new None m (all_spent out ++ Ends ∷ []) Closed
     (does old (spent out l.history) m (all_spent out) (Acted old.number Ended) Ends all.0 more refl refl refl (ap (λ w. may_do w Ends) all.1) all.2)
     records

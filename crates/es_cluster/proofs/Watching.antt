@@ -1,16 +1,18 @@
 -- A watcher is told of one turn after the other.
-use Rattle.std.proofs.Common.{◌≡◌, ℕ, true, false, cond, refl, sym, ap, subst, List, [], ◌∷◌, ◌++◌, Option, Some, None, Result, Ok, Err, ◌⊎◌, inl, inr}
+use Rattle.std.proofs.Common.{◌≡◌, ◌∙◌, ℕ, true, false, cond, refl, sym, ap, subst, List, [], ◌∷◌, ◌++◌, Option, Some, None, Result, Ok, Err, ◌⊎◌, inl, inr}
 use Rattle.std.specs.Prelude.{IfOk}
 use Rattle.es_value.specs.declared.error.NoMemory.{NoMemory}
 use Rattle.es_event.specs.LegalLedger.{all_stuck}
+use Rattle.es_event.specs.Waiters.{asleep}
 use Rattle.es_cluster.specs.declared.member.Progress.{Progress}
 use Rattle.es_cluster.specs.declared.member.Progress.TheVariants.{Moved, Waiting, Ended}
 use Rattle.es_cluster.specs.Asked.{Hears}
-use Rattle.es_cluster.specs.Moves.{rests_at}
+use Rattle.es_cluster.specs.Moves.{BeginsToSleep, mover, rests_at}
 use Rattle.es_cluster.specs.State.{ClusterView}
 use Rattle.es_cluster.specs.Turns.{Turned}
 use Rattle.es_cluster.specs.Watched.{TakenTurn, AreMoves, AreTurns, FitsIn, IsToldOf, busy, busy_after}
 use Rattle.es_cluster.specs.Watching.{IsKept, begun}
+use Rattle.es_cluster.specs.declared.moving.Begun.{Begun}
 
 turns_then : (ts us : List TakenTurn) (a b c : ClusterView) → AreTurns ts a b → AreTurns us b c → AreTurns (ts ++ us) a c
 turns_then [] us a b c is rest = subst (λ x. AreTurns us x c) is rest
@@ -47,24 +49,49 @@ module _ {W : Type 0} (knows : ClusterView → W → Type 0) (tells : TakenTurn 
   -- of one whose move is under way
   pub kept_on : (p : Progress) (n : ℕ) (old new : ClusterView) (was now : W) → Turned p n old new → tells (record { progress = p; agent = n; before = old; after = new }) was now → knows new now
       → rests_at n old ≡ false → p ≡ Moved → IsKept knows tells (busy n old) (busy n new) old new was now
-  kept_on Moved n old new was now turned says known rests is = subst (λ o. IsKept knows tells o (busy n new) old new was now) (sym (busy_with n old rests)) (kept_one (Some n) Moved n old new was now turned says known (refl, refl))
+  kept_on Moved n old new was now turned says known rests is = subst (λ o. IsKept knows tells o (busy n new) old new was now) (sym (busy_with n old rests)) (kept_one (Some n) Moved n old new was now turned says known (inl refl, refl))
   kept_on Waiting n old new was now turned says known rests is = cc
   kept_on Ended n old new was now turned says known rests is = cc
 
-  -- of one that was asked, and did not move
-  pub kept_asked : (p : Progress) (n : ℕ) (old new : ClusterView) (was now : W) → Turned p n old new → tells (record { progress = p; agent = n; before = old; after = new }) was now → knows new now
-      → (p ≡ Waiting) ⊎ (p ≡ Ended) → IsKept knows tells None None old new was now
-  kept_asked Moved n old new was now turned says known is = absurd (elim is [
+  -- of one whose move ends as it begins to sleep
+  pub kept_slept : (p : Progress) (n : ℕ) (old new : ClusterView) (was now : W) → Turned p n old new → tells (record { progress = p; agent = n; before = old; after = new }) was now → knows new now
+      → rests_at n old ≡ false → (p ≡ Waiting) ⊎ (p ≡ Ended) → BeginsToSleep n old new → IsKept knows tells (busy n old) None old new was now
+  kept_slept Moved n old new was now turned says known rests is begins = absurd (elim is [
     | inl e ↦ (let clash : Moved ≡ Waiting = e in cc)
     | inr e ↦ (let clash : Moved ≡ Ended = e in cc)
   ])
-  kept_asked Waiting n old new was now turned says known is = kept_one None Waiting n old new was now turned says known (λ e. cc)
-  kept_asked Ended n old new was now turned says known is = kept_one None Ended n old new was now turned says known (λ e. cc)
+  kept_slept Waiting n old new was now turned says known rests is begins = subst (λ o. IsKept knows tells o None old new was now) (sym (busy_with n old rests)) (kept_one (Some n) Waiting n old new was now turned says known (inr begins, refl))
+  kept_slept Ended n old new was now turned says known rests is begins = subst (λ o. IsKept knows tells o None old new was now) (sym (busy_with n old rests)) (kept_one (Some n) Ended n old new was now turned says known (inr begins, refl))
+
+  -- of one that was asked, and did not move; where it begins to sleep, all lower ones wait in vain
+  pub kept_asked : (p : Progress) (n : ℕ) (old new : ClusterView) (was now : W) → Turned p n old new → tells (record { progress = p; agent = n; before = old; after = new }) was now → knows new now
+      → (p ≡ Waiting) ⊎ (p ≡ Ended) → Hears p n old new → all_stuck old.ledger.history n ≡ true → IsKept knows tells None None old new was now
+  kept_asked Moved n old new was now turned says known is heard settled = absurd (elim is [
+    | inl e ↦ (let clash : Moved ≡ Waiting = e in cc)
+    | inr e ↦ (let clash : Moved ≡ Ended = e in cc)
+  ])
+  kept_asked Waiting n old new was now turned says known is heard settled = kept_one None Waiting n old new was now turned says known fits
+    where
+      fits : (Waiting ≡ Moved) ⊎ BeginsToSleep n old new → mover old ≡ Some n
+      fits ahead = elim ahead [
+        | inl e ↦ (let clash : Waiting ≡ Moved = e in cc)
+        | inr begins ↦ elim heard.4 [
+          | inl same ↦ (let clash : false ≡ true = sym begins.1 ∙ sym same ∙ begins.2 in cc)
+          | inr lies ↦ lies.1 settled
+        ]
+      ]
+  kept_asked Ended n old new was now turned says known is heard settled = kept_one None Ended n old new was now turned says known fits
+    where
+      fits : (Ended ≡ Moved) ⊎ BeginsToSleep n old new → mover old ≡ Some n
+      fits ahead = elim ahead [
+        | inl e ↦ (let clash : Ended ≡ Moved = e in cc)
+        | inr begins ↦ (let clash : false ≡ true = sym begins.1 ∙ ap (λ c. asleep c.ledger.history n) (sym heard.0) ∙ begins.2 in cc)
+      ]
 
   -- of one that begins its move, as all lower ones wait in vain
   pub kept_begun : (p : Progress) (n : ℕ) (old new : ClusterView) (was now : W) → Turned p n old new → tells (record { progress = p; agent = n; before = old; after = new }) was now → knows new now
       → p ≡ Moved → Hears p n old new → all_stuck old.ledger.history n ≡ true → IsKept knows tells None (busy n new) old new was now
-  kept_begun Moved n old new was now turned says known is heard settled = kept_one None Moved n old new was now turned says known (λ e. heard settled)
+  kept_begun Moved n old new was now turned says known is heard settled = kept_one None Moved n old new was now turned says known (λ e. heard.0 settled)
   kept_begun Waiting n old new was now turned says known is heard settled = cc
   kept_begun Ended n old new was now turned says known is heard settled = cc
 
@@ -80,6 +107,6 @@ module _ {W : Type 0} (knows : ClusterView → W → Type 0) (tells : TakenTurn 
     );
   }
 
-  pub kept_after : (r : Result (Option ℕ) NoMemory) (a b c : ClusterView) (x y z : W) → IsKept knows tells None None a b x y → IfOk r (λ r. IsKept knows tells None (begun r c) b c y z) → IfOk r (λ r. IsKept knows tells None (begun r c) a c x z)
+  pub kept_after : (r : Result (Option Begun) NoMemory) (a b c : ClusterView) (x y z : W) → IsKept knows tells None None a b x y → IfOk r (λ r. IsKept knows tells None (begun r c) b c y z) → IfOk r (λ r. IsKept knows tells None (begun r c) a c x z)
   kept_after (Ok r) a b c x y z before next = kept_then None None (begun r c) a b c x y z before next
   kept_after (Err e) a b c x y z before next = tt

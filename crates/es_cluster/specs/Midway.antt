@@ -1,8 +1,9 @@
 -- Internal: what stands before a turn, and an agent in the middle of one.
-use Rattle.std.specs.Prelude.{ℕ, pos, ◌≡◌, ◌≢◌, ◌<◌, true, false, if◌then◌else◌, List, [], ◌∷◌, ◌++◌, Some, None}
+use Rattle.std.specs.Prelude.{ℕ, pos, ◌≡◌, ◌≢◌, ◌<◌, Bool, true, false, if◌then◌else◌, List, [], ◌∷◌, ◌++◌, Option, Some, None}
 use Rattle.std.specs.List.{Contains}
 use Rattle.es_value.specs.declared.value.Value.TheVariants.{Number}
 use Rattle.es_event.specs.declared.access.Access.{Access}
+use Rattle.es_event.specs.declared.access.WaitResult.{WaitResult}
 use Rattle.es_event.specs.declared.event.Answer.{Answer}
 use Rattle.es_event.specs.declared.event.Answer.TheVariants.{Nothing, Gives}
 use Rattle.es_event.specs.declared.ledger_event.Body.TheVariants.{Block}
@@ -11,12 +12,14 @@ use Rattle.es_event.specs.Ledger.{Ledger, ended as has_ended, holder_of, waits}
 use Rattle.es_event.specs.Waiters.{asleep}
 use Rattle.es_event.specs.LegalLedger.{LegalLedger}
 use Rattle.es_ledger.specs.LedgerView.{LedgerView}
+use Rattle.es_ledger.specs.declared.turn.Turn.{Turn}
+use Rattle.es_ledger.specs.declared.turn.Turn.TheVariants.{Ready, Stay, Skip}
 use Rattle.es_match.specs.Patience.{patient, has_drained, drained_last}
 use Rattle.es_match.specs.Cluster.{DeedsMeet}
 use Rattle.es_match.specs.Deeds.{Deed, Opens, Takes, part}
 use Rattle.es_ticket.specs.Stakes.{StakeView}
 use Rattle.es_record.specs.AgentView.{AgentView}
-use Rattle.es_rules.specs.Needs.{for_block, Need, asks_ledger, asks_message, asks_nothing, need}
+use Rattle.es_rules.specs.Needs.{Request, for_block, for_post, for_buffer_post, for_word, Need, asks_nobody, asks_marks, asks_copy, asks_late_marks, asks_ledger, asks_message, asks_closing, asks_nothing, gives_wait_result, need}
 use Rattle.es_cluster.specs.Members.{Holds}
 use Rattle.es_cluster.specs.Tied.{IsTied, came_to}
 use Rattle.es_cluster.specs.Turned.{IsSeated}
@@ -64,3 +67,29 @@ pub record HasFetched (b : AgentView) (r : Row) (l : Ledger) : Type 0 where
 -- the answer of the command that did this to a word, which was this before
 abbrev pub answer_to : Access → ℕ → Answer
 answer_to m old = if m.gives_word then Gives (Number (pos old)) else Nothing
+
+-- how a wait ended of which the ledger says this, where it has ended: the word was another one, or the agent was taken, or its time-out
+-- has passed
+abbrev pub wait_result : Option Turn → Option WaitResult
+wait_result None = Some WaitResult.NotEqual
+wait_result (Some Ready) = Some WaitResult.Woken
+wait_result (Some Stay) = None
+wait_result (Some Skip) = Some WaitResult.TimedOut
+
+-- it is asked for a sleep
+abbrev pub is_for_sleep : Request → Bool
+is_for_sleep (for_block n) = false
+is_for_sleep (for_post a v) = false
+is_for_sleep (for_buffer_post a o) = false
+is_for_sleep (for_word o i t) = gives_wait_result t
+
+-- the agent asks to sleep
+abbrev pub asks_to_sleep : Need → Bool
+asks_to_sleep asks_nobody = false
+asks_to_sleep asks_marks = false
+asks_to_sleep asks_copy = false
+asks_to_sleep asks_late_marks = false
+asks_to_sleep (asks_ledger r) = is_for_sleep r
+asks_to_sleep (asks_message s) = false
+asks_to_sleep asks_closing = false
+asks_to_sleep asks_nothing = false

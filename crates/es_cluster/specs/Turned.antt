@@ -1,19 +1,21 @@
 -- To believe: what a turn of an agent asks of those who call it, and what it leaves of the agent and of the ledger.
-use Rattle.std.specs.Prelude.{ℕ, ◌≡◌, ◌≢◌, ◌<◌, ⊤, ◌⊎◌, Bool, List, Option, map, ◌++◌}
+use Rattle.std.specs.Prelude.{ℕ, ◌≡◌, ◌≢◌, ◌<◌, ⊤, ◌⊎◌, Bool, List, Option, Some, map, ◌++◌}
+use Rattle.es_event.specs.declared.access.Task.{Task}
 use Rattle.es_event.specs.declared.event.Event.{Event}
 use Rattle.es_event.specs.declared.ledger_event.LedgerEvent.TheVariants.{Spent}
 use Rattle.es_event.specs.declared.row.Row.{Row}
 use Rattle.es_event.specs.Ledger.{Ledger, ended as has_ended}
 use Rattle.es_event.specs.Order.{phase}
 use Rattle.es_ledger.specs.LedgerView.{LedgerView}
+use Rattle.es_ledger.specs.Sleeps.{rested}
 use Rattle.es_ledger.specs.Turns.{told}
 use Rattle.es_ledger.specs.declared.turn.Turn.{Turn}
 use Rattle.es_ledger.specs.declared.turn.Turn.TheVariants.{Stay}
-use Rattle.es_ticket.specs.Stakes.{StakeView}
+use Rattle.es_ticket.specs.Stakes.{StakeView, at}
 use Rattle.es_record.specs.AgentView.{AgentView, IsNext, Records, with_row}
 use Rattle.es_record.specs.Graph.{AreMarksOf, AreLateMarks}
-use Rattle.es_rules.specs.Needs.{for_block, for_post, for_buffer_post, for_access, Need, asks_nobody, asks_marks, asks_copy, asks_late_marks, asks_ledger, asks_message, asks_closing, asks_nothing, need}
-use Rattle.es_agent.specs.Tickets.{is_ended}
+use Rattle.es_rules.specs.Needs.{for_block, for_post, for_buffer_post, for_word, Need, asks_nobody, asks_marks, asks_copy, asks_late_marks, asks_ledger, asks_message, asks_closing, asks_nothing, need}
+use Rattle.es_agent.specs.Tickets.{is_ended, tickets}
 use Rattle.es_cluster.specs.Members.{MemberView, Holds}
 use Rattle.es_cluster.specs.Tied.{GrowsBy, IsSettled, IsTied}
 use Rattle.es_cluster.specs.declared.beside.Beforehand.{Beforehand}
@@ -30,7 +32,7 @@ NamesOthers asks_late_marks n agents = ⊤
 NamesOthers (asks_ledger (for_block w)) n agents = ⊤
 NamesOthers (asks_ledger (for_post a v)) n agents = (a < agents) × (n ≢ a)
 NamesOthers (asks_ledger (for_buffer_post a o)) n agents = (a < agents) × (n ≢ a)
-NamesOthers (asks_ledger (for_access o i c)) n agents = ⊤
+NamesOthers (asks_ledger (for_word o i t)) n agents = ⊤
 NamesOthers (asks_message s) n agents = (s < agents) × (n ≢ s)
 NamesOthers asks_closing n agents = ⊤
 NamesOthers asks_nothing n agents = ⊤
@@ -72,10 +74,14 @@ pub record IsSeated (b : AgentView) (l : LedgerView) : Type 0 where
 abbrev pub GrowsByOne : AgentView → AgentView → Type 0
 GrowsByOne old new = (e : Event) × (r : Option Row) × IsNext (with_row r old) e × Records (with_row r old) e new
 
--- an agent that waits asks for a message, and one that has ended asks for nothing; neither has changed
+-- the agent asks for a message, or to sleep at a word
+abbrev pub MayWait : Need → Type 0
+MayWait n = ((s : ℕ) × (n ≡ asks_message s)) ⊎ ((o i w : ℕ) × (n ≡ asks_ledger (for_word o i (Task.Sleep w))))
+
+-- an agent that waits asks for a message or sleeps at a word, and one that has ended asks for nothing; neither has changed
 abbrev pub Proceeds : Progress → MemberView → MemberView → Type 0
 Proceeds Moved old new = GrowsByOne old.core new.core
-Proceeds Waiting old new = (s : ℕ) × (need old.core ≡ asks_message s) × (new ≡ old)
+Proceeds Waiting old new = MayWait (need old.core) × (new ≡ old)
 Proceeds Ended old new = (need old.core ≡ asks_nothing) × (new ≡ old)
 
 -- beside others it has ended too where the ledger says so; then it has not changed
@@ -84,18 +90,30 @@ ProceedsBeside Moved old new = Proceeds Moved old new
 ProceedsBeside Waiting old new = Proceeds Waiting old new
 ProceedsBeside Ended old new = new ≡ old
 
--- an agent that waits on was told to by the rules, one that asks for a message and goes on was not, and one that has ended does
--- nothing
+-- the rules tell the agent to wait on for a message
+abbrev pub WaitsOn : AgentView → LedgerView → LedgerView → Type 0
+WaitsOn b old new = (s : ℕ) × (need b ≡ asks_message s) × (◌≡◌ {A = Turn × Ledger} (Stay, new.history) (told old.history old.agents b.number s))
+
+-- or to sleep on at a word, through its ticket of this row
+abbrev pub SleepsOn : AgentView → LedgerView → LedgerView → Type 0
+SleepsOn b old new =
+    (o i w : ℕ) × (r : Row) × (need b ≡ asks_ledger (for_word o i (Task.Sleep w))) × (Some r ≡ at o (tickets b))
+    × (◌≡◌ {A = Option Turn × Ledger} (Some Stay, new.history) (rested old.history old.agents b.number r i w))
+
+-- an agent that waits or sleeps on was told to by the rules, one that asks for a message or to sleep and goes on was not, and one
+-- that has ended does nothing
 abbrev pub WaitsRightly : Progress → AgentView → LedgerView → LedgerView → Type 0
-WaitsRightly Moved b old new = (s : ℕ) → need b ≡ asks_message s → (told old.history old.agents b.number s).0 ≢ Stay
-WaitsRightly Waiting b old new = (s : ℕ) × (need b ≡ asks_message s) × (◌≡◌ {A = Turn × Ledger} (Stay, new.history) (told old.history old.agents b.number s))
+WaitsRightly Moved b old new =
+    ((s : ℕ) → need b ≡ asks_message s → (told old.history old.agents b.number s).0 ≢ Stay)
+    × ((o i w : ℕ) (r : Row) → need b ≡ asks_ledger (for_word o i (Task.Sleep w)) → Some r ≡ at o (tickets b) → (rested old.history old.agents b.number r i w).0 ≢ Some Stay)
+WaitsRightly Waiting b old new = WaitsOn b old new ⊎ SleepsOn b old new
 WaitsRightly Ended b old new = new ≡ old
 
 -- the same agents, and what happened besides are deeds of agent n alone
 abbrev pub OthersStay : ℕ → LedgerView → LedgerView → Type 0
 OthersStay n old new = (new.agents ≡ old.agents) × GrowsBy n old.history new.history
 
--- agent and ledger go together; one that has one event more waits for nobody, whatever its next job waits for
+-- agent and ledger go together; one that has one event more waits for nobody and is awake, whatever it asks for next
 abbrev pub IsTiedAfter : Progress → AgentView → Ledger → Type 0
 IsTiedAfter Moved b l = IsSettled b l
 IsTiedAfter Waiting b l = IsTied b l

@@ -2,17 +2,17 @@
 use Rattle.std.specs.Prelude.{ℕ, ◌≡◌, true, false, List, [], ◌∷◌, ◌++◌, Some, slice_get, slice_set}
 use Rattle.es_event.specs.LegalLedger.{LegalLedger}
 use Rattle.es_cluster.specs.Tied.{GrowsBy}
-use Rattle.es_cluster.specs.Turned.{WaitsRightly, IsSeated, IsTiedAfter, GrowsByOne}
+use Rattle.es_cluster.specs.Turned.{WaitsRightly, IsSeated, IsTiedAfter, GrowsByOne, MayWait}
 use Rattle.es_cluster.specs.declared.member.Progress.{Progress}
 use Rattle.es_cluster.specs.declared.member.Progress.TheVariants.{Moved, Waiting, Ended}
 use Rattle.es_record.specs.AgentView.{AgentView}
-use Rattle.es_rules.specs.Needs.{asks_message, asks_nothing, need}
+use Rattle.es_rules.specs.Needs.{asks_nothing, need}
 use Rattle.es_cluster.specs.State.{ClusterView}
 
--- the agent has one event more, or waits on for a message, or has ended
+-- the agent has one event more, or waits on for a message or at a word, or has ended
 abbrev pub Takes : Progress → AgentView → AgentView → Type 0
 Takes Moved old new = GrowsByOne old new
-Takes Waiting old new = (s : ℕ) × (need old ≡ asks_message s) × (new ≡ old)
+Takes Waiting old new = MayWait (need old) × (new ≡ old)
 Takes Ended old new = (need old ≡ asks_nothing) × (new ≡ old)
 
 -- agent n took its turn: no other agent has changed, and the ledger has deeds of agent n alone besides
@@ -27,7 +27,7 @@ pub record Turned (p : Progress) (n : ℕ) (old new : ClusterView) : Type 0 wher
   pub number : new.ledger.agents ≡ old.ledger.agents
   -- what it did there the ledger's rules allow
   pub legal : LegalLedger new.ledger.agents new.ledger.history
-  -- the agent and its part in the ledger go together; where it has one event more it waits for nobody yet, whatever its next job waits for
+  -- the agent and its part in the ledger go together; where it has one event more it waits for nobody yet, and is awake
   pub tied : IsTiedAfter p after new.ledger.history
   -- it has ended in the ledger where it has closed
   pub seated : IsSeated after new.ledger

@@ -1,8 +1,8 @@
 -- To believe: what a watcher of a run by turns is told.
-use Rattle.std.specs.Prelude.{ℕ, ◌≡◌, List, [], ◌∷◌, Option, Some, None, if◌then◌else◌}
+use Rattle.std.specs.Prelude.{ℕ, ◌≡◌, ◌⊎◌, List, [], ◌∷◌, Option, Some, None, if◌then◌else◌}
 use Rattle.es_cluster.specs.declared.member.Progress.{Progress}
 use Rattle.es_cluster.specs.declared.member.Progress.TheVariants.{Moved, Waiting, Ended}
-use Rattle.es_cluster.specs.Moves.{RunsOut, mover, rests_at, with_drained}
+use Rattle.es_cluster.specs.Moves.{BeginsToSleep, RunsOut, mover, rests_at, with_drained}
 use Rattle.es_cluster.specs.State.{ClusterView}
 use Rattle.es_cluster.specs.Turns.{Turned}
 
@@ -22,17 +22,21 @@ AreTurns (t ∷ ts) old new = (t.before ≡ old) × Turned t.progress t.agent t.
 abbrev pub busy : ℕ → ClusterView → Option ℕ
 busy n c = if rests_at n c then None else Some n
 
--- the same after any turn: nobody's where the agent waits on, or has ended
+-- the same after any turn: nobody's where the agent waits or sleeps, or has ended
 abbrev pub busy_after : Progress → ℕ → ClusterView → Option ℕ
 busy_after Moved n c = busy n c
 busy_after Waiting n c = None
 busy_after Ended n c = None
 
--- a turn among moves: while a move is under way its agent moves; between two moves the mover begins its own, or an agent is asked that waits
--- on, or that has ended
+-- the agent goes ahead: it has one event more, or begins to sleep
+abbrev pub GoesAhead : TakenTurn → Type 0
+GoesAhead t = (t.progress ≡ Moved) ⊎ BeginsToSleep t.agent t.before t.after
+
+-- a turn among moves: while a move is under way its agent goes ahead; between two moves the mover begins its own, or an agent is asked that
+-- waits or sleeps on, or that has ended
 abbrev pub FitsIn : Option ℕ → TakenTurn → Type 0
-FitsIn (Some n) t = (t.progress ≡ Moved) × (t.agent ≡ n)
-FitsIn None t = t.progress ≡ Moved → mover t.before ≡ Some t.agent
+FitsIn (Some n) t = GoesAhead t × (t.agent ≡ n)
+FitsIn None t = GoesAhead t → mover t.before ≡ Some t.agent
 
 -- these turns are those of moves, of which the one was under way before them, and the other is after them
 abbrev pub AreMoves : Option ℕ → List TakenTurn → Option ℕ → Type 0

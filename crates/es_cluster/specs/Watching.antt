@@ -1,5 +1,6 @@
 -- Internal: what is kept of a watcher while a run goes on.
 use Rattle.std.specs.Prelude.{ℕ, Option, Some, None}
+use Rattle.es_cluster.specs.declared.moving.Begun.{Begun}
 use Rattle.es_cluster.specs.State.{ClusterView}
 use Rattle.es_cluster.specs.Watched.{TakenTurn, IsTold, busy}
 
@@ -9,6 +10,6 @@ pub record IsKept {W : Type 0} (knows : ClusterView → W → Type 0) (tells : T
   pub told : IsTold tells first last old new was now
 
 -- whose move is under way after the first turn of the next move, if there is one
-abbrev pub begun : Option ℕ → ClusterView → Option ℕ
+abbrev pub begun : Option Begun → ClusterView → Option ℕ
 begun None c = None
-begun (Some n) c = busy n c
+begun (Some b) c = busy b.agent c

@@ -93,7 +93,7 @@ impl<L: Planned> ClusterCore<L> {
     }
 
     /// One turn of an agent: its next event, with what it asks for done in the ledger, or none where
-    /// it waits on for a message or has ended. After want of memory every later step fails: no agent has
+    /// it waits on for a message, sleeps at a word or has ended. After want of memory every later step fails: no agent has
     /// changed, and of the ledger's doing in this turn a part may stand.
     pub fn step(&mut self, agent: usize) -> Result<Progress, NoMemory>
         requires { agent < length self.old.agents }

@@ -28,7 +28,7 @@ use std::marker::Model;
 pub enum Progress {
     /// The agent has one event more.
     Moved,
-    /// It waits on for a message.
+    /// It waits on for a message, or sleeps at a word.
     Waiting,
     /// It has ended.
     Ended,
@@ -78,7 +78,7 @@ impl<L: Planned> Member<L> {
     }
 
     /// One turn: the next event of the agent, with what it asks for done in the ledger, or none where
-    /// it waits on for a message or has ended. After want of memory the agent has not changed, but a
+    /// it waits on for a message, sleeps at a word or has ended. After want of memory the agent has not changed, but a
     /// part of the ledger's doing may stand; a message that was taken is lost.
     pub fn step(&mut self, ledger: &mut LedgerCore<L>) -> Result<Progress, NoMemory>
         requires seated { IsSeated self.old.core ledger.old }

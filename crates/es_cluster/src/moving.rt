@@ -1,9 +1,10 @@
-//! Agents move in order, each until it rests.
+//! Agents move in order, each until it rests or sleeps.
 
-ghost use Rattle.std.specs.Prelude.{◌≡◌, ◌≤◌, ◌<◌, false, true, None, length, reverse, IfOk, IfSome, OnOk, OnErr, is_err};
-ghost use Rattle.es_cluster.specs.Asked.{AskedEach, BeginsMove, GoesOn, cleans_at, plan_left};
-ghost use Rattle.es_cluster.specs.Moves.{Rest, RunsToEnd, all_over, cleans_quietly, is_between as is_between_said, rests_at};
-ghost use Rattle.es_cluster.specs.State.{plans};
+ghost use Rattle.std.specs.Prelude.{◌≡◌, ◌≤◌, ◌<◌, false, true, None, length, reverse, IfOk, IfSome, OnOk, OnErr, is_err, if◌then◌else◌};
+ghost use Rattle.es_event.specs.Waiters.{asleep};
+ghost use Rattle.es_cluster.specs.Asked.{AskedEach, BeginsMove, CleansUp, cleans_at, cleanup_left, plan_left, plans_left};
+ghost use Rattle.es_cluster.specs.Moves.{Rest, RunsOut, RunsToEnd, all_over, cleans_quietly, is_between as is_between_said, rests_at};
+ghost use Rattle.es_cluster.specs.State.{ClusterView, plans};
 ghost use Rattle.es_cluster.specs.Watched.{IsWatched, busy};
 ghost use Rattle.es_cluster.specs.Watching.{IsKept, begun};
 
@@ -14,10 +15,19 @@ use crate::watcher::{Nobody, Watcher};
 use es_event::Event;
 use es_value::NoMemory;
 
+/// A move that has begun.
+#[derive(Clone, Copy)]
+pub(crate) struct Begun {
+    /// Whose it is.
+    pub agent: usize,
+    /// Whether the agent was at its cleanup queue before.
+    pub cleans: bool,
+}
+
 impl<L: Planned> ClusterCore<L> {
-    /// Runs all agents to their ends: as long as one has not ended, the lowest-numbered that can move
-    /// moves, by one whole job with its cleanup jobs, one skip, or its closing. Then the messages that
-    /// nobody took are taken out. After want of memory every later step fails.
+    /// Runs all agents to their ends: as long as one has not ended, the lowest-numbered that can move moves, by a
+    /// whole job with its cleanup jobs, or what is left of them, up to their end or a sleep, by a skip, or by its closing.
+    /// Then the messages that nobody took are taken out. After want of memory every later step fails.
     pub fn run_turns(&mut self) -> Result<(), NoMemory>
         requires { cleans_quietly self.old ≡ true }
         ensures runs { OnOk result (RunsToEnd self.old self.new) }
@@ -47,48 +57,72 @@ impl<L: Planned> ClusterCore<L> {
         if self.failed {
             return Err(NoMemory);
         }
-        while let Some(agent) = self.begin_move(watcher)? {
-            self.finish_move(agent, watcher)?;
-        }
+        while self.make_moves(watcher)? {}
         let _ = self.ledger.history();
         self.ledger.drain();
         Ok(())
     }
 
-    // The first turn of the next move: its agent, or none where all have ended. Where none moves when
-    // it is asked, all wait; then the lowest is told to skip its job when it is asked again.
-    fn begin_move<W: Watcher>(&mut self, watcher: &mut W) -> Result<Option<usize>, NoMemory>
+    // Moves, up to one that does not begin in a cleanup job, so that less is left of a plan: whether there was one, or all
+    // have ended.
+    fn make_moves<W: Watcher>(&mut self, watcher: &mut W) -> Result<bool, NoMemory>
+        requires quiet { cleans_quietly self.old ≡ true }
+        requires whole { self.old.failed ≡ false }
+        requires knows { W.knows self.old watcher.old }
+        ensures runs { IfOk result (λ more. (end : ClusterView) → RunsOut self.new end → RunsOut self.old end) }
+        ensures watched { IfOk result (λ more. IsKept W.knows W.tells None None self.old self.new watcher.old watcher.new) }
+        ensures less { IfOk result (λ more. more ≡ true → plans_left self.new < plans_left self.old) }
+        ensures over { IfOk result (λ more. more ≡ false → all_over self.new ≡ true) }
+        ensures whole { IfOk result (λ more. self.new.failed ≡ false) }
+        ensures err { OnErr result (self.new.failed ≡ true) }
+        ensures plans { plans self.new.agents ≡ plans self.old.agents }
+        ensures agents { length self.new.agents ≡ length self.old.agents }
+    {
+        while let Some(begun) = self.begin_move(watcher)? {
+            if !begun.cleans {
+                self.finish_move(begun.agent, watcher)?;
+                return Ok(true);
+            }
+            let _ = self.clean_up(begun.agent, watcher)?;
+        }
+        Ok(false)
+    }
+
+    // The first turn of the next move: whose it is, or none where all have ended. Where none moves when
+    // it is asked, all wait or sleep; then the lowest is told to go on when it is asked again.
+    fn begin_move<W: Watcher>(&mut self, watcher: &mut W) -> Result<Option<Begun>, NoMemory>
         requires quiet { cleans_quietly self.old ≡ true }
         requires whole { self.old.failed ≡ false }
         requires knows { W.knows self.old watcher.old }
         ensures begins { IfOk result (λ r. BeginsMove r self.old self.new) }
         ensures watched { IfOk result (λ r. IsKept W.knows W.tells None (begun r self.new) self.old self.new watcher.old watcher.new) }
-        ensures known { IfOk result (λ r. IfSome r (λ n. n < length self.new.agents)) }
+        ensures known { IfOk result (λ r. IfSome r (λ b. b.agent < length self.new.agents)) }
         ensures err { OnErr result (self.new.failed ≡ true) }
         ensures plans { plans self.new.agents ≡ plans self.old.agents }
         ensures agents { length self.new.agents ≡ length self.old.agents }
     {
         match self.ask_each(watcher)? {
-            Some(agent) => Ok(Some(agent)),
+            Some(begun) => Ok(Some(begun)),
             None => self.ask_each(watcher),
         }
     }
 
     // Asks each agent for a turn, by rising number, until one moves.
-    fn ask_each<W: Watcher>(&mut self, watcher: &mut W) -> Result<Option<usize>, NoMemory>
+    fn ask_each<W: Watcher>(&mut self, watcher: &mut W) -> Result<Option<Begun>, NoMemory>
         requires quiet { cleans_quietly self.old ≡ true }
         requires whole { self.old.failed ≡ false }
         requires knows { W.knows self.old watcher.old }
         ensures asked { IfOk result (λ r. AskedEach r self.old self.new) }
         ensures watched { IfOk result (λ r. IsKept W.knows W.tells None (begun r self.new) self.old self.new watcher.old watcher.new) }
-        ensures known { IfOk result (λ r. IfSome r (λ n. n < length self.new.agents)) }
+        ensures known { IfOk result (λ r. IfSome r (λ b. b.agent < length self.new.agents)) }
         ensures err { OnErr result (self.new.failed ≡ true) }
         ensures plans { plans self.new.agents ≡ plans self.old.agents }
         ensures agents { length self.new.agents ≡ length self.old.agents }
     {
         for agent in 0..self.agents() {
+            let cleans = self.is_cleaning(agent);
             match self.advance(agent, watcher)? {
-                Progress::Moved => return Ok(Some(agent)),
+                Progress::Moved => return Ok(Some(Begun { agent, cleans })),
                 Progress::Waiting | Progress::Ended => (),
             }
         }
@@ -100,6 +134,7 @@ impl<L: Planned> ClusterCore<L> {
         requires known { agent < length self.old.agents }
         requires quiet { cleans_quietly self.old ≡ true }
         requires whole { self.old.failed ≡ false }
+        requires awake { asleep self.old.ledger.history agent ≡ false }
         requires knows { W.knows self.old watcher.old }
         ensures rests { OnOk result (Rest agent self.old self.new) }
         ensures watched { OnOk result (IsKept W.knows W.tells (busy agent self.old) None self.old self.new watcher.old watcher.new) }
@@ -108,32 +143,43 @@ impl<L: Planned> ClusterCore<L> {
         ensures plans { plans self.new.agents ≡ plans self.old.agents }
         ensures agents { length self.new.agents ≡ length self.old.agents }
     {
-        self.clean_up(agent, watcher)?;
+        if self.clean_up(agent, watcher)? {
+            return Ok(());
+        }
         while !self.is_at_rest(agent) {
-            let _ = self.advance(agent, watcher)?;
-            self.clean_up(agent, watcher)?;
+            match self.advance(agent, watcher)? {
+                Progress::Moved => {
+                    if self.clean_up(agent, watcher)? {
+                        return Ok(());
+                    }
+                }
+                Progress::Waiting | Progress::Ended => return Ok(()),
+            }
         }
         Ok(())
     }
 
-    // Works the agent's cleanup queue off.
-    fn clean_up<W: Watcher>(&mut self, agent: usize, watcher: &mut W) -> Result<(), NoMemory>
+    // Works the agent's cleanup queue off, unless it begins to sleep before: whether it does.
+    fn clean_up<W: Watcher>(&mut self, agent: usize, watcher: &mut W) -> Result<bool, NoMemory>
         requires known { agent < length self.old.agents }
         requires quiet { cleans_quietly self.old ≡ true }
         requires whole { self.old.failed ≡ false }
+        requires awake { asleep self.old.ledger.history agent ≡ false }
         requires knows { W.knows self.old watcher.old }
-        ensures goes { OnOk result (GoesOn agent self.old self.new) }
-        ensures watched { OnOk result (IsKept W.knows W.tells (busy agent self.old) (busy agent self.new) self.old self.new watcher.old watcher.new) }
-        ensures done { OnOk result (cleans_at agent self.new ≡ false) }
-        ensures less { OnOk result ((plan_left agent self.new ≡ plan_left agent self.old) × (self.new.failed ≡ false)) }
+        ensures goes { IfOk result (λ slept. CleansUp slept agent self.old self.new) }
+        ensures watched { IfOk result (λ slept. IsKept W.knows W.tells (busy agent self.old) (if slept then None else busy agent self.new) self.old self.new watcher.old watcher.new) }
+        ensures less { IfOk result (λ slept. (plan_left agent self.new ≡ plan_left agent self.old) × (cleanup_left agent self.new ≤ cleanup_left agent self.old) × (self.new.failed ≡ false)) }
         ensures err { OnErr result (self.new.failed ≡ true) }
         ensures plans { plans self.new.agents ≡ plans self.old.agents }
         ensures agents { length self.new.agents ≡ length self.old.agents }
     {
         while self.is_cleaning(agent) {
-            let _ = self.advance(agent, watcher)?;
+            match self.advance(agent, watcher)? {
+                Progress::Moved => (),
+                Progress::Waiting | Progress::Ended => return Ok(true),
+            }
         }
-        Ok(())
+        Ok(false)
     }
 
     // Whether the agent's cleanup queue is worked off.

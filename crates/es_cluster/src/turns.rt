@@ -9,18 +9,20 @@ ghost use Rattle.es_cluster.specs.Midway.{IsHeld};
 
 mod asking;
 mod hearing;
+mod words;
 
 use crate::member::Progress;
 use crate::spending::spend_all;
-use asking::{access_word, open, post, post_buffer};
+use asking::{open, post, post_buffer};
 use es_agent::{AgentCore, Need, Request};
 use es_ledger::LedgerCore;
 use es_mark::Marks;
 use es_ticket::{LedgerName, Stake};
 use es_value::NoMemory;
 use hearing::hear;
+use words::do_at_word;
 
-/// One event of the agent, or none where it waits or has ended. Most events ask nobody, so one that does not is tried
+/// One event of the agent, or none where it waits, sleeps or has ended. Most events ask nobody, so one that does not is tried
 /// first.
 pub(crate) fn turn<L: LedgerName>(
     core: &mut AgentCore<L>,
@@ -72,11 +74,11 @@ pub(crate) fn ask<L: LedgerName>(
             Request::PostBuffer { receiver, buffer } => {
                 post_buffer(core, stake, ledger, receiver, buffer)
             }
-            Request::Access {
+            Request::Word {
                 buffer,
                 index,
-                access,
-            } => access_word(core, stake, ledger, buffer, index, access),
+                task,
+            } => do_at_word(core, stake, ledger, buffer, index, task),
         },
         Need::Message(sender) => hear(core, stake, ledger, sender),
         Need::Close => close(core, stake, ledger),

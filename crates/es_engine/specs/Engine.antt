@@ -6,6 +6,7 @@ use Rattle.es_event.specs.declared.plan.Plan.{Plan}
 use Rattle.es_options.specs.declared.options.Options.{Options}
 use Rattle.es_engine.specs.declared.run_fault.RunFault.{RunFault}
 use Rattle.es_engine.specs.declared.run_fault.RunFault.TheVariants.{Script, NoMemory, Mismatch, Read, Write}
+use Rattle.es_theorems.specs.Sleepless.{never_sleeps}
 use Rattle.es_theorems.specs.WithoutRaces.{HasNoRaceByTurns}
 use Rattle.es_script.specs.Fault.{IsPlanOf, fault_of}
 use Rattle.es_turns.specs.Answer.{IsAnswer}
@@ -75,6 +76,7 @@ RunsTo options before after old new (Err Write) = GaveSomePlan before after
 abbrev pub with_turns : Options → Options
 with_turns o = record { check = o.check; turns = true; helpers = o.helpers; watch = o.watch }
 
--- where by turns no two accesses race of the plan that the reader gave, the answer is the one by turns, however its agents ran
+-- where the agents of the plan that the reader gave never sleep, and by turns no two accesses race, the answer is the one by turns, however
+-- they ran
 abbrev pub RunsAsByTurns : Options → Option (List ℕ) → Option (List ℕ) → Option (List ℕ) → Option (List ℕ) → Type 0
-RunsAsByTurns options before after old new = (p : Plan) × GavePlan before after p × (HasNoRaceByTurns p → Answers (with_turns options) p old new)
+RunsAsByTurns options before after old new = (p : Plan) × GavePlan before after p × (never_sleeps p ≡ true → HasNoRaceByTurns p → Answers (with_turns options) p old new)

@@ -27,7 +27,8 @@ use std::thread::Threads;
 /// agents: as many as the options ask for, and none by turns or where the plan is only checked.
 ///
 /// The report is written only after the run has ended well. On every fault but `Write` nothing is
-/// written. Where by turns no two accesses to a word race, it is the report by turns, however the agents ran.
+/// written. Where the agents never sleep, and by turns no two accesses to a word race, it is the report by turns,
+/// however they ran.
 pub fn run<H: AllocGlobal + Threads + Wait + Sync, R: Read, W: Write>(
     rt: &H,
     reader: &mut R,

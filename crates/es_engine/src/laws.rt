@@ -8,7 +8,8 @@ pub fn a_plan_has_one_answer()
     ensures { APlanHasOneAnswer }
 {}
 
-/// So has a plan of which by turns no two accesses to a word race: a message goes from one to the other.
+/// So has a plan whose agents never sleep, and of which by turns no two accesses to a word race: a message goes
+/// from one to the other.
 pub fn without_races_a_plan_has_one_answer()
     ensures { WithoutRacesAPlanHasOneAnswer }
 {}

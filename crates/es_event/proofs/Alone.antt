@@ -21,10 +21,11 @@ use Rattle.es_event.specs.Identities.{made}
 use Rattle.es_event.specs.Jobs.{Receivers, receivers, job, stays_alone}
 use Rattle.es_event.specs.Sharing.{Buffers}
 use Rattle.es_event.specs.Rules.{refusal, completion}
-use Rattle.es_event.specs.Legal.{word_in, HasWords, Lawful, values_of}
+use Rattle.es_event.specs.Legal.{HasWords, Lawful, values_of}
 use Rattle.es_event.specs.Order.{Phase, ended, phase, left, Due, run, RunsNow, due_at, due}
 use Rattle.es_event.specs.Follows.{Permits, Follows, done_for}
-use Rattle.es_event.specs.Runs.{ComesNext, silence, heard_by, heard, IsRunOver, IsWholeRunOver}
+use Rattle.es_event.specs.Heard.{Heard, heard_by, silence}
+use Rattle.es_event.specs.Runs.{ComesNext, heard, IsRunOver, IsWholeRunOver}
 use Rattle.es_event.proofs.Coming.{Comes, begins_job, begins_handed, receives, skips, refuses_message, begins_cleanup, does, refuses, empties_dead, takes, ends, stops, finishes, finishes_stopped, closes, comes, of_done}
 use Rattle.es_event.proofs.Left.{each_of, is_first, left_holds}
 use Rattle.es_event.proofs.Next.{one_next}
@@ -104,7 +105,7 @@ silent _ (own_other e is l) = is
 
 -- A command that is none on buffers or messages asks no table
 
-pub local_completion : (over other : Buffers) (h : History) (c : Command) (vs : List Value) (v w : ℕ) → is_shared c ≡ false → completion other h c vs v ≡ completion over h c vs w
+pub local_completion : (over other : Buffers) (h : History) (c : Command) (vs : List Value) (v w : Heard) → is_shared c ≡ false → completion other h c vs v ≡ completion over h c vs w
 local_completion over other h (SharedArrayBuffer to n) vs v w e = cc
 local_completion over other h (Length to b) vs v w e = cc
 local_completion over other h (SameBlock to b c) vs v w e = cc
@@ -125,7 +126,7 @@ opens_none over o (SharedArrayBuffer to n) e = cc
 opens_none over o _ e = tt
 
 lawful_too : (over other : Buffers) (into : Receivers) (h : History) (e : Event) → IsOwn e → Lawful over into h e → Lawful other into h e
-lawful_too over other into h _ (own_command c vs r local) l = (l.0, local_completion over other h c vs (word_in r) (word_in r) local ∙ l.1, l.2, opens_none other (made h + 1) c local)
+lawful_too over other into h _ (own_command c vs r local) l = (l.0, local_completion over other h c vs (heard_by c r) (heard_by c r) local ∙ l.1, l.2, opens_none other (made h + 1) c local)
 lawful_too over other into h _ (own_refusal code) l = tt
 lawful_too over other into h _ (own_other e is too) l = too over other into h l
 

@@ -22,7 +22,8 @@ use Rattle.es_event.specs.Jobs.{Receivers, receivers}
 use Rattle.es_event.specs.Sharing.{Buffers, row_at, row_of, block_of, is_index, AgreeSoFar}
 use Rattle.es_event.specs.Numbers.{index_of, index_read, words_read}
 use Rattle.es_event.specs.Rules.{Test, is_buffer, kind_of, of_buffer, of_number, of_index, refusal, first_refusal, result, refuse_or, completion}
-use Rattle.es_event.specs.Legal.{word_in, HasWords, Arrives, Lawful, LegalBy, values_of}
+use Rattle.es_event.specs.Heard.{Heard, heard_by, silence}
+use Rattle.es_event.specs.Legal.{HasWords, Arrives, Lawful, LegalBy, values_of}
 use Rattle.es_event.specs.Order.{Due, run, due}
 use Rattle.es_event.specs.Follows.{Permits, Follows, done_for}
 use Rattle.es_event.proofs.Births.{kind_within}
@@ -72,7 +73,7 @@ same_index over more into h l a v n i ts x =
     by_test (is_buffer (kind_of h v)) NotASharedArrayBuffer _ _ x x
     (λ is. ap (λ r. refuse_or (cond n.0 (cond (is_index i (option_map_or (λ r. r.words) r 0)) (first_refusal ts) (Some IndexOutOfRange)) (Some n.1)) x) (same_of over more into h l a v is))
 
-pub same_completion : (over more : Buffers) (into : Receivers) (h : History) → LegalBy over into h → AgreeSoFar h over more → (c : Command) (vs : List Value) (w : ℕ) → completion more h c vs w ≡ completion over h c vs w
+pub same_completion : (over more : Buffers) (into : Receivers) (h : History) → LegalBy over into h → AgreeSoFar h over more → (c : Command) (vs : List Value) (w : Heard) → completion more h c vs w ≡ completion over h c vs w
 same_completion over more into h l a (Length to b) vs w =
     by_test (is_buffer (kind_of h (first vs))) NotASharedArrayBuffer None None _ _
     (λ is. ap (λ r. Ok (Gives (Number (pos (option_map_or (λ r. r.words) r 0))))) (same_of over more into h l a (first vs) is))
@@ -95,7 +96,7 @@ same_code (Some d) None x y e = cc
 same_code (Some d) (Some b) x y e = let same : d ≡ b = cc in ap Some same
 
 pub all_refusals : (over more : Buffers) (into : Receivers) (h : History) → LegalBy over into h → AgreeSoFar h over more → (c : Command) (vs : List Value) → refusal over h c vs ≡ refusal more h c vs
-all_refusals over more into h l a c vs = same_code _ _ (result over h c vs 0) (result more h c vs 0) (sym (same_completion over more into h l a c vs 0))
+all_refusals over more into h l a c vs = same_code _ _ (result over h c vs silence) (result more h c vs silence) (sym (same_completion over more into h l a c vs silence))
 
 -- One more event
 
@@ -109,7 +110,7 @@ still_arrives over more h t _ a x = x
 
 pub still_lawful : (over more : Buffers) (into : Receivers) (h : History) (e : Event) → LegalBy over into h → AgreeSoFar (e ∷ h) over more → Lawful over into h e → Lawful more into h e
 still_lawful over more into h (Did (c, vs, r)) l a x =
-    (x.0, same_completion over more into h l (agrees_before (Did (c, vs, r)) h over more a) c vs (word_in r) ∙ x.1, x.2, still_has over more h c vs r a x.3)
+    (x.0, same_completion over more into h l (agrees_before (Did (c, vs, r)) h over more a) c vs (heard_by c r) ∙ x.1, x.2, still_has over more h c vs r a x.3)
 still_lawful over more into h (Received t v) l a x = still_arrives over more h t v a x
 still_lawful over more into h _ l a x = x
 

@@ -17,7 +17,8 @@ use Rattle.es_event.specs.Jobs.{Receivers}
 use Rattle.es_event.specs.WeakRefs.{kept, identity_given, first_target, target}
 use Rattle.es_event.specs.Sharing.{Buffers}
 use Rattle.es_event.specs.Rules.{target_of, or_undefined}
-use Rattle.es_event.specs.Legal.{is_rising, word_in, Lawful, LegalBy}
+use Rattle.es_event.specs.Heard.{silence}
+use Rattle.es_event.specs.Legal.{is_rising, Lawful, LegalBy}
 use Rattle.es_event.specs.Live.{refers_into, DerefOf, ObliviousOf, Oblivious, Live}
 use Rattle.es_event.specs.Reach.{IsClosed, IsClosedBeside, with_later, AreDead}
 use Rattle.es_event.specs.Derefs.{derefs}
@@ -58,7 +59,7 @@ given s h a (Some v) r e into is apart =
 deref_oblivious : (over : Buffers) (into : Receivers) (s : List ℕ) (h : History) (to w : List ℕ) (vs : List Value) (r : Answer) (b : Bool) → refers_into s h (first vs) ≡ b → Lawful over into h (Did (Deref to w, vs, r))
     → ((i : ℕ) → is_in s i ≡ true → is_in (identity_given r) i ≡ false) → DerefOf b over into h (Deref to w) vs r
 deref_oblivious over into s h to w vs r false e l apart = l
-deref_oblivious over into s h to w vs r true e l apart = (l.0, given s h (first vs) (target_of h (first vs)) r refl e (is_result over h (Deref to w) vs (word_in r) r l.1) apart)
+deref_oblivious over into s h to w vs r true e l apart = (l.0, given s h (first vs) (target_of h (first vs)) r refl e (is_result over h (Deref to w) vs silence r l.1) apart)
 
 event_oblivious : (over : Buffers) (into : Receivers) (s : List ℕ) (h : History) (e : Event) → Lawful over into h e → ((i : ℕ) → is_in s i ≡ true → is_in (derefs e) i ≡ false) → ObliviousOf s over into h e
 event_oblivious over into s h (Did (Deref to w, vs, r)) l apart = deref_oblivious over into s h to w vs r (refers_into s h (first vs)) refl l apart

@@ -16,7 +16,8 @@ use Rattle.es_event.specs.Jobs.{Receivers}
 use Rattle.es_event.specs.Ephemerons.{same_pair, entered, entered_by, first_entry}
 use Rattle.es_event.specs.Sharing.{Buffers}
 use Rattle.es_event.specs.Rules.{is_weakmap, kind_of, of_held_weakly, tests, first_refusal}
-use Rattle.es_event.specs.Legal.{word_in, LegalBy}
+use Rattle.es_event.specs.Heard.{heard_by}
+use Rattle.es_event.specs.Legal.{LegalBy}
 use Rattle.es_event.proofs.Accepted.{is_accepted, first_holds}
 use Rattle.es_event.proofs.LookBacks.{at_either}
 use Rattle.es_event.proofs.Births.{born_next}
@@ -53,6 +54,6 @@ entry_in_map over into (Did (c, vs, r) ∷ h) l m k v e =
     (at_either (λ a. a ≡ Some v → is_weakmap (kind h m) ≡ true) same_pair (m, k) (entered (Did (c, vs, r))) (first_entry h m k)
     (λ q s t f.
     let at : first vs ≡ Object m = (wrote c vs r q s).map ∙ ap Object (eqb-true q.0.0 m (and_parts (q.0.0 == m) (q.0.1 == k) t).0) in
-    subst (λ w. is_weakmap (kind_of h w) ≡ true) at (map_test over h c vs q s (is_accepted over h c vs (word_in r) r l.0.1)))
+    subst (λ w. is_weakmap (kind_of h w) ≡ true) at (map_test over h c vs q s (is_accepted over h c vs (heard_by c r) r l.0.1)))
     (λ f. entry_in_map over into h l.1 m k v f) e)
 entry_in_map over into (x ∷ h) l m k v e = map_stays over into x h l m (entry_in_map over into h l.1 m k v e)

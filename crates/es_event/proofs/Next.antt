@@ -15,7 +15,6 @@ use Rattle.es_event.specs.declared.event.Refusal.{Refusal}
 use Rattle.es_event.specs.declared.command.Command.{Command}
 use Rattle.es_event.specs.declared.command.Command.TheVariants.{Atomic, Collect}
 use Rattle.es_event.specs.declared.plan.AgentPlan.{AgentPlan}
-use Rattle.es_event.specs.Access.{given_to}
 use Rattle.es_event.specs.Commands.{reads, opens_words, collects}
 use Rattle.es_event.specs.History.{History}
 use Rattle.es_event.specs.Identities.{identity, object_of, made, is_there, is_made, is_gone, is_in}
@@ -23,13 +22,15 @@ use Rattle.es_event.specs.Jobs.{Receivers, receivers, job, cleaning}
 use Rattle.es_event.specs.Registrations.{Cell, cell, Fate, fate, awaiting, same_fate, is_of, registrations, first_awaiting}
 use Rattle.es_event.specs.Rows.{row}
 use Rattle.es_event.specs.Sharing.{Buffers, row_at, AgreeSoFar}
-use Rattle.es_event.specs.Rules.{refusal, result, word_if, refuse_or, completion, first_refusal}
-use Rattle.es_event.specs.Legal.{word_in, HasWords, Arrives, Lawful, values_of}
+use Rattle.es_event.specs.Rules.{refusal, answer_at, result, refuse_or, completion, first_refusal}
+use Rattle.es_event.specs.Legal.{HasWords, Arrives, Lawful, values_of}
 use Rattle.es_event.specs.Order.{Phase, between, handed, inside, stopped, ended, phase, left, catching, queue, Due, begin, receive, run, clean, take_cell, due_after, due_inside, due_job, due_between, due_at, end_job, close, nothing, due}
 use Rattle.es_event.specs.declared.literal.Literal.{Literal}
 use Rattle.es_event.specs.Report.{refusal_text}
 use Rattle.es_event.specs.Follows.{AtCommand, HasRoom, Permits, done_for, refused_now}
-use Rattle.es_event.specs.Runs.{ComesNext, silence, a_word, a_message, heard_by, heard}
+use Rattle.es_event.specs.Runs.{ComesNext, heard}
+use Rattle.es_event.specs.Heard.{silence, a_message, heard_at, heard_by}
+use Rattle.es_event.specs.declared.atomic.Operation.{Operation}
 use Rattle.es_event.proofs.Accepted.{is_result}
 use Rattle.es_event.proofs.Extending.{agrees_with_itself, agrees_longer, refuses_so}
 use Rattle.es_event.proofs.Counting.{found_passes}
@@ -58,26 +59,14 @@ not_both (Err code) r a e f = cc
 
 -- a command that is done
 done : (over : Buffers) (into : Receivers) (h : History) (c d : Command) (vs : List Value) (r : Answer) → Lawful over into h (Did (d, vs, r)) → d ≡ c
-    → (vs ≡ values_of into h (reads c)) × (completion over h c (values_of into h (reads c)) (word_in r) ≡ Ok r) × (collects c ≡ false)
+    → (vs ≡ values_of into h (reads c)) × (completion over h c (values_of into h (reads c)) (heard_by c r) ≡ Ok r) × (collects c ≡ false)
 done over into h c d vs r l e =
     let read : vs ≡ values_of into h (reads c) = l.0 ∙ ap (λ c. values_of into h (reads c)) e in
-    let gave : completion over h c vs (word_in r) ≡ Ok r = subst (λ c. completion over h c vs (word_in r) ≡ Ok r) e l.1 in
-    (read, subst (λ ws. completion over h c ws (word_in r) ≡ Ok r) read gave, subst (λ c. collects c ≡ false) e l.2)
+    let gave : completion over h c vs (heard_by c r) ≡ Ok r = subst (λ c. completion over h c vs (heard_by c r) ≡ Ok r) e l.1 in
+    (read, subst (λ ws. completion over h c ws (heard_by c r) ≡ Ok r) read gave, subst (λ c. collects c ≡ false) e l.2)
 
 same_done : (c d b : Command) (vs ws : List Value) (r q : Answer) → d ≡ c → b ≡ c → vs ≡ ws → r ≡ q → ◌≡◌ {A = Event} (Did (d, vs, r)) (Did (b, ws, q))
 same_done c d b vs ws r q e f g k = ap (λ x. Did (x, vs, r)) (e ∙ sym f) ∙ (ap (λ x. Did (b, x, r)) g ∙ ap (λ x. Did (b, ws, x)) k)
-
--- the word matters only to a command that reads one
-a_word_of : (v w : ℕ) → a_word v ≡ a_word w → v ≡ w
-a_word_of v w e = cc
-
-same_given : (b : Bool) (v w : ℕ) → (if b then a_word v else silence) ≡ (if b then a_word w else silence) → word_if b v ≡ word_if b w
-same_given true v w e = ap (word_if true) (a_word_of v w e)
-same_given false v w e = refl
-
-same_word : (over : Buffers) (h : History) (c : Command) (vs : List Value) (r q : Answer) → heard_by c r ≡ heard_by c q → completion over h c vs (word_in r) ≡ completion over h c vs (word_in q)
-same_word over h (Atomic a) vs r q e = ap (refuse_or (refusal over h (Atomic a) vs)) (same_given (is_some (given_to a.operation)) (word_in r) (word_in q) e)
-same_word over h _ vs r q e = refl
 
 none_refuses : (b : Bool) (code : Refusal) → b ≡ true → first_refusal ((b, CollectionOpen) ∷ []) ≡ Some code → ⊥
 none_refuses true code e f = cc
@@ -91,8 +80,8 @@ now_collects : (h : History) (c : Command) → collects_now h c ≡ true → col
 now_collects h c e = (and_parts (collects c) (is_none (snapshot h)) e).0
 
 -- what is refused is not done
-refused_not : (over : Buffers) (h : History) (c : Command) (vs : List Value) (r : Answer) (code : Refusal) → completion over h c vs (word_in r) ≡ Ok r → refusal over h c vs ≡ Some code → ⊥
-refused_not over h c vs r code e f = not_both (completion over h c vs (word_in r)) r code e (ap (λ f. refuse_or f (result over h c vs (word_in r))) f)
+refused_not : (over : Buffers) (h : History) (c : Command) (vs : List Value) (r : Answer) (code : Refusal) → completion over h c vs (heard_by c r) ≡ Ok r → refusal over h c vs ≡ Some code → ⊥
+refused_not over h c vs r code e f = not_both (completion over h c vs (heard_by c r)) r code e (ap (λ f. refuse_or f (result over h c vs (heard_by c r))) f)
 
 inner_code : (a b : Refusal) → ◌≡◌ {A = Option Refusal} (Some a) (Some b) → a ≡ b
 inner_code a b e = cc
@@ -103,7 +92,7 @@ one_done over into h c d b vs ws r q l p m o s =
     let x = done over into h c d vs r l p in
     let y = done over into h c b ws q m o in
     let alike : heard_by c r ≡ heard_by c q = ap (λ c. heard_by c r) (sym p) ∙ (s ∙ ap (λ c. heard_by c q) o) in
-    same_done c d b vs ws r q p o (x.0 ∙ sym y.0) (same_answer (completion over h c (values_of into h (reads c)) (word_in r)) r q x.1 (same_word over h c (values_of into h (reads c)) r q alike ∙ y.1))
+    same_done c d b vs ws r q p o (x.0 ∙ sym y.0) (same_answer (completion over h c (values_of into h (reads c)) (heard_by c r)) r q x.1 (ap (completion over h c (values_of into h (reads c))) alike ∙ y.1))
 
 -- what is done is the command itself where nothing is caught
 uncaught : (o : Option Refusal) (c : Command) → done_for o None c ≡ c
@@ -244,15 +233,17 @@ block_there : (over : Buffers) (h : History) (n : Option ℕ) → HasWords (with
 block_there over h None = tt
 block_there over h (Some n) = ap (λ b. option_map (λ r. r.words) (cond b (Some (row 0 0 n)) (row_at over (made h + 1)))) (eq-eqb (made h + 1) (made h + 1) refl)
 
--- the answer to the word 0 is that to its own word
-given_itself : (b : Bool) (r : Answer) → word_if b 0 ≡ r → word_if b (word_in r) ≡ word_if b 0
-given_itself true r is = ap (λ a. word_if true (word_in a)) (sym is)
-given_itself false r is = refl
+-- what is answered where nothing was heard is answered where the answer itself was
+given_itself : (o : Operation) (r : Answer) → answer_at o silence ≡ r → answer_at o (heard_at o r) ≡ answer_at o silence
+given_itself (Operation.Store n) r is = refl
+given_itself (Operation.Wait to n) r is = ap (λ r. answer_at (Operation.Wait to n) (heard_at (Operation.Wait to n) r)) (sym is)
+given_itself (Operation.Notify to c) r is = ap (λ r. answer_at (Operation.Notify to c) (heard_at (Operation.Notify to c) r)) (sym is)
+given_itself (Operation.Load to) r is = ap (λ r. answer_at (Operation.Load to) (heard_at (Operation.Load to) r)) (sym is)
+given_itself (Operation.Modify to how n) r is = ap (λ r. answer_at (Operation.Modify to how n) (heard_at (Operation.Modify to how n) r)) (sym is)
+given_itself (Operation.CompareExchange to e n) r is = ap (λ r. answer_at (Operation.CompareExchange to e n) (heard_at (Operation.CompareExchange to e n) r)) (sym is)
 
--- what is answered where the word is 0 is answered where it is the answer's word
-pub its_own_word : (over : Buffers) (h : History) (c : Command) (vs : List Value) (r : Answer) → completion over h c vs 0 ≡ Ok r → completion over h c vs (word_in r) ≡ Ok r
-its_own_word over h (Atomic a) vs r e =
-    ap (refuse_or (refusal over h (Atomic a) vs)) (given_itself (is_some (given_to a.operation)) r (is_result over h (Atomic a) vs 0 r e)) ∙ e
+pub its_own_word : (over : Buffers) (h : History) (c : Command) (vs : List Value) (r : Answer) → completion over h c vs silence ≡ Ok r → completion over h c vs (heard_by c r) ≡ Ok r
+its_own_word over h (Atomic a) vs r e = ap (refuse_or (refusal over h (Atomic a) vs)) (given_itself a.operation r (is_result over h (Atomic a) vs silence r e)) ∙ e
 its_own_word over h _ vs r e = e
 
 -- a refusal, or where it is caught the assignment of its text
@@ -267,7 +258,7 @@ refusing over more into h (Some x) c code agrees is = record {
 }
 
 answered : (over : Buffers) (into : Receivers) (h : History) (x : Option (List ℕ)) (c : Command) → collects c ≡ false → (o : Result Answer Refusal)
-    → completion (with_block over h (opens_words c)) h c (values_of into h (reads c)) 0 ≡ o → SomeAt over into h (run x c)
+    → completion (with_block over h (opens_words c)) h c (values_of into h (reads c)) silence ≡ o → SomeAt over into h (run x c)
 answered over into h x c e (Ok r) is = record {
   more = with_block over h (opens_words c);
   agrees = block_agrees over h (opens_words c);
@@ -299,7 +290,7 @@ collecting over into h x c false e f = open_refuses over into h x c e f
 
 at_command : (over : Buffers) (into : Receivers) (h : History) (x : Option (List ℕ)) (c : Command) (b : Bool) → collects c ≡ b → SomeAt over into h (run x c)
 at_command over into h x c true e = collecting over into h x c (is_none (snapshot h)) e refl
-at_command over into h x c false e = answered over into h x c e (completion (with_block over h (opens_words c)) h c (values_of into h (reads c)) 0) refl
+at_command over into h x c false e = answered over into h x c e (completion (with_block over h (opens_words c)) h c (values_of into h (reads c)) silence) refl
 
 awaiting_held : (h : History) (n : ℕ) → fate h n ≡ awaiting → (v : Value) × (option_map (λ c. c.held) (cell h n) ≡ Some v)
 awaiting_held h n e = let found = awaits h n e in (found.0.held, ap (option_map (λ c. c.held)) found.1.is)

@@ -16,7 +16,8 @@ use Rattle.es_event.specs.Jobs.{Receivers}
 use Rattle.es_event.specs.Registrations.{callback_in, callback, Cell, registers, registers_by, cell, live}
 use Rattle.es_event.specs.Sharing.{Buffers}
 use Rattle.es_event.specs.Rules.{is_registry, kind_of, of_held_weakly, of_other, of_token, tests, first_refusal}
-use Rattle.es_event.specs.Legal.{word_in, LegalBy}
+use Rattle.es_event.specs.Heard.{heard_by}
+use Rattle.es_event.specs.Legal.{LegalBy}
 use Rattle.es_event.proofs.Accepted.{is_accepted, first_holds}
 use Rattle.es_event.proofs.Cells.{made_by, cell_either}
 use Rattle.es_event.proofs.Maps.{kind_same}
@@ -44,7 +45,7 @@ cell_registry over into (Did (c, vs, r) ∷ h) l n k e =
     registry_stays over into (Did (c, vs, r)) h l k.registry
     (cell_either (is_registry (kind h k.registry) ≡ true) (Did (c, vs, r)) h n k
     (λ s t. subst (λ w. is_registry (kind_of h w) ≡ true) (made_by c vs r k s).registry
-    (registry_test over h c vs k s (is_accepted over h c vs (word_in r) r l.0.1)))
+    (registry_test over h c vs k s (is_accepted over h c vs (heard_by c r) r l.0.1)))
     (λ before. cell_registry over into h l.1 n k before) e)
 cell_registry over into (x ∷ h) l n k e = registry_stays over into x h l k.registry (cell_registry over into h l.1 n k e)
 

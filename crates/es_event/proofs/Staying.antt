@@ -20,7 +20,8 @@ use Rattle.es_event.specs.Variables.{var, assigned}
 use Rattle.es_event.specs.WeakRefs.{kept, first_target, target}
 use Rattle.es_event.specs.Sharing.{Buffers}
 use Rattle.es_event.specs.Rules.{target_of}
-use Rattle.es_event.specs.Legal.{word_in, Lawful, LegalBy, values_of}
+use Rattle.es_event.specs.Heard.{heard_by}
+use Rattle.es_event.specs.Legal.{Lawful, LegalBy, values_of}
 use Rattle.es_event.specs.Live.{AgreeAlong, refers_into, DerefOf, ObliviousOf, Oblivious}
 use Rattle.es_event.specs.Reach.{IsClosed, IsClosedBeside, with_later}
 use Rattle.es_event.proofs.Accepted.{is_result}
@@ -137,7 +138,7 @@ gave_lawful over other h s m all f c vs r holds outside l = record {
   answer = λ v e. gives_held (Held h m) other (f ++ h) c vs v holds l.0
       (λ n i is. made_later h (f ++ h) m i (made_more f h) (fresh_number (f ++ h) c vs v i n is))
       (λ d aims. held_target other h s m all f (first vs) v (outside d) aims)
-      (source over (f ++ h) c vs (word_in r) v (is_result over (f ++ h) c vs (word_in r) r l.1 ∙ e));
+      (source over (f ++ h) c vs (heard_by c r) v (is_result over (f ++ h) c vs (heard_by c r) r l.1 ∙ e));
 }
 
 undefined_held : (P : Value → Type 0) (r : Answer) (v : Value) → P Undefined → r ≡ Gives Undefined → r ≡ Gives v → P v

@@ -1,9 +1,10 @@
 -- To believe: what is done to a word of a Shared Data Block (The Atomics Object).
-use Rattle.std.specs.Prelude.{ℕ, ℤ, pos, ◌+◌, ◌-◌, ◌%◌, ◌^◌, ◌<◌, ◌==◌, ⊤, Bool, true, false, List, [], ◌∷◌, ◌++◌, Option, Some, None, unsigned_abs, bit_and, bit_or, bit_xor, codes, if◌then◌else◌}
+use Rattle.std.specs.Prelude.{ℕ, ℤ, pos, ◌+◌, ◌-◌, ◌%◌, ◌^◌, ◌<◌, ◌==◌, ⊤, Bool, true, false, List, [], ◌∷◌, ◌++◌, Option, Some, None, unsigned_abs, bit_and, bit_or, bit_xor, codes, option_to_list, if◌then◌else◌}
 use Rattle.std.specs.Int.{int_rem_euclid}
 use Rattle.es_event.specs.declared.access.Change.{Change}
 use Rattle.es_event.specs.declared.access.Edit.{Edit}
 use Rattle.es_event.specs.declared.access.Modification.{Modification}
+use Rattle.es_event.specs.declared.access.WaitResult.{WaitResult}
 use Rattle.es_event.specs.declared.atomic.Operation.{Operation}
 use Rattle.es_event.specs.declared.operand.Operand.{Operand}
 
@@ -24,13 +25,17 @@ operands_of (Operation.Load to) = []
 operands_of (Operation.Store n) = n ∷ []
 operands_of (Operation.Modify to how n) = n ∷ []
 operands_of (Operation.CompareExchange to e r) = e ∷ r ∷ []
+operands_of (Operation.Wait to n) = n ∷ []
+operands_of (Operation.Notify to c) = option_to_list c
 
--- the variable that is assigned the word that was there, if the command gives it
+-- the variable that is assigned the word that was there, or what a wait or a notify gives, if one is
 abbrev pub given_to : Operation → Option (List ℕ)
 given_to (Operation.Load to) = Some to
 given_to (Operation.Store n) = None
 given_to (Operation.Modify to how n) = Some to
 given_to (Operation.CompareExchange to e r) = Some to
+given_to (Operation.Wait to n) = Some to
+given_to (Operation.Notify to c) = Some to
 
 -- What it comes to
 
@@ -38,12 +43,21 @@ given_to (Operation.CompareExchange to e r) = Some to
 abbrev pub to_uint32 : ℤ → ℕ
 to_uint32 n = unsigned_abs (int_rem_euclid n (pos (2 ^ 32)))
 
--- what is done with the words of its operands (Atomics.load, store, add, sub, and, or, xor, exchange and compareExchange)
+-- what is done with the words of its operands (Atomics.load, store, add, sub, and, or, xor, exchange and compareExchange);
+-- a wait reads the word, and a notify leaves it alone
 abbrev pub edit_of : Operation → ℕ → ℕ → Edit
 edit_of (Operation.Load to) v w = Edit.Plain Change.Keep
 edit_of (Operation.Store n) v w = Edit.Plain (Change.Write v)
 edit_of (Operation.Modify to how n) v w = Edit.Modify how v
 edit_of (Operation.CompareExchange to e r) v w = Edit.Compare v w
+edit_of (Operation.Wait to n) v w = Edit.Plain Change.Keep
+edit_of (Operation.Notify to c) v w = Edit.Plain Change.Keep
+
+-- the text that a wait gives (Atomics.wait)
+abbrev pub wait_text : WaitResult → List ℕ
+wait_text WaitResult.Woken = codes "ok"
+wait_text WaitResult.NotEqual = codes "not-equal"
+wait_text WaitResult.TimedOut = codes "timed-out"
 
 -- What becomes of the word
 

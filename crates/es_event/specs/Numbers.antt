@@ -1,6 +1,6 @@
 -- To believe: what a value is as a number, where a command takes an index or a word (ToIntegerOrInfinity, ToNumber,
 -- StringToNumber), as far as whole numbers of this project go.
-use Rattle.std.specs.Prelude.{ℕ, ℤ, pos, neg_ℤ, ◌+◌, ◌-◌, ◌*◌, ◌==◌, ◌&&◌, List, [], ◌∷◌, length, reverse, slice_index_or, drop, nat_lt, nat_le, Option, Some, None, Result, Ok, Err, is_some, if◌then◌else◌}
+use Rattle.std.specs.Prelude.{ℕ, ℤ, pos, negsuc, neg_ℤ, ◌+◌, ◌-◌, ◌*◌, ◌==◌, ◌&&◌, List, [], ◌∷◌, length, reverse, slice_index_or, drop, nat_lt, nat_le, Option, Some, None, Result, Ok, Err, is_some, if◌then◌else◌}
 use Rattle.std.specs.Char.{is_ascii_digit}
 use Rattle.std.specs.Option.{option_map, option_map_or}
 use Rattle.es_value.specs.declared.value.Value.{Value}
@@ -8,8 +8,12 @@ use Rattle.es_value.specs.declared.value.Value.TheVariants.{Undefined, Boolean, 
 use Rattle.es_event.specs.declared.event.Refusal.{Refusal}
 use Rattle.es_event.specs.declared.event.Refusal.TheVariants.{NotANumber, TextIsNoWhole}
 use Rattle.es_event.specs.declared.access.Access.{Access}
+use Rattle.es_event.specs.declared.access.Task.{Task}
+use Rattle.es_event.specs.declared.atomic.Operation.{Operation}
 use Rattle.es_event.specs.declared.atomic.AtomicParts.{AtomicParts}
 use Rattle.es_event.specs.declared.operand.Operand.{Operand}
+use Rattle.es_value.specs.Limits.{most_agents}
+use Rattle.es_value.specs.Values.{is_same}
 use Rattle.es_event.specs.Commands.{first}
 use Rattle.es_event.specs.Access.{to_uint32, operands_of, given_to, edit_of}
 
@@ -101,3 +105,29 @@ word_at k ns = to_uint32 (number_or_0 (slice_index_or ns k (Ok (pos 0))))
 -- what a command does to a word: the edit, and whether the word that was there is given
 abbrev pub access_of : AtomicParts → List Value → Access
 access_of a vs = record { edit = edit_of a.operation (word_at 0 (words_read a vs)) (word_at 1 (words_read a vs)); gives_word = is_some (given_to a.operation) }
+
+-- How many agents are woken
+
+-- a number from 0 to the most agents that a run has
+abbrev pub cut : ℤ → ℕ
+cut (pos n) = if nat_lt n most_agents then n else most_agents
+cut (negsuc n) = 0
+
+-- how many a value counts: all where it is undefined (Atomics.notify)
+abbrev pub count_of : Value → ℕ
+count_of v = if is_same v Undefined then most_agents else cut (number_or_0 (number_of v))
+
+-- how many a notify takes at most, where vs are the values of the variables from its count on: all where it says none
+abbrev pub most_taken : Option Operand → List Value → ℕ
+most_taken None vs = most_agents
+most_taken (Some (Operand.Number n)) vs = cut n
+most_taken (Some (Operand.Variable x)) vs = count_of (first vs)
+
+-- what a command does at a word: a wait sleeps where it is this one, and a notify takes so many at most
+abbrev pub task_by : Operation → Access → ℕ → List Value → Task
+task_by (Operation.Wait to n) m w vs = Task.Sleep w
+task_by (Operation.Notify to c) m w vs = Task.Notify (most_taken c vs)
+task_by _ m w vs = Task.Access m
+
+abbrev pub task_of : AtomicParts → List Value → Task
+task_of a vs = task_by a.operation (access_of a vs) (word_at 0 (words_read a vs)) (after_operand a.index (drop 1 vs))

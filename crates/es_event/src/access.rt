@@ -1,7 +1,42 @@
 //! What is done to a word of shared memory.
 
 ghost use Rattle.std.specs.Prelude.{◌≡◌, ◌<◌, ◌^◌};
-ghost use Rattle.es_event.specs.Access.{change_by, is_same_change, modified, to_uint32, word_for};
+ghost use Rattle.es_event.specs.Access.{change_by, is_same_change, modified, wait_text, to_uint32, word_for};
+
+/// What a command does at a word of a Shared Data Block (ECMA-262, The Atomics Object).
+#[derive(Clone, Copy, Debug)]
+pub enum Task {
+    /// It reads or writes the word.
+    Access(Access),
+    /// It sleeps, where this is the word (Atomics.wait).
+    Sleep(u32),
+    /// It takes the first agents out of the WaiterList there, so many at most (Atomics.notify).
+    Notify(u32),
+}
+
+/// How a wait at a word ended (ECMA-262, Atomics.wait).
+#[derive(Clone, Copy, Debug, PartialEq, Eq)]
+pub enum WaitResult {
+    /// A notify took the agent.
+    Woken,
+    /// The word was another one.
+    NotEqual,
+    /// Its time-out passed.
+    TimedOut,
+}
+
+impl WaitResult {
+    /// The text that the wait gives.
+    pub fn text(self) -> &'static str
+        ensures { result.now ≡ wait_text self }
+    {
+        match self {
+            WaitResult::Woken => "ok",
+            WaitResult::NotEqual => "not-equal",
+            WaitResult::TimedOut => "timed-out",
+        }
+    }
+}
 
 /// What a command does with a word of a Shared Data Block, in one step (ECMA-262, The Atomics Object).
 #[derive(Clone, Copy, Debug)]

@@ -3,14 +3,15 @@
 ghost use Rattle.std.specs.Prelude.{◌≡◌, ◌∷◌, ◌++◌, [], false, IfOk, is_some};
 ghost use Rattle.std.specs.Option.{option_copied, option_to_list};
 ghost use Rattle.es_event.specs.Access.{edit_of, given_to, operands_of, to_uint32 as to_uint32_said, variables_of};
-ghost use Rattle.es_event.specs.Numbers.{access_of, index_of, number_or_0, numbers_of, operand_number, word_at};
+ghost use Rattle.es_event.specs.Numbers.{access_of, count_of, cut, index_of, most_taken as most_taken_said, number_or_0, numbers_of, operand_number, task_of, word_at};
 ghost use Rattle.es_event.specs.Reading.{names_of};
 
 use crate::Refusal;
-use crate::access::{Access, Change, Edit, Modification, to_uint32};
+use crate::access::{Access, Change, Edit, Modification, Task, to_uint32};
 use crate::command::OperandNames;
+use crate::numbers::number_of;
 use crate::operand::{Operand, without_first};
-use es_value::{Name, NoMemory, Value};
+use es_value::{MOST_AGENTS, Name, NoMemory, Value};
 use std::alloc::Global;
 use std::marker::Model;
 
@@ -63,6 +64,18 @@ pub enum Operation {
         to: Name,
         expected: Operand,
         replacement: Operand,
+    },
+    /// `wait X B I N`: sleeps where the word is the number, until a notify takes it or its time-out passes; assigns how
+    /// that ended (Atomics.wait).
+    Wait {
+        to: Name,
+        number: Operand,
+    },
+    /// `notify X B I` and `notify X B I C`: takes the first that sleep at the word, so many at most; assigns how many they
+    /// were (Atomics.notify).
+    Notify {
+        to: Name,
+        count: Option<Operand>,
     },
 }
 
@@ -168,6 +181,25 @@ impl Atomic {
         }
     }
 
+    /// What is done at the word, where these are the values that the command takes.
+    pub fn task_of(&self, values: &[Value]) -> Task
+        ensures { result ≡ task_of self.now values.now }
+    {
+        let access = self.access_of(values);
+        match &self.parts.operation {
+            Operation::Wait { .. } => {
+                let rest = self.parts.index.rest(without_first(values));
+                let (word, _) = self.parts.operation.words(rest);
+                Task::Sleep(word)
+            }
+            Operation::Notify { count, .. } => {
+                let rest = self.parts.index.rest(without_first(values));
+                Task::Notify(most_taken(count.as_ref(), rest))
+            }
+            _ => Task::Access(access),
+        }
+    }
+
     /// What the command does to the word.
     pub fn operation(&self) -> &Operation
         ensures { result.now ≡ self.now.operation }
@@ -190,10 +222,14 @@ impl Operation {
         ensures second { result.1 ≡ word_at 1 (numbers_of (operands_of self.now) values.now) }
     {
         match self {
-            Operation::Load { .. } => (0, 0),
-            Operation::Store { number } | Operation::Modify { number, .. } => {
-                (word_of(number, values), 0)
-            }
+            Operation::Load { .. } | Operation::Notify { count: None, .. } => (0, 0),
+            Operation::Store { number }
+            | Operation::Modify { number, .. }
+            | Operation::Wait { number, .. }
+            | Operation::Notify {
+                count: Some(number),
+                ..
+            } => (word_of(number, values), 0),
             Operation::CompareExchange {
                 expected,
                 replacement,
@@ -210,7 +246,9 @@ impl Operation {
         ensures { result ≡ edit_of self.now first second }
     {
         match self {
-            Operation::Load { .. } => Edit::Plain(Change::Keep),
+            Operation::Load { .. } | Operation::Wait { .. } | Operation::Notify { .. } => {
+                Edit::Plain(Change::Keep)
+            }
             Operation::Store { .. } => Edit::Plain(Change::Write(first)),
             Operation::Modify { how, .. } => Edit::Modify(*how, first),
             Operation::CompareExchange { .. } => Edit::Compare(first, second),
@@ -224,7 +262,9 @@ impl Operation {
         match self {
             Operation::Load { to }
             | Operation::Modify { to, .. }
-            | Operation::CompareExchange { to, .. } => Some(to),
+            | Operation::CompareExchange { to, .. }
+            | Operation::Wait { to, .. }
+            | Operation::Notify { to, .. } => Some(to),
             Operation::Store { .. } => None,
         }
     }
@@ -234,8 +274,14 @@ impl Operation {
         ensures { result ≡ false → variables_of (operands_of self.now) ≡ [] }
     {
         match self {
-            Operation::Load { .. } => false,
-            Operation::Store { number } | Operation::Modify { number, .. } => number.is_variable(),
+            Operation::Load { .. } | Operation::Notify { count: None, .. } => false,
+            Operation::Store { number }
+            | Operation::Modify { number, .. }
+            | Operation::Wait { number, .. }
+            | Operation::Notify {
+                count: Some(number),
+                ..
+            } => number.is_variable(),
             Operation::CompareExchange {
                 expected,
                 replacement,
@@ -249,10 +295,14 @@ impl Operation {
         ensures { option_to_list (option_copied result.0) ++ option_to_list (option_copied result.1) ≡ variables_of (operands_of self.now) }
     {
         match self {
-            Operation::Load { .. } => (None, None),
-            Operation::Store { number } | Operation::Modify { number, .. } => {
-                (number.variable(), None)
-            }
+            Operation::Load { .. } | Operation::Notify { count: None, .. } => (None, None),
+            Operation::Store { number }
+            | Operation::Modify { number, .. }
+            | Operation::Wait { number, .. }
+            | Operation::Notify {
+                count: Some(number),
+                ..
+            } => (number.variable(), None),
             Operation::CompareExchange {
                 expected,
                 replacement,
@@ -267,4 +317,45 @@ fn word_of(operand: &Operand, values: &[Value]) -> u32
     ensures { result ≡ to_uint32_said (number_or_0 (operand_number operand.now values.now)) }
 {
     to_uint32(number_or_0(operand.number(values)))
+}
+
+/// As many agents as a notify can take: all that there can be.
+pub const MOST_TAKEN: u32 = MOST_AGENTS as u32;
+
+/// How many agents a notify takes at most, where these are the values of the variables from its count on: all that there
+/// can be where it says none (ECMA-262, Atomics.notify).
+fn most_taken(count: Option<&Operand>, values: &[Value]) -> u32
+    ensures { result ≡ most_taken_said (option_copied count.entry) values.now }
+{
+    match count {
+        Some(Operand::Number(number)) => cut(*number),
+        Some(Operand::Variable(_)) => match values.first() {
+            Some(value) => count_of(value),
+            None => MOST_TAKEN,
+        },
+        None => MOST_TAKEN,
+    }
+}
+
+/// How many agents a value counts, where a notify takes it so: all that there can be where it is undefined.
+pub fn count_of(value: &Value) -> u32
+    ensures { result ≡ count_of value.now }
+{
+    match value {
+        Value::Undefined => MOST_TAKEN,
+        _ => cut(number_or_0(number_of(value))),
+    }
+}
+
+/// The number, from 0 to the most agents that there can be.
+pub fn cut(number: i64) -> u32
+    ensures { result ≡ cut number }
+{
+    if number <= 0 {
+        0
+    } else if number >= i64::from(MOST_TAKEN) {
+        MOST_TAKEN
+    } else {
+        number as u32
+    }
 }

@@ -25,8 +25,8 @@ mod sequence;
 mod shared_list;
 mod waiter;
 
-pub use access::{Access, Change, Edit, Modification, to_uint32};
-pub use atomic::{Atomic, AtomicParts, Operation};
+pub use access::{Access, Change, Edit, Modification, Task, WaitResult, to_uint32};
+pub use atomic::{Atomic, AtomicParts, MOST_TAKEN, Operation, count_of, cut};
 pub use caught::catch_refusal;
 pub use command::{Command, OperandNames};
 pub use cursor::{

@@ -155,7 +155,7 @@ meant (Some near) = codes " Did you mean " ▸ near ▸ codes "?"
 
 -- a command that came with version 3
 abbrev pub is_of_three : List ℕ → Bool
-is_of_three w = is_some (modification_named w) || bytes_eq w (codes "compareexchange")
+is_of_three w = is_some (modification_named w) || (bytes_eq w (codes "compareexchange") || (bytes_eq w (codes "wait") || bytes_eq w (codes "notify")))
 
 -- a word that the version has not: version 1 lacks collectlater, and both before 3 lack what came with it
 abbrev pub no_word : List ℕ → List ℕ

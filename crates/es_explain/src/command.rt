@@ -240,7 +240,10 @@ fn no_word(alloc: Global, word: &str) -> Result<String, AllocError>
 fn is_of_three(word: &str) -> bool
     ensures { result ≡ is_of_three word.now }
 {
-    modification_named(word).is_some() || word == "compareexchange"
+    modification_named(word).is_some()
+        || word == "compareexchange"
+        || word == "wait"
+        || word == "notify"
 }
 
 fn meant(alloc: Global, near: Option<&str>) -> Result<String, AllocError>

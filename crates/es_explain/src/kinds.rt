@@ -1,7 +1,7 @@
 //! What the operands of each command are.
 
 ghost use Rattle.std.specs.Prelude.{◌≡◌, option_map};
-ghost use Rattle.es_reading.specs.Forms.{compare_form, form, later_form, load_form, modify_form, register_form, registry_form, shared_form, store_form, weak_form};
+ghost use Rattle.es_reading.specs.Forms.{compare_form, count_form, form, later_form, load_form, modify_form, notify_form, register_form, registry_form, shared_form, store_form, wait_form, weak_form};
 ghost use Rattle.es_explain.specs.Causes.{types};
 ghost use Rattle.es_explain.specs.Coded.{types_of};
 
@@ -83,6 +83,8 @@ fn shared_kinds(version: Version, word: &str, count: usize) -> Option<&'static [
         "load" => load_kinds(version),
         "store" => store_kinds(version),
         "compareexchange" => compare_kinds(version),
+        "wait" => wait_kinds(version),
+        "notify" => notify_kinds(version, count),
         "post" => Some(&[Kind::Agent, Kind::Name]),
         _ => match modification_named(word) {
             Some(how) => modify_kinds(version, how),
@@ -134,6 +136,34 @@ fn compare_kinds(version: Version) -> Option<&'static [Kind]>
         }
         _ => None,
     }
+}
+
+fn wait_kinds(version: Version) -> Option<&'static [Kind]>
+    ensures { option_map (λ ks. types_of ks.now) result ≡ types (wait_form version) }
+{
+    match version {
+        Version::Three => Some(&[Kind::Name, Kind::Name, Kind::Amount, Kind::Amount]),
+        _ => None,
+    }
+}
+
+fn notify_kinds(version: Version, count: usize) -> Option<&'static [Kind]>
+    ensures { option_map (λ ks. types_of ks.now) result ≡ types (notify_form version count) }
+{
+    match version {
+        Version::Three => count_kinds(count),
+        _ => None,
+    }
+}
+
+/// The fourth says how many are woken at most, where there is one.
+fn count_kinds(count: usize) -> Option<&'static [Kind]>
+    ensures { option_map (λ ks. types_of ks.now) result ≡ types (count_form count) }
+{
+    if count == 4 {
+        return Some(&[Kind::Name, Kind::Name, Kind::Amount, Kind::Amount]);
+    }
+    Some(&[Kind::Name, Kind::Name, Kind::Amount])
 }
 
 fn registry_kinds(word: &str, count: usize) -> Option<&'static [Kind]>

@@ -3,6 +3,7 @@ use Rattle.std.proofs.Common.{◌≡◌, ℕ, true, false, refl, List, [], ◌�
 use Rattle.std.specs.Prelude.{pos}
 use Rattle.std.specs.Fmt.{digits}
 use Rattle.es_value.specs.declared.value.Value.TheVariants.{Undefined, Boolean, Number, Registered, Object, Symbol as SymbolValue}
+use Rattle.es_event.specs.Heard.{silence}
 use Rattle.es_event.specs.declared.literal.Literal.TheVariants.{Undefined as NoLiteral, Number as NumberLiteral}
 use Rattle.es_event.specs.declared.command.Command.{Command}
 use Rattle.es_event.specs.declared.command.Command.TheVariants.{Let, New, Symbol, SymbolFor, Say, Set, WeakMap, WeakMapSet, WeakMapGet, WeakMapHas, WeakMapDelete, WeakSet, WeakSetAdd, WeakSetHas, WeakSetDelete, Collect}
@@ -228,7 +229,7 @@ pub other_member_stays : is_member emptied_member 3 2 ≡ true
 other_member_stays = refl
 
 -- so the answer is false even to one who still had the value
-emptied_is_no_member : completion [] emptied_member (WeakSetHas x s a) (Object 3 ∷ Object 1 ∷ []) 0 ≡ Ok (Gives (Boolean false))
+emptied_is_no_member : completion [] emptied_member (WeakSetHas x s a) (Object 3 ∷ Object 1 ∷ []) silence ≡ Ok (Gives (Boolean false))
 emptied_is_no_member = refl
 
 -- What can't be held weakly is no key and no member; what is no WeakMap or no WeakSet is refused first

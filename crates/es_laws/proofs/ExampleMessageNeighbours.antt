@@ -21,7 +21,8 @@ use Rattle.es_event.specs.Sharing.{blocks_opened, messages_posted}
 use Rattle.es_event.specs.Legal.{Lawful}
 use Rattle.es_event.specs.Live.{Oblivious, observes, Honest}
 use Rattle.es_event.specs.Order.{phase, between, handed, receive, close, due, left, queue, is_cleaning_up}
-use Rattle.es_event.specs.Runs.{ComesNext, a_word, silence, heard}
+use Rattle.es_event.specs.Heard.{a_word, silence}
+use Rattle.es_event.specs.Runs.{ComesNext, heard}
 use Rattle.es_event.proofs.Examples.{load, store, add, plan_with, IsUnlawful, IsOutOfPlace, IsUnlawfulOver, IsOutOfPlaceOver}
 use Rattle.es_laws.proofs.ExampleDeref as Deref
 use Rattle.es_laws.proofs.ExampleBuffers as Buffers

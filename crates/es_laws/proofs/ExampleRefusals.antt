@@ -4,6 +4,7 @@ use Rattle.std.proofs.Common.{◌≡◌, refl, [], ◌∷◌, codes, rules, Ok, 
 use Rattle.std.specs.Prelude.{pos}
 use Rattle.std.specs.Fmt.{digits}
 use Rattle.es_value.specs.declared.value.Value.TheVariants.{Number, Registered, Object, Symbol as SymbolValue}
+use Rattle.es_event.specs.Heard.{silence}
 use Rattle.es_event.specs.declared.literal.Literal.TheVariants.{Number as NumberLiteral}
 use Rattle.es_event.specs.declared.command.Command.TheVariants.{Let, New, Symbol, SymbolFor, Set, Get, Delete, Keys, WeakRef, Deref}
 use Rattle.es_event.specs.declared.event.Refusal.TheVariants.{NotAnObject, NotAWeakRef, NotHeldWeakly, TooManyValues}
@@ -85,25 +86,25 @@ worked_others = record { whole = (search rules, search rules); report = refl }
 -- The limit of identities
 
 -- the last identity is made
-room_for_one_more : (h : History) → made h ≡ 999999 → completion [] h (New a) [] 0 ≡ Ok (Gives (Object 1000000))
+room_for_one_more : (h : History) → made h ≡ 999999 → completion [] h (New a) [] silence ≡ Ok (Gives (Object 1000000))
 room_for_one_more h e = rw e refl
 
 -- and no further one
-no_room_for_an_object : (h : History) → made h ≡ 1000000 → completion [] h (New a) [] 0 ≡ Err TooManyValues
+no_room_for_an_object : (h : History) → made h ≡ 1000000 → completion [] h (New a) [] silence ≡ Err TooManyValues
 no_room_for_an_object h e = rw e refl
 
-no_room_for_a_symbol : (h : History) → made h ≡ 1000000 → completion [] h (Symbol s) [] 0 ≡ Err TooManyValues
+no_room_for_a_symbol : (h : History) → made h ≡ 1000000 → completion [] h (Symbol s) [] silence ≡ Err TooManyValues
 no_room_for_a_symbol h e = rw e refl
 
-no_room_for_a_weakref : (h : History) → made h ≡ 1000000 → completion [] h (WeakRef w x) (Object 1 ∷ []) 0 ≡ Err TooManyValues
+no_room_for_a_weakref : (h : History) → made h ≡ 1000000 → completion [] h (WeakRef w x) (Object 1 ∷ []) silence ≡ Err TooManyValues
 no_room_for_a_weakref h e = rw e refl
 
 -- a registered symbol needs no room
-registered_needs_none : (h : History) → completion [] h (SymbolFor f k) [] 0 ≡ Ok (Gives (Registered k))
+registered_needs_none : (h : History) → completion [] h (SymbolFor f k) [] silence ≡ Ok (Gives (Registered k))
 registered_needs_none h = refl
 
 -- that a number is not held weakly is asked before whether there is room
-number_comes_first : (h : History) → completion [] h (WeakRef w x) (Number (pos 1) ∷ []) 0 ≡ Err NotHeldWeakly
+number_comes_first : (h : History) → completion [] h (WeakRef w x) (Number (pos 1) ∷ []) silence ≡ Err NotHeldWeakly
 number_comes_first h = refl
 
 line_of_the_limit : line (Refused TooManyValues) ≡ codes "error limit: values\n"

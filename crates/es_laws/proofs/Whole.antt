@@ -10,7 +10,8 @@ use Rattle.es_event.specs.History.{History}
 use Rattle.es_event.specs.Jobs.{receivers, job, callbacks_collect_nothing}
 use Rattle.es_event.specs.Sharing.{Buffers, AgreeSoFar}
 use Rattle.es_event.specs.Order.{Phase, between, handed, inside, stopped, ended, phase, left, catching, queue, nothing, due_after, due_inside, due_job, due_between, due_at, is_cleaning_up, due_end}
-use Rattle.es_event.specs.Runs.{ComesNext, Heard, heard, IsRunOver, IsWholeRunOver}
+use Rattle.es_event.specs.Heard.{Heard}
+use Rattle.es_event.specs.Runs.{ComesNext, heard, IsRunOver, IsWholeRunOver}
 use Rattle.es_event.proofs.Coming.{next_cell}
 use Rattle.es_event.proofs.Extending.{agrees_with_itself, agrees_before, agrees_through, still_legal, still_follows}
 use Rattle.es_event.proofs.Next.{one_next, some_next}

@@ -1,7 +1,7 @@
 -- An agent sleeps, is taken out of its list, and goes on.
 use Rattle.std.proofs.Common.{◌≡◌, ℕ, ◌+◌, ◌<◌, ◌≤◌, ◌==◌, List, [], ◌∷◌, ◌++◌, filter, Some, None, Bool, true, false, cond, refl, sym, ap, ◌∙◌, subst, arith, take, length, length-set, zero-add, eq-eqb}
 use Rattle.std.proofs.lemmas.Bool.{eqb-true, false≢true}
-use Rattle.std.proofs.lemmas.List.{get_or-set_same, get_or-set_other}
+use Rattle.std.proofs.lemmas.List.{get_or-set_same, get_or-set_other, length-take}
 use Rattle.std.specs.List.{Contains}
 use Rattle.std.specs.Option.{option_map_or}
 use Rattle.std.specs.Prelude.{slice_set, slice_index_or, not}
@@ -14,7 +14,7 @@ use Rattle.es_event.specs.declared.waiter.Waiter.{Waiter}
 use Rattle.es_event.specs.Rows.{held}
 use Rattle.es_event.specs.Ledger.{Ledger, opened, rows, table, word, waits as awaits, ended, holder_of}
 use Rattle.es_event.specs.LegalLedger.{ReachesAs, is_chosen}
-use Rattle.es_event.specs.Waiters.{asleep, block_by, is_at, is_listed, taken_there, waiter, waiters, without_first}
+use Rattle.es_event.specs.Waiters.{asleep, block_by, is_at, is_listed, taken_there, waiter, waiters, without_first, list_at}
 use Rattle.es_ledger.specs.Sleeps.{laid_down}
 use Rattle.es_ledger.specs.Ties.{left, waiting, Columns, LedgerTies, Sleepers}
 use Rattle.es_ledger.proofs.After.{holder_here}
@@ -77,6 +77,10 @@ slept_ties n l k more a i r ties has inside below free going awake room =
 -- so many as left
 pub taken_is : (n : ℕ) (l : Ledger) (ws vs : List Waiter) (bs : List Bool) (b i m c : ℕ) → Sleepers n l ws bs → vs ≡ without_first b i m ws → c + length vs ≡ length ws → c ≡ taken_there l b i m
 taken_is n l ws vs bs b i m c are left all = taken_so b i m c (length vs) ws vs left all refl ∙ ap (λ ws. length (take m (filter (is_at b i) ws))) are.lists
+
+-- and they are few
+pub taken_few : (l : Ledger) (b i m : ℕ) → taken_there l b i m ≤ m
+taken_few l b i m = omega (arith, length-take m (list_at l b i))
 
 pub notified_ties : {L : Type 0} (n : ℕ) (l : Ledger) (k : Columns L) (more a i m c : ℕ) (r : Row)
     → LedgerTies n l k → Contains (held a (table l)) r → i < r.words → c ≡ taken_there l r.block i m → length (rows l) + left l n + waiting l n + k.messages ≤ more

@@ -7,7 +7,7 @@ ghost use Rattle.es_event.specs.Waiters.{asleep, is_listed, taken_there};
 ghost use Rattle.es_event.specs.LegalLedger.{is_chosen};
 ghost use Rattle.es_event.specs.declared.ledger_event.LedgerEvent.TheVariants.{Acted};
 ghost use Rattle.es_event.specs.declared.ledger_event.Act.TheVariants.{Notified, Slept, TimedOut, Woke};
-ghost use Rattle.es_ledger.specs.Sleeps.{laid_down, roused};
+ghost use Rattle.es_ledger.specs.Sleeps.{laid_down, rested, roused};
 
 use crate::ledger::{LedgerCore, make_room};
 use crate::turn::Turn;
@@ -61,6 +61,39 @@ impl<L: LedgerName> LedgerCore<L> {
         Ok(true)
     }
 
+    /// Asks to sleep at the word at an index through a ticket. Where the word is another one the answer is `None`. Else the
+    /// stake's agent sleeps, and the answer says where its sleep stands (`await_word`); an agent that sleeps already
+    /// begins no other sleep, and one that waits for a message is told to wait on. Where there is no memory nothing has
+    /// changed.
+    pub fn wait_at(
+        &mut self,
+        stake: &mut Stake<L>,
+        ticket: &Ticket<L>,
+        index: usize,
+        word: u32,
+    ) -> Result<Option<Turn>, NoMemory>
+        requires here { Contains stake.old.rows ticket.now }
+        requires inside { index < ticket.now.words }
+        requires known { stake.old.agent < self.old.agents }
+        requires going { ended self.old.history stake.old.agent ≡ false }
+        ensures told { IfOk result (λ t. (t, self.new.history) ≡ rested self.old.history self.old.agents stake.old.agent ticket.now index word) }
+        ensures agents { self.new.agents ≡ self.old.agents }
+        ensures stake { stake.new ≡ stake.old }
+        ensures err { OnErr result (self.new ≡ self.old) }
+    {
+        let agent = stake.number();
+        if self.is_asleep(agent) {
+            return Ok(Some(self.await_word(agent)));
+        }
+        if self.waits_for_message(agent) {
+            return Ok(Some(Turn::Stay));
+        }
+        if !self.sleep(stake, ticket, index, word)? {
+            return Ok(None);
+        }
+        Ok(Some(self.await_word(agent)))
+    }
+
     /// Takes the first agents, so many at most, out of the WaiterList at an index through a ticket of the stake's agent,
     /// and answers how many they were. Where there is no memory nothing has changed.
     pub fn notify(
@@ -68,8 +101,8 @@ impl<L: LedgerName> LedgerCore<L> {
         stake: &mut Stake<L>,
         ticket: &Ticket<L>,
         index: usize,
-        count: usize,
-    ) -> Result<usize, NoMemory>
+        count: u32,
+    ) -> Result<u32, NoMemory>
         requires here { Contains stake.old.rows ticket.now }
         requires inside { index < ticket.now.words }
         ensures taken { IfOk result (λ k. k ≡ taken_there self.old.history ticket.now.block index count) }
@@ -80,6 +113,7 @@ impl<L: LedgerName> LedgerCore<L> {
         self.rows.look(stake);
         let agents = self.ended.as_slice().len();
         make_room(&mut self.history, &self.rows, &self.ports, agents, 1)?;
+        let count = count as usize;
         let taken = take_first(&mut self.waiters, ticket.block(), index, count);
         self.history.append(LedgerEvent::Acted {
             agent: stake.number(),
@@ -90,7 +124,7 @@ impl<L: LedgerName> LedgerCore<L> {
                 taken,
             },
         });
-        Ok(taken)
+        Ok(taken as u32)
     }
 
     /// Where the sleep of an agent stands that sleeps: it was taken, and goes on; or it sleeps on; or its time-out has

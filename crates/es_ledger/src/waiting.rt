@@ -97,7 +97,15 @@ impl<L: LedgerName> LedgerCore<L> {
         requires { agent < self.now.agents }
         ensures { result ≡ (is_some (waits self.now.history agent) || asleep self.now.history agent) }
     {
-        self.sender_of(agent).is_some() || self.is_asleep(agent)
+        self.waits_for_message(agent) || self.is_asleep(agent)
+    }
+
+    // Whether it waits for a message.
+    pub(crate) fn waits_for_message(&self, agent: usize) -> bool
+        requires { agent < self.now.agents }
+        ensures { result ≡ is_some (waits self.now.history agent) }
+    {
+        self.sender_of(agent).is_some()
     }
 
     fn waits_for(&self, agent: usize, sender: usize) -> bool

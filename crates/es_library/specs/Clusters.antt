@@ -42,7 +42,7 @@ pub record Begins (bytes : List ℕ) (before after : Held) (agents : ℕ) (old n
   pub long : status ≡ 4 → longest_plan < length bytes
   pub last : status < 5
 
--- 0: agent n has one event more; 1: it waits on for a message; 2: it has ended; 3: there was no memory, now or in a turn before;
+-- 0: agent n has one event more; 1: it waits on for a message, or sleeps at a word; 2: it has ended; 3: there was no memory, now or in a turn before;
 -- 4: there is no such agent
 pub record Steps (n : ℕ) (old new : ClusterView) (status : ℕ) : Type 0 where
   pub moved : status ≡ 0 → Turned Moved n old new

@@ -165,7 +165,7 @@ pub extern "C" fn clusterrun_begin(
 }
 
 /// One turn of an agent: its next event, with what it asks for done. Answers 0 where it has one event more, 1
-/// where it waits on for a message, 2 where it has ended, 3 for want of memory, after which no agent moves any
+/// where it waits on for a message or sleeps, 2 where it has ended, 3 for want of memory, after which no agent moves any
 /// more, and 4 where there is no such agent. The cluster goes on to be kept, in `next`, which keeps nothing yet.
 #[unsafe(no_mangle)]
 pub extern "C" fn clusterrun_cluster_step(cluster: Held, agent: usize, next: &mut Held) -> u32

@@ -21,7 +21,7 @@ use std::mem::ManuallyDrop;
 /// The answer to a turn in which the agent has one event more.
 const MOVED: u32 = 0;
 
-/// The answer to a turn of an agent that waits on for a message.
+/// The answer to a turn of an agent that waits on for a message, or sleeps at a word.
 const WAITS: u32 = 1;
 
 /// The answer to a turn of an agent that has ended.

@@ -8,7 +8,7 @@ use Rattle.std.proofs.lemmas.List.{reverse-append, reverse-reverse, take-append-
 use Rattle.es_event.specs.declared.event.Event.{Event}
 use Rattle.es_event.specs.History.{History}
 use Rattle.es_match.specs.Deeds.{Deed, Spends, Ends}
-use Rattle.es_match.specs.Asks.{Asking, nothing, to_open, to_measure, to_compare, to_access, to_post, to_receive, to_refuse, to_pass, to_empty, to_close, between_jobs, ends_job, asks}
+use Rattle.es_match.specs.Asks.{Asking, nothing, to_open, to_measure, to_compare, to_access, to_miss, to_sleep, to_notify, to_post, to_receive, to_refuse, to_pass, to_empty, to_close, between_jobs, ends_job, asks}
 use Rattle.es_match.specs.Meets.{Tickets, Came, after, came_after, nothing_came, spends, ends, strike, serials_of, within, some_if, no_more, sole, pair, is_one}
 use Rattle.es_match.specs.Cluster.{DeedsMeet}
 use Rattle.es_match.specs.Goes.{asked, goes}
@@ -82,6 +82,9 @@ after-length t (to_open n v) ds u e = one-length ds _ u e
 after-length t (to_measure b v) ds u e = no-length ds (and_parts _ _ (some_if-true _ _ _ e)).0
 after-length t (to_compare b c v) ds u e = no-length ds (and_parts _ _ (some_if-true _ _ _ e)).0
 after-length t (to_access b i m v) ds u e = is_one-length ds _ (some_if-true _ _ _ e)
+after-length t (to_miss b i w) ds u e = is_one-length ds _ (some_if-true _ _ _ e)
+after-length t (to_sleep b i w r) ds u e = is_one-length ds _ (some_if-true _ _ _ e)
+after-length t (to_notify b i n v) ds u e = is_one-length ds _ (some_if-true _ _ _ e)
 after-length t (to_post a v) ds u e = is_one-length ds _ (some_if-true _ _ _ e)
 after-length t (to_receive s v) ds u e = one-length ds _ u e
 after-length t to_refuse ds u e = two-length ds _ (some_if-true _ _ _ e)

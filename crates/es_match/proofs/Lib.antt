@@ -12,6 +12,7 @@ mod Lists
 pub mod Passing
 pub mod Ticketed
 mod Running
+pub mod Sleeping
 mod Noted
 mod Posted
 pub mod Splitting

@@ -10,11 +10,11 @@ use Rattle.es_event.specs.declared.row.Entry.{Entry}
 use Rattle.es_event.specs.declared.row.Holder.{Holder}
 use Rattle.es_event.specs.declared.row.Holder.TheVariants.{Agent, Nobody}
 use Rattle.es_event.specs.Rows.{held_by, moved, line_of}
-use Rattle.es_event.specs.Waiters.{asleep}
 use Rattle.es_event.specs.Ledger.{Ledger, front, serial_in, table, moved_if, posted_line, awaited, newest_size, opens, queued}
 use Rattle.es_match.specs.declared.ledger_pass.LedgerPass.{LedgerPass}
 use Rattle.es_event.specs.Totals.{is_drained}
-use Rattle.es_match.specs.LedgerPass.{Says, asleep_in, line_in, size_in, sleeps_on, waits_in, port_in, put_line, move_line, post_line, taken_by, words_by, line_after}
+use Rattle.es_match.specs.Deeds.{sleep_of}
+use Rattle.es_match.specs.LedgerPass.{Says, sleep_in, line_in, size_in, sleeps_on, waits_in, port_in, put_line, move_line, post_line, taken_by, words_by, line_after}
 
 -- One serial's line
 
@@ -83,9 +83,9 @@ line_said l (Accessed s i m old) q = refl
 line_said l (Acted a d) q = refl
 line_said l (Drained s r) q = refl
 
--- Whether an agent sleeps
+-- The sleep of an agent
 
-sleeps_said : (l : Ledger) (e : LedgerEvent) (a : ℕ) → sleeps_on e a (asleep l a) ≡ asleep (e ∷ l) a
+sleeps_said : (l : Ledger) (e : LedgerEvent) (a : ℕ) → sleeps_on e a (sleep_of l a) ≡ sleep_of (e ∷ l) a
 sleeps_said l (Opened b w s c) a = refl
 sleeps_said l (Posted c r m) a = refl
 sleeps_said l (Taken s r) a = refl
@@ -101,7 +101,7 @@ pub noted : (l : Ledger) (e : LedgerEvent) (t u : LedgerPass) (m : Option Body) 
     → ((b : ℕ) → size_in u.sizes b ≡ newest_size (opens e) b (size_in t.sizes b))
     → ((s r : ℕ) → port_in u.mail s r ≡ queued e s r (port_in t.mail s r))
     → ((a : ℕ) → waits_in u.waiting a ≡ awaited e a (waits_in t.waiting a))
-    → ((a : ℕ) → asleep_in u.sleeping a ≡ sleeps_on e a (asleep_in t.sleeping a))
+    → ((a : ℕ) → sleep_in u.sleeping a ≡ sleeps_on e a (sleep_in t.sleeping a))
     → u.drained ≡ (is_drained e || t.drained) → Says (e ∷ l) u
 noted l e t u m w says taken words lines sizes mail waiting sleeping drains_now = record {
   lines = λ q. lines q ∙ ap (λ x. line_after m w e q x) (says.lines q) ∙ ap (λ x. line_after x w e q (line_of q (table l))) taken

@@ -2,7 +2,7 @@
 use Rattle.std.specs.Prelude.{ℕ, ◌≡◌, ⊤, Bool, true, false, List, [], ◌∷◌, slice_index_or}
 use Rattle.es_event.specs.declared.event.Event.{Event}
 use Rattle.es_event.specs.History.{History}
-use Rattle.es_match.specs.Asks.{Asking, nothing, to_open, to_measure, to_compare, to_access, to_post, to_receive, to_refuse, to_pass, to_empty, to_close, asks, between_jobs, ends_job}
+use Rattle.es_match.specs.Asks.{Asking, nothing, to_open, to_measure, to_compare, to_access, to_miss, to_sleep, to_notify, to_post, to_receive, to_refuse, to_pass, to_empty, to_close, asks, between_jobs, ends_job}
 
 -- no deed is asked of an agent that has no ticket
 abbrev pub is_calm : Asking → Bool
@@ -11,6 +11,9 @@ is_calm (to_open n v) = false
 is_calm (to_measure b v) = false
 is_calm (to_compare b c v) = false
 is_calm (to_access b i m v) = false
+is_calm (to_miss b i w) = false
+is_calm (to_sleep b i w r) = false
+is_calm (to_notify b i n v) = false
 is_calm (to_post a v) = false
 is_calm (to_receive s v) = false
 is_calm to_refuse = false

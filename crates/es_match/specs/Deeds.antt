@@ -9,6 +9,7 @@ use Rattle.es_event.specs.declared.ledger_event.LedgerEvent.TheVariants.{Opened,
 use Rattle.es_event.specs.declared.ledger_event.Act.{Act}
 use Rattle.es_event.specs.declared.ledger_event.Act.TheVariants.{Waiting, Passed, Ended, Slept, Notified, Woke, TimedOut}
 use Rattle.es_event.specs.Ledger.{Ledger, size, front, holder_of}
+use Rattle.es_match.specs.declared.deed.Sleep.{Sleep}
 
 -- what an agent does to the ledger; a message that it takes is none where the port was empty, and comes with the number of
 -- words of its block
@@ -23,8 +24,29 @@ pub data Deed : Type 0 where
   Ends : Deed
   Sleeps : (serial index word : ℕ) → Deed
   Notifies : (serial index count taken : ℕ) → Deed
-  Wakes : Deed
-  TimesOut : Deed
+  Wakes : (sleep : Option Sleep) → Deed
+  TimesOut : (sleep : Option Sleep) → Deed
+
+-- whether agent a sleeps after an act of agent c, and through which ticket, at which index and word it began to
+abbrev pub sleeps_after : ℕ → Act → ℕ → Option Sleep → Option Sleep
+sleeps_after c (Waiting s) a before = before
+sleeps_after c (Passed s) a before = before
+sleeps_after c Ended a before = if c == a then None else before
+sleeps_after c (Slept s i w) a before = if c == a then Some (record { serial = s; index = i; word = w }) else before
+sleeps_after c (Notified s i n k) a before = before
+sleeps_after c Woke a before = if c == a then None else before
+sleeps_after c TimedOut a before = if c == a then None else before
+
+-- the sleep of agent a, from which it has not gone on yet
+abbrev pub sleep_of : Ledger → ℕ → Option Sleep
+sleep_of [] a = None
+sleep_of (Opened b w s c ∷ earlier) a = sleep_of earlier a
+sleep_of (Posted c r m ∷ earlier) a = sleep_of earlier a
+sleep_of (Taken s r ∷ earlier) a = sleep_of earlier a
+sleep_of (Spent s ∷ earlier) a = sleep_of earlier a
+sleep_of (Accessed s i m old ∷ earlier) a = sleep_of earlier a
+sleep_of (Acted c d ∷ earlier) a = sleeps_after c d a (sleep_of earlier a)
+sleep_of (Drained s r ∷ earlier) a = sleep_of earlier a
 
 -- whose deed it is, and what
 abbrev pub Owned : Type 0
@@ -42,14 +64,15 @@ words_in l (Block b s) = size l b
 abbrev pub taking : Ledger → ℕ → Option Body → Deed
 taking l s m = Takes s m (option_map_or (words_in l) m 0)
 
-abbrev pub acting : Act → Deed
-acting (Waiting s) = Waits s
-acting (Passed s) = Passes s
-acting Ended = Ends
-acting (Slept s i w) = Sleeps s i w
-acting (Notified s i n k) = Notifies s i n k
-acting Woke = Wakes
-acting TimedOut = TimesOut
+-- an act of an agent whose sleep this is, if it sleeps: who goes on ends it
+abbrev pub acting : Option Sleep → Act → Deed
+acting o (Waiting s) = Waits s
+acting o (Passed s) = Passes s
+acting o Ended = Ends
+acting o (Slept s i w) = Sleeps s i w
+acting o (Notified s i n k) = Notifies s i n k
+acting o Woke = Wakes o
+acting o TimedOut = TimesOut o
 
 -- what an event after l is; a drain is nobody's deed, nor is the spending of a ticket that no agent holds
 abbrev pub deed : Ledger → LedgerEvent → Owned
@@ -58,9 +81,10 @@ deed l (Posted a r m) = Some (a, Posts r m)
 deed l (Taken s r) = Some (r, taking l s (front l s r))
 deed l (Spent s) = by_holder l s (Spends s)
 deed l (Accessed s i m old) = by_holder l s (Accesses s i m old)
-deed l (Acted a d) = Some (a, acting d)
+deed l (Acted a d) = Some (a, acting (sleep_of l a) d)
 deed l (Drained s r) = None
 
+-- an agent begins to wait for a message, or to sleep at a word: its history tells it by what ends it
 abbrev pub is_wait : Deed → Bool
 is_wait (Opens b w s) = false
 is_wait (Posts r m) = false
@@ -70,10 +94,10 @@ is_wait (Accesses s i m old) = false
 is_wait (Waits s) = true
 is_wait (Passes s) = false
 is_wait Ends = false
-is_wait (Sleeps s i w) = false
+is_wait (Sleeps s i w) = true
 is_wait (Notifies s i n k) = false
-is_wait Wakes = false
-is_wait TimesOut = false
+is_wait (Wakes o) = false
+is_wait (TimesOut o) = false
 
 abbrev pub is_sleep : Deed → Bool
 is_sleep (Opens b w s) = false
@@ -86,15 +110,15 @@ is_sleep (Passes s) = false
 is_sleep Ends = false
 is_sleep (Sleeps s i w) = true
 is_sleep (Notifies s i n k) = false
-is_sleep Wakes = false
-is_sleep TimesOut = false
+is_sleep (Wakes o) = false
+is_sleep (TimesOut o) = false
 
--- agent a's deed, unless it is a wait
+-- agent a's deed, unless it begins a wait or a sleep
 abbrev pub part_of : ℕ → Owned → List Deed
 part_of a None = []
 part_of a (Some p) = if (p.0 == a) && not (is_wait p.1) then p.1 ∷ [] else []
 
--- agent a's part in the ledger's history, without its waits, the oldest first
+-- agent a's part in the ledger's history, without its waits and beginnings of sleeps, the oldest first
 abbrev pub part : Ledger → ℕ → List Deed
 part [] a = []
 part (e ∷ earlier) a = part earlier a ++ part_of a (deed earlier e)

@@ -16,8 +16,8 @@ shown (Pass s) = Passes s
 shown End = Ends
 shown (Sleep s i w) = Sleeps s i w
 shown (Notify s i n k) = Notifies s i n k
-shown Wake = Wakes
-shown TimeOut = TimesOut
+shown (Wake o) = Wakes o
+shown (TimeOut o) = TimesOut o
 
 abbrev pub all_shown : List Deed → List DeedSaid
 all_shown ds = map shown ds

@@ -16,9 +16,10 @@ use Rattle.es_event.specs.declared.row.Holder.{Holder}
 use Rattle.es_event.specs.declared.row.Holder.TheVariants.{Agent, Port, Nobody}
 use Rattle.es_event.specs.Rows.{row, held_by, line_of}
 use Rattle.es_event.specs.Ledger.{Ledger, size, port_of, front, serial_in, table, holder_of, waits}
-use Rattle.es_event.specs.Waiters.{asleep, asleep_after}
+use Rattle.es_event.specs.Waiters.{asleep}
 use Rattle.es_match.specs.declared.ledger_pass.LedgerPass.{LedgerPass}
-use Rattle.es_match.specs.Deeds.{words_in}
+use Rattle.es_match.specs.declared.deed.Sleep.{Sleep}
+use Rattle.es_match.specs.Deeds.{sleep_of, sleeps_after, words_in}
 use Rattle.es_match.specs.Patience.{has_drained}
 
 abbrev pub Map : Type 0 → Type 0 → Type 0
@@ -36,9 +37,9 @@ size_in m b = unwrap_or (get nat_eq m b) 0
 abbrev pub waits_in : Map ℕ (Option ℕ) → ℕ → Option ℕ
 waits_in m a = unwrap_or (get nat_eq m a) None
 
--- whether an agent sleeps
-abbrev pub asleep_in : Map ℕ Bool → ℕ → Bool
-asleep_in m a = unwrap_or (get nat_eq m a) false
+-- the sleep of an agent
+abbrev pub sleep_in : Map ℕ (Option Sleep) → ℕ → Option Sleep
+sleep_in m a = unwrap_or (get nat_eq m a) None
 
 abbrev pub pair_eq : ℕ × ℕ → ℕ × ℕ → Bool
 pair_eq p q = nat_eq p.0 q.0 && nat_eq p.1 q.1
@@ -66,17 +67,17 @@ pub record Says (l : Ledger) (t : LedgerPass) : Type 0 where
   pub sizes : (b : ℕ) → size_in t.sizes b ≡ size l b
   pub mail : (s r : ℕ) → port_in t.mail s r ≡ port_of l s r
   pub waiting : (a : ℕ) → waits_in t.waiting a ≡ waits l a
-  pub sleeping : (a : ℕ) → asleep_in t.sleeping a ≡ asleep l a
+  pub sleeping : (a : ℕ) → sleep_in t.sleeping a ≡ sleep_of l a
   pub drains : t.drained ≡ has_drained l
 
--- whether agent a sleeps after an event, of whether it did before
-abbrev pub sleeps_on : LedgerEvent → ℕ → Bool → Bool
+-- the sleep of agent a after an event, of that before it
+abbrev pub sleeps_on : LedgerEvent → ℕ → Option Sleep → Option Sleep
 sleeps_on (Opened b w s c) a before = before
 sleeps_on (Posted c r m) a before = before
 sleeps_on (Taken s r) a before = before
 sleeps_on (Spent s) a before = before
 sleeps_on (Accessed s i m old) a before = before
-sleeps_on (Acted c d) a before = asleep_after c d a before
+sleeps_on (Acted c d) a before = sleeps_after c d a before
 sleeps_on (Drained s r) a before = before
 
 -- One serial's line

@@ -6,6 +6,8 @@ use Rattle.es_value.specs.Values.{is_same}
 use Rattle.es_value.specs.declared.value.Value.{Value}
 use Rattle.es_value.specs.declared.value.Value.TheVariants.{Number, Boolean}
 use Rattle.es_event.specs.declared.access.Access.{Access}
+use Rattle.es_event.specs.declared.access.Change.{Change}
+use Rattle.es_event.specs.declared.access.WaitResult.{WaitResult}
 use Rattle.es_event.specs.declared.ledger_event.Body.{Body}
 use Rattle.es_event.specs.declared.ledger_event.Body.TheVariants.{Plain, Block}
 use Rattle.es_event.specs.declared.row.Row.{Row}
@@ -13,8 +15,9 @@ use Rattle.es_event.specs.Access.{change_by, is_same_change}
 use Rattle.es_event.specs.Identities.{is_in, object_of}
 use Rattle.es_event.specs.Rows.{row}
 use Rattle.es_event.specs.Sharing.{row_of}
-use Rattle.es_match.specs.Asks.{Asking, nothing, to_open, to_measure, to_compare, to_access, to_post, to_receive, to_refuse, to_pass, to_empty, to_close}
-use Rattle.es_match.specs.Deeds.{Deed, Opens, Posts, Takes, Spends, Accesses, Passes, Ends}
+use Rattle.es_match.specs.Asks.{Asking, nothing, to_open, to_measure, to_compare, to_access, to_miss, to_sleep, to_notify, to_post, to_receive, to_refuse, to_pass, to_empty, to_close}
+use Rattle.es_match.specs.declared.deed.Sleep.{Sleep}
+use Rattle.es_match.specs.Deeds.{Deed, Opens, Posts, Takes, Spends, Accesses, Passes, Ends, Notifies, Wakes, TimesOut}
 
 -- an agent's tickets by buffer object, the oldest first
 abbrev pub Tickets : Type 0
@@ -56,6 +59,27 @@ answers m v old = not m.gives_word || is_number v old
 abbrev pub is_access : Tickets → Value → ℤ → Access → Value → Deed → Bool
 is_access t b i m v (Accesses s j done old) = is_ticket t b s && (same_index i j && (is_same_change (change_by m.edit old) done && answers m v old))
 is_access t b i m v _ = false
+
+-- a word was read, and is another than this
+abbrev pub is_miss : Tickets → Value → ℤ → ℕ → Deed → Bool
+is_miss t b i w (Accesses s j done old) = is_ticket t b s && (same_index i j && (is_same_change Change.Keep done && not (old == w)))
+is_miss t b i w _ = false
+
+-- a sleep began at a word, which was this one
+abbrev pub is_sleep_at : Tickets → Value → ℤ → ℕ → Option Sleep → Bool
+is_sleep_at t b i w None = false
+is_sleep_at t b i w (Some s) = is_ticket t b s.serial && (same_index i s.index && (s.word == w))
+
+-- and ended so
+abbrev pub is_end_of_sleep : Tickets → Value → ℤ → ℕ → WaitResult → Deed → Bool
+is_end_of_sleep t b i w WaitResult.Woken (Wakes o) = is_sleep_at t b i w o
+is_end_of_sleep t b i w WaitResult.TimedOut (TimesOut o) = is_sleep_at t b i w o
+is_end_of_sleep t b i w _ _ = false
+
+-- so many were to be taken at most, and the answer is how many were
+abbrev pub is_notify : Tickets → Value → ℤ → ℕ → Value → Deed → Bool
+is_notify t b i n v (Notifies s j m k) = is_ticket t b s && (same_index i j && ((m == n) && is_number v k))
+is_notify t b i n v _ = false
 
 -- the message carries the value, or the block of the buffer
 abbrev pub carries : Tickets → Value → Body → Bool
@@ -147,6 +171,9 @@ after t (to_open n v) ds = option_and_then (opening t n v) (sole ds)
 after t (to_measure b v) ds = some_if (no_more ds && has_ticket t b (λ r. is_number v r.words)) t
 after t (to_compare b c v) ds = some_if (no_more ds && compares t b c v) t
 after t (to_access b i m v) ds = some_if (is_one (is_access t b i m v) ds) t
+after t (to_miss b i w) ds = some_if (is_one (is_miss t b i w) ds) t
+after t (to_sleep b i w r) ds = some_if (is_one (is_end_of_sleep t b i w r) ds) t
+after t (to_notify b i n v) ds = some_if (is_one (is_notify t b i n v) ds) t
 after t (to_post a v) ds = some_if (is_one (is_post t a v) ds) t
 after t (to_receive s v) ds = option_and_then (receiving t s v) (sole ds)
 after t to_refuse ds = some_if (option_map_or (λ p. is_refusal p.0 p.1) (pair ds) false) t

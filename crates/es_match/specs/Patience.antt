@@ -17,8 +17,8 @@ ends_wait t (Passes s) = s == t
 ends_wait t Ends = false
 ends_wait t (Sleeps s i w) = false
 ends_wait t (Notifies s i n k) = false
-ends_wait t Wakes = false
-ends_wait t TimesOut = false
+ends_wait t (Wakes o) = false
+ends_wait t (TimesOut o) = false
 
 -- the deed ends a sleep
 abbrev pub ends_sleep : Deed → Bool
@@ -32,8 +32,8 @@ ends_sleep (Passes s) = false
 ends_sleep Ends = false
 ends_sleep (Sleeps s i w) = false
 ends_sleep (Notifies s i n k) = false
-ends_sleep Wakes = true
-ends_sleep TimesOut = true
+ends_sleep (Wakes o) = true
+ends_sleep (TimesOut o) = true
 
 abbrev pub may_do : Option ℕ → Deed → Bool
 may_do None d = true

@@ -2,6 +2,14 @@
 
 use es_event::{Body, Change};
 
+/// A sleep: the ticket through which it began, the index, and the word that was there.
+#[derive(Clone, Copy)]
+pub struct Sleep {
+    pub serial: u64,
+    pub index: usize,
+    pub word: u32,
+}
+
 /// What an agent does to the ledger.
 #[derive(Clone, Copy)]
 pub enum Deed<'a> {
@@ -56,8 +64,8 @@ pub enum Deed<'a> {
         count: usize,
         taken: usize,
     },
-    /// It was taken, and goes on.
-    Wake,
-    /// Its time-out has passed, and it goes on.
-    TimeOut,
+    /// It was taken, and goes on from this sleep.
+    Wake(Option<Sleep>),
+    /// Its time-out has passed, and it goes on from this sleep.
+    TimeOut(Option<Sleep>),
 }

@@ -4,12 +4,12 @@ ghost use Rattle.std.specs.Prelude.{◌≡◌, true};
 ghost use Rattle.es_event.specs.Ledger.{Ledger, front, waits};
 ghost use Rattle.es_event.specs.Waiters.{asleep};
 ghost use Rattle.es_match.specs.Patience.{ends_sleep, ends_wait, may_do, may_stir};
-ghost use Rattle.es_match.specs.Deeds.{acting, by_holder, deed, is_wait, taking};
+ghost use Rattle.es_match.specs.Deeds.{acting, by_holder, deed, is_wait, sleep_of, taking};
 ghost use Rattle.es_match.specs.Orderly.{is_known, may_come};
 ghost use Rattle.es_match.specs.DeedsShown.{owned, shown};
 ghost use Rattle.es_match.specs.LedgerPass.{Says};
 
-use crate::deed::Deed;
+use crate::deed::{Deed, Sleep};
 use crate::ledger_pass::LedgerPass;
 use crate::lines::holder;
 use crate::mail::front;
@@ -66,7 +66,7 @@ impl<'a> LedgerPass<'a> {
                     old: *old,
                 },
             ),
-            LedgerEvent::Acted { agent, act } => Some((*agent, acting(*act))),
+            LedgerEvent::Acted { agent, act } => Some((*agent, acting(self.sleep(*agent), *act))),
             LedgerEvent::Drained { .. } => None,
         }
     }
@@ -95,14 +95,21 @@ impl<'a> LedgerPass<'a> {
         }
     }
 
+    /// The sleep of an agent, if it sleeps.
+    fn sleep(&self, agent: usize) -> Option<Sleep>
+        ensures { (l : Ledger) → Says l self.now → result ≡ sleep_of l agent }
+    {
+        match self.sleeping.get(&agent) {
+            Some(sleep) => *sleep,
+            None => None,
+        }
+    }
+
     /// Whether an agent sleeps.
     fn is_asleep(&self, agent: usize) -> bool
         ensures { (l : Ledger) → Says l self.now → result ≡ asleep l agent }
     {
-        match self.sleeping.get(&agent) {
-            Some(asleep) => *asleep,
-            None => false,
-        }
+        self.sleep(agent).is_some()
     }
 
     /// The sender that an agent waits for.
@@ -132,8 +139,8 @@ impl<'a> LedgerPass<'a> {
     }
 }
 
-fn acting<'a>(act: Act) -> Deed<'a>
-    ensures { shown result ≡ acting act }
+fn acting<'a>(sleep: Option<Sleep>, act: Act) -> Deed<'a>
+    ensures { shown result ≡ acting sleep act }
 {
     match act {
         Act::Waiting { sender } => Deed::Wait { sender },
@@ -159,8 +166,8 @@ fn acting<'a>(act: Act) -> Deed<'a>
             count,
             taken,
         },
-        Act::Woke => Deed::Wake,
-        Act::TimedOut => Deed::TimeOut,
+        Act::Woke => Deed::Wake(sleep),
+        Act::TimedOut => Deed::TimeOut(sleep),
     }
 }
 
@@ -191,12 +198,12 @@ fn may_stir(asleep: bool, deed: &Deed<'_>) -> bool
 fn ends_sleep(deed: &Deed<'_>) -> bool
     ensures { result ≡ ends_sleep (shown deed.now) }
 {
-    matches!(deed, Deed::Wake | Deed::TimeOut)
+    matches!(deed, Deed::Wake(_) | Deed::TimeOut(_))
 }
 
-/// Whether the deed is that an agent begins to wait.
+/// Whether the deed is that an agent begins to wait for a message, or to sleep.
 pub(crate) fn is_wait(deed: &Deed<'_>) -> bool
     ensures { result ≡ is_wait (shown deed.now) }
 {
-    matches!(deed, Deed::Wait { .. })
+    matches!(deed, Deed::Wait { .. } | Deed::Sleep { .. })
 }

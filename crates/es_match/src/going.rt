@@ -16,6 +16,7 @@ use crate::rest::Rest;
 use crate::spending::are_spent;
 use crate::stretch::Stretch;
 use crate::tickets::{BufferTickets, object_in, serials_of, serials_within};
+use crate::waited::{is_end_of_sleep, is_miss, is_notify};
 use crate::want::{Want, asks_nothing, ends_job, want_at};
 use es_event::{Body, Event, Row};
 use es_value::{Id, IdSet, NoMemory, Value};
@@ -164,6 +165,32 @@ pub(crate) fn after(
             Some(deed) => Ok(is_access(tickets, *buffer, *index, *access, *answer, &deed)),
             None => Ok(false),
         },
+        Want::Missing {
+            buffer,
+            index,
+            word,
+        } => match one(deeds) {
+            Some(deed) => Ok(is_miss(tickets, *buffer, *index, *word, &deed)),
+            None => Ok(false),
+        },
+        Want::Sleeping {
+            buffer,
+            index,
+            word,
+            ended,
+        } => match one(deeds) {
+            Some(deed) => Ok(is_end_of_sleep(tickets, *buffer, *index, *word, *ended, &deed)),
+            None => Ok(false),
+        },
+        Want::Notifying {
+            buffer,
+            index,
+            count,
+            answer,
+        } => match one(deeds) {
+            Some(deed) => Ok(is_notify(tickets, *buffer, *index, *count, *answer, &deed)),
+            None => Ok(false),
+        },
         Want::Posting { receiver, value } => match one(deeds) {
             Some(deed) => Ok(is_post(tickets, *receiver, *value, &deed)),
             None => Ok(false),
@@ -219,6 +246,9 @@ fn asked(tickets: &BufferTickets, want: &Want<'_>) -> usize
         Want::Nothing | Want::Length { .. } | Want::SameBlock { .. } => 0,
         Want::Opening { .. }
         | Want::Accessing { .. }
+        | Want::Missing { .. }
+        | Want::Sleeping { .. }
+        | Want::Notifying { .. }
         | Want::Posting { .. }
         | Want::Receiving { .. }
         | Want::Passing { .. } => 1,

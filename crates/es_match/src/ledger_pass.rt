@@ -3,11 +3,11 @@
 ghost use Rattle.std.specs.Prelude.{◌≡◌, ℕ, [], ◌∷◌, OnOk, ◌||◌};
 ghost use Rattle.es_event.specs.Ledger.{Ledger, awaited, newest_size, opens};
 ghost use Rattle.es_event.specs.declared.ledger_event.LedgerEvent.{LedgerEvent as Happening};
-ghost use Rattle.es_match.specs.LedgerPass.{Says, body_of, asleep_in, size_in, sleeps_on, taken_by, waits_in, words_by};
-ghost use Rattle.es_event.specs.Waiters.{asleep_after};
-ghost use Rattle.es_match.specs.Deeds.{words_in};
+ghost use Rattle.es_match.specs.LedgerPass.{Says, body_of, sleep_in, size_in, sleeps_on, taken_by, waits_in, words_by};
+ghost use Rattle.es_match.specs.Deeds.{sleeps_after, words_in};
 ghost use Rattle.es_event.specs.Totals.{is_drained};
 
+use crate::deed::Sleep;
 use crate::lines::{self, Lines, put};
 use crate::mail::{self, Mail};
 use es_event::{Act, Body, LedgerEvent};
@@ -26,8 +26,8 @@ pub(crate) struct LedgerPass<'a> {
     pub mail: Mail<'a>,
     /// For each agent the sender that it waits for.
     pub waiting: HashMap<usize, Option<usize>>,
-    /// For each agent whether it sleeps.
-    pub sleeping: HashMap<usize, bool>,
+    /// For each agent its sleep, if it sleeps.
+    pub sleeping: HashMap<usize, Option<Sleep>>,
     /// Whether a message was drained.
     pub drained: bool,
 }
@@ -147,8 +147,11 @@ fn note_act(
     }
 }
 
-fn note_sleep(sleeping: &mut HashMap<usize, bool>, event: &LedgerEvent) -> Result<(), NoMemory>
-    ensures { OnOk result ((a : ℕ) → asleep_in sleeping.new a ≡ sleeps_on event.now a (asleep_in sleeping.old a)) }
+fn note_sleep(
+    sleeping: &mut HashMap<usize, Option<Sleep>>,
+    event: &LedgerEvent,
+) -> Result<(), NoMemory>
+    ensures { OnOk result ((a : ℕ) → sleep_in sleeping.new a ≡ sleeps_on event.now a (sleep_in sleeping.old a)) }
 {
     match event {
         LedgerEvent::Acted { agent, act } => note_rest(sleeping, *agent, *act),
@@ -161,12 +164,27 @@ fn note_sleep(sleeping: &mut HashMap<usize, bool>, event: &LedgerEvent) -> Resul
     }
 }
 
-fn note_rest(sleeping: &mut HashMap<usize, bool>, agent: usize, act: Act) -> Result<(), NoMemory>
-    ensures { OnOk result ((a : ℕ) → asleep_in sleeping.new a ≡ asleep_after agent act a (asleep_in sleeping.old a)) }
+fn note_rest(
+    sleeping: &mut HashMap<usize, Option<Sleep>>,
+    agent: usize,
+    act: Act,
+) -> Result<(), NoMemory>
+    ensures { OnOk result ((a : ℕ) → sleep_in sleeping.new a ≡ sleeps_after agent act a (sleep_in sleeping.old a)) }
 {
     match act {
-        Act::Slept { .. } => put(sleeping, agent, true),
-        Act::Ended | Act::Woke | Act::TimedOut => put(sleeping, agent, false),
+        Act::Slept {
+            serial,
+            index,
+            word,
+        } => {
+            let sleep = Sleep {
+                serial,
+                index,
+                word,
+            };
+            put(sleeping, agent, Some(sleep))
+        }
+        Act::Ended | Act::Woke | Act::TimedOut => put(sleeping, agent, None),
         Act::Waiting { .. } | Act::Passed { .. } | Act::Notified { .. } => Ok(()),
     }
 }

@@ -18,11 +18,13 @@ mod rest;
 mod spending;
 mod stretch;
 mod tickets;
+mod waited;
 mod want;
+mod word_want;
 mod words;
 
 pub use came::Came;
-pub use deed::Deed;
+pub use deed::{Deed, Sleep};
 pub use matching::{came_of, matches};
 pub use parts::parts_of;
 pub use rest::Rest;

@@ -12,13 +12,13 @@ use crate::tickets::BufferTickets;
 use es_event::{Access, Body};
 use es_value::{Value, same_value};
 
-fn same_index(index: i64, other: usize) -> bool
+pub(crate) fn same_index(index: i64, other: usize) -> bool
     ensures { result ≡ same_index index other }
 {
     index >= 0 && index as u64 == other as u64
 }
 
-fn is_number(value: Option<&Value>, number: usize) -> bool
+pub(crate) fn is_number(value: Option<&Value>, number: usize) -> bool
     ensures { result ≡ is_number (said value.entry) number }
 {
     match value {
@@ -36,7 +36,7 @@ fn is_boolean(value: Option<&Value>, truth: bool) -> bool
     }
 }
 
-fn is_ticket(tickets: &BufferTickets, buffer: Option<&Value>, serial: u64) -> bool
+pub(crate) fn is_ticket(tickets: &BufferTickets, buffer: Option<&Value>, serial: u64) -> bool
     ensures { result ≡ is_ticket tickets.now (said buffer.entry) serial }
 {
     match tickets.find(buffer) {

@@ -8,7 +8,8 @@ ghost use Rattle.es_match.specs.Shown.{asking, said};
 ghost use Rattle.es_event.specs.declared.event.Answer.{Answer as Answered};
 ghost use Rattle.es_event.specs.Answers.{answer_said};
 
-use es_event::{Access, AnswerRef, Command, Event, Refusal};
+use crate::word_want::want_at_word;
+use es_event::{Access, AnswerRef, Command, Event, Refusal, WaitResult};
 use es_value::{Id, Value};
 
 /// What an event asks of the ledger. An answer is the value that the command gave; none stands for
@@ -38,6 +39,26 @@ pub(crate) enum Want<'a> {
         buffer: Option<&'a Value>,
         index: i64,
         access: Access,
+        answer: Option<&'a Value>,
+    },
+    /// To find another word than this.
+    Missing {
+        buffer: Option<&'a Value>,
+        index: i64,
+        word: u32,
+    },
+    /// To sleep where the word is this one; the sleep ended so.
+    Sleeping {
+        buffer: Option<&'a Value>,
+        index: i64,
+        word: u32,
+        ended: WaitResult,
+    },
+    /// To take so many out of a WaiterList at most.
+    Notifying {
+        buffer: Option<&'a Value>,
+        index: i64,
+        count: u32,
         answer: Option<&'a Value>,
     },
     /// To post a value.
@@ -144,7 +165,7 @@ fn given(answer: AnswerRef<'_>) -> Option<&Value>
     }
 }
 
-fn first(values: &[Value]) -> Option<&Value>
+pub(crate) fn first(values: &[Value]) -> Option<&Value>
     ensures { said result ≡ first values.now }
 {
     values.first()
@@ -173,12 +194,7 @@ fn want_of<'a>(command: &Command, values: &'a [Value], answer: Option<&'a Value>
             right: second(values),
             answer,
         },
-        Command::Atomic(atomic) => Want::Accessing {
-            buffer: first(values),
-            index: atomic.index_of(values),
-            access: atomic.access_of(values),
-            answer,
-        },
+        Command::Atomic(atomic) => want_at_word(atomic, values, answer),
         Command::Post { receiver, .. } => Want::Posting {
             receiver: *receiver,
             value: first(values),

@@ -1,6 +1,6 @@
 -- In the histories of one cluster, an agent that counts as ended has closed.
 use Rattle.std.proofs.Common.{◌≡◌, ℕ, zero, suc, ◌||◌, ◌&&◌, Bool, true, false, cond, List, [], ◌∷◌, Option, Some, None, map, length, refl, sym, ap, ◌∙◌, subst, eq-eqb}
-use Rattle.std.specs.Prelude.{slice_get}
+use Rattle.std.specs.Prelude.{ℤ, slice_get}
 use Rattle.std.specs.List.{list_any}
 use Rattle.std.specs.Option.{option_and_then, option_map_or}
 use Rattle.std.proofs.lemmas.List.Folds.{list_any-append}
@@ -15,6 +15,8 @@ use Rattle.es_event.specs.declared.event.Event.TheVariants.{Did, Refused, Closed
 use Rattle.es_event.specs.declared.event.Answer.{Answer}
 use Rattle.es_event.specs.declared.command.Command.{Command}
 use Rattle.es_event.specs.declared.command.Command.TheVariants.{SharedArrayBuffer, Length, SameBlock, Atomic, Post}
+use Rattle.es_event.specs.declared.access.Task.{Task}
+use Rattle.es_event.specs.declared.access.WaitResult.{WaitResult}
 use Rattle.es_event.specs.History.{History}
 use Rattle.es_event.specs.Follows.{Follows, Permits}
 use Rattle.es_event.specs.Jobs.{Receivers, receivers}
@@ -23,12 +25,15 @@ use Rattle.es_event.specs.Ledger.{Ledger, ended as has_ended, is_end_of, port_of
 use Rattle.es_event.specs.LegalLedger.{all_ended}
 use Rattle.es_event.specs.Order.{ended, nothing as due_nothing, due_at, phase}
 use Rattle.es_event.specs.Runs.{IsRunOver}
+use Rattle.es_event.specs.Heard.{wait_given}
+use Rattle.es_event.specs.Numbers.{index_of, task_of}
+use Rattle.es_event.specs.Commands.{first}
 use Rattle.es_ledger.specs.Draining.{drained_one, drained_each, drained_to, drained_below, after_drain}
-use Rattle.es_match.specs.Asks.{Asking, nothing, to_open, to_measure, to_compare, to_access, to_post, to_receive, to_refuse, to_pass, to_empty, to_close, asks, asks_did, between_jobs, wants_room}
+use Rattle.es_match.specs.Asks.{Asking, nothing, to_open, to_measure, to_compare, to_access, to_post, to_receive, to_refuse, to_pass, to_empty, to_close, asks, asks_did, between_jobs, wants_room, to_miss, to_sleep, to_notify, asks_wait, asks_word, given}
 use Rattle.es_match.specs.Cluster.{IsCluster, DeedsMeet, history_of}
 use Rattle.es_match.specs.Deeds.{Deed, Takes, Spends, Ends, deed, part, part_of}
 use Rattle.es_match.proofs.Bridge.{mapped}
-use Rattle.es_match.specs.Meets.{Came, Tickets, after, is_access, is_one, is_pass, is_post, is_refusal, opening, pair, receiving, sole, some_if, spends, spends_ticket_in, strike}
+use Rattle.es_match.specs.Meets.{Came, Tickets, after, is_access, is_one, is_pass, is_post, is_refusal, opening, pair, receiving, sole, some_if, spends, spends_ticket_in, strike, is_end_of_sleep, is_miss, is_notify}
 use Rattle.es_agent.specs.Tickets.{is_ended}
 use Rattle.es_cluster.proofs.Midway.{ended_where_all, still_over}
 use Rattle.es_record.specs.AgentView.{AgentView}
@@ -124,6 +129,11 @@ some_when : (b : Bool) (t u : Tickets) → some_if b t ≡ Some u → b ≡ true
 some_when true t u e = refl
 some_when false t u e = cc
 
+no_sleep_ends : (t : Tickets) (b : Value) (i : ℤ) (w : ℕ) (r : WaitResult) → is_end_of_sleep t b i w r Ends ≡ false
+no_sleep_ends t b i w WaitResult.Woken = refl
+no_sleep_ends t b i w WaitResult.NotEqual = refl
+no_sleep_ends t b i w WaitResult.TimedOut = refl
+
 after_calm : (t : Tickets) (q : Asking) (ds : List Deed) (u : Tickets) → closes q ≡ false → after t q ds ≡ Some u → list_any is_end ds ≡ false
 after_calm t nothing [] u other e = refl
 after_calm t nothing (d ∷ ds) u other e = cc
@@ -133,6 +143,9 @@ after_calm t (to_measure b v) (d ∷ ds) u other e = cc
 after_calm t (to_compare b c v) [] u other e = refl
 after_calm t (to_compare b c v) (d ∷ ds) u other e = cc
 after_calm t (to_access b i m v) ds u other e = one_calm (is_access t b i m v) ds t u refl e
+after_calm t (to_miss b i w) ds u other e = one_calm (is_miss t b i w) ds t u refl e
+after_calm t (to_sleep b i w r) ds u other e = one_calm (is_end_of_sleep t b i w r) ds t u (no_sleep_ends t b i w r) e
+after_calm t (to_notify b i n v) ds u other e = one_calm (is_notify t b i n v) ds t u refl e
 after_calm t (to_post a v) ds u other e = one_calm (is_post t a v) ds t u refl e
 after_calm t (to_receive s v) ds u other e = sole_calm (receiving t s v) ds u (λ d. receiving_calm t s v d u) e
 after_calm t to_refuse ds u other e = pair_calm ds t u e
@@ -142,11 +155,21 @@ after_calm t to_close ds u other e = cc
 
 -- So an agent that ended closed, and nothing comes after that
 
+closing_word : (b : Value) (i : ℤ) (t : Task) (v : Value) → closes (asks_word b i t v) ≡ false
+closing_word b i (Task.Access m) v = refl
+closing_word b i (Task.Sleep w) v = ended_so (wait_given v)
+  where
+    ended_so : (r : WaitResult) → closes (asks_wait b i w r) ≡ false
+    ended_so WaitResult.Woken = refl
+    ended_so WaitResult.NotEqual = refl
+    ended_so WaitResult.TimedOut = refl
+closing_word b i (Task.Notify n) v = refl
+
 closing_command : (c : Command) (vs : List Value) (r : Answer) → closes (asks_did c vs r) ≡ false
 closing_command (SharedArrayBuffer to n) vs r = refl
 closing_command (Length to b) vs r = refl
 closing_command (SameBlock to b c) vs r = refl
-closing_command (Atomic a) vs r = refl
+closing_command (Atomic a) vs r = closing_word (first vs) (index_of a vs) (task_of a vs) (given r)
 closing_command (Post a y) vs r = refl
 closing_command _ vs r = refl
 

@@ -1,4 +1,4 @@
--- To believe: where an access to a word stands in its agent's plan.
+-- To believe: where an access to a word stands in its agent's plan, if no agent of the plan waits at a word or notifies.
 use Rattle.std.specs.Prelude.{ℕ, ◌≡◌, ◌+◌, ⊤, [], ◌∷◌, ◌++◌, Option, Some, None}
 use Rattle.std.specs.Option.{option_map_or}
 use Rattle.es_event.specs.declared.command.Command.{Command}

@@ -1,9 +1,10 @@
 -- To believe: what is told of the races of a plan.
-use Rattle.std.specs.Prelude.{ℕ, ◌≡◌, ◌≤◌, List, [], Option, Some, None, codes, reverse, slice_index_or, true}
+use Rattle.std.specs.Prelude.{ℕ, ◌≡◌, ◌≤◌, Bool, List, [], Option, Some, None, codes, reverse, slice_index_or, true, false}
 use Rattle.es_event.specs.declared.outcome.Outcome.{Outcome}
 use Rattle.es_event.specs.declared.plan.Plan.{Plan}
 use Rattle.es_event.specs.History.{History}
 use Rattle.es_trace.specs.Commands.{name_at}
+use Rattle.es_theorems.specs.Sleepless.{never_sleeps}
 use Rattle.es_theorems.specs.WithoutRaces.{HasNoRaceByTurns}
 use Rattle.es_races.specs.declared.race.Mark.{Mark}
 use Rattle.es_races.specs.declared.race.Race.{Race}
@@ -38,8 +39,13 @@ abbrev pub IsTold : Outcome → Option Race → List ℕ → Type 0
 IsTold o None text = text ≡ codes "no race\n"
 IsTold o (Some r) text = (x y : Spot) × IsSpot o r.earlier x × IsSpot o r.later y × (text ≡ race_text x y)
 
+-- what is told of the races of a plan; nothing of one whose agents sleep, since a notify orders what messages do not
+abbrev pub TellsIf : (awake : Bool) → Plan → List ℕ → Type 0
+TellsIf true p text = (o : Outcome) × (found : Option Race) × IsByTurns p o × IsFound p o found × IsTold o found text
+TellsIf false p text = text ≡ codes "unknown: the plan waits or notifies\n"
+
 abbrev pub TellsRacesOf : Plan → List ℕ → Type 0
-TellsRacesOf p text = (o : Outcome) × (found : Option Race) × IsByTurns p o × IsFound p o found × IsTold o found text
+TellsRacesOf p text = TellsIf (never_sleeps p) p text
 
 -- the text tells of the races of the plan that the bytes stand for
 abbrev pub TellsRaces : List ℕ → List ℕ → Type 0

@@ -1,4 +1,5 @@
-//! Where an access to a word stands in its agent's plan, by the agent's history.
+//! Where an access to a word stands in its agent's plan, by the agent's history, if no agent of the plan waits at a word
+//! or notifies.
 
 ghost use Rattle.std.specs.Prelude.{◌≡◌, ◌≤◌, ◌+◌, ◌<◌, ◌^◌, reverse, IfNone, IfSome};
 ghost use Rattle.std.specs.Option.{option_copied};

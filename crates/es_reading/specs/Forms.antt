@@ -63,7 +63,7 @@ register_form n =
     if n == 4 then takes (name ∷ name ∷ name ∷ name ∷ []) (λ registry target held token. Command.Register registry target held (Some token))
     else takes (name ∷ name ∷ name ∷ []) (λ registry target held. Command.Register registry target held None)
 
--- of FinalizationRegistries; only the form of register depends on how many operands there are
+-- of FinalizationRegistries; beside notify's, only the form of register depends on how many operands there are
 abbrev pub registry_form : List ℕ → ℕ → Option Form
 registry_form w n =
     if bytes_eq w (codes "registry") then takes (name ∷ callback ∷ []) Command.FinalizationRegistry else
@@ -90,6 +90,20 @@ abbrev pub compare_form : Version → Option Form
 compare_form Three = takes (name ∷ name ∷ amount ∷ amount ∷ amount ∷ []) (λ to b i e r. atomic b i (Operation.CompareExchange to e r))
 compare_form v = None
 
+abbrev pub wait_form : Version → Option Form
+wait_form Three = takes (name ∷ name ∷ amount ∷ amount ∷ []) (λ to b i n. atomic b i (Operation.Wait to n))
+wait_form v = None
+
+-- of notify: its fourth operand, where there is one, says how many are woken at most
+abbrev pub count_form : ℕ → Option Form
+count_form n =
+    if n == 4 then takes (name ∷ name ∷ amount ∷ amount ∷ []) (λ to b i c. atomic b i (Operation.Notify to (Some c)))
+    else takes (name ∷ name ∷ amount ∷ []) (λ to b i. atomic b i (Operation.Notify to None))
+
+abbrev pub notify_form : Version → ℕ → Option Form
+notify_form Three n = count_form n
+notify_form v n = None
+
 -- the modification with this word
 abbrev pub modification_named : List ℕ → Option Modification
 modification_named w =
@@ -114,8 +128,10 @@ shared_form v w n =
     (if bytes_eq w (codes "load") then load_form v else
     (if bytes_eq w (codes "store") then store_form v else
     (if bytes_eq w (codes "compareexchange") then compare_form v else
+    (if bytes_eq w (codes "wait") then wait_form v else
+    (if bytes_eq w (codes "notify") then notify_form v n else
     (if bytes_eq w (codes "post") then takes (agent ∷ name ∷ []) Command.Post else
-    modify_or v (modification_named w) (registry_form w n)))))))
+    modify_or v (modification_named w) (registry_form w n)))))))))
 
 -- of WeakRefs, WeakMaps and WeakSets, and then those of buffers, messages and FinalizationRegistries
 abbrev pub weak_form : Version → List ℕ → ℕ → Option Form

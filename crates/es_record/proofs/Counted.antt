@@ -13,7 +13,8 @@ use Rattle.es_event.specs.Identities.{made}
 use Rattle.es_event.specs.Jobs.{Receivers}
 use Rattle.es_event.specs.Sharing.{Buffers, opens_at, blocks_opened, posts_at, messages_posted}
 use Rattle.es_event.specs.Rules.{first_refusal, tests, room_for_block, room_for_post, is_postable}
-use Rattle.es_event.specs.Legal.{word_in, LegalBy}
+use Rattle.es_event.specs.Heard.{heard_by}
+use Rattle.es_event.specs.Legal.{LegalBy}
 use Rattle.es_event.proofs.Accepted.{is_accepted, first_holds}
 
 -- what was done had room
@@ -34,10 +35,10 @@ posted_after over h _ vs r e small = omega (arith, small)
 
 pub opened_small : (over : Buffers) (into : Receivers) (h : History) → LegalBy over into h → blocks_opened h ≤ 256
 opened_small over into [] l = omega arith
-opened_small over into (Did (c, vs, r) ∷ h) l = opened_after over h c vs r (is_accepted over h c vs (word_in r) r l.0.1) (opened_small over into h l.1)
+opened_small over into (Did (c, vs, r) ∷ h) l = opened_after over h c vs r (is_accepted over h c vs (heard_by c r) r l.0.1) (opened_small over into h l.1)
 opened_small over into (e ∷ h) l = let small : blocks_opened h ≤ 256 = opened_small over into h l.1 in omega (arith, small)
 
 pub posted_small : (over : Buffers) (into : Receivers) (h : History) → LegalBy over into h → messages_posted h ≤ 10000
 posted_small over into [] l = omega arith
-posted_small over into (Did (c, vs, r) ∷ h) l = posted_after over h c vs r (is_accepted over h c vs (word_in r) r l.0.1) (posted_small over into h l.1)
+posted_small over into (Did (c, vs, r) ∷ h) l = posted_after over h c vs r (is_accepted over h c vs (heard_by c r) r l.0.1) (posted_small over into h l.1)
 posted_small over into (e ∷ h) l = let small : messages_posted h ≤ 10000 = posted_small over into h l.1 in omega (arith, small)

@@ -15,7 +15,8 @@ use Rattle.es_event.specs.Jobs.{Receivers, receivers}
 use Rattle.es_event.specs.WeakRefs.{identity_given, first_target, target}
 use Rattle.es_event.specs.Later.{snapshot, derefed_since}
 use Rattle.es_event.specs.Late.{IsReachedWith, AreLate}
-use Rattle.es_event.specs.Legal.{word_in, LegalBy, is_rising}
+use Rattle.es_event.specs.Heard.{silence}
+use Rattle.es_event.specs.Legal.{LegalBy, is_rising}
 use Rattle.es_event.specs.Reach.{IsClosed}
 use Rattle.es_event.specs.Rules.{target_of, or_undefined}
 use Rattle.es_event.specs.Sharing.{Buffers}
@@ -54,7 +55,7 @@ derefed_here over into [] p e l i m = cc
 derefed_here over into (Did (CollectLater, vs, r) ∷ h) p e l i m = absurd (false≢true m)
 derefed_here over into (Did (Deref to w, vs, r) ∷ h) p e l i m =
     elim (or_cases (is_in (identity_given r) i) (is_in (derefed_since h) i) (sym (in_both (identity_given r) (derefed_since h) i) ∙ m)) [
-      | inl a ↦ given_here h (first vs) (target_of h (first vs)) r i refl (is_result over h (Deref to w) vs (word_in r) r l.0.1) a
+      | inl a ↦ given_here h (first vs) (target_of h (first vs)) r i refl (is_result over h (Deref to w) vs silence r l.0.1) a
       | inr b ↦ derefed_here over into h p e l.1 i b
     ]
 derefed_here over into (Did (c, vs, r) ∷ h) p e l i m = derefed_here over into h p e l.1 i m

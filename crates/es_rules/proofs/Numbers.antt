@@ -1,23 +1,27 @@
 -- What a command on a word takes of its variables is what its operands are to the agent.
 use Rattle.std.proofs.Common.{◌≡◌, ℕ, ℤ, Bool, true, false, cond, if◌then◌else◌, None, ◌∙◌, sym, ap, refl, List, [], ◌∷◌, ◌++◌, map, Option, Some, Result, Ok, Err}
-use Rattle.std.specs.Prelude.{IfErr, IsErrAnd, is_some}
+use Rattle.std.specs.Prelude.{IfErr, IsErrAnd, drop, unsigned_abs}
+use Rattle.std.specs.Option.{option_map}
 use Rattle.es_value.specs.declared.value.Value.{Value}
+use Rattle.es_event.specs.declared.access.Task.{Task}
 use Rattle.es_event.specs.declared.atomic.AtomicParts.{AtomicParts}
 use Rattle.es_event.specs.declared.command.Command.{Command}
 use Rattle.es_event.specs.declared.event.Refusal.{Refusal}
 use Rattle.es_event.specs.declared.event.Refusal.TheVariants.{NotASharedArrayBuffer, IndexOutOfRange}
 use Rattle.es_event.specs.declared.operand.Operand.{Operand}
-use Rattle.es_event.specs.Access.{given_to, variable_of, variables_of, operands_of}
+use Rattle.es_event.specs.Access.{variable_of, variables_of, operands_of}
 use Rattle.es_event.specs.Commands.{reads}
+use Rattle.es_event.specs.Heard.{Heard}
+use Rattle.es_event.specs.Identities.{object_of}
 use Rattle.es_event.specs.Jobs.{receivers}
 use Rattle.es_event.specs.Legal.{values_of}
-use Rattle.es_event.specs.Numbers.{operand_number, after_operand, numbers_of, number_or_0, index_read, index_of, words_read, access_of}
-use Rattle.es_event.specs.Rules.{completion, first_refusal, of_buffer, of_index, of_number, refusal, refuse_or, word_if}
+use Rattle.es_event.specs.Numbers.{operand_number, after_operand, numbers_of, number_or_0, index_read, index_of, words_read, task_by, task_of, word_at}
+use Rattle.es_event.specs.Rules.{completion, first_refusal, of_buffer, of_index, of_number, refusal, refuse_or, answer_at}
 use Rattle.es_event.specs.Sharing.{is_index, words_of}
 use Rattle.es_event.specs.Variables.{var}
 use Rattle.es_record.specs.AgentView.{AgentView}
-use Rattle.es_rules.specs.Needs.{access_at, asked, request, unless_refused}
-use Rattle.es_rules.specs.Numbers.{access_by, number_at, numbers_at, refusal_at, refusal_by}
+use Rattle.es_rules.specs.Needs.{at_word, asked, for_word, request, unless_refused}
+use Rattle.es_rules.specs.Numbers.{access_by, number_at, numbers_at, refusal_at, refusal_by, task_here}
 
 -- the values that the command takes
 abbrev pub values_at : AgentView → AtomicParts → List Value
@@ -50,8 +54,10 @@ refusal_there b a = ap (λ i. refusal_by b a i (words_read a (values_at b a))) (
 pub index_of_there : (b : AgentView) (a : AtomicParts) → index_of a (values_at b a) ≡ number_or_0 (number_at b a.index)
 index_of_there b a = ap number_or_0 (index_there b a)
 
-pub access_there : (b : AgentView) (a : AtomicParts) → access_of a (values_at b a) ≡ access_by a (numbers_at b a.operation)
-access_there b a = ap (access_by a) (words_there b a)
+pub task_there : (b : AgentView) (a : AtomicParts) → task_of a (values_at b a) ≡ task_here b a
+task_there b a =
+    ap (λ ns. task_by a.operation (access_by a ns) (word_at 0 ns) (after_operand a.index (drop 1 (values_at b a)))) (words_there b a)
+    ∙ ap (task_by a.operation (access_by a (numbers_at b a.operation)) (word_at 0 (numbers_at b a.operation))) (rest_there b a.index (variables_of (operands_of a.operation)))
 
 -- The refusals of a command on a word
 
@@ -85,11 +91,20 @@ refused_so (Err d) code o is told = told ∙ ap Some (sym is)
 -- What it asks for, and what it comes to
 
 pub request_there : (b : AgentView) (a : AtomicParts)
-    → request b (Command.Atomic a) ≡ unless_refused (refusal_at b a) (access_at (buffer_at b a) (number_or_0 (number_at b a.index)) (access_by a (numbers_at b a.operation)))
+    → request b (Command.Atomic a) ≡ unless_refused (refusal_at b a) (at_word (buffer_at b a) (number_or_0 (number_at b a.index)) (task_here b a))
 request_there b a =
     ap (λ f. unless_refused f (asked (Command.Atomic a) (values_at b a))) (refusal_there b a)
-    ∙ ap (λ j. unless_refused (refusal_at b a) (access_at (buffer_at b a) j (access_of a (values_at b a)))) (index_of_there b a)
-    ∙ ap (λ m. unless_refused (refusal_at b a) (access_at (buffer_at b a) (number_or_0 (number_at b a.index)) m)) (access_there b a)
+    ∙ ap (λ j. unless_refused (refusal_at b a) (at_word (buffer_at b a) j (task_of a (values_at b a)))) (index_of_there b a)
+    ∙ ap (λ t. unless_refused (refusal_at b a) (at_word (buffer_at b a) (number_or_0 (number_at b a.index)) t)) (task_there b a)
 
-pub completion_there : (b : AgentView) (a : AtomicParts) (w : ℕ) → completion b.over b.history (Command.Atomic a) (values_at b a) w ≡ refuse_or (refusal_at b a) (word_if (is_some (given_to a.operation)) w)
-completion_there b a w = ap (λ f. refuse_or f (word_if (is_some (given_to a.operation)) w)) (refusal_there b a)
+-- one that is not refused asks the ledger
+some_request : (f : Option Refusal) (o : Option ℕ) (i : ℕ) (j : ℤ) (t : Task) → f ≡ None → o ≡ Some i → unless_refused f (option_map (λ o. for_word o (unsigned_abs j) t) o) ≡ None → ⊥
+some_request None None i j t none some is = cc
+some_request None (Some k) i j t none some is = cc
+some_request (Some code) o i j t none some is = cc
+
+pub asks_there : (b : AgentView) (a : AtomicParts) (o : ℕ) → request b (Command.Atomic a) ≡ None → refusal_at b a ≡ None → object_of (buffer_at b a) ≡ Some o → ⊥
+asks_there b a o asks none some = some_request (refusal_at b a) (object_of (buffer_at b a)) o (number_or_0 (number_at b a.index)) (task_here b a) none some (sym (request_there b a) ∙ asks)
+
+pub completion_there : (b : AgentView) (a : AtomicParts) (x : Heard) → completion b.over b.history (Command.Atomic a) (values_at b a) x ≡ refuse_or (refusal_at b a) (answer_at a.operation x)
+completion_there b a x = ap (λ f. refuse_or f (answer_at a.operation x)) (refusal_there b a)

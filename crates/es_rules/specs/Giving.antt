@@ -5,7 +5,8 @@ use Rattle.es_event.specs.declared.command.Command.{Command}
 use Rattle.es_event.specs.Commands.{reads, collects, opens_words}
 use Rattle.es_event.specs.Jobs.{receivers}
 use Rattle.es_event.specs.Rules.{completion}
-use Rattle.es_event.specs.Legal.{values_of, word_in}
+use Rattle.es_event.specs.Heard.{heard_by}
+use Rattle.es_event.specs.Legal.{values_of}
 use Rattle.es_event.specs.Order.{RunsNow, due}
 use Rattle.es_record.specs.AgentView.{AgentView}
 
@@ -13,6 +14,6 @@ use Rattle.es_record.specs.AgentView.{AgentView}
 pub record MayGive (b : AgentView) (r : Answer) : Type 0 where
   pub command : Command
   pub is_due : RunsNow (due b.plan b.history) command
-  pub gives : completion b.over b.history command (values_of (receivers b.plan.jobs) b.history (reads command)) (word_in r) ≡ Ok r
+  pub gives : completion b.over b.history command (values_of (receivers b.plan.jobs) b.history (reads command)) (heard_by command r) ≡ Ok r
   pub no_collection : collects command ≡ false
   pub no_block : opens_words command ≡ None

@@ -1,9 +1,9 @@
 -- To believe: what an agent asks for next, and what the ledger is asked for by a command.
-use Rattle.std.specs.Prelude.{ℕ, ℤ, ◌≡◌, ⊤, Bool, true, false, ◌&&◌, List, [], Option, Some, None, is_none, unsigned_abs, if◌then◌else◌}
+use Rattle.std.specs.Prelude.{ℕ, ℤ, ◌≡◌, ⊤, Bool, true, false, ◌&&◌, not, List, [], Option, Some, None, is_none, unsigned_abs, if◌then◌else◌}
 use Rattle.std.specs.Option.{option_map}
 use Rattle.es_value.specs.declared.value.Value.{Value}
 use Rattle.es_value.specs.declared.value.Value.TheVariants.{Object}
-use Rattle.es_event.specs.declared.access.Access.{Access}
+use Rattle.es_event.specs.declared.access.Task.{Task}
 use Rattle.es_event.specs.declared.event.Answer.{Answer}
 use Rattle.es_event.specs.declared.event.Answer.TheVariants.{Gives}
 use Rattle.es_event.specs.declared.command.Command.{Command}
@@ -12,7 +12,7 @@ use Rattle.es_event.specs.declared.event.Event.{Event}
 use Rattle.es_event.specs.declared.event.Event.TheVariants.{Received, Did}
 use Rattle.es_event.specs.declared.event.Refusal.{Refusal}
 use Rattle.es_event.specs.declared.row.Row.{Row}
-use Rattle.es_event.specs.Numbers.{access_of, index_of}
+use Rattle.es_event.specs.Numbers.{index_of, task_of}
 use Rattle.es_event.specs.Commands.{reads, first}
 use Rattle.es_event.specs.History.{History}
 use Rattle.es_event.specs.Identities.{object_of}
@@ -24,26 +24,25 @@ use Rattle.es_event.specs.Order.{Due, begin, receive, run, clean, take_cell, fin
 use Rattle.es_record.specs.AgentView.{AgentView}
 
 -- what the ledger is asked for: a new block of so many words; to post to a receiver a value, or the block of a buffer object; or
--- an access to the word at an index of a buffer object's block
+-- what is done at the word at an index of a buffer object's block
 pub data Request : Type 0 where
   for_block : ℕ → Request
   for_post : ℕ → Value → Request
   for_buffer_post : ℕ → ℕ → Request
-  for_access : ℕ → ℕ → Access → Request
+  for_word : ℕ → ℕ → Task → Request
 
 abbrev pub posts_to : ℕ → Value → Request
 posts_to a (Object o) = for_buffer_post a o
 posts_to a v = for_post a v
 
--- an access to the word at this index of the block of a value, where it is an object
-abbrev pub access_at : Value → ℤ → Access → Option Request
-access_at v i a = option_map (λ o. for_access o (unsigned_abs i) a) (object_of v)
+-- what is done at the word at this index of the block of a value, where it is an object
+abbrev pub at_word : Value → ℤ → Task → Option Request
+at_word v i t = option_map (λ o. for_word o (unsigned_abs i) t) (object_of v)
 
--- what a command asks for with these values; no other command asks for anything (SharedArrayBuffer ( length ), Atomics.load,
--- store and add)
+-- what a command asks for with these values; no other command asks for anything (SharedArrayBuffer ( length ), The Atomics Object)
 abbrev pub asked : Command → List Value → Option Request
 asked (SharedArrayBuffer to n) vs = Some (for_block n)
-asked (Atomic a) vs = access_at (first vs) (index_of a vs) (access_of a vs)
+asked (Atomic a) vs = at_word (first vs) (index_of a vs) (task_of a vs)
 asked (Post a y) vs = Some (posts_to a (first vs))
 asked _ vs = None
 
@@ -103,12 +102,29 @@ TakesTicket asks_late_marks r = ⊥
 TakesTicket (asks_ledger (for_block n)) r = r.words ≡ n
 TakesTicket (asks_ledger (for_post a v)) r = ⊥
 TakesTicket (asks_ledger (for_buffer_post a o)) r = ⊥
-TakesTicket (asks_ledger (for_access o i a)) r = ⊥
+TakesTicket (asks_ledger (for_word o i t)) r = ⊥
 TakesTicket (asks_message s) r = ⊤
 TakesTicket asks_closing r = ⊥
 TakesTicket asks_nothing r = ⊥
 
--- a word does: of an access that gives the word that was there
+-- what is done at a word gives a word, where an access gives what was there, or how many agents a notify took; nothing, where an
+-- access gives nothing; or how a wait ended
+abbrev pub gives_word : Task → Bool
+gives_word (Task.Access m) = m.gives_word
+gives_word (Task.Sleep w) = false
+gives_word (Task.Notify n) = true
+
+abbrev pub gives_nothing : Task → Bool
+gives_nothing (Task.Access m) = not m.gives_word
+gives_nothing (Task.Sleep w) = false
+gives_nothing (Task.Notify n) = false
+
+abbrev pub gives_wait_result : Task → Bool
+gives_wait_result (Task.Access m) = false
+gives_wait_result (Task.Sleep w) = true
+gives_wait_result (Task.Notify n) = false
+
+-- a word does: of an access that gives the word that was there, or of a notify that took so many
 abbrev pub TakesWord : Need → Type 0
 TakesWord asks_nobody = ⊥
 TakesWord asks_marks = ⊥
@@ -117,7 +133,7 @@ TakesWord asks_late_marks = ⊥
 TakesWord (asks_ledger (for_block n)) = ⊥
 TakesWord (asks_ledger (for_post a v)) = ⊥
 TakesWord (asks_ledger (for_buffer_post a o)) = ⊥
-TakesWord (asks_ledger (for_access o i a)) = a.gives_word ≡ true
+TakesWord (asks_ledger (for_word o i t)) = gives_word t ≡ true
 TakesWord (asks_message s) = ⊥
 TakesWord asks_closing = ⊥
 TakesWord asks_nothing = ⊥
@@ -131,10 +147,24 @@ TakesDone asks_late_marks = ⊥
 TakesDone (asks_ledger (for_block n)) = ⊥
 TakesDone (asks_ledger (for_post a v)) = ⊤
 TakesDone (asks_ledger (for_buffer_post a o)) = ⊤
-TakesDone (asks_ledger (for_access o i a)) = a.gives_word ≡ false
+TakesDone (asks_ledger (for_word o i t)) = gives_nothing t ≡ true
 TakesDone (asks_message s) = ⊥
 TakesDone asks_closing = ⊥
 TakesDone asks_nothing = ⊥
+
+-- how a wait ended does: of a wait
+abbrev pub TakesWaitResult : Need → Type 0
+TakesWaitResult asks_nobody = ⊥
+TakesWaitResult asks_marks = ⊥
+TakesWaitResult asks_copy = ⊥
+TakesWaitResult asks_late_marks = ⊥
+TakesWaitResult (asks_ledger (for_block n)) = ⊥
+TakesWaitResult (asks_ledger (for_post a v)) = ⊥
+TakesWaitResult (asks_ledger (for_buffer_post a o)) = ⊥
+TakesWaitResult (asks_ledger (for_word o i t)) = gives_wait_result t ≡ true
+TakesWaitResult (asks_message s) = ⊥
+TakesWaitResult asks_closing = ⊥
+TakesWaitResult asks_nothing = ⊥
 
 -- the event is the due command, done with this answer
 abbrev pub IsDone : AgentView → Answer → Event → Type 0

@@ -2,15 +2,15 @@
 use Rattle.es_rules.specs.declared.need.Need.{Need}
 use Rattle.es_rules.specs.declared.need.Need.TheVariants.{Local, Collect, Later, Finish, Ledger, Message, Close, Ended}
 use Rattle.es_rules.specs.declared.need.Request.{Request}
-use Rattle.es_rules.specs.declared.need.Request.TheVariants.{NewBlock, Post, PostBuffer, Access}
-use Rattle.es_rules.specs.Needs.{Request as RequestSaid, for_block, for_post, for_buffer_post, for_access, Need as NeedSaid, asks_nobody, asks_marks, asks_copy, asks_late_marks, asks_ledger, asks_message, asks_closing, asks_nothing}
+use Rattle.es_rules.specs.declared.need.Request.TheVariants.{NewBlock, Post, PostBuffer, Word}
+use Rattle.es_rules.specs.Needs.{Request as RequestSaid, for_block, for_post, for_buffer_post, for_word, Need as NeedSaid, asks_nobody, asks_marks, asks_copy, asks_late_marks, asks_ledger, asks_message, asks_closing, asks_nothing}
 
 -- what the ledger is asked for
 abbrev pub requested : Request → RequestSaid
 requested (NewBlock n) = for_block n
 requested (Post a v) = for_post a v.now
 requested (PostBuffer a o) = for_buffer_post a o
-requested (Access o i a) = for_access o i a
+requested (Word o i t) = for_word o i t
 
 -- what the agent asks for
 abbrev pub shown : Need → NeedSaid

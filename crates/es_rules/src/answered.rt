@@ -3,27 +3,52 @@
 ghost use Rattle.std.specs.Prelude.{◌≡◌, ◌+◌, ◌∷◌, [], ℕ, true, false, None, pos, IfOk, nat_lt};
 ghost use Rattle.es_value.specs.Limits.{most_identities};
 ghost use Rattle.es_value.specs.Values.{identity};
+ghost use Rattle.es_event.specs.Access.{wait_text};
 ghost use Rattle.es_event.specs.Identities.{made};
 ghost use Rattle.es_event.specs.Order.{due, receive, RunsNow};
 ghost use Rattle.es_event.specs.Commands.{reads};
 ghost use Rattle.es_event.specs.Jobs.{receivers};
 ghost use Rattle.es_event.specs.Legal.{values_of};
 ghost use Rattle.es_record.specs.AgentView.{IsNext, AreThere, with_buffer};
-ghost use Rattle.es_rules.specs.Needs.{need, asks_message, asks_copy, TakesTicket, TakesWord, TakesDone, IsDone, Brings};
+ghost use Rattle.es_rules.specs.Needs.{need, asks_message, asks_copy, TakesTicket, TakesWord, TakesWaitResult, TakesDone, IsDone, Brings};
 ghost use Rattle.es_rules.specs.Giving.{MayGive};
 
-use es_event::{Answer, Command, Done, Due, Event, PlanCommand, Refusal, Row};
+use es_event::{Answer, Command, Done, Due, Event, PlanCommand, Refusal, Row, WaitResult};
 use es_record::AgentRecord;
-use es_value::{NoMemory, Value};
+use es_value::{NoMemory, Text, TextFault, Value};
+use std::alloc::Global;
 
-/// The due command, done with this word of shared memory (Atomics.load and add). It fails for want of
-/// memory alone.
+/// The due command, done with this word of shared memory, or with how many agents a notify took (The Atomics Object). It
+/// fails for want of memory alone.
 pub fn answered_word(agent: &AgentRecord, word: u32) -> Result<Done, NoMemory>
     requires { TakesWord (need agent.now) }
     ensures done { IfOk result (λ d. IsDone agent.now (Answer.Gives (Value.Number (pos word))) (Event.Did d)) }
     ensures next { IfOk result (λ d. IsNext agent.now (Event.Did d)) }
 {
     done(agent, Answer::Gives(Value::Number(i64::from(word))))
+}
+
+/// The due command, a wait, done with how it ended (Atomics.wait). It fails for want of memory alone.
+pub fn answered_wait(agent: &AgentRecord, ended: WaitResult) -> Result<Done, NoMemory>
+    requires { TakesWaitResult (need agent.now) }
+    ensures done { IfOk result (λ d. IsDone agent.now (Answer.Gives (Value.Text (wait_text ended))) (Event.Did d)) }
+    ensures next { IfOk result (λ d. IsNext agent.now (Event.Did d)) }
+{
+    done(
+        agent,
+        Answer::Gives(Value::Text(text_of(agent.alloc(), ended)?)),
+    )
+}
+
+/// How a wait ended, as a variable has it.
+fn text_of(alloc: Global, ended: WaitResult) -> Result<Text, NoMemory>
+    ensures { IfOk result (λ t. t ≡ wait_text ended) }
+{
+    match Text::read(alloc, ended.text()) {
+        Ok(text) => Ok(text),
+        Err(TextFault::NoMemory) => Err(NoMemory),
+        Err(TextFault::BadText) => unreachable!(),
+    }
 }
 
 /// The due command, a store or a post, done. It fails for want of memory alone.

@@ -1,21 +1,28 @@
 //! What the commands on shared buffers and on messages come to.
 
-ghost use Rattle.std.specs.Prelude.{◌≡◌, is_some, map, ◌+◌, ◌∷◌, [], false, true, Some, None, pos, IfOk, IfErr, unsigned_abs, nat_lt, ◌==◌, if◌then◌else◌};
-ghost use Rattle.std.specs.Option.{option_map_or};
+ghost use Rattle.std.specs.Prelude.{◌≡◌, map, ◌+◌, ◌∷◌, [], false, true, Some, None, pos, IfOk, IfErr, unsigned_abs, nat_lt, ◌==◌, if◌then◌else◌};
+ghost use Rattle.std.specs.Option.{option_map_or, option_to_list};
 ghost use Rattle.es_value.specs.Limits.{most_blocks, most_posts};
 ghost use Rattle.es_event.specs.Jobs.{receivers};
-ghost use Rattle.es_event.specs.Access.{given_to};
-ghost use Rattle.es_event.specs.Numbers.{number_or_0, word_at as word_of_number};
+ghost use Rattle.es_event.specs.Access.{variables_of};
+ghost use Rattle.es_event.specs.Heard.{silence};
+ghost use Rattle.es_event.specs.Legal.{values_of};
+ghost use Rattle.es_event.specs.Numbers.{most_taken, number_or_0, word_at as word_of_number};
 ghost use Rattle.es_event.specs.Variables.{var};
-ghost use Rattle.es_rules.specs.Numbers.{access_by, number_at, numbers_at, refusal_at};
+ghost use Rattle.es_rules.specs.Numbers.{number_at, numbers_at, refusal_at, task_here};
 ghost use Rattle.es_event.specs.Identities.{gone, has_identity_in, object_of, made};
 ghost use Rattle.es_event.specs.Sharing.{blocks_opened, messages_posted, row_at, words_of, block_of, is_index};
-ghost use Rattle.es_event.specs.Rules.{refuse_or, first_refusal, room, room_for_block, room_for_post, of_buffer, of_number, of_postable, is_postable, word_if};
+ghost use Rattle.es_event.specs.Rules.{refuse_or, first_refusal, room, room_for_block, room_for_post, of_buffer, of_number, of_postable, is_postable, answer_at};
+ghost use Rattle.es_event.specs.declared.command.Command.{Command};
 ghost use Rattle.es_rules.specs.Completion.{Completes};
+ghost use Rattle.es_rules.specs.Needs.{request};
 
 use crate::decide::fresh;
 use crate::stop::Stop;
-use es_event::{Access, Answer, Atomic, Operand, Operation, Refusal, number_of, to_uint32};
+use es_event::{
+    Answer, Atomic, MOST_TAKEN, Operand, Operation, Refusal, Task, count_of, cut, number_of,
+    to_uint32,
+};
 use es_record::AgentRecord;
 use es_tables::Tag;
 use es_value::{Id, MOST_BLOCKS, MOST_POSTS, Value};
@@ -68,10 +75,10 @@ fn index_below(index: i64, words: u32) -> Option<usize>
     }
 }
 
-/// The buffer object and the index of a word, and what is done to it (ValidateIntegerTypedArray,
+/// The buffer object and the index of a word, and what is done there (ValidateIntegerTypedArray,
 /// ValidateAtomicAccess), or the first refusal that applies.
-pub(crate) fn word_at(agent: &AgentRecord, atomic: &Atomic) -> Result<(Id, usize, Access), Refusal>
-    ensures ok { IfOk result (λ p. (refusal_at agent.now atomic.now ≡ None) × (object_of (var (receivers agent.now.plan.jobs) agent.now.history atomic.now.buffer) ≡ Some p.0) × (p.1 ≡ unsigned_abs (number_or_0 (number_at agent.now atomic.now.index))) × (p.2 ≡ access_by atomic.now (numbers_at agent.now atomic.now.operation))) }
+pub(crate) fn word_at(agent: &AgentRecord, atomic: &Atomic) -> Result<(Id, usize, Task), Refusal>
+    ensures ok { IfOk result (λ p. (refusal_at agent.now atomic.now ≡ None) × (object_of (var (receivers agent.now.plan.jobs) agent.now.history atomic.now.buffer) ≡ Some p.0) × (p.1 ≡ unsigned_abs (number_or_0 (number_at agent.now atomic.now.index))) × (p.2 ≡ task_here agent.now atomic.now)) }
     ensures err { IfErr result (λ code. refusal_at agent.now atomic.now ≡ Some code) }
 {
     let buffer = buffer_in(agent, agent.value(atomic.buffer()))?;
@@ -79,8 +86,32 @@ pub(crate) fn word_at(agent: &AgentRecord, atomic: &Atomic) -> Result<(Id, usize
     let Some(index) = index_below(index, words(agent, buffer)) else {
         return Err(Refusal::IndexOutOfRange);
     };
+    let task = task_at(agent, atomic)?;
+    Ok((buffer, index, task))
+}
+
+/// What is done at a word, or the first refusal among the operands.
+fn task_at(agent: &AgentRecord, atomic: &Atomic) -> Result<Task, Refusal>
+    ensures ok { IfOk result (λ t. (first_refusal (map of_number (numbers_at agent.now atomic.now.operation)) ≡ None) × (t ≡ task_here agent.now atomic.now)) }
+    ensures err { IfErr result (λ code. first_refusal (map of_number (numbers_at agent.now atomic.now.operation)) ≡ Some code) }
+{
     let (first, second) = words_at(agent, atomic.operation())?;
-    Ok((buffer, index, atomic.access_by(first, second)))
+    Ok(match atomic.operation() {
+        Operation::Wait { .. } => Task::Sleep(first),
+        Operation::Notify { count, .. } => Task::Notify(count_at(agent, count)),
+        _ => Task::Access(atomic.access_by(first, second)),
+    })
+}
+
+/// How many agents a notify takes at most (Atomics.notify).
+fn count_at(agent: &AgentRecord, count: &Option<Operand>) -> u32
+    ensures { result ≡ most_taken count.now (values_of (receivers agent.now.plan.jobs) agent.now.history (variables_of (option_to_list count.now))) }
+{
+    match count {
+        Some(Operand::Number(number)) => cut(*number),
+        Some(Operand::Variable(name)) => count_of(agent.value(name)),
+        None => MOST_TAKEN,
+    }
 }
 
 /// The words of an operation's operands, or the first refusal among them.
@@ -89,10 +120,14 @@ fn words_at(agent: &AgentRecord, operation: &Operation) -> Result<(u32, u32), Re
     ensures err { IfErr result (λ code. first_refusal (map of_number (numbers_at agent.now operation.now)) ≡ Some code) }
 {
     match operation {
-        Operation::Load { .. } => Ok((0, 0)),
-        Operation::Store { number } | Operation::Modify { number, .. } => {
-            Ok((to_uint32(number_at(agent, number)?), 0))
-        }
+        Operation::Load { .. } | Operation::Notify { count: None, .. } => Ok((0, 0)),
+        Operation::Store { number }
+        | Operation::Modify { number, .. }
+        | Operation::Wait { number, .. }
+        | Operation::Notify {
+            count: Some(number),
+            ..
+        } => Ok((to_uint32(number_at(agent, number)?), 0)),
         Operation::CompareExchange {
             expected,
             replacement,
@@ -178,15 +213,14 @@ pub(crate) fn same_block(agent: &AgentRecord, left: &Value, right: &Value) -> Re
     Ok(Answer::Gives(Value::Boolean(left == right)))
 }
 
-/// What a command on a word comes to, were the word 0.
+/// The refusal of a command on a word that asks the ledger for nothing.
 pub(crate) fn access(agent: &AgentRecord, atomic: &Atomic) -> Result<Answer, Stop>
-    ensures { Completes (refuse_or (refusal_at agent.now atomic.now) (word_if (is_some (given_to atomic.now.operation)) 0)) result }
+    requires local { request agent.now (Command.Atomic atomic.now) ≡ None }
+    ensures { Completes (refuse_or (refusal_at agent.now atomic.now) (answer_at atomic.now.operation silence)) result }
 {
-    let (_, _, access) = word_at(agent, atomic)?;
-    if access.gives_word {
-        Ok(Answer::Gives(Value::Number(0)))
-    } else {
-        Ok(Answer::Nothing)
+    match word_at(agent, atomic) {
+        Ok(_) => unreachable!(),
+        Err(code) => Err(Stop::Refused(code)),
     }
 }
 

@@ -7,6 +7,7 @@ ghost use Rattle.es_value.specs.Limits.{most_identities};
 ghost use Rattle.es_event.specs.Commands.{reads};
 ghost use Rattle.es_event.specs.Later.{collects_now};
 ghost use Rattle.es_event.specs.Identities.{gone, has_identity_in, made};
+ghost use Rattle.es_event.specs.Heard.{silence};
 ghost use Rattle.es_event.specs.Jobs.{receivers};
 ghost use Rattle.es_event.specs.Rules.{completion, refuse_or, first_refusal, none_open, room, of_object, of_weakref, of_held_weakly, or_undefined, prop_of, keys_of, target_of};
 ghost use Rattle.es_event.specs.Legal.{values_of};
@@ -71,13 +72,14 @@ pub fn do_alone(agent: &AgentRecord, command: &Command, done: &mut Done) -> Resu
     Ok(())
 }
 
-/// What the rules answer to a command, were the word 0 that it reads of shared memory. Nothing that a
-/// variable holds is emptied, so each object that is read is there.
+/// What the rules answer to a command that asks the ledger for nothing. Nothing that a variable holds is emptied, so
+/// each object that is read is there.
 #[inline(always)]
 fn completion(agent: &AgentRecord, command: &Command, values: &[Value]) -> Result<Answer, Stop>
     requires said { values.now ≡ values_of (receivers agent.now.plan.jobs) agent.now.history (reads command.now) }
     requires there { AreThere agent.now values.now }
-    ensures { Completes (completion agent.now.over agent.now.history command.now values.now 0) result }
+    requires local { request agent.now command.now ≡ None }
+    ensures { Completes (completion agent.now.over agent.now.history command.now values.now silence) result }
 {
     match command {
         Command::Let { literal, .. } => Ok(Answer::Gives(literal.value()?)),

@@ -16,7 +16,8 @@ mod requests;
 mod stop;
 
 pub use answered::{
-    answered_done, answered_word, begun, brought, opened, received, refused_message, skipped,
+    answered_done, answered_wait, answered_word, begun, brought, opened, received, refused_message,
+    skipped,
 };
 pub use decide::{asks_nobody, do_alone, next_event};
 pub use need::{Need, Request, asks, asks_somebody};

@@ -7,8 +7,8 @@ ghost use Rattle.es_event.specs.Order.{run, due_end};
 ghost use Rattle.es_rules.specs.Needs.{asks_nobody, need, need_of, request};
 ghost use Rattle.es_rules.specs.Shown.{requested, shown};
 
-use crate::requests::{access_request, block_request, post_request};
-use es_event::{Access, Command, Due};
+use crate::requests::{block_request, post_request, word_request};
+use es_event::{Command, Due, Task};
 use es_record::AgentRecord;
 use es_value::{Id, Value};
 
@@ -29,11 +29,11 @@ pub enum Request<'a> {
         receiver: usize,
         buffer: Id,
     },
-    /// What is done to the word at an index of a buffer object's block.
-    Access {
+    /// What is done at the word at an index of a buffer object's block.
+    Word {
         buffer: Id,
         index: usize,
-        access: Access,
+        task: Task,
     },
 }
 
@@ -146,7 +146,7 @@ fn request_of<'a>(agent: &'a AgentRecord, command: &Command) -> Option<Request<'
 {
     match command {
         Command::SharedArrayBuffer { words, .. } => block_request(agent, *words),
-        Command::Atomic(atomic) => access_request(agent, atomic),
+        Command::Atomic(atomic) => word_request(agent, atomic),
         Command::Post { receiver, from } => post_request(agent, *receiver, from),
         // no other command asks the ledger
         _ => None,

@@ -6,8 +6,8 @@ ghost use Rattle.es_event.specs.Jobs.{receivers};
 ghost use Rattle.es_event.specs.Numbers.{number_or_0};
 ghost use Rattle.es_event.specs.Variables.{var};
 ghost use Rattle.es_event.specs.Rules.{first_refusal, room, room_for_block, room_for_post, of_postable};
-ghost use Rattle.es_rules.specs.Needs.{access_at, unless_refused, for_block, posts_to};
-ghost use Rattle.es_rules.specs.Numbers.{access_by, number_at, numbers_at, refusal_at};
+ghost use Rattle.es_rules.specs.Needs.{at_word, unless_refused, for_block, posts_to};
+ghost use Rattle.es_rules.specs.Numbers.{number_at, refusal_at, task_here};
 ghost use Rattle.es_rules.specs.Shown.{requested};
 
 use crate::buffers::{may_open, may_post, postable, word_at};
@@ -27,16 +27,16 @@ pub(crate) fn block_request<'a>(agent: &'a AgentRecord, words: u32) -> Option<Re
     }
 }
 
-/// An access to the word at an index of a buffer object's block.
-pub(crate) fn access_request<'a>(agent: &'a AgentRecord, atomic: &Atomic) -> Option<Request<'a>>
+/// What is done at the word at an index of a buffer object's block.
+pub(crate) fn word_request<'a>(agent: &'a AgentRecord, atomic: &Atomic) -> Option<Request<'a>>
     ensures { option_map requested result ≡ unless_refused (refusal_at agent.now atomic.now)
-        (access_at (var (receivers agent.now.plan.jobs) agent.now.history atomic.now.buffer) (number_or_0 (number_at agent.now atomic.now.index)) (access_by atomic.now (numbers_at agent.now atomic.now.operation))) }
+        (at_word (var (receivers agent.now.plan.jobs) agent.now.history atomic.now.buffer) (number_or_0 (number_at agent.now atomic.now.index)) (task_here agent.now atomic.now)) }
 {
     match word_at(agent, atomic) {
-        Ok((buffer, index, access)) => Some(Request::Access {
+        Ok((buffer, index, task)) => Some(Request::Word {
             buffer,
             index,
-            access,
+            task,
         }),
         Err(_) => None,
     }

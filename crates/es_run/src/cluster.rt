@@ -13,7 +13,7 @@ pub struct Cluster<L: Planned> {
     pub agents: Vec<Mutex<Member<L>>>,
     /// What is theirs together.
     pub ledger: Mutex<LedgerCore<L>>,
-    /// Who waits for a message waits here, and is woken whenever something is posted, waited for or
-    /// skipped, an agent ends, or the run is stopped.
+    /// Who waits for a message or sleeps at a word waits here, and is woken whenever something is posted, an
+    /// agent begins or ceases to wait or to sleep, notifies or ends, or the run is stopped.
     pub arrived: Condvar,
 }

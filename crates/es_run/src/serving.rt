@@ -8,7 +8,7 @@ use crate::gate::Gate;
 use crate::helpers::Helpers;
 use crate::marked::Pending;
 use es_cluster::{Beforehand, Member, Planned, Progress};
-use es_event::{Act, Command, Due, LedgerEvent};
+use es_event::{Act, Command, Due, LedgerEvent, Operation};
 use es_ledger::LedgerCore;
 use es_value::NoMemory;
 use std::alloc::Global;
@@ -21,12 +21,12 @@ use std::thread::{Scope, Threads};
 /// be woken takes longer than a few looks.
 const LOOKS: u32 = 50;
 
-/// How many events an agent has at most under its lock, not counting commands on words that follow another, before it
-/// looks whether the run is stopped, and lets a watcher in: a lock costs a tenth of a short step.
+/// How many events an agent has at most under its lock, not counting reads and writes of words that follow another,
+/// before it looks whether the run is stopped, and lets a watcher in: a lock costs a tenth of a short step.
 const EVENTS: u32 = 64;
 
-/// How many commands on words of shared memory follow another at most under the ledger's lock: who waits for the lock
-/// sleeps, and to be woken takes longer than many of them.
+/// How many reads and writes of words of shared memory follow another command at most under the ledger's lock: who
+/// waits for the lock sleeps, and to be woken takes longer than many of them.
 const WORDS: u32 = 32;
 
 /// Why an agent pauses.
@@ -123,7 +123,7 @@ impl<L: Planned + Sync> Cluster<L> {
     }
 
     /// One turn of an agent: some events, up to one after which it waits, has ended, or others are woken. Where it
-    /// waits on for a message, until it is woken.
+    /// waits on for a message, or sleeps at a word, until it is woken.
     fn turn<'s, E, G: Gate, R: Threads + Wait + Sync>(
         &self,
         rt: &'s R,
@@ -168,7 +168,7 @@ impl<L: Planned + Sync> Cluster<L> {
         gate: &G,
     ) -> Result<Pause, NoMemory> {
         for _ in 0..EVENTS {
-            if gate.holds() && member.core().is_at_command() {
+            if gate.holds() && self.begins_command(rt, member, agent) {
                 *commands = commands.saturating_add(1);
                 gate.at(agent, *commands);
             }
@@ -182,8 +182,17 @@ impl<L: Planned + Sync> Cluster<L> {
         Ok(Pause::NONE)
     }
 
-    /// The next event of an agent that asks somebody, or none where it waits or has ended. Commands on words of shared
-    /// memory that follow are done under the same lock.
+    /// Whether the agent's next event is a command, and not one at which it sleeps already.
+    fn begins_command<R: Wait>(&self, rt: &R, member: &Member<L>, agent: usize) -> bool {
+        if !member.core().is_at_command() {
+            return false;
+        }
+        let ledger = self.ledger.lock(rt);
+        agent >= ledger.agents() || !ledger.is_asleep(agent)
+    }
+
+    /// The next event of an agent that asks somebody, or none where it waits or has ended. Reads and writes of words of
+    /// shared memory that follow are done under the same lock.
     fn ask<'s, E, G: Gate, R: Threads + Wait + Sync>(
         &self,
         rt: &'s R,
@@ -286,25 +295,48 @@ fn turn_with<L: Planned>(
     })
 }
 
-// Whether the agent's next command is one on a word of shared memory.
+// Whether the agent's next command reads or writes a word of shared memory.
 fn is_at_word<L: Planned>(member: &Member<L>) -> bool {
     match member.core().record().due() {
-        Due::Run(_, command) => matches!(command, Command::Atomic(_)),
+        Due::Run(_, command) => is_access(command),
         _ => false,
     }
 }
 
-// Whether an agent that waits may go on, after what happened since the ledger had so many events: a message for it, or
-// an end. After another's wait or skip only the lowest of those that have not ended may, which then skips its job.
+// Whether a command on a word reads or writes it: a wait may sleep there, and a notify lets others go on.
+fn is_access(command: &Command) -> bool {
+    match command {
+        Command::Atomic(atomic) => !matches!(
+            atomic.operation(),
+            Operation::Wait { .. } | Operation::Notify { .. }
+        ),
+        _ => false,
+    }
+}
+
+// Whether an agent that waits or sleeps may go on, after what happened since the ledger had so many events: one that
+// waits by a message for it, or an end; one that sleeps by a notify. After any other act only the lowest of those that
+// have not ended may, which then skips its job, or whose time-out has passed.
 fn may_go_on<L: Planned>(ledger: &LedgerCore<L>, agent: usize, seen: usize) -> bool {
     let events = ledger.history();
     let new = events.len().saturating_sub(seen);
     let lowest = is_lowest(ledger, agent);
+    let sleeps = agent < ledger.agents() && ledger.is_asleep(agent);
     events.iter().rev().take(new).any(|event| match event {
-        LedgerEvent::Posted { receiver, .. } => *receiver == agent,
-        LedgerEvent::Acted { act, .. } => matches!(act, Act::Ended) || lowest,
+        LedgerEvent::Posted { receiver, .. } => *receiver == agent && !sleeps,
+        LedgerEvent::Acted { act, .. } => lowest || lets_go_on(*act, sleeps),
         _ => false,
     })
+}
+
+// Whether another's act may let an agent go on that sleeps, or else waits, whichever number it has.
+fn lets_go_on(act: Act, sleeps: bool) -> bool {
+    match act {
+        Act::Ended => !sleeps,
+        Act::Notified { taken, .. } => sleeps && taken > 0,
+        Act::Waiting { .. } | Act::Passed { .. } | Act::Slept { .. } | Act::Woke | Act::TimedOut =>
+            false,
+    }
 }
 
 // Whether all agents below this one have ended.
@@ -317,7 +349,8 @@ fn is_lowest<L: Planned>(ledger: &LedgerCore<L>, agent: usize) -> bool {
     true
 }
 
-// Whether the last event of the ledger, if one was added since it had so many, can let an agent that waits go on.
+// Whether the last event of the ledger, if one was added since it had so many, can let an agent go on that waits or
+// sleeps. It is the last of its turn that can.
 fn wakes<L: Planned>(ledger: &LedgerCore<L>, before: usize) -> bool {
     let events = ledger.history();
     let last = events.last().filter(|_| events.len() > before);

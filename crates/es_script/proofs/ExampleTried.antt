@@ -2,7 +2,6 @@
 use Rattle.std.proofs.Common.{◌≡◌, ℕ, Bool, true, false, refl, ap, ◌∙◌, List, [], ◌∷◌, Option, Some, None, codes}
 use Rattle.std.specs.Str.{bytes_eq}
 use Rattle.serde_json.specs.Data.{Data, null, string, array, Items, no_items, item}
-use Rattle.es_event.specs.declared.command.Command.{Command}
 use Rattle.es_event.specs.declared.command.Command.TheVariants.{Collect, New, Say, WeakRef}
 use Rattle.es_reading.specs.declared.fault.FaultCode.TheVariants.{Name, Operands, Profile, Collection}
 use Rattle.es_reading.specs.declared.fault.Place.{Place}

@@ -10,7 +10,7 @@ use Rattle.es_event.specs.declared.plan.Callback.{Callback}
 use Rattle.es_event.specs.Commands.{opens_or_collects}
 use Rattle.es_event.specs.Others.{posts_where}
 use Rattle.es_reading.specs.Scope.{Numbers, Scope}
-use Rattle.es_reading.specs.Forms.{OperandType, name, literal, text, callback, agent, whole, amount, words, Meaning, Makes, Form, form, later_form, load_form, store_form, modify_form, compare_form, modify_or, weak_form, shared_form, registry_form, is_allowed, takes, takes_in_jobs}
+use Rattle.es_reading.specs.Forms.{OperandType, name, literal, text, callback, agent, whole, amount, words, Meaning, Makes, Form, form, later_form, load_form, store_form, modify_form, compare_form, wait_form, count_form, notify_form, modify_or, weak_form, shared_form, registry_form, is_allowed, takes, takes_in_jobs}
 use Rattle.es_script.specs.Grammar.{IsReference, Means, AreOperands, IsCommand, IsLine, AreLines, IsBody, AreCallbacks, HasCallbacks}
 use Rattle.es_reading.specs.Lines.{Line, commands_in}
 use Rattle.es_reading.specs.Reading.{Meanings, made}
@@ -89,6 +89,19 @@ compare_harmless One = tt
 compare_harmless Two = tt
 compare_harmless Three = λ xs. (λ a. refl, λ t p. refl)
 
+wait_harmless : (v : Version) → Harmless (wait_form v)
+wait_harmless One = tt
+wait_harmless Two = tt
+wait_harmless Three = λ xs. (λ a. refl, λ t p. refl)
+
+count_harmless : (n : ℕ) → Harmless (count_form n)
+count_harmless n = search harmless_if depth 40
+
+notify_harmless : (v : Version) (n : ℕ) → Harmless (notify_form v n)
+notify_harmless One n = tt
+notify_harmless Two n = tt
+notify_harmless Three n = count_harmless n
+
 modify_harmless : (v : Version) (how : Modification) → Harmless (modify_form v how)
 modify_harmless Three how = λ xs. (λ a. refl, λ t p. refl)
 modify_harmless One Modification.Add = λ xs. (λ a. refl, λ t p. refl)
@@ -104,7 +117,7 @@ registry_harmless : (w : List ℕ) (n : ℕ) → Harmless (registry_form w n)
 registry_harmless w n = search harmless_if depth 40
 
 shared_harmless : (v : Version) (w : List ℕ) (n : ℕ) → Harmless (shared_form v w n)
-shared_harmless v w n = search (harmless_if, post_harmless, load_harmless, store_harmless, compare_harmless, modify_or_harmless, registry_harmless) depth 40
+shared_harmless v w n = search (harmless_if, post_harmless, load_harmless, store_harmless, compare_harmless, wait_harmless, notify_harmless, modify_or_harmless, registry_harmless) depth 40
 
 weak_harmless : (v : Version) (w : List ℕ) (n : ℕ) → Harmless (weak_form v w n)
 weak_harmless v w n = search (harmless_if, shared_harmless) depth 40

@@ -19,7 +19,8 @@ use Rattle.es_event.specs.Identities.{identity, made, gone, is_gone, kind, born}
 use Rattle.es_event.specs.Jobs.{Receivers}
 use Rattle.es_event.specs.Properties.{put, same_key, keys_after}
 use Rattle.es_event.specs.WeakRefs.{first_target, unless_gone}
-use Rattle.es_event.specs.Legal.{word_in, Lawful, LegalBy}
+use Rattle.es_event.specs.Heard.{silence}
+use Rattle.es_event.specs.Legal.{Lawful, LegalBy}
 use Rattle.es_event.proofs.Alive.{Stays, Alive, alive_at, next_alive}
 use Rattle.es_event.proofs.Holds.{first_of, put_from}
 use Rattle.es_event.proofs.Objects.{first_object}
@@ -97,7 +98,7 @@ points_next over into h _ p lawful e = cc
 can_did : (over : Buffers) (into : Receivers) (h : History) (t : RegistryContents) (c : Command) (vs : List Value) (a : Answer) → LegalBy over into h → Lawful over into h (Did (c, vs, a)) → ((r : ℕ) → callback t r ≡ callback_said h r)
     → CanChange t (change_by c vs a)
 can_did over into h t (FinalizationRegistry to n) vs a legal lawful callbacks =
-    subst (λ a. CanChange t (registry_made_by n a)) (is_result over h (FinalizationRegistry to n) vs (word_in a) a lawful.1) (callbacks (made h + 1) ∙ ap (option_and_then callback_in) (next_kind over into h legal))
+    subst (λ a. CanChange t (registry_made_by n a)) (is_result over h (FinalizationRegistry to n) vs silence a lawful.1) (callbacks (made h + 1) ∙ ap (option_and_then callback_in) (next_kind over into h legal))
 can_did over into h t (Register x y v k) vs a legal lawful callbacks = subst (CanChange t) (sym (registers_change x y v k vs a)) (at (registers_by (Register x y v k) vs))
   where
     at : (k : Option Cell) → CanChange t (option_map_or (λ k. Registers k.registry k.target k.held k.token) k Leaves)

@@ -25,7 +25,8 @@ use Rattle.es_event.specs.Properties.{put, same_key, keys_after}
 use Rattle.es_event.specs.Ephemerons.{same_pair, entered, first_entry, joined, first_member}
 use Rattle.es_event.specs.WeakRefs.{aims, first_target, unless_gone, keeps, ends_job}
 use Rattle.es_event.specs.Rules.{result, first_refusal, tests, room}
-use Rattle.es_event.specs.Legal.{word_in, Lawful, LegalBy}
+use Rattle.es_event.specs.Heard.{silence}
+use Rattle.es_event.specs.Legal.{Lawful, LegalBy}
 use Rattle.es_event.proofs.Accepted.{accepted, first_holds}
 use Rattle.es_event.proofs.Alive.{Stays, Alive, next_alive}
 use Rattle.es_event.proofs.Births.{birth, born_some, received as received_object}
@@ -103,7 +104,7 @@ ordinary_born c vs r none q e = let b = birth c vs r q e in ap (option_and_then 
 target_step : (over : Buffers) (into : Receivers) (h : History) (e : Event) (s : Option ℕ) (w : ℕ) → LegalBy over into h → Lawful over into h e → Stays into h
     → s ≡ aimed_at (gone h) (kind h w) → unwrap_or (at_key (λ i j. i == j) w (points e)) s ≡ aimed_at (gone h) (kind (e ∷ h) w)
 target_step over into h (Did (WeakRef to y, vs, r)) s w legal lawful stays same =
-    let ok = accepted (first_refusal (tests over h (WeakRef to y) vs)) (result over h (WeakRef to y) vs (word_in r)) r lawful.1 in
+    let ok = accepted (first_refusal (tests over h (WeakRef to y) vs)) (result over h (WeakRef to y) vs silence) r lawful.1 in
     let held = held_weakly_identity (first vs) (first_holds (is_held_weakly (first vs)) NotHeldWeakly (room h ∷ []) ok.0).0 in
     let read : Alive h (first vs) = subst (Alive h) (ap first (sym lawful.0)) (first_of (Alive h) into h (reads (WeakRef to y)) stays.held) in
     subst (λ r. unwrap_or (at_key (λ i j. i == j) w (points (Did (WeakRef to y, vs, r)))) s ≡ aimed_at (gone h) (kind (Did (WeakRef to y, vs, r) ∷ h) w)) ok.1

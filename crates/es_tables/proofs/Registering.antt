@@ -19,7 +19,8 @@ use Rattle.es_event.specs.Identities.{identity, made, empties, kind, born}
 use Rattle.es_event.specs.Jobs.{Receivers, cleaning}
 use Rattle.es_event.specs.Order.{queue, queues_again, is_stopped, phase}
 use Rattle.es_event.specs.Registrations.{Cell, unregistered, is_under, is_present, callback, callback_in, registers_by, cell, first_awaiting}
-use Rattle.es_event.specs.Legal.{word_in, Lawful, LegalBy}
+use Rattle.es_event.specs.Heard.{silence}
+use Rattle.es_event.specs.Legal.{Lawful, LegalBy}
 use Rattle.es_event.proofs.Accepted.{is_result}
 use Rattle.es_event.proofs.Alive.{Stays, Alive, alive_at}
 use Rattle.es_event.proofs.Births.{birth, received}
@@ -182,7 +183,7 @@ unregister_callback to x t vs a r before = refl
 did_callback : (over : Buffers) (into : Receivers) (h : History) (c : Command) (vs : List Value) (a : Answer) (r : ℕ) → LegalBy over into h → Lawful over into h (Did (c, vs, a))
     → callback_after (change_by c vs a) r (callback h r) ≡ callback (Did (c, vs, a) ∷ h) r
 did_callback over into h (FinalizationRegistry to n) vs a r legal lawful =
-    subst (λ a. callback_after (registry_made_by n a) r (callback h r) ≡ callback (Did (FinalizationRegistry to n, vs, a) ∷ h) r) (is_result over h (FinalizationRegistry to n) vs (word_in a) a lawful.1)
+    subst (λ a. callback_after (registry_made_by n a) r (callback h r) ≡ callback (Did (FinalizationRegistry to n, vs, a) ∷ h) r) (is_result over h (FinalizationRegistry to n) vs silence a lawful.1)
     (new_callback h to n vs r)
 did_callback over into h (Register x y v t) vs a r legal lawful =
     ap (λ c. callback_after c r (callback h r)) (registers_change x y v t vs a) ∙ registered_callback (registers_by (Register x y v t) vs) r (callback h r)

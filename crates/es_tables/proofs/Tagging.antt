@@ -15,7 +15,8 @@ use Rattle.es_event.specs.History.{History, at_key}
 use Rattle.es_event.specs.Identities.{object_of, made, makes_at, is_gone, kind, born}
 use Rattle.es_event.specs.Jobs.{Receivers}
 use Rattle.es_event.specs.Rules.{result}
-use Rattle.es_event.specs.Legal.{word_in, Lawful, LegalBy}
+use Rattle.es_event.specs.Heard.{Heard, heard_by}
+use Rattle.es_event.specs.Legal.{Lawful, LegalBy}
 use Rattle.es_event.proofs.Accepted.{is_result}
 use Rattle.es_event.proofs.Alive.{next_alive}
 use Rattle.es_event.proofs.Births.{birth, received}
@@ -93,7 +94,7 @@ kind_quiet h e i none = other_at (born e) (kind h i) i (λ q is same. let one : 
 given : (n : ℕ) (k before : Option Kind) → unwrap_or (at_key (λ i j. i == j) n (Some (n, k))) before ≡ k
 given n k before = ap (λ b. unwrap_or (cond b (Some k) None) before) (eq-eqb n n refl)
 
-tag_new : (over : Buffers) (h : History) (c : Command) (vs : List Value) (w : ℕ) (t : Tag) → tag_made c ≡ Some t → kind h (made h + 1) ≡ None → tag_of (kind (Did (c, vs, result over h c vs w) ∷ h) (made h + 1)) ≡ t
+tag_new : (over : Buffers) (h : History) (c : Command) (vs : List Value) (w : Heard) (t : Tag) → tag_made c ≡ Some t → kind h (made h + 1) ≡ None → tag_of (kind (Did (c, vs, result over h c vs w) ∷ h) (made h + 1)) ≡ t
 tag_new over h (Command.New to) vs w t e none = ap tag_of (given (made h + 1) _ (kind h (made h + 1))) ∙ cc
 tag_new over h (Command.Symbol to) vs w t e none = ap tag_of none ∙ cc
 tag_new over h (Command.WeakRef to y) vs w t e none = ap tag_of (given (made h + 1) _ (kind h (made h + 1))) ∙ cc
@@ -105,8 +106,8 @@ tag_new over h _ vs w t e none = cc
 
 tag_next : (over : Buffers) (into : Receivers) (h : History) (e : Event) (t : Tag) (i : ℕ) → LegalBy over into h → Lawful over into h e → tag_made_at e ≡ Some t → i ≡ made h + 1 → tag_of (kind (e ∷ h) i) ≡ t
 tag_next over into h (Did (c, vs, r)) t i legal lawful is same =
-    subst (λ r. tag_of (kind (Did (c, vs, r) ∷ h) i) ≡ t) (is_result over h c vs (word_in r) r lawful.1)
-    (subst (λ j. tag_of (kind (Did (c, vs, result over h c vs (word_in r)) ∷ h) j) ≡ t) (sym same) (tag_new over h c vs (word_in r) t is (next_kind over into h legal)))
+    subst (λ r. tag_of (kind (Did (c, vs, r) ∷ h) i) ≡ t) (is_result over h c vs (heard_by c r) r lawful.1)
+    (subst (λ j. tag_of (kind (Did (c, vs, result over h c vs (heard_by c r)) ∷ h) j) ≡ t) (sym same) (tag_new over h c vs (heard_by c r) t is (next_kind over into h legal)))
 tag_next over into h (Received n (Object o)) t i legal lawful is same =
     let arrived : made h + 1 ≡ o = sym lawful.0 in
     subst (λ j. tag_of (kind (Received n (Object o) ∷ h) j) ≡ t) (sym same)

@@ -24,6 +24,7 @@ use Rattle.es_theorems.proofs.Running.{stands_after, stands_first}
 use Rattle.es_theorems.specs.Alone.{Words}
 use Rattle.es_theorems.specs.Renamed.{HasWords}
 use Rattle.es_theorems.specs.Steps.{Along, HasCome, Keeps}
+use Rattle.es_theorems.specs.Sleepless.{never_sleeps}
 use Rattle.es_theorems.proofs.Opened.{over_later}
 use Rattle.es_theorems.proofs.TurningAlike.{over_on, step}
 use Rattle.es_theorems.proofs.Framing.{drains_nothing}
@@ -81,7 +82,7 @@ still n p i c d x turn same =
 
 pub along_turn : (n : ℕ) (p : Progress) (i : ℕ) (c : ClusterView) (words : Words) (d : ClusterView) → Along n c → HasWords n c.ledger.history words → Turned p i c d → Along n d
 along_turn n Moved i c words d x holds turn = along_after n Moved i c d x turn (keeps_moved n c words i d x holds turn)
-along_turn n Waiting i c words d x holds turn = still n Waiting i c d x turn turn.turn.2
+along_turn n Waiting i c words d x holds turn = still n Waiting i c d x turn turn.turn.1
 along_turn n Ended i c words d x holds turn = still n Ended i c d x turn turn.turn.1
 
 -- Before the first event
@@ -92,8 +93,8 @@ first_keeps agents n (p ∷ ps) zero b is =
     subst (Keeps []) (let same : record { plan = p; number = n; agents = agents; over = []; history = [] } ≡ b = cc in same) (record { over = tt; rising = refl; newest_is = omega arith })
 first_keeps agents n (p ∷ ps) (suc i) b is = first_keeps agents (n + 1) ps i b is
 
-pub along_first : (plan : Plan) → Along (length plan.agents) (first_state plan)
-along_first plan = record { stands = stands_first plan; number = refl; legal = tt; dry = refl; each = λ i b is. first_keeps (length plan.agents) 0 plan.agents i b is }
+pub along_first : (plan : Plan) → never_sleeps plan ≡ true → Along (length plan.agents) (first_state plan)
+along_first plan calm = record { stands = stands_first plan calm; number = refl; legal = tt; dry = refl; each = λ i b is. first_keeps (length plan.agents) 0 plan.agents i b is }
 
 -- all words are 0
 pub words_first : (n : ℕ) → HasWords n [] (λ b x. 0)

@@ -3,6 +3,7 @@ use Rattle.std.proofs.Common.{◌≡◌, inl, inr, ℕ, zero, suc, ◌+◌, ◌<
 use Rattle.std.specs.Prelude.{slice_get}
 use Rattle.std.specs.List.{AllByRecursion, list_all}
 use Rattle.std.proofs.lemmas.List.{reverse-reverse}
+use Rattle.std.proofs.lemmas.Bool.{false≢true}
 use Rattle.es_event.specs.declared.event.Event.{Event}
 use Rattle.es_event.specs.declared.ledger_event.LedgerEvent.TheVariants.{Drained, Spent}
 use Rattle.es_event.specs.declared.outcome.Outcome.{Outcome}
@@ -13,6 +14,7 @@ use Rattle.es_event.specs.LegalLedger.{all_ended}
 use Rattle.es_event.specs.Order.{Phase, between, handed, inside, stopped, ended, phase}
 use Rattle.es_event.specs.Others.{all_name_others}
 use Rattle.es_event.specs.Runs.{IsRunOver}
+use Rattle.es_event.specs.Waiters.{asleep}
 use Rattle.es_ledger.specs.Draining.{after_drain}
 use Rattle.es_ledger.specs.LedgerView.{LedgerView}
 use Rattle.es_ledger.proofs.Emptying.{all_drained}
@@ -20,22 +22,38 @@ use Rattle.es_record.specs.AgentView.{AgentView}
 use Rattle.es_agent.specs.Tickets.{is_ended, tickets}
 use Rattle.es_cluster.specs.declared.member.Progress.{Progress}
 use Rattle.es_cluster.specs.declared.member.Progress.TheVariants.{Moved, Waiting, Ended}
-use Rattle.es_cluster.specs.Asked.{AskedEach, AskedUpTo, BeginsMove, GoesOn, Hears, cleanup_left, cleans_at, plan_left}
+use Rattle.es_cluster.specs.Asked.{AskedEach, AskedUpTo, BeginsMove, FirstTurn, GoesOn, Hears, Sweeps, Works, cleanup_left, cleans_at, plan_left, plans_left, queues_left}
 use Rattle.es_cluster.specs.Ends.{AreHistories, EndsIn, HaveNoTicket, IsWhole}
-use Rattle.es_cluster.specs.Moves.{Rest, RunsOut, RunsToEnd, all_over, cleans_quietly, is_over, rested, rests_at, with_drained}
+use Rattle.es_cluster.specs.Moves.{Rest, RunsOut, RunsToEnd, all_over, cleans_quietly, is_over, rested, rests_at, with_drained, over as runs_over}
 use Rattle.es_cluster.specs.State.{ArePlaced, AreTied, ClusterView, accounts, first_state, names_of}
 use Rattle.es_cluster.specs.Turns.{AllTurned, Turned}
 use Rattle.es_cluster.proofs.Beginning.{starts_quiet}
 use Rattle.es_cluster.proofs.Draining.{Outlasts, Over, drained_over, drained_stands}
 use Rattle.es_cluster.proofs.Ended.{ends_in, there}
-use Rattle.es_cluster.proofs.Finishing.{asked_all, asked_mover, asked_next, begins_again, cleaning_unrested, goes_more, move_on, moved_less, runs_out, total_left, unrested_moves, works_moved}
+use Rattle.es_cluster.proofs.Finishing.{asked_all, asked_mover, asked_next, begins_again, cleaning_unrested, goes_more, cleaned_less, move_on, moved_less, runs_out, sweeps_on, swept, works_moved}
 use Rattle.es_cluster.proofs.Histories.{are_ended}
 use Rattle.es_cluster.proofs.Rounds.{hears}
 use Rattle.es_theorems.proofs.Cluster.{Well, ask, inside_turned, quiet_all, quiet_turned, well_all, well_first, works_of}
 use Rattle.es_theorems.specs.TurnsLaws.{SomeAgentMoves}
+use Rattle.es_theorems.specs.Sleepless.{never_sleeps}
 use Rattle.es_theorems.proofs.Going.{Only}
 use Rattle.es_theorems.proofs.Only.{none_held, only_after}
 use Rattle.es_theorems.proofs.Stepping.{turns_append}
+use Rattle.es_theorems.proofs.Calm.{calm_awake}
+
+-- An agent that does not rest moves
+
+unrested_moves : (p : Progress) (n : ℕ) (c d : ClusterView) → Well d → n < length d.agents → rests_at n c ≡ false → Works p n c d → p ≡ Moved
+unrested_moves Moved n c d v known busy works = refl
+unrested_moves Waiting n c d v known busy works = elim works [
+  | inl rests ↦ absurd (false≢true (sym busy ∙ rests))
+  | inr sleeps ↦ (
+      let found = there d.agents n known in
+      let b = found.0 in
+      let up : asleep d.ledger.history n ≡ false = ap (asleep d.ledger.history) (sym (v.placed.each n b found.1).number) ∙ calm_awake b d.ledger.history (v.going n b found.1).calm (v.tied.each n b found.1) in
+      absurd (false≢true (sym up ∙ sleeps)))
+]
+unrested_moves Ended n c d v known busy works = absurd (false≢true (sym busy ∙ works))
 
 -- The cleanup queue of an agent is worked off
 
@@ -47,21 +65,25 @@ record Cleaned (n : ℕ) (c : ClusterView) : Type 0 where
   goes : GoesOn n c end
   still : cleans_at n end ≡ false
   plan : plan_left n end ≡ plan_left n c
+  queue : cleanup_left n end ≤ cleanup_left n c
+  sweeps : Sweeps n c → Sweeps n end
 
 clean : (k n : ℕ) (c : ClusterView) → Well c → cleans_quietly c ≡ true → n < length c.agents → cleanup_left n c < k → Cleaned n c
 clean zero n c w quiet known less = absurd (omega (arith, less))
 clean (suc k) n c w quiet known less = by_queue (cleans_at n c) refl (λ d v q i l. clean k n d v q i l)
   where
     by_queue : (b : Bool) → cleans_at n c ≡ b → ((d : ClusterView) → Well d → cleans_quietly d ≡ true → n < length d.agents → cleanup_left n d < k → Cleaned n d) → Cleaned n c
-    by_queue false up again = record { end = c; well = w; quiet = quiet; known = known; goes = λ end rest. rest; still = up; plan = refl }
+    by_queue false up again = record { end = c; well = w; quiet = quiet; known = known; goes = λ end rest. rest; still = up; plan = refl; queue = omega arith; sweeps = λ s. s }
     by_queue true up again =
         let s = ask n c w known in
         let did = works_of s.progress n c s.after w quiet s.turned in
         let busy = cleaning_unrested n c up in
-        let moved = unrested_moves s.progress n c s.after busy did.0 in
+        let inside = inside_turned s.progress n n c s.after s.turned known in
+        let moved = unrested_moves s.progress n c s.after s.well inside busy did.0 in
         let left = works_moved s.progress n c s.after true up moved did.0 in
         let fewer = left.1 in
-        let rest = again s.after s.well (quiet_turned s.progress n c s.after s.turned quiet) (inside_turned s.progress n n c s.after s.turned known) (omega (arith, less, fewer)) in
+        let rest = again s.after s.well (quiet_turned s.progress n c s.after s.turned quiet) inside (omega (arith, less, fewer)) in
+        let kept = rest.queue in
         record {
           end = rest.end;
           well = rest.well;
@@ -70,6 +92,8 @@ clean (suc k) n c w quiet known less = by_queue (cleans_at n c) refl (λ d v q i
           goes = λ end more. goes_more s.progress n c c s.after (λ end rest. rest) busy moved s.turned end (rest.goes end more);
           still = rest.still;
           plan = rest.plan ∙ left.0;
+          queue = omega (arith, kept, fewer);
+          sweeps = λ s'. rest.sweeps (sweeps_on s.progress n c s.after up moved did.0);
         }
 
 cleaned : (n : ℕ) (c : ClusterView) → Well c → cleans_quietly c ≡ true → n < length c.agents → Cleaned n c
@@ -93,9 +117,10 @@ finish_clean (suc k) n c w quiet known still less = by_rest (rests_at n c) refl 
     by_rest false busy again =
         let s = ask n c w known in
         let did = works_of s.progress n c s.after w quiet s.turned in
-        let moved = unrested_moves s.progress n c s.after busy did.0 in
+        let inside = inside_turned s.progress n n c s.after s.turned known in
+        let moved = unrested_moves s.progress n c s.after s.well inside busy did.0 in
         let fewer = works_moved s.progress n c s.after false still moved did.0 in
-        let q = cleaned n s.after s.well (quiet_turned s.progress n c s.after s.turned quiet) (inside_turned s.progress n n c s.after s.turned known) in
+        let q = cleaned n s.after s.well (quiet_turned s.progress n c s.after s.turned quiet) inside in
         let same = q.plan in
         let f = again q.end q.well q.quiet q.known q.still (omega (arith, less, fewer, same)) in
         let last = f.less in
@@ -148,20 +173,29 @@ round c w = round_from c.ledger.agents 0 c c [] (omega arith) refl (asked_nobody
 
 -- The first turn of the next move
 
+abbrev ArgumentOf : {A : Type 0} → (A → ClusterView → ClusterView → Type 0) → Type 0
+ArgumentOf {A} f = A
+
+-- a move that has begun, whose type es_cluster keeps to itself
+abbrev BegunMove : Type 0
+BegunMove = ArgumentOf FirstTurn
+
 data Begun (c : ClusterView) : Type 0 where
-  begun_one : (n : ℕ) (d : ClusterView) → BeginsMove (Some n) c d → n < length d.agents → Well d → cleans_quietly d ≡ true → Begun c
+  begun_one : (b : BegunMove) (d : ClusterView) → FirstTurn b c d → b.agent < length d.agents → Well d → cleans_quietly d ≡ true → Begun c
   begun_none : (d : ClusterView) → BeginsMove None c d → Well d → Begun c
 
 begin_second : (c mid : ClusterView) → AskedEach None c mid → cleans_quietly mid ≡ true → Round mid → Begun c
 begin_second c mid first quiet (one_moves ns n last new taken same known t heard before w v) =
     let calm = quiet_all ns mid last taken quiet in
-    begun_one n new (begins_again (Some n) c mid new first (asked_mover Moved n mid last new before refl t heard (works_of Moved n last new w calm t).0)) (inside_turned Moved n n last new t known) v (quiet_turned Moved n last new t calm)
+    let b : BegunMove = record { agent = n; cleans = cleans_at n last } in
+    begun_one b new (begins_again (Some b) c mid new first (asked_mover Moved n b mid last new before refl refl refl t heard (works_of Moved n last new w calm t).0)) (inside_turned Moved n n last new t known) v (quiet_turned Moved n last new t calm)
 begin_second c mid first quiet (none_moves ns new taken same upto w) = begun_none new (begins_again None c mid new first (asked_all mid.ledger.agents mid new refl upto)) w
 
 begin_first : (c : ClusterView) → cleans_quietly c ≡ true → Round c → Begun c
 begin_first c quiet (one_moves ns n mid new taken same known t heard before w v) =
     let calm = quiet_all ns c mid taken quiet in
-    begun_one n new (asked_mover Moved n c mid new before refl t heard (works_of Moved n mid new w calm t).0) (inside_turned Moved n n mid new t known) v (quiet_turned Moved n mid new t calm)
+    let b : BegunMove = record { agent = n; cleans = cleans_at n mid } in
+    begun_one b new (asked_mover Moved n b c mid new before refl refl refl t heard (works_of Moved n mid new w calm t).0) (inside_turned Moved n n mid new t known) v (quiet_turned Moved n mid new t calm)
 begin_first c quiet (none_moves ns new taken same upto w) = begin_second c new (asked_all c.ledger.agents c new refl upto) (quiet_all ns c new taken quiet) (round new w)
 
 -- To the end of all agents
@@ -172,20 +206,38 @@ record Ran (c : ClusterView) : Type 0 where
   over : all_over end ≡ true
   well : Well end
 
-run_begun : (k : ℕ) (c : ClusterView) → total_left c < suc k → ((d : ClusterView) → Well d → cleans_quietly d ≡ true → total_left d < k → Ran d) → Begun c → Ran c
-run_begun k c less again (begun_none d begins w) = record { end = d; runs = runs_out c c d (λ last runs. runs) begins; over = begins.1; well = w }
-run_begun k c less again (begun_one n d begins known w quiet) =
-    let f = finished n d w quiet known in
-    let fewer = moved_less n c d f.end begins f.rest f.less in
-    let rest = again f.end f.well f.quiet (omega (arith, less, fewer)) in
-    record { end = rest.end; runs = move_on n c c d f.end (λ last runs. runs) begins f.rest rest.end rest.runs; over = rest.over; well = rest.well }
+-- one move, which leaves less of a plan, or of a cleanup queue
+run_begun : (k j : ℕ) (c : ClusterView) → plans_left c < suc k → queues_left c < suc j → ((d : ClusterView) → Well d → cleans_quietly d ≡ true → plans_left d < k → Ran d)
+    → ((d : ClusterView) → Well d → cleans_quietly d ≡ true → plans_left d < suc k → queues_left d < j → Ran d) → Begun c → Ran c
+run_begun k j c less few again_plan again_queue (begun_none d begins w) = record { end = d; runs = runs_out c c d (λ last runs. runs) begins d (runs_over begins.1); over = begins.1; well = w }
+run_begun k j c less few again_plan again_queue (begun_one b d first known w quiet) = by_queue b.cleans refl
+  where
+    onward : (end : ClusterView) → Rest b.agent d end → Ran end → Ran c
+    onward end rest more = record { end = more.end; runs = move_on b c c d end (λ last runs. runs) first rest more.end more.runs; over = more.over; well = more.well }
 
-run_below : (k : ℕ) (c : ClusterView) → Well c → cleans_quietly c ≡ true → total_left c < k → Ran c
+    by_queue : (t : Bool) → b.cleans ≡ t → Ran c
+    by_queue false clean =
+        let f = finished b.agent d w quiet known in
+        let fewer = moved_less b c d f.end first clean f.rest f.less in
+        onward f.end f.rest (again_plan f.end f.well f.quiet (omega (arith, less, fewer)))
+    by_queue true up =
+        let q = cleaned b.agent d w quiet known in
+        let rest = q.goes q.end (rested (swept b.agent q.end q.still (q.sweeps (first.swept up)))) in
+        let fewer = cleaned_less b c d q.end first up rest q.plan q.queue in
+        let same = fewer.0 in
+        let shorter = fewer.1 in
+        onward q.end rest (again_queue q.end q.well q.quiet (omega (arith, less, same)) (omega (arith, few, shorter)))
+
+run_queue : (k j : ℕ) (c : ClusterView) → Well c → cleans_quietly c ≡ true → plans_left c < suc k → queues_left c < j → ((d : ClusterView) → Well d → cleans_quietly d ≡ true → plans_left d < k → Ran d) → Ran c
+run_queue k zero c w quiet less few again = absurd (omega (arith, few))
+run_queue k (suc j) c w quiet less few again = run_begun k j c less few again (λ d v q l f. run_queue k j d v q l f again) (begin_first c quiet (round c w))
+
+run_below : (k : ℕ) (c : ClusterView) → Well c → cleans_quietly c ≡ true → plans_left c < k → Ran c
 run_below zero c w quiet less = absurd (omega (arith, less))
-run_below (suc k) c w quiet less = run_begun k c less (λ d v q l. run_below k d v q l) (begin_first c quiet (round c w))
+run_below (suc k) c w quiet less = run_queue k (suc (queues_left c)) c w quiet less (omega arith) (λ d v q l. run_below k d v q l)
 
 ran : (c : ClusterView) → Well c → cleans_quietly c ≡ true → Ran c
-ran c w quiet = run_below (suc (total_left c)) c w quiet (omega arith)
+ran c w quiet = run_below (suc (plans_left c)) c w quiet (omega arith)
 
 -- What a cluster ends in
 
@@ -262,18 +314,18 @@ comes_to_an_end c w quiet =
     let out = ends r.end r.well r.over in
     (with_drained r.end, out.0, (r.end, r.runs, refl), out.1)
 
-pub plan_comes_to_an_end : (p : Plan) → all_name_others p ≡ true → list_all callbacks_collect_nothing p.agents ≡ true → (e : ClusterView) × (o : Outcome) × RunsToEnd (first_state p) e × EndsIn e o
-plan_comes_to_an_end p others quiet = comes_to_an_end (first_state p) (well_first p others) (starts_quiet p (first_state p) refl quiet)
+pub plan_comes_to_an_end : (p : Plan) → never_sleeps p ≡ true → all_name_others p ≡ true → list_all callbacks_collect_nothing p.agents ≡ true → (e : ClusterView) × (o : Outcome) × RunsToEnd (first_state p) e × EndsIn e o
+plan_comes_to_an_end p calm others quiet = comes_to_an_end (first_state p) (well_first p calm others) (starts_quiet p (first_state p) refl quiet)
 
-pub rest_comes_to_an_end : (p : Plan) (ns : List ℕ) (c : ClusterView) → all_name_others p ≡ true → list_all callbacks_collect_nothing p.agents ≡ true → AllTurned ns (first_state p) c → (e : ClusterView) × (o : Outcome) × RunsToEnd c e × EndsIn e o
-rest_comes_to_an_end p ns c others quiet turned =
-    comes_to_an_end c (well_all ns (first_state p) c (well_first p others) turned) (quiet_all ns (first_state p) c turned (starts_quiet p (first_state p) refl quiet))
+pub rest_comes_to_an_end : (p : Plan) (ns : List ℕ) (c : ClusterView) → never_sleeps p ≡ true → all_name_others p ≡ true → list_all callbacks_collect_nothing p.agents ≡ true → AllTurned ns (first_state p) c → (e : ClusterView) × (o : Outcome) × RunsToEnd c e × EndsIn e o
+rest_comes_to_an_end p ns c calm others quiet turned =
+    comes_to_an_end c (well_all ns (first_state p) c (well_first p calm others) turned) (quiet_all ns (first_state p) c turned (starts_quiet p (first_state p) refl quiet))
 
 -- Each agent takes a turn, and none of them all are stuck
 
-pub each_takes_a_turn : (p : Plan) (ns : List ℕ) (c : ClusterView) (n : ℕ) → all_name_others p ≡ true → AllTurned ns (first_state p) c → n < length c.agents → (q : Progress) × (d : ClusterView) × Turned q n c d
-each_takes_a_turn p ns c n others turned known =
-    let s = ask n c (well_all ns (first_state p) c (well_first p others) turned) known in
+pub each_takes_a_turn : (p : Plan) (ns : List ℕ) (c : ClusterView) (n : ℕ) → never_sleeps p ≡ true → all_name_others p ≡ true → AllTurned ns (first_state p) c → n < length c.agents → (q : Progress) × (d : ClusterView) × Turned q n c d
+each_takes_a_turn p ns c n calm others turned known =
+    let s = ask n c (well_all ns (first_state p) c (well_first p calm others) turned) known in
     (s.progress, s.after, s.turned)
 
 same_end : (c d : ClusterView) → Well c → Well d → d.agents ≡ c.agents → (m : ℕ) → m ≤ c.ledger.agents → all_ended d.ledger.history m ≡ all_ended c.ledger.history m
@@ -300,7 +352,7 @@ first_goes : (c : ClusterView) → Well c → all_over c ≡ false → Round c �
 first_goes c w going (one_moves ns n mid new taken same known t heard before x y) = record { waits = ns; mid = mid; waited = taken; agents = same; mover = n; after = new; moves = t }
 first_goes c w going (none_moves ns mid taken same upto x) = second_goes c mid ns w x going taken same upto.number (asked_all c.ledger.agents c mid refl upto) (round mid x)
 
-pub not_stuck : (p : Plan) (ns : List ℕ) (c : ClusterView) → all_name_others p ≡ true → AllTurned ns (first_state p) c → all_over c ≡ false → SomeAgentMoves c
-not_stuck p ns c others turned going =
-    let w = well_all ns (first_state p) c (well_first p others) turned in
+pub not_stuck : (p : Plan) (ns : List ℕ) (c : ClusterView) → never_sleeps p ≡ true → all_name_others p ≡ true → AllTurned ns (first_state p) c → all_over c ≡ false → SomeAgentMoves c
+not_stuck p ns c calm others turned going =
+    let w = well_all ns (first_state p) c (well_first p calm others) turned in
     first_goes c w going (round c w)

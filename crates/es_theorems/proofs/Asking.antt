@@ -23,6 +23,7 @@ use Rattle.es_theorems.specs.Alone.{MaySkip}
 use Rattle.es_theorems.specs.Renamed.{locals_of}
 use Rattle.es_theorems.proofs.Still.{waits_locals}
 use Rattle.es_theorems.proofs.Skipping.{may_skip}
+use Rattle.es_theorems.proofs.Calm.{calm_awake}
 
 -- its wait was recorded
 abbrev asking : ClusterView → ℕ → ℕ → ClusterView
@@ -32,7 +33,7 @@ waits_tied : (l : Ledger) (i s : ℕ) (b mine : AgentView) → waits l i ≡ Non
 waits_tied l i s b mine free awake dry tied own asks = record {
   ties = subst (λ p. DeedsMeet b.history p (came_to b)) (sym (part_waits l (Acted i (Waiting s)) i b.number (Waits s) refl refl)) tied.ties;
   awaits = λ t is. awaits t (i == b.number) refl is;
-  awake = tied.awake;
+  sleeps = tied.sleeps;
   waits_end = ap (λ w. (may_do w (Waits s) && may_stir (asleep l i) (Waits s)) && patient l) free ∙ ap (λ b. may_stir b (Waits s) && patient l) awake ∙ tied.waits_end;
   drains_end = ap (λ d. (false || not d) && drained_last l) dry ∙ tied.drains_end;
 }
@@ -49,6 +50,7 @@ stands_asking c i s b stands dry at free awake asks = record {
     tied = waits_tied c.ledger.history i s a b free awake dry was.tied (λ same. mine j a is (sym was.number ∙ same)) asks;
     seated = record { known = was.seated.known; agents = was.seated.agents; over = was.seated.over };
     run = was.run;
+    calm = was.calm;
   });
   undrained = refl;
 }
@@ -76,7 +78,7 @@ skips_here c i s b stands legal dry at asks known there other none going off = b
     l = c.ledger.history
 
     awake : asleep l i ≡ false
-    awake = ap (asleep l) (sym (stands.each i b at).number) ∙ (stands.each i b at).tied.awake
+    awake = ap (asleep l) (sym (stands.each i b at).number) ∙ calm_awake b l (stands.each i b at).calm (stands.each i b at).tied
 
     judge : (judged (asked l i s) n i s).0 ≡ Stay → ⊥
     judge stay = off (ap (λ t. (cond {A = Turn × Ledger} t (Ready, l) (judged (asked l i s) n i s)).0) none ∙ stay)

@@ -19,10 +19,13 @@ use Rattle.es_event.specs.Ledger.{Ledger, ended, front, holder_of, opened, port_
 use Rattle.es_event.specs.Waiters.{asleep, asleep_after, block_by, is_at, is_listed, taken_there, waiter, waiters, waiters_after, without_first}
 use Rattle.es_event.specs.LegalLedger.{ComesNext, IsPostable, LegalSoFar, MayAct, MayCome, Reaches, ReachesAs, all_ended, all_stuck, has_message, is_chosen, is_stuck, owed, skips}
 use Rattle.es_ledger.proofs.Lines.{rows_moved}
-use Rattle.es_match.specs.Deeds.{Deed, Accesses, Ends, Passes, Spends, Takes, deed, taking, words_in}
+use Rattle.es_match.specs.Deeds.{Deed, Accesses, Ends, Passes, Spends, Takes, deed, taking, words_in, acting, sleep_of}
 use Rattle.es_match.specs.Patience.{has_drained, may_do, may_stir}
+use Rattle.es_match.specs.declared.deed.Sleep.{Sleep}
+use Rattle.es_match.proofs.Sleeping.{has_a_sleep}
 use Rattle.es_theorems.specs.Ahead.{Acts, May}
 use Rattle.es_theorems.specs.Ready.{Goes, Ready}
+use Rattle.es_theorems.specs.Calm.{is_calm}
 use Rattle.es_theorems.proofs.Choosing.{Chosen, Skips, Stuck, chosen_is, chosen_one, skips_is, stuck_here, stuck_is}
 use Rattle.es_cluster.proofs.Growing.{doer, ended_other, waits_other}
 use Rattle.es_ledger.proofs.Waking.{awake_unlisted}
@@ -42,6 +45,7 @@ pub record Beside (k : ℕ) (l : Ledger) (f : LedgerEvent) (b : ℕ) : Type 0 wh
   pub held : held b (table (f ∷ l)) ≡ held b (table l)
   pub lists : waiters (f ∷ l) ≡ waiters l
   pub asleep : (c : ℕ) → asleep (f ∷ l) c ≡ asleep l c
+  pub sleeps : (c : ℕ) → sleep_of (f ∷ l) c ≡ sleep_of l c
   pub chosen : is_chosen l k b ≡ true → is_chosen (f ∷ l) k b ≡ true
   pub skips : (t : ℕ) → skips l k b t ≡ true → skips (f ∷ l) k b t ≡ true
   pub owes : owed (f ∷ l) ≡ None
@@ -80,6 +84,7 @@ beside_spent k l s a b r legal is other = record {
   held = rows_moved (is_agent b) s (Agent a) Nobody (table l) (ne_eqb b a other) refl (only_by l s (Agent a) (numbered k l legal) (holder_agent l s a r is));
   lists = refl;
   asleep = λ c. refl;
+  sleeps = λ c. refl;
   chosen = λ is. spent_chosen l s k b ∙ is;
   skips = λ t skip. spent_skips l s k b t ∙ skip;
   owes = refl;
@@ -112,6 +117,17 @@ end_asleep l a c awake = by (a == c) refl
     by true e = sym (ap (asleep l) (sym (eqb-true a c e)) ∙ awake)
     by false e = refl
 
+end_sleeps : (l : Ledger) (a c : ℕ) → asleep l a ≡ false → sleep_of (Acted a Ended ∷ l) c ≡ sleep_of l c
+end_sleeps l a c awake = by (a == c) refl
+  where
+    none : (o : Option Sleep) → is_some o ≡ false → None ≡ o
+    none None is = refl
+    none (Some s) is = cc
+
+    by : (t : Bool) → (a == c) ≡ t → (if t then None else sleep_of l c) ≡ sleep_of l c
+    by true e = none (sleep_of l a) (has_a_sleep l a ∙ awake) ∙ ap (sleep_of l) (eqb-true a c e)
+    by false e = refl
+
 still_skips : (m : Bool) (e : Bool) (c : Bool) → m ≡ false → e ≡ true → (not m && (e || c)) ≡ true
 still_skips m e c none is = rw (none, is) refl
 
@@ -128,6 +144,7 @@ beside_ended k l a b legal goes free other = record {
   held = refl;
   lists = end_lists k l a legal goes.awake;
   asleep = λ c. end_asleep l a c goes.awake;
+  sleeps = λ c. end_sleeps l a c goes.awake;
   chosen = λ is. absurd (busy (chosen_is l k b is));
   skips = λ t skip. (let is = skips_is l k b t skip in by_over t is.0 is.1);
   owes = refl;
@@ -157,6 +174,7 @@ beside_passed k l a b s legal goes waiting skip other = record {
   held = refl;
   lists = refl;
   asleep = λ c. refl;
+  sleeps = λ c. refl;
   chosen = λ is. absurd (by_mine (skips_is l k a s skip).0 (skips_is l k a s skip).1 (chosen_is l k b is));
   skips = λ t skip. (let is = skips_is l k b t skip in by_over t is.0 is.1);
   owes = refl;
@@ -210,12 +228,19 @@ ready_comes k l a (Acted c (Passed s)) goes ready = (ap (waits l) ready.0 ∙ re
 ready_comes k l a (Acted c Ended) goes ready = (subst (λ c. c < k) (sym ready.0) goes.known, ap (ended l) ready.0 ∙ goes.going)
 ready_comes k l a _ goes ready = absurd ready
 
+ready_calm : (k : ℕ) (l : Ledger) (a : ℕ) (f : LedgerEvent) → Ready k l a f → is_calm f ≡ true
+ready_calm k l a (Spent s) ready = refl
+ready_calm k l a (Acted c (Passed s)) ready = refl
+ready_calm k l a (Acted c Ended) ready = refl
+ready_calm k l a _ ready = absurd ready
+
 pub ready_may : (k : ℕ) (l : Ledger) (a : ℕ) (f : LedgerEvent) → Goes k l a → Ready k l a f → May k l f
 ready_may k l a f goes ready =
     let does = ready_deed k l a f ready in
     record {
       legal = subst (ComesNext k l f) (sym goes.paid) (ready_comes k l a f goes ready);
       acts = subst (Acts k l) (sym does.1) (goes.known, goes.going, goes.undrained, does.2, ap (λ b. may_stir b does.0) goes.awake);
+      calm = ready_calm k l a f ready;
     }
 
 -- Another's event still may come
@@ -237,6 +262,7 @@ deed_beside k l f (Taken t u) b d is mine =
     ∙ ap (λ w. Some (u, Takes t (front l t u) w)) (same_words l (f ∷ l) (front l t u) is.sizes)
 deed_beside k l f (Spent q) b d is mine = let by = spender l q b d _ mine in ap (option_map (λ p. (p.0, Spends q))) (is.holders q by.0 by.1 ∙ sym by.1)
 deed_beside k l f (Accessed q i m old) b d is mine = let by = spender l q b d _ mine in ap (option_map (λ p. (p.0, Accesses q i m old))) (is.holders q by.0 by.1 ∙ sym by.1)
+deed_beside k l f (Acted u act) b d is mine = ap (λ o. Some (u, acting o act)) (is.sleeps u)
 deed_beside k l f _ b d is mine = refl
 
 postable_beside : (k : ℕ) (l : Ledger) (f : LedgerEvent) (b : ℕ) (m : Body) → Beside k l f b → IsPostable l b m → IsPostable (f ∷ l) b m
@@ -244,7 +270,7 @@ postable_beside k l f b (Plain v) is may = may
 postable_beside k l f b (Block c q) is may = (may.0 ∙ ap (λ n. n + 1) (sym is.serials), ap (λ rs. nat_lt 0 (count_of rs c)) is.held ∙ may.1)
 
 -- the ticket that an agent reaches a word by
-held_as : (o : Option (ℕ × Row)) (a i : ℕ) (asked : Row → Type 0) → ReachesAs a o i asked → (r : Row) × (o ≡ Some (a, r))
+pub held_as : (o : Option (ℕ × Row)) (a i : ℕ) (asked : Row → Type 0) → ReachesAs a o i asked → (r : Row) × (o ≡ Some (a, r))
 held_as None a i asked is = absurd is
 held_as (Some p) a i asked is = (p.1, ap (λ n. Some (n, p.1)) is.0)
 
@@ -315,4 +341,5 @@ may_beside k l f x b d is undrained paid mine may =
     record {
       legal = subst (ComesNext k (f ∷ l) x) (sym is.owes) (comes_beside k l f x b d is mine (subst (ComesNext k l x) paid may.legal));
       acts = subst (Acts k (f ∷ l)) (sym (deed_beside k l f x b d is mine ∙ mine)) (acts.0, is.ends ∙ acts.1, undrained, ap (λ w. may_do w d) is.waits ∙ acts.3, ap (λ t. may_stir t d) (is.asleep b) ∙ acts.4);
+      calm = may.calm;
     }

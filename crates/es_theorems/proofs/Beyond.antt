@@ -9,7 +9,7 @@ use Rattle.es_event.specs.declared.row.Row.{Row}
 use Rattle.es_event.specs.Follows.{Permits}
 use Rattle.es_event.specs.History.{History}
 use Rattle.es_event.specs.Jobs.{receivers}
-use Rattle.es_event.specs.Order.{Due, Phase, between, handed, inside, stopped, ended, receive, run, due, due_at, phase}
+use Rattle.es_event.specs.Order.{Due, Phase, between, handed, inside, stopped, ended, receive, due, due_at, phase}
 use Rattle.es_event.specs.Sharing.{Buffers}
 use Rattle.es_agent.specs.Tickets.{is_ended}
 use Rattle.es_cluster.proofs.Standing.{set_here, set_there, within}

@@ -33,7 +33,7 @@ bring_one k x xs ys l a f legal goes ready away steps rest = record {
   steps = (one.first, (one.second, same_steps k (xs ++ ys) (f ∷ x ∷ l) (x ∷ f ∷ l) one.same rest.steps.1));
   parts = λ c.
       ap (λ ds. part_of c (deed l x) ++ ds) (rest.parts c)
-      ∙ ap (λ ds. part_of c (deed l x) ++ (part_of c (deed (x ∷ l) f) ++ ds)) (same_ahead (xs ++ ys) (f ∷ x ∷ l) (x ∷ f ∷ l) c one.same.alike)
+      ∙ ap (λ ds. part_of c (deed l x) ++ (part_of c (deed (x ∷ l) f) ++ ds)) (same_ahead k (xs ++ ys) (f ∷ x ∷ l) (x ∷ f ∷ l) c rest.steps.1 one.same.alike)
       ∙ ap (λ o. part_of c o ++ (part_of c (deed (x ∷ l) f) ++ after c)) away.0.2
       ∙ ap (λ o. part_of c (Some (b, d)) ++ (part_of c o ++ after c)) (one.mine ∙ does.1)
       ∙ one_of_two a b c d does.0 (after c) away.0.3

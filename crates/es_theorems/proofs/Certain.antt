@@ -19,7 +19,8 @@ use Rattle.es_event.specs.Follows.{Permits, done_for, refused_now}
 use Rattle.es_event.specs.History.{History}
 use Rattle.es_event.specs.Identities.{made}
 use Rattle.es_event.specs.Jobs.{Receivers, receivers}
-use Rattle.es_event.specs.Legal.{HasWords, Lawful, LegalBy, word_in}
+use Rattle.es_event.specs.Heard.{heard_by}
+use Rattle.es_event.specs.Legal.{HasWords, Lawful, LegalBy}
 use Rattle.es_event.specs.Order.{Due, receive, run, due, RunsNow}
 use Rattle.es_event.specs.Rows.{row}
 use Rattle.es_event.specs.Runs.{ComesNext, IsRunOver, heard}
@@ -41,7 +42,7 @@ needs_no_words over o n i h _ vs r e = tt
 
 lawful_longer : (n i : ℕ) (m : Words) (over : Buffers) (q : Row) (into : Receivers) (h : History) → LegalBy over into h → (e : Event) → opened_row n i h e ≡ None → heard e ≡ hears_at m (touch_by over e) → Lawful over into h e → Lawful ((made h + 1, q) ∷ over) into h e
 lawful_longer n i m over q into h legal (Did (c, vs, r)) none still l =
-    (l.0, same_completion over ((made h + 1, q) ∷ over) into h legal (agrees_longer h over q) c vs (word_in r) ∙ l.1, l.2, needs_no_words ((made h + 1, q) ∷ over) (made h + 1) n i h c vs r none)
+    (l.0, same_completion over ((made h + 1, q) ∷ over) into h legal (agrees_longer h over q) c vs (heard_by c r) ∙ l.1, l.2, needs_no_words ((made h + 1, q) ∷ over) (made h + 1) n i h c vs r none)
 lawful_longer n i m over q into h legal (Received t v) none still l = cc
 lawful_longer n i m over q into h legal _ none still l = l
 

@@ -90,8 +90,8 @@ alone_goes n l a b x d legal chosen may is known going patient stirs = at (is_li
 
     -- it sleeps, and its time-out passes
     by_sleep : (d : Deed) → is_listed l b ≡ true → ends_sleep d ≡ true → MayCome n l (event_of b d) → b ≡ a
-    by_sleep Wakes listed ends may = absurd (false≢true (sym may.1 ∙ listed))
-    by_sleep TimesOut listed ends may = chosen_one l n b a (chosen_is l n b may.1) chosen
+    by_sleep (Wakes o) listed ends may = absurd (false≢true (sym may.1 ∙ listed))
+    by_sleep (TimesOut o) listed ends may = chosen_one l n b a (chosen_is l n b may.1) chosen
     by_sleep _ listed ends may = cc
 
     -- it waits for a message, and skips its job

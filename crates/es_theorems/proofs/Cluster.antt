@@ -36,12 +36,14 @@ use Rattle.es_cluster.proofs.Standing.{by_place, mapped_still, placed_after, pla
 use Rattle.es_cluster.proofs.Turning.{stepped}
 use Rattle.es_theorems.specs.Alike.{Alike}
 use Rattle.es_theorems.specs.Together.{Stands}
-use Rattle.es_theorems.proofs.Running.{turn_together}
+use Rattle.es_theorems.specs.Sleepless.{never_sleeps, never_sleeps_in}
+use Rattle.es_theorems.proofs.Running.{turn_together, first_calm}
 use Rattle.es_theorems.proofs.Telling.{same, turned, same_holder}
 use Rattle.es_theorems.proofs.Going.{AllHeld, Going, Standing, Turn}
 use Rattle.es_theorems.proofs.Only.{only_beside}
 use Rattle.es_theorems.proofs.Rack.{held_beside}
 use Rattle.es_theorems.proofs.Turn.{asked_going, takes_turn}
+use Rattle.es_theorems.proofs.Calm.{waits_on}
 
 -- each agent has its place and its part in the ledger, which is legal, and goes on
 pub record Well (c : ClusterView) : Type 0 where
@@ -55,12 +57,13 @@ pub record Well (c : ClusterView) : Type 0 where
 
 takes_same : (p : Progress) (b new : AgentView) → Takes p b new → (new.number ≡ b.number) × (new.plan ≡ b.plan)
 takes_same Moved b new t = (ap (λ b. b.number) t.3, ap (λ b. b.plan) t.3)
-takes_same Waiting b new t = (ap (λ b. b.number) t.2, ap (λ b. b.plan) t.2)
+takes_same Waiting b new t = (ap (λ b. b.number) t.1, ap (λ b. b.plan) t.1)
 takes_same Ended b new t = (ap (λ b. b.number) t.1, ap (λ b. b.plan) t.1)
 
 going_beside : (n m : ℕ) (b : AgentView) (l k : Ledger) → GrowsBy n l k → LegalSoFar m k → (b.number ≡ n → ⊥) → Going b l → Going b k
 going_beside n m b l k grows legal other g = record {
   run = g.run;
+  calm = g.calm;
   rising = g.rising;
   newest_is = g.newest_is;
   held = held_beside m n l k b.number (tickets b) grows legal other g.held;
@@ -140,9 +143,10 @@ first_bare agents n [] i b is = cc
 first_bare agents n (p ∷ ps) zero b is = (ap (λ b. b.over) (sym (inner is)), ap (λ b. b.history) (sym (inner is)))
 first_bare agents n (p ∷ ps) (suc i) b is = first_bare agents (n + 1) ps i b is
 
-going_bare : (b : AgentView) → b.over ≡ [] → b.history ≡ [] → Going b []
-going_bare b bare new = record {
+going_bare : (b : AgentView) → b.over ≡ [] → b.history ≡ [] → never_sleeps_in b.plan ≡ true → Going b []
+going_bare b bare new calm = record {
   run = rw (bare, new) (tt, tt);
+  calm = calm;
   rising = ap (λ over. is_rising_from 0 (reverse over)) bare;
   newest_is = rw bare (omega arith);
   held = subst (AllHeld b.number []) (sym (no_tickets b bare)) tt;
@@ -150,15 +154,15 @@ going_bare b bare new = record {
   only = λ k r is other. cc;
 }
 
-pub well_first : (p : Plan) → all_name_others p ≡ true → Well (first_state p)
-well_first p others =
+pub well_first : (p : Plan) → never_sleeps p ≡ true → all_name_others p ≡ true → Well (first_state p)
+well_first p calm others =
     let holds = first_holds p.agents (first_state p).agents (first_state p).ledger refl refl refl others in
     record {
       placed = holds.0;
       tied = holds.1;
       legal = (tt, refl);
       whole = refl;
-      going = λ n b is. (let bare = first_bare (length p.agents) 0 p.agents n b is in going_bare b bare.0 bare.1);
+      going = λ n b is. (let bare = first_bare (length p.agents) 0 p.agents n b is in going_bare b bare.0 bare.1 (first_calm (length p.agents) 0 p.agents n b calm is));
     }
 
 -- After any turn
@@ -170,6 +174,7 @@ held_alike l m n (t ∷ ts) alike held = (sym (same_holder l m t.1.serial alike)
 going_alike : (b : AgentView) (l m : Ledger) → Alike l m → Going b l → Going b m
 going_alike b l m alike g = record {
   run = g.run;
+  calm = g.calm;
   rising = g.rising;
   newest_is = g.newest_is;
   held = held_alike l m b.number (tickets b) alike g.held;
@@ -180,7 +185,7 @@ going_alike b l m alike g = record {
 stands : (c : ClusterView) → Well c → Stands c
 stands c w = record {
   size = w.placed.size;
-  each = λ n b is. record { number = (w.placed.each n b is).number; tied = w.tied.each n b is; seated = (w.placed.each n b is).seated; run = (w.going n b is).run };
+  each = λ n b is. record { number = (w.placed.each n b is).number; tied = w.tied.each n b is; seated = (w.placed.each n b is).seated; run = (w.going n b is).run; calm = (w.going n b is).calm };
   undrained = w.legal.1;
 }
 
@@ -198,10 +203,11 @@ moved_well n c d e Moved w t x v =
     well_after Moved n c d w t (going_alike t.after e.ledger.history d.ledger.history (turned d.ledger.history e.ledger.history both.same.ledgers) (v.going n t.after other))
 moved_well n c d e Waiting w t x v =
     let same : x.before ≡ t.before = found_same c n x.before t.before x.agent t.agent in
-    let asks : need t.before ≡ asks_message x.told.0 = ap need (sym same) ∙ x.told.1 in
-    let stays : (told c.ledger.history c.ledger.agents t.before.number x.told.0).0 ≡ Stay =
-    ap (λ (b : AgentView). (told c.ledger.history c.ledger.agents b.number x.told.0).0) (sym same) ∙ sym (ap (λ p. p.0) x.told.2) in
-    absurd (t.told x.told.0 asks stays)
+    let on = waits_on x.before c.ledger e.ledger (w.going n x.before x.agent).calm x.told in
+    let asks : need t.before ≡ asks_message on.0 = ap need (sym same) ∙ on.1 in
+    let stays : (told c.ledger.history c.ledger.agents t.before.number on.0).0 ≡ Stay =
+    ap (λ (b : AgentView). (told c.ledger.history c.ledger.agents b.number on.0).0) (sym same) ∙ sym (ap (λ p. p.0) on.2) in
+    absurd (t.told.0 on.0 asks stays)
 moved_well n c d e Ended w t x v =
     let same : x.before ≡ t.before = found_same c n x.before t.before x.agent t.agent in
     let over : is_ended (phase t.before.history) ≡ true = nothing_over t.before (ap need (sym same) ∙ x.turn.0) in
@@ -214,9 +220,10 @@ well_turned Moved n c d w t =
     let x = ask n c w (within c.agents n t.before t.agent) in
     moved_well n c d x.after x.progress w t x.turned x.well
 well_turned Waiting n c d w t =
-    let history : d.ledger.history ≡ asked c.ledger.history t.before.number t.told.0 = where_stay c.ledger.history d.ledger.history c.ledger.agents t.before.number t.told.0 t.told.2 in
-    let going = asked_going t.before c.ledger t.told.0 (standing n c t.before w t.agent) in
-    well_after Waiting n c d w t (subst (λ b. Going b d.ledger.history) (sym t.turn.2) (subst (Going t.before) (sym history) going))
+    let on = waits_on t.before c.ledger d.ledger (w.going n t.before t.agent).calm t.told in
+    let history : d.ledger.history ≡ asked c.ledger.history t.before.number on.0 = where_stay c.ledger.history d.ledger.history c.ledger.agents t.before.number on.0 on.2 in
+    let going = asked_going t.before c.ledger on.0 (standing n c t.before w t.agent) in
+    well_after Waiting n c d w t (subst (λ b. Going b d.ledger.history) (sym t.turn.1) (subst (Going t.before) (sym history) going))
 well_turned Ended n c d w t =
     well_after Ended n c d w t (subst (λ b. Going b d.ledger.history) (sym t.turn.1) (subst (λ (l : LedgerView). Going t.before l.history) (sym t.told) (w.going n t.before t.agent)))
 

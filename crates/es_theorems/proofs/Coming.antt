@@ -2,12 +2,13 @@
 use Rattle.std.proofs.Common.{◌≡◌, ℕ, ◌+◌, ◌==◌, ◌&&◌, not, Bool, true, false, cond, sym, ◌∙◌, ap, refl, subst, List, [], ◌∷◌, ◌++◌, append-nil, reverse, Option, Some, None, Ok}
 use Rattle.std.specs.Option.{option_and_then, option_map, option_map_or}
 use Rattle.std.specs.List.{filter}
+use Rattle.std.specs.Prelude.{ℤ}
 use Rattle.std.proofs.lemmas.List.{reverse-append}
 use Rattle.std.proofs.lemmas.List.Elements.{filter-append}
 use Rattle.es_value.specs.declared.value.Value.{Value}
 use Rattle.es_value.specs.declared.value.Value.TheVariants.{Object}
 use Rattle.es_event.specs.declared.command.Command.{Command}
-use Rattle.es_event.specs.declared.command.Command.TheVariants.{SharedArrayBuffer}
+use Rattle.es_event.specs.declared.command.Command.TheVariants.{SharedArrayBuffer, Atomic}
 use Rattle.es_event.specs.declared.event.Answer.{Answer}
 use Rattle.es_event.specs.declared.event.Answer.TheVariants.{Gives}
 use Rattle.es_event.specs.declared.event.Event.{Event}
@@ -16,6 +17,8 @@ use Rattle.es_event.specs.declared.event.Refusal.{Refusal}
 use Rattle.es_event.specs.declared.ledger_event.Body.{Body}
 use Rattle.es_event.specs.declared.ledger_event.Body.TheVariants.{Plain, Block}
 use Rattle.es_event.specs.declared.row.Row.{Row}
+use Rattle.es_event.specs.declared.access.Task.{Task}
+use Rattle.es_event.specs.declared.access.WaitResult.{WaitResult}
 use Rattle.es_event.specs.History.{History}
 use Rattle.es_event.specs.Identities.{made, object_of}
 use Rattle.es_event.specs.Jobs.{Receivers, receivers}
@@ -24,8 +27,11 @@ use Rattle.es_event.specs.Rules.{refusal, refuse_or}
 use Rattle.es_event.specs.Legal.{Lawful}
 use Rattle.es_event.specs.Runs.{IsRunOver}
 use Rattle.es_event.specs.Sharing.{Buffers}
+use Rattle.es_event.specs.Heard.{wait_given}
+use Rattle.es_event.specs.Numbers.{index_of, task_of}
+use Rattle.es_event.specs.Commands.{first}
 use Rattle.es_event.proofs.Alive.{next_alive}
-use Rattle.es_match.specs.Asks.{Asking, nothing, to_open, to_measure, to_compare, to_access, to_post, to_receive, to_refuse, to_pass, to_empty, to_close, asks, asks_did, given, wants_room}
+use Rattle.es_match.specs.Asks.{Asking, nothing, to_open, to_measure, to_compare, to_access, to_post, to_receive, to_refuse, to_pass, to_empty, to_close, asks, asks_did, given, wants_room, to_miss, to_sleep, to_notify, asks_wait, asks_word}
 use Rattle.es_match.specs.Meets.{Tickets, add_ticket, after, gives, opening, receiving, some_if, ticket_in, ticket_under}
 use Rattle.es_match.specs.Deeds.{Deed, Opens, Takes}
 use Rattle.es_tables.specs.Effects.{IsQuiet}
@@ -57,6 +63,9 @@ IsPlain (to_open n v) = ⊥
 IsPlain (to_measure b v) = Unit {0}
 IsPlain (to_compare b c v) = Unit {0}
 IsPlain (to_access b i m v) = Unit {0}
+IsPlain (to_miss b i w) = Unit {0}
+IsPlain (to_sleep b i w r) = Unit {0}
+IsPlain (to_notify b i n v) = Unit {0}
 IsPlain (to_post a v) = Unit {0}
 IsPlain (to_receive s v) = ⊥
 IsPlain to_refuse = Unit {0}
@@ -69,6 +78,9 @@ plain_brings m t left nothing now is met = brought_none m t left [] (some_if_is 
 plain_brings m t left (to_measure b v) now is met = brought_none m t left [] (some_if_is _ t left met) refl
 plain_brings m t left (to_compare b c v) now is met = brought_none m t left [] (some_if_is _ t left met) refl
 plain_brings m t left (to_access b i c v) now is met = brought_none m t left [] (some_if_is _ t left met) refl
+plain_brings m t left (to_miss b i w) now is met = brought_none m t left [] (some_if_is _ t left met) refl
+plain_brings m t left (to_sleep b i w r) now is met = brought_none m t left [] (some_if_is _ t left met) refl
+plain_brings m t left (to_notify b i n v) now is met = brought_none m t left [] (some_if_is _ t left met) refl
 plain_brings m t left (to_post a v) now is met = brought_none m t left [] (some_if_is _ t left met) refl
 plain_brings m t left to_refuse now is met = brought_none m t left [] (some_if_is _ t left met) refl
 plain_brings m t left (to_pass s) now is met = brought_none m t left [] (some_if_is _ t left met) refl
@@ -119,8 +131,19 @@ received_brings m t left s v now new met =
 
 -- Events that leave all tickets
 
+word_plain : (b : Value) (i : ℤ) (k : Task) (v : Value) → IsPlain (asks_word b i k v)
+word_plain b i (Task.Access m) v = tt
+word_plain b i (Task.Sleep w) v = ended (wait_given v)
+  where
+    ended : (r : WaitResult) → IsPlain (asks_wait b i w r)
+    ended WaitResult.Woken = tt
+    ended WaitResult.NotEqual = tt
+    ended WaitResult.TimedOut = tt
+word_plain b i (Task.Notify n) v = tt
+
 did_plain : (c : Command) (vs : List Value) (a : Answer) → ((to : List ℕ) (n : ℕ) → c ≡ SharedArrayBuffer to n → ⊥) → IsPlain (asks_did c vs a)
 did_plain (SharedArrayBuffer to n) vs a other = absurd (other to n refl)
+did_plain (Atomic c) vs a other = word_plain (first vs) (index_of c vs) (task_of c vs) (given a)
 did_plain _ vs a other = tt
 
 refused_plain : (b : Bool) → IsPlain (cond b to_refuse nothing)

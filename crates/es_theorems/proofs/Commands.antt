@@ -22,19 +22,20 @@ use Rattle.es_event.specs.declared.row.Row.{Row}
 use Rattle.es_event.specs.Access.{is_same_change, change_by}
 use Rattle.es_event.specs.Commands.{first}
 use Rattle.es_event.specs.Identities.{object_of}
-use Rattle.es_event.specs.Legal.{word_in}
+use Rattle.es_event.specs.Heard.{a_word, heard_by, silence, word_in}
 use Rattle.es_event.specs.Ledger.{Ledger, opened, serials, holder_of, word}
 use Rattle.es_event.specs.LegalLedger.{Reaches}
 use Rattle.es_event.specs.Numbers.{access_of, index_of}
 use Rattle.es_event.specs.Rows.{row}
-use Rattle.es_event.specs.Runs.{heard_by, silence, a_word}
 use Rattle.es_event.specs.Sharing.{row_of}
 use Rattle.es_event.proofs.Accesses.{same_change}
-use Rattle.es_match.specs.Asks.{asks_did, given}
+use Rattle.es_match.specs.Asks.{asks_did, asks_word, given}
 use Rattle.es_match.specs.Deeds.{Deed, Opens, Posts, Accesses}
 use Rattle.es_match.specs.Meets.{Tickets, add_ticket, after, answers, carries, has_ticket, is_access, is_number, is_object, is_one, is_post, is_ticket, no_more, opening, opened_ticket, same_index, sole, some_if, ticket_in}
 use Rattle.es_theorems.specs.Doing.{AllFit, Fits, IsNew}
 use Rattle.es_theorems.specs.Settled.{access_by, block_at, body_for, came_row, deeds_of, heard_from, row_from, serial_at, word_at}
+use Rattle.es_theorems.specs.Sleepless.{is_for_sleep, is_of_sleep}
+use Rattle.es_theorems.proofs.Calm.{heard_is, task_access}
 
 -- Parts of what meets what is asked
 
@@ -193,12 +194,12 @@ hears_if true v w is = ap a_word (is refl)
 hears_if false v w is = refl
 
 settles_access : (n : ℕ) (l : Ledger) (t : Tickets) (m : ℕ) (c : AtomicParts) (vs : List Value) (a : Answer) (r : Option Row) (ds : List Deed)
-    → is_one (is_access t (first vs) (index_of c vs) (access_of c vs) (given a)) ds ≡ true → [] ≡ came_row m r → AllFit n ds l → Settles l t m (Atomic c) vs a r ds
-settles_access n l t m c vs a r ds met came fit =
+    → is_of_sleep c.operation ≡ false → is_one (is_access t (first vs) (index_of c vs) (access_of c vs) (given a)) ds ≡ true → [] ≡ came_row m r → AllFit n ds l → Settles l t m (Atomic c) vs a r ds
+settles_access n l t m c vs a r ds calm met came fit =
     let is = accessed n l t (index_of c vs) (access_of c vs) vs a ds met fit in
     record {
       deeds = is.deeds;
-      hears = hears_if (access_of c vs).gives_word (word_in a) (word_at l (serial_at t (first vs)) (unsigned_abs (index_of c vs))) is.word;
+      hears = heard_is c.operation a calm ∙ hears_if (access_of c vs).gives_word (word_in a) (word_at l (serial_at t (first vs)) (unsigned_abs (index_of c vs))) is.word;
       row = no_row m r came;
     }
 
@@ -222,10 +223,13 @@ quiet : (l : Ledger) (t : Tickets) (m : ℕ) (c : Command) (vs : List Value) (a 
 quiet l t m c vs a r ds none hears row met came = record { deeds = none_more ds met ∙ sym none; hears = hears; row = no_row m r came ∙ sym row }
 
 pub settles : (n : ℕ) (l : Ledger) (t left : Tickets) (m : ℕ) (c : Command) (vs : List Value) (a : Answer) (r : Option Row) (ds : List Deed)
-    → after t (asks_did c vs a) ds ≡ Some left → ticket_in (asks_did c vs a) ds ≡ came_row m r → AllFit n ds l → Settles l t m c vs a r ds
-settles n l t left m (SharedArrayBuffer to k) vs a r ds met came fit = settles_open n l t left m to k vs a r ds met came fit
-settles n l t left m (Atomic c) vs a r ds met came fit = settles_access n l t m c vs a r ds (some_if_true _ t left met) came fit
-settles n l t left m (Post q y) vs a r ds met came fit = settles_post n l t m q y vs a r ds (some_if_true _ t left met) came fit
-settles n l t left m (Length to x) vs a r ds met came fit = quiet l t m (Length to x) vs a r ds refl refl refl (and_parts (no_more ds) _ (some_if_true _ t left met)).0 came
-settles n l t left m (SameBlock to x y) vs a r ds met came fit = quiet l t m (SameBlock to x y) vs a r ds refl refl refl (and_parts (no_more ds) _ (some_if_true _ t left met)).0 came
-settles n l t left m c vs a r ds met came fit = quiet l t m c vs a r ds refl refl refl (some_if_true _ t left met) came
+    → is_for_sleep c ≡ false → after t (asks_did c vs a) ds ≡ Some left → ticket_in (asks_did c vs a) ds ≡ came_row m r → AllFit n ds l → Settles l t m c vs a r ds
+settles n l t left m (SharedArrayBuffer to k) vs a r ds calm met came fit = settles_open n l t left m to k vs a r ds met came fit
+settles n l t left m (Atomic c) vs a r ds calm met came fit =
+    let task = task_access c vs calm in
+    settles_access n l t m c vs a r ds calm (some_if_true _ t left (ap (λ k. after t (asks_word (first vs) (index_of c vs) k (given a)) ds) (sym task) ∙ met))
+    (ap (λ k. ticket_in (asks_word (first vs) (index_of c vs) k (given a)) ds) (sym task) ∙ came) fit
+settles n l t left m (Post q y) vs a r ds calm met came fit = settles_post n l t m q y vs a r ds (some_if_true _ t left met) came fit
+settles n l t left m (Length to x) vs a r ds calm met came fit = quiet l t m (Length to x) vs a r ds refl refl refl (and_parts (no_more ds) _ (some_if_true _ t left met)).0 came
+settles n l t left m (SameBlock to x y) vs a r ds calm met came fit = quiet l t m (SameBlock to x y) vs a r ds refl refl refl (and_parts (no_more ds) _ (some_if_true _ t left met)).0 came
+settles n l t left m c vs a r ds calm met came fit = quiet l t m c vs a r ds refl refl refl (some_if_true _ t left met) came

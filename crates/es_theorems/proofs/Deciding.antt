@@ -18,12 +18,13 @@ use Rattle.es_event.specs.Commands.{collects, reads}
 use Rattle.es_event.specs.Follows.{AtCommand, HasRoom, Permits, done_for, refused_now}
 use Rattle.es_event.specs.Identities.{made, object_of}
 use Rattle.es_event.specs.Jobs.{job, receivers}
-use Rattle.es_event.specs.Legal.{values_of, word_in}
+use Rattle.es_event.specs.Heard.{Heard, a_message, heard_by}
+use Rattle.es_event.specs.Legal.{values_of}
 use Rattle.es_event.specs.Later.{snapshot}
 use Rattle.es_event.specs.Ledger.{Ledger}
 use Rattle.es_event.specs.Order.{Due, begin, receive, run, clean, take_cell, finish, end_job, close, due}
 use Rattle.es_event.specs.Rules.{completion, refusal, refuse_or, result}
-use Rattle.es_event.specs.Runs.{ComesNext, IsRunOver, a_message, heard, heard_by}
+use Rattle.es_event.specs.Runs.{ComesNext, IsRunOver, heard}
 use Rattle.es_event.specs.Sharing.{AgreeSoFar}
 use Rattle.es_event.proofs.Extending.{agrees_longer, agrees_with_itself, all_refusals, same_completion}
 use Rattle.es_event.proofs.Next.{done_beside, empties_beside, one_next}
@@ -37,6 +38,8 @@ use Rattle.es_cluster.proofs.Asking.{at_command, at_message, awaited_at}
 use Rattle.es_theorems.specs.Alike.{Alike}
 use Rattle.es_theorems.specs.Doing.{did}
 use Rattle.es_theorems.specs.Move.{Move, asked_by}
+use Rattle.es_theorems.specs.Sleepless.{is_for_sleep}
+use Rattle.es_theorems.proofs.Calm.{done_calm, due_calm}
 use Rattle.es_theorems.proofs.Commands.{Settles, no_row, none_more, settles, some_if_true}
 use Rattle.es_theorems.proofs.Messages.{Receives, Refuses, Says, Skips, next_words, taking_next, receives, refuses, skips}
 use Rattle.es_theorems.proofs.Spending.{in_any_order}
@@ -84,7 +87,7 @@ agrees_row b None = agrees_with_itself b.history b.over
 agrees_row b (Some r) = agrees_longer b.history b.over r
 
 -- whatever ticket comes
-same_done : (b : AgentView) → IsRunOver b.over b.plan b.history → (r q : Option Row) (c : Command) (vs : List Value) (w : ℕ)
+same_done : (b : AgentView) → IsRunOver b.over b.plan b.history → (r q : Option Row) (c : Command) (vs : List Value) (w : Heard)
     → completion (with_row r b).over b.history c vs w ≡ completion (with_row q b).over b.history c vs w
 same_done b history r q c vs w =
     same_completion b.over (with_row r b).over (receivers b.plan.jobs) b.history history.0 (agrees_row b r) c vs w
@@ -92,13 +95,13 @@ same_done b history r q c vs w =
 
 -- a command is not both done and refused
 not_refused : (b : AgentView) → IsRunOver b.over b.plan b.history → (r q : Option Row) (c d : Command) (vs : List Value) (a : Answer) (code : Refusal) → d ≡ c → vs ≡ values_of (receivers b.plan.jobs) b.history (reads d)
-    → completion (with_row r b).over b.history d vs (word_in a) ≡ Ok a → refusal (with_row q b).over b.history c (values_of (receivers b.plan.jobs) b.history (reads c)) ≡ Some code → ⊥
+    → completion (with_row r b).over b.history d vs (heard_by d a) ≡ Ok a → refusal (with_row q b).over b.history c (values_of (receivers b.plan.jobs) b.history (reads c)) ≡ Some code → ⊥
 not_refused b history r q c d vs a code same read done refused =
     let into = receivers b.plan.jobs in
     let now : refusal (with_row q b).over b.history d vs ≡ Some code =
     ap (λ vs. refusal (with_row q b).over b.history d vs) read ∙ ap (λ d. refusal (with_row q b).over b.history d (values_of into b.history (reads d))) same ∙ refused in
-    let fails : completion (with_row q b).over b.history d vs (word_in a) ≡ Err code = ap (λ f. refuse_or f (result (with_row q b).over b.history d vs (word_in a))) now in
-    let clash = sym done ∙ same_done b history r q d vs (word_in a) ∙ fails in cc
+    let fails : completion (with_row q b).over b.history d vs (heard_by d a) ≡ Err code = ap (λ f. refuse_or f (result (with_row q b).over b.history d vs (heard_by d a))) now in
+    let clash = sym done ∙ same_done b history r q d vs (heard_by d a) ∙ fails in cc
 
 -- a refusal is the same, whatever ticket comes
 same_refusal : (b : AgentView) → IsRunOver b.over b.plan b.history → (r q : Option Row) (c : Command)
@@ -111,9 +114,9 @@ same_refusal b history r q c =
 refused_quiet : (b : AgentView) (x : Option (List ℕ)) (c : Command) (code : Refusal) → due b.plan b.history ≡ run x c → asked_by b (Refused code) ≡ asks_nothing
 refused_quiet b x c code at = ap (λ t. cond (t && wants_room code) to_refuse asks_nothing) (at_command b.plan b.history x c at)
 
-both_done : (n : ℕ) (l : Ledger) (b : AgentView) (c d k : Command) (vs us : List Value) (a z : Answer) (r q : Option Row) (ds es : List Deed) → d ≡ c → k ≡ c → Move n l b (Did (d, vs, a)) r ds → Move n l b (Did (k, us, z)) q es
+both_done : (n : ℕ) (l : Ledger) (b : AgentView) (c d k : Command) (vs us : List Value) (a z : Answer) (r q : Option Row) (ds es : List Deed) → d ≡ c → k ≡ c → is_for_sleep c ≡ false → Move n l b (Did (d, vs, a)) r ds → Move n l b (Did (k, us, z)) q es
     → Agree n l (Did (d, vs, a)) (Did (k, us, z)) r q ds es
-both_done n l b c d k vs us a z r q ds es p o x y =
+both_done n l b c d k vs us a z r q ds es p o calm x y =
     let u = settled d vs a r ds p x in
     let v = settled k us z q es o y in
     agree n l b (Did (d, vs, a)) (Did (k, us, z)) r q ds es x y (u.row ∙ sym v.row) (ap (λ d. heard_by d a) p ∙ u.hears ∙ sym v.hears ∙ sym (ap (λ k. heard_by k z) o)) (by_deeds n l ds es (u.deeds ∙ sym v.deeds))
@@ -125,7 +128,7 @@ both_done n l b c d k vs us a z r q ds es p o x y =
     settled d vs a r ds p x =
         let read : vs ≡ values = x.next.lawful.0 ∙ ap (λ d. values_of (receivers b.plan.jobs) b.history (reads d)) p in
         let asks : asks_did d vs a ≡ asks_did c values a = ap (λ d. asks_did d vs a) p ∙ ap (λ vs. asks_did c vs a) read in
-        settles n l (tickets b) x.left (made b.history) c values a r ds (ap (λ q. after (tickets b) q ds) (sym asks) ∙ x.met) (ap (λ q. ticket_in q ds) (sym asks) ∙ x.came) x.fit
+        settles n l (tickets b) x.left (made b.history) c values a r ds calm (ap (λ q. after (tickets b) q ds) (sym asks) ∙ x.met) (ap (λ q. ticket_in q ds) (sym asks) ∙ x.came) x.fit
 
 no_ticket_emptied : (n : ℕ) (l : Ledger) (b : AgentView) (ids : List ℕ) (r : Option Row) (ds : List Deed) → Move n l b (Emptied ids) r ds → r ≡ None
 no_ticket_emptied n l b ids r ds x = no_row (made b.history) r x.came
@@ -152,7 +155,8 @@ not_emptied n l b k c code ids r q ds es at x y =
 commanded : (n : ℕ) (l : Ledger) (b : AgentView) → IsRunOver b.over b.plan b.history → (w : Option (List ℕ)) (c : Command) → due b.plan b.history ≡ run w c → (e f : Event) (r q : Option Row) (ds es : List Deed)
     → AtCommand (with_row r b).over (receivers b.plan.jobs) b.history w c e → AtCommand (with_row q b).over (receivers b.plan.jobs) b.history w c f → Move n l b e r ds → Move n l b f q es → Agree n l e f r q ds es
 commanded n l b history w c at (Did (d, vs, a)) (Did (k, us, z)) r q ds es p o x y =
-    both_done n l b (done_for (refused_now (with_row q b).over (receivers b.plan.jobs) b.history c) w c) d k vs us a z r q ds es (p ∙ ap (λ o. done_for o w c) (same_refusal b history r q c)) o x y
+    both_done n l b (done_for (refused_now (with_row q b).over (receivers b.plan.jobs) b.history c) w c) d k vs us a z r q ds es (p ∙ ap (λ o. done_for o w c) (same_refusal b history r q c)) o
+    (done_calm (refused_now (with_row q b).over (receivers b.plan.jobs) b.history c) w c (due_calm b.plan b.history w c x.calm at)) x y
 commanded n l b history w c at (Did (d, vs, a)) (Refused code) r q ds es p o x y =
     absurd (not_refused b history r q c d vs a code (done_beside (with_row r b).over (receivers b.plan.jobs) b.history w c d o.0 p) x.next.lawful.0 x.next.lawful.1 o.1)
 commanded n l b history w c at (Did (d, vs, a)) (Emptied ids) r q ds es p o x y =

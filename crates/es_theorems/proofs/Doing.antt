@@ -13,8 +13,9 @@ use Rattle.es_event.specs.Access.{IsStorable}
 use Rattle.es_event.specs.Ledger.{Ledger, front, holder_of, word}
 use Rattle.es_event.specs.Waiters.{is_at, is_listed, taken_there}
 use Rattle.es_event.specs.LegalLedger.{Reaches, ReachesAs, has_message, IsPostable, MayCome}
-use Rattle.es_match.specs.Deeds.{Deed, Opens, Posts, Takes, Spends, Accesses, Waits, Passes, Ends, Sleeps, Notifies, Wakes, TimesOut, Owned, deed, is_wait, taking, words_in}
+use Rattle.es_match.specs.Deeds.{Deed, Opens, Posts, Takes, Spends, Accesses, Waits, Passes, Ends, Sleeps, Notifies, Wakes, TimesOut, Owned, deed, is_wait, taking, words_in, sleep_of}
 use Rattle.es_theorems.specs.Alike.{Alike}
+use Rattle.es_theorems.specs.Calm.{is_calm}
 use Rattle.es_theorems.specs.Doing.{event_of, did, IsNew, Fits, AllFit}
 use Rattle.es_theorems.proofs.Telling.{same_front, same_message, same_holder, after_one, after_wait}
 
@@ -59,8 +60,8 @@ fits_same l m n (Sleeps s i w) a is =
 fits_same l m n (Notifies s i c k) a is =
     subst (λ o. ReachesAs n o i (λ r. k ≡ taken_there m r.block i c)) (same_holder l m s a)
     (reaches_as (holder_of l s) n i (λ r. k ≡ taken_there l r.block i c) (λ r. k ≡ taken_there m r.block i c) (λ r e. e ∙ same_taken l m r.block i c a) is)
-fits_same l m n Wakes a is = sym (same_listed l m n a) ∙ is
-fits_same l m n TimesOut a is = sym (same_listed l m n a) ∙ is
+fits_same l m n (Wakes o) a is = sym (same_listed l m n a) ∙ is
+fits_same l m n (TimesOut o) a is = sym (same_listed l m n a) ∙ is
 fits_same l m n _ a is = is
 
 pub all_fit_same : (l m : Ledger) (n : ℕ) (ds : List Deed) → Alike l m → AllFit n ds l → AllFit n ds m
@@ -81,9 +82,9 @@ pub all_fit_more : (l : Ledger) (n : ℕ) (ds : List Deed) (d : Deed) → AllFit
 all_fit_more l n [] d fit is = (is, tt)
 all_fit_more l n (c ∷ ds) d fit is = (fit.0, all_fit_more (event_of n c ∷ l) n ds d fit.1 is)
 
-pub wait_alone : (l : Ledger) (n : ℕ) (d : Deed) → is_wait d ≡ true → Alike (event_of n d ∷ l) l
-wait_alone l n (Waits s) is = after_wait l n s
-wait_alone l n _ is = cc
+pub wait_alone : (l : Ledger) (n : ℕ) (d : Deed) → is_wait d ≡ true → is_calm (event_of n d) ≡ true → Alike (event_of n d ∷ l) l
+wait_alone l n (Waits s) is calm = after_wait l n s
+wait_alone l n _ is calm = cc
 
 -- What an event that may come means as a deed
 
@@ -119,6 +120,6 @@ meant k l (Acted a (Passed s)) n d may is = meant_here l (Acted a (Passed s)) a 
 meant k l (Acted a Ended) n d may is = meant_here l (Acted a Ended) a n Ends d is refl tt
 meant k l (Acted a (Slept s i w)) n d may is = meant_here l (Acted a (Slept s i w)) a n (Sleeps s i w) d is refl may.0
 meant k l (Acted a (Notified s i m c)) n d may is = meant_here l (Acted a (Notified s i m c)) a n (Notifies s i m c) d is refl may
-meant k l (Acted a Woke) n d may is = meant_here l (Acted a Woke) a n Wakes d is refl may.1
-meant k l (Acted a TimedOut) n d may is = meant_here l (Acted a TimedOut) a n TimesOut d is refl may.0
+meant k l (Acted a Woke) n d may is = meant_here l (Acted a Woke) a n (Wakes (sleep_of l a)) d is refl may.1
+meant k l (Acted a TimedOut) n d may is = meant_here l (Acted a TimedOut) a n (TimesOut (sleep_of l a)) d is refl may.0
 meant k l (Drained s r) n d may is = cc

@@ -27,12 +27,13 @@ use Rattle.es_event.specs.Ledger.{Ledger, holder_of, opened, serials, size, tabl
 use Rattle.es_event.specs.LegalLedger.{LegalSoFar}
 use Rattle.es_event.specs.Order.{Due, receive, run, due}
 use Rattle.es_event.specs.Rows.{line_of, row}
-use Rattle.es_event.specs.Runs.{a_word, heard, silence}
+use Rattle.es_event.specs.Heard.{a_word, silence}
+use Rattle.es_event.specs.Runs.{heard}
 use Rattle.es_event.specs.Sharing.{Buffers, block_of, blocks_opened, row_at, row_of}
 use Rattle.es_event.proofs.Entries.{inner}
 use Rattle.es_match.specs.Deeds.{Accesses, Deed, Posts, Ends, Spends, part}
 use Rattle.es_ledger.proofs.Made.{IsMade}
-use Rattle.es_match.specs.Asks.{given, nothing as asks_nothing, to_refuse, wants_room}
+use Rattle.es_match.specs.Asks.{given, nothing as asks_nothing, to_refuse, wants_room, asks_word}
 use Rattle.es_match.specs.Cluster.{DeedsMeet}
 use Rattle.es_match.specs.Meets.{after, has_ticket, is_access, is_one, is_post, is_ticket, serials_of, ticket_in, within}
 use Rattle.es_ticket.specs.Stakes.{at}
@@ -53,6 +54,7 @@ use Rattle.es_theorems.proofs.Playing.{spends_so}
 use Rattle.es_theorems.specs.Alone.{Finds, Letter, Local, Locals, Words, hears_at, letter, named, opened_row, over_block, plain, posted_by, touch_by}
 use Rattle.es_theorems.specs.Renamed.{HasWords, got_in, letter_of, local_of, locals_of, name, opens_in, renamed, renamed_row, sent_in}
 use Rattle.es_theorems.specs.Steps.{AreSilent, AtTurn, Does, HasCome, HasLine, IsOver, Keeps, Means, is_quiet, posts, touches}
+use Rattle.es_theorems.specs.Sleepless.{is_of_sleep}
 use Rattle.es_theorems.proofs.Learning.{held_opened}
 use Rattle.es_theorems.proofs.Names.{name_stays, no_name}
 use Rattle.es_theorems.proofs.Opened.{line_held, row_over}
@@ -61,6 +63,7 @@ use Rattle.es_theorems.proofs.Others.{size_stays}
 use Rattle.es_theorems.proofs.PlayingAlike.{AllTheirs, plays}
 use Rattle.es_theorems.proofs.Renaming.{block_renamed, row_renamed}
 use Rattle.es_theorems.proofs.Weighing.{deeds_weight, opened_weight}
+use Rattle.es_theorems.proofs.Calm.{did_is_calm, task_access}
 
 -- What an event opens, posts and accesses, and what it hears
 
@@ -234,8 +237,11 @@ says_touches n c words i m b k vs a r ds holds x s = record {
     change : Change
     change = change_by (access_of k vs).edit (word_at l serial index)
 
+    calm : is_of_sleep k.operation ≡ false
+    calm = did_is_calm (with_row r b).over b.plan b.history (Atomic k) vs a x.moved.calm x.moved.next.permitted
+
     met : is_access (tickets b) (first vs) (index_of k vs) (access_of k vs) (given a) (Accesses serial index change (word_at l serial index)) ≡ true
-    met = subst (λ ds. is_one (is_access (tickets b) (first vs) (index_of k vs) (access_of k vs) (given a)) ds ≡ true) s.deeds (some_if_true _ _ x.moved.left x.moved.met)
+    met = subst (λ ds. is_one (is_access (tickets b) (first vs) (index_of k vs) (access_of k vs) (given a)) ds ≡ true) s.deeds (some_if_true _ _ x.moved.left (ap (λ t. after (tickets b) (asks_word (first vs) (index_of k vs) t (given a)) ds) (sym (task_access k vs calm)) ∙ x.moved.met))
 
     its : Buffer l b (first vs)
     its = buffer_of b l (first vs) _ (x.along.each i b x.here) (and_parts (is_ticket (tickets b) (first vs) serial) _ met).0
@@ -294,7 +300,7 @@ never_skips over b _ j t none p = p
 
 says : (n : ℕ) (c : ClusterView) (words : Words) (i : ℕ) (m : Ledger) (b : AgentView) (e : Event) (r : Option Row) (ds : List Deed) → HasWords n c.ledger.history words → AtTurn n c i m b e r ds → ((k s : ℕ) → due b.plan b.history ≡ receive k s → ⊥) → Says n c words i m b e r ds
 says n c words i m b (Did (k, vs, a)) r ds holds x none =
-    says_did n c words i m b k vs a r ds holds x (settles i c.ledger.history (tickets b) x.moved.left (made b.history) k vs a r ds x.moved.met x.moved.came x.moved.fit)
+    says_did n c words i m b k vs a r ds holds x (settles i c.ledger.history (tickets b) x.moved.left (made b.history) k vs a r ds (did_is_calm (with_row r b).over b.plan b.history k vs a x.moved.calm x.moved.next.permitted) x.moved.met x.moved.came x.moved.fit)
 says n c words i m b (Refused code) r ds holds x none = quiet n c words i m b (Refused code) r ds x (refused_at b (with_row r b).over (due b.plan b.history) code refl none x.moved.next.permitted) refl refl refl refl
 says n c words i m b (Emptied ids) r ds holds x none =
     says_nothing n c words i m b (Emptied ids) r ds (no_row (made b.history) r x.moved.came) (spends_none ds (spends_so false (serials_of (within ids (tickets b))) ds (some_if_true _ _ x.moved.left x.moved.met)).1) refl refl refl refl

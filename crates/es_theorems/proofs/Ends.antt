@@ -1,5 +1,5 @@
 -- What two runs by turns of one plan end in is the same, but for who waited in between.
-use Rattle.std.proofs.Common.{◌≡◌, ℕ, zero, suc, sym, ◌∙◌, ap, refl, subst, List, [], ◌∷◌, map, reverse}
+use Rattle.std.proofs.Common.{◌≡◌, ℕ, zero, suc, sym, ◌∙◌, ap, refl, subst, List, [], ◌∷◌, map, reverse, true}
 use Rattle.std.proofs.lemmas.List.{reverse-reverse}
 use Rattle.es_event.specs.declared.event.Event.{Event}
 use Rattle.es_event.specs.declared.ledger_event.Body.{Body}
@@ -16,6 +16,7 @@ use Rattle.es_cluster.specs.State.{ClusterView, first_state, names_of}
 use Rattle.es_cluster.specs.Turns.{AllTurned}
 use Rattle.es_theorems.specs.Alike.{Alike, SameEnd}
 use Rattle.es_theorems.specs.Together.{Same, Stands}
+use Rattle.es_theorems.specs.Sleepless.{never_sleeps}
 use Rattle.es_theorems.proofs.Running.{runs_same, stands_after, stands_first}
 use Rattle.es_theorems.proofs.Telling.{after_one, same}
 
@@ -100,8 +101,8 @@ one_end_from from c d o q stands left a right b = record {
     alike = subst (λ n. Alike (after_drain (after_drain e.ledger.history e.ledger.agents) e.ledger.agents) (after_drain (after_drain f.ledger.history n) n)) both.number
         (drained_under (after_drain e.ledger.history e.ledger.agents) (after_drain f.ledger.history e.ledger.agents) e.ledger.agents e.ledger.agents (drained_under e.ledger.history f.ledger.history e.ledger.agents e.ledger.agents both.ledgers))
 
-pub one_end : (p : Plan) (c d : ClusterView) (o q : Outcome) → RunsToEnd (first_state p) c → EndsIn c o → RunsToEnd (first_state p) d → EndsIn d q → SameEnd o q
-one_end p c d o q left a right b = one_end_from (first_state p) c d o q (stands_first p) left a right b
+pub one_end : (p : Plan) (c d : ClusterView) (o q : Outcome) → never_sleeps p ≡ true → RunsToEnd (first_state p) c → EndsIn c o → RunsToEnd (first_state p) d → EndsIn d q → SameEnd o q
+one_end p c d o q calm left a right b = one_end_from (first_state p) c d o q (stands_first p calm) left a right b
 
 -- from a state that turns led to
 
@@ -109,5 +110,5 @@ pub stands_later : (ns : List ℕ) (c d : ClusterView) → Stands c → AllTurne
 stands_later [] c d stands turned = subst Stands (sym turned) stands
 stands_later (n ∷ ns) c d stands turned = stands_later ns turned.1 d (stands_after turned.0 n c turned.1 stands turned.2) turned.3
 
-pub rest_has_one_end : (p : Plan) (ns : List ℕ) (from c d : ClusterView) (o q : Outcome) → AllTurned ns (first_state p) from → RunsToEnd from c → EndsIn c o → RunsToEnd from d → EndsIn d q → SameEnd o q
-rest_has_one_end p ns from c d o q turned left a right b = one_end_from from c d o q (stands_later ns (first_state p) from (stands_first p) turned) left a right b
+pub rest_has_one_end : (p : Plan) (ns : List ℕ) (from c d : ClusterView) (o q : Outcome) → never_sleeps p ≡ true → AllTurned ns (first_state p) from → RunsToEnd from c → EndsIn c o → RunsToEnd from d → EndsIn d q → SameEnd o q
+rest_has_one_end p ns from c d o q calm turned left a right b = one_end_from from c d o q (stands_later ns (first_state p) from (stands_first p calm) turned) left a right b

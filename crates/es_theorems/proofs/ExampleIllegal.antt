@@ -50,7 +50,7 @@ made_up_tied : IsTied made_up nine
 made_up_tied = record {
   ties = ([], Opens 9 2 77 ∷ [], nothing_came, refl, ([], [], nothing_came, refl, (refl, refl), refl), refl);
   awaits = λ s e. cc;
-  awake = refl;
+  sleeps = λ s e. cc;
   waits_end = refl;
   drains_end = refl;
 }
@@ -62,11 +62,11 @@ but_for_its_numbers legal = record {
   agent = refl;
   agents = refl;
   turn = (Did (SharedArrayBuffer (codes "b") 2, [], Gives (Object 1)), Some (row 77 9 2), search rules, refl);
-  told = λ s e. cc;
+  told = (λ s e. cc, λ o i w r e. cc);
   ledger = (nine, refl, ((Opens 9 2 77, refl), tt));
   number = refl;
   legal = legal;
-  tied = record { tied = made_up_tied; free = refl };
+  tied = record { tied = made_up_tied; free = refl; awake = refl };
   seated = search rules;
   whole = (refl, refl);
 }
@@ -107,7 +107,7 @@ loaded_tied : IsTied loaded five
 loaded_tied = record {
   ties = (Opens 1 1 1 ∷ [], Accesses 1 0 Keep 5 ∷ [], one_came, refl, ([], Opens 1 1 1 ∷ [], nothing_came, refl, ([], [], nothing_came, refl, (refl, refl), refl), refl), refl);
   awaits = λ s e. cc;
-  awake = refl;
+  sleeps = λ s e. cc;
   waits_end = refl;
   drains_end = refl;
 }
@@ -119,11 +119,11 @@ but_for_its_word legal = record {
   agent = refl;
   agents = refl;
   turn = (Did (load, Object 1 ∷ [], Gives (Number (pos 5))), None, search rules, refl);
-  told = λ s e. cc;
+  told = (λ s e. cc, λ o i w r e. cc);
   ledger = (Accessed 1 0 Keep 5 ∷ [], refl, ((Accesses 1 0 Keep 5, refl), tt));
   number = refl;
   legal = legal;
-  tied = record { tied = loaded_tied; free = refl };
+  tied = record { tied = loaded_tied; free = refl; awake = refl };
   seated = search rules;
   whole = (refl, refl);
 }
@@ -155,7 +155,7 @@ abbrev passed : Ledger
 passed = Acted 1 (Passed 0) ∷ sent
 
 skipped_tied : IsTied skipped passed
-skipped_tied = record { ties = ([], Passes 0 ∷ [], nothing_came, refl, (refl, refl), refl); awaits = λ s e. cc; awake = refl; waits_end = refl; drains_end = refl }
+skipped_tied = record { ties = ([], Passes 0 ∷ [], nothing_came, refl, (refl, refl), refl); awaits = λ s e. cc; sleeps = λ s e. cc; waits_end = refl; drains_end = refl }
 
 but_for_its_skip : LegalLedger 2 passed → Turned Moved 1 (cluster 2 (sender ∷ waiting ∷ []) sent) (cluster 2 (sender ∷ skipped ∷ []) passed)
 but_for_its_skip legal = record {
@@ -164,15 +164,18 @@ but_for_its_skip legal = record {
   agent = refl;
   agents = refl;
   turn = (Skipped 1 0, None, search rules, refl);
-  told = λ s e stays.
-      (let heard : asks_message 0 ≡ asks_message s = e in
-      let same : 0 ≡ s = cc in
-      let clash : Ready ≡ Stay = ap (λ s. (told sent 2 1 s).0) same ∙ stays in
-      cc);
+  told = (
+    λ s e stays.
+        (let heard : asks_message 0 ≡ asks_message s = e in
+        let same : 0 ≡ s = cc in
+        let clash : Ready ≡ Stay = ap (λ s. (told sent 2 1 s).0) same ∙ stays in
+        cc),
+    λ o i w r e. cc,
+  );
   ledger = (Acted 1 (Passed 0) ∷ [], refl, ((Passes 0, refl), tt));
   number = refl;
   legal = legal;
-  tied = record { tied = skipped_tied; free = refl };
+  tied = record { tied = skipped_tied; free = refl; awake = refl };
   seated = search rules;
   whole = (refl, refl);
 }

@@ -1,5 +1,5 @@
 -- Turns of two agents, each with one job without commands: which lists are those of moves, and what the moves are.
-use Rattle.std.proofs.Common.{◌≡◌, ℕ, false, refl, List, [], ◌∷◌, Option, Some, None, codes}
+use Rattle.std.proofs.Common.{◌≡◌, ℕ, false, refl, List, [], ◌∷◌, Option, Some, None, codes, true, inl, inr}
 use Rattle.es_event.specs.declared.event.Event.TheVariants.{JobBegun, JobEnded}
 use Rattle.es_event.specs.declared.plan.AgentPlan.{AgentPlan}
 use Rattle.es_event.specs.History.{History}
@@ -7,7 +7,7 @@ use Rattle.es_record.specs.AgentView.{AgentView}
 use Rattle.es_cluster.specs.declared.member.Progress.{Progress}
 use Rattle.es_cluster.specs.declared.member.Progress.TheVariants.{Moved, Waiting, Ended}
 use Rattle.es_cluster.specs.State.{ClusterView, first_state}
-use Rattle.es_cluster.specs.Watched.{AreMoves, FitsIn, TakenTurn, busy, busy_after}
+use Rattle.es_cluster.specs.Watched.{AreMoves, FitsIn, TakenTurn, busy, busy_after, GoesAhead}
 use Rattle.es_theorems.specs.Moving.{moves_of}
 
 abbrev idle : List ℕ → AgentPlan
@@ -44,19 +44,24 @@ whose : (busy 0 (at begun []) ≡ Some 0) × (busy 0 (at done []) ≡ None) × (
 whose = (refl, refl, refl, refl)
 
 one_move : AreMoves None (a_begins ∷ a_ends ∷ []) None
-one_move = ((λ e. refl), ((refl, refl), refl))
+one_move = ((λ e. refl), ((inl refl, refl), refl))
+
+-- an agent that has ended does not go ahead
+no_ahead : {P : Type 0} (h g k f : History) → GoesAhead (turn Ended 1 (at h g) (at k f)) → P
+no_ahead h g k f (inl e) = let clash : Ended ≡ Moved = e in cc
+no_ahead h g k f (inr begins) = let clash : false ≡ true = begins.2 in cc
 
 -- an agent that is asked, and waits on or has ended, may come between two moves
 asked_first : AreMoves None (turn Ended 1 (at [] []) (at [] []) ∷ a_begins ∷ []) (Some 0)
-asked_first = ((λ e. cc), ((λ e. refl), refl))
+asked_first = ((λ e. no_ahead [] [] [] [] e), ((λ e. refl), refl))
 
 -- and not within one
 not_within : AreMoves None (a_begins ∷ turn Ended 1 (at begun []) (at begun []) ∷ a_ends ∷ []) None → ⊥
-not_within are = let clash : Ended ≡ Moved = are.1.0.0 in cc
+not_within are = no_ahead begun [] begun [] are.1.0.0
 
 -- the second agent does not begin where the first can move, nor while its move is under way
 not_the_mover : FitsIn None (turn Moved 1 (at [] []) (at [] begun)) → ⊥
-not_the_mover fits = let clash : ◌≡◌ {A = Option ℕ} (Some 0) (Some 1) = fits refl in cc
+not_the_mover fits = let clash : ◌≡◌ {A = Option ℕ} (Some 0) (Some 1) = fits (inl refl) in cc
 
 not_beside : AreMoves None (a_begins ∷ turn Moved 1 (at begun []) (at begun begun) ∷ []) (Some 1) → ⊥
 not_beside are = let clash : ◌≡◌ {A = ℕ} 1 0 = are.1.0.1 in cc

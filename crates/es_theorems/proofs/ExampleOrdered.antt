@@ -28,6 +28,7 @@ use Rattle.es_theorems.proofs.Ending.{refines}
 use Rattle.es_theorems.specs.Alone.{AreDone, Finds, GoFar, Goes, IsFree, Local, Lore, Touched, World, after_event, is_done, is_known, with_new, world_after}
 use Rattle.es_theorems.specs.Messages.{SayAlike, share_no_word}
 use Rattle.es_theorems.specs.Renamed.{world_of}
+use Rattle.es_theorems.specs.Sleepless.{never_sleeps}
 use Rattle.es_theorems.proofs.Beyond.{others}
 use Rattle.es_theorems.proofs.Composing.{free_by_steps}
 use Rattle.es_theorems.proofs.Reports.{says_as_by_turns, turned_reports}
@@ -50,7 +51,7 @@ it_shares : share_no_word ordered ≡ false
 it_shares = refl
 
 its_outcome : (o : Outcome) × IsClusterOutcome ordered o
-its_outcome = some_outcome ordered refl refl
+its_outcome = some_outcome ordered refl refl refl
 
 -- One list of its steps, by the agents' own names: first all of the one agent, and then all of the other
 
@@ -207,19 +208,19 @@ they_do_not_race (suc zero) (suc (suc j)) p q x y other at_x at_y clash = absurd
 -- So no list of turns has a race, and the plan has one report, whichever way it runs
 
 never_races : (ns : List ℕ) (c : ClusterView) (o : Outcome) → AllTurned ns (first_state ordered) c → EndsIn (with_drained c) o → has_no_race c.ledger.history ≡ true
-never_races ns c o turned ends = free_by_steps ordered 12 w12 they_go they_are_done they_do_not_race ns c o turned ends
+never_races ns c o turned ends = free_by_steps ordered 12 w12 refl they_go they_are_done they_do_not_race ns c o turned ends
 
 one_report : (o q : Outcome) → IsClusterOutcome ordered o → IsClusterOutcome ordered q → report o ≡ report q
 one_report o q a b =
-    let y = refines ordered q b in
-    turned_reports ordered y.turns y.end o y.outcome a y.turned (never_races y.turns y.end y.outcome y.turned y.ends) y.ends ∙ sym y.reported
+    let y = refines ordered q refl b in
+    turned_reports ordered y.turns y.end o y.outcome refl a y.turned (never_races y.turns y.end y.outcome y.turned y.ends) y.ends ∙ sym y.reported
 
 -- Where threads may come to something else, some race by turns
-differ_so_race : (plan : Plan) (c : ClusterView) (o q : Outcome) → IsClusterOutcome plan o → RunsToEnd (first_state plan) c → EndsIn c q → (SayAlike o q → ⊥) → has_no_race c.ledger.history ≡ false
-differ_so_race plan c o q is run ends differ = by_test (has_no_race c.ledger.history) refl
+differ_so_race : (plan : Plan) (c : ClusterView) (o q : Outcome) → never_sleeps plan ≡ true → IsClusterOutcome plan o → RunsToEnd (first_state plan) c → EndsIn c q → (SayAlike o q → ⊥) → has_no_race c.ledger.history ≡ false
+differ_so_race plan c o q calm is run ends differ = by_test (has_no_race c.ledger.history) refl
   where
     by_test : (b : Bool) → has_no_race c.ledger.history ≡ b → has_no_race c.ledger.history ≡ false
-    by_test true none = absurd (differ (says_as_by_turns plan c o q is run none ends))
+    by_test true none = absurd (differ (says_as_by_turns plan c o q calm is run none ends))
     by_test false some = some
 
 -- Agents that share no word

@@ -26,6 +26,6 @@ told_right : (n : ℕ) (b : AgentView) (d : ClusterView) → slice_get (first_st
 told_right n b d is t = subst (λ (b : AgentView). WaitsRightly Moved b (first_state each_for_the_other).ledger d.ledger) (inner (sym t.agent ∙ is)) t.told
 
 none_moves_at_once : (n : ℕ) (d : ClusterView) → Turned Moved n (first_state each_for_the_other) d → ⊥
-none_moves_at_once zero d t = told_right 0 first_of d refl t 1 refl refl
-none_moves_at_once (suc zero) d t = told_right 1 second_of d refl t 0 refl refl
+none_moves_at_once zero d t = (told_right 0 first_of d refl t).0 1 refl refl
+none_moves_at_once (suc zero) d t = (told_right 1 second_of d refl t).0 0 refl refl
 none_moves_at_once (suc (suc n)) d t = let here : ◌≡◌ (slice_get (first_state each_for_the_other).agents (suc (suc n))) (Some t.before) = t.agent in cc

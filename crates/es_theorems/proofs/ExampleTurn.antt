@@ -58,7 +58,7 @@ tied : IsTied made opened
 tied = record {
   ties = ([], Opens 1 2 1 ∷ [], nothing_came, refl, ([], [], nothing_came, refl, (refl, refl), refl), refl);
   awaits = λ s e. cc;
-  awake = refl;
+  sleeps = λ s e. cc;
   waits_end = refl;
   drains_end = refl;
 }
@@ -70,11 +70,11 @@ in_one_turn = record {
   agent = refl;
   agents = refl;
   turn = (Did (SharedArrayBuffer (codes "b") 2, [], Gives (Object 1)), Some (row 1 1 2), search rules, refl);
-  told = λ s e. cc;
+  told = (λ s e. cc, λ o i w r e. cc);
   ledger = (opened, refl, ((Opens 1 2 1, refl), tt));
   number = refl;
   legal = (((refl, refl, omega arith), tt), refl);
-  tied = record { tied = tied; free = refl };
+  tied = record { tied = tied; free = refl; awake = refl };
   seated = search rules;
   whole = (refl, refl);
 }

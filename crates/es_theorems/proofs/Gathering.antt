@@ -14,12 +14,13 @@ use Rattle.es_event.specs.declared.row.Holder.TheVariants.{Agent, Port, Nobody}
 use Rattle.es_event.specs.Rows.{held_by, line_of, moved, row}
 use Rattle.es_event.specs.Ledger.{Ledger, by_agent, front, holder_of, moved_if, serial_in, size, table, waits}
 use Rattle.es_event.specs.LegalLedger.{ComesNext, LegalSoFar, MayCome}
-use Rattle.es_match.specs.Deeds.{Deed, Owned, Opens, Posts, Spends, Accesses, Waits, Ends, deed, is_wait, part_of}
+use Rattle.es_match.specs.Deeds.{Deed, Owned, Opens, Posts, Spends, Accesses, Waits, Ends, deed, is_wait, part_of, Sleeps}
 use Rattle.es_match.specs.Patience.{ends_wait, may_do}
 use Rattle.es_theorems.proofs.Doing.{meant}
 use Rattle.es_theorems.specs.Ahead.{Acts, Elsewhere, May, Rearranged, Steps, ahead, played}
 use Rattle.es_theorems.specs.Found.{AreSpends, First, Found, Gathered}
 use Rattle.es_theorems.specs.Ready.{Goes, Ready}
+use Rattle.es_theorems.specs.Calm.{is_calm}
 use Rattle.es_theorems.proofs.Bringing.{bring, rearranged_not}
 use Rattle.es_theorems.proofs.Choosing.{ended_below}
 use Rattle.es_cluster.proofs.Growing.{doer, waits_other}
@@ -48,7 +49,7 @@ owner_of k l x a goes may = at x (subst (ComesNext k l x) goes.paid may.legal)
     at (Taken s r) is = (r, Rattle.es_match.specs.Deeds.taking l s (front l s r), refl)
     at (Spent s) is = let o = some_owner (holder_of l s) (Spends s) is in (o.0, Spends s, o.1)
     at (Accessed s i m old) is = let o = some_owner (holder_of l s) (Accesses s i m old) (reaches_some (holder_of l s) i _ is) in (o.0, Accesses s i m old, o.1)
-    at (Acted c act) is = (c, Rattle.es_match.specs.Deeds.acting act, refl)
+    at (Acted c act) is = (c, Rattle.es_match.specs.Deeds.acting (Rattle.es_match.specs.Deeds.sleep_of l c) act, refl)
     at (Drained s r) is = absurd (false≢true (sym goes.going ∙ ended_below l k a is.0 goes.known))
 
 -- Its next event
@@ -125,7 +126,7 @@ held_before_more l s a r e other is = at (line_of s (table l)) refl
     at (Some x) here = ap (option_and_then by_agent) here ∙ sym (ap (option_and_then by_agent) (line_first s (table l) (e ∷ []) x here)) ∙ is
     at None here = at_new (e.row.serial == s) (sym (ap (option_and_then by_agent) (line_last s (table l) (e ∷ []) here)) ∙ is)
 
-moved_before : (l : Ledger) (s q a : ℕ) (who : Holder) (r : Row) → ((x p : Row) → by_agent (held_by who x) ≡ Some (a, p) → ⊥) → option_and_then by_agent (line_of s (moved q who (table l))) ≡ Some (a, r) → holder_of l s ≡ Some (a, r)
+pub moved_before : (l : Ledger) (s q a : ℕ) (who : Holder) (r : Row) → ((x p : Row) → by_agent (held_by who x) ≡ Some (a, p) → ⊥) → option_and_then by_agent (line_of s (moved q who (table l))) ≡ Some (a, r) → holder_of l s ≡ Some (a, r)
 moved_before l s q a who r other is = elim (cases_Bool (s == q)) [
   | inl e ↦ at (line_of q (table l)) (sym (ap (option_and_then by_agent) (line_its q who (table l))) ∙ ap (λ s. option_and_then by_agent (line_of s (moved q who (table l)))) (sym (eqb-true s q e)) ∙ is)
   | inr e ↦ ap (option_and_then by_agent) (sym (line_other s q who (table l) (eqb-false s q e))) ∙ is
@@ -135,7 +136,7 @@ moved_before l s q a who r other is = elim (cases_Bool (s == q)) [
     at None got = cc
     at (Some x) got = absurd (other x.row r got)
 
-holder_before : (l : Ledger) (x : LedgerEvent) (b a : ℕ) (d : Deed) (s : ℕ) (r : Row) → deed l x ≡ Some (b, d) → (a ≡ b → ⊥) → holder_of (x ∷ l) s ≡ Some (a, r) → holder_of l s ≡ Some (a, r)
+pub holder_before : (l : Ledger) (x : LedgerEvent) (b a : ℕ) (d : Deed) (s : ℕ) (r : Row) → deed l x ≡ Some (b, d) → (a ≡ b → ⊥) → holder_of (x ∷ l) s ≡ Some (a, r) → holder_of l s ≡ Some (a, r)
 holder_before l (Opened c w q u) b a d s r is other held =
     held_before_more l s a r (held_by (Agent u) (row q c w)) (λ x p got. other (sym (first_is u a (row q c w) p got) ∙ doer (deed l (Opened c w q u)) b u d is)) held
 holder_before l (Posted t u (Plain v)) b a d s r is other held = ap (λ t. option_and_then by_agent (line_of s t)) (sym (append-nil (table l))) ∙ held
@@ -156,11 +157,13 @@ held_far a (x ∷ xs) l s r away held = holder_before l x away.0.0 a away.0.1 s 
 
 pub not_wait : (s : ℕ) (d : Deed) → ends_wait s d ≡ true → is_wait d ≡ false
 not_wait s (Waits t) is = cc
+not_wait s (Sleeps u i w) is = cc
 not_wait s _ is = refl
 
-pub a_wait : (d : Deed) → is_wait d ≡ true → (s : ℕ) × (d ≡ Waits s)
-a_wait (Waits s) is = (s, refl)
-a_wait _ is = cc
+-- in an event by which nobody sleeps
+pub a_wait : (a : ℕ) (d : Deed) → is_wait d ≡ true → is_calm (Rattle.es_theorems.specs.Doing.event_of a d) ≡ true → (s : ℕ) × (d ≡ Waits s)
+a_wait a (Waits s) is calm = (s, refl)
+a_wait a _ is calm = cc
 
 pub same_head : (d e : Deed) (ds es : List Deed) → d ∷ ds ≡ e ∷ es → d ≡ e
 same_head d e ds es is = cc
@@ -205,10 +208,11 @@ found_next k a es l d ds goes steps none is = let f = find k a es l d ds goes st
         (f, same, ap is_wait (sym same) ∙ w, same_tail f.does d (ahead f.behind (f.event ∷ far) a) ds whole)
     at f true w =
         let far = played f.before l in
-        let wait = a_wait f.does w in
         let may = found_may k a es l f steps in
         let goes_there = goes_far k a f.before l f.away goes in
-        let event : f.event ≡ Acted a (Waiting wait.0) = (meant k far f.event a f.does (subst (ComesNext k far f.event) goes_there.paid may.0.legal) f.mine).event ∙ ap (λ d. Rattle.es_theorems.specs.Doing.event_of a d) wait.1 in
+        let its = (meant k far f.event a f.does (subst (ComesNext k far f.event) goes_there.paid may.0.legal) f.mine).event in
+        let wait = a_wait a f.does w (ap is_calm (sym its) ∙ may.0.calm) in
+        let event : f.event ≡ Acted a (Waiting wait.0) = its ∙ ap (λ d. Rattle.es_theorems.specs.Doing.event_of a d) wait.1 in
         let rest : ahead f.behind (Acted a (Waiting wait.0) ∷ far) a ≡ d ∷ ds =
         ap (λ e. ahead f.behind (e ∷ far) a) (sym event) ∙ ap (λ p. p ++ ahead f.behind (f.event ∷ far) a) (sym (part_wait a a f.does (deed far f.event) f.mine w)) ∙ sym (found_ahead a es l f) ∙ is in
         absurd (false≢true (sym (none wait.0) ∙ next_ends k a f.behind (Acted a (Waiting wait.0) ∷ far) d ds wait.0 (wait_goes k k a wait.0 far goes_there) (subst (λ e. Steps k f.behind (e ∷ far)) event may.1) (waits_now far a wait.0) rest))

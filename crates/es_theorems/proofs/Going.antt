@@ -16,6 +16,7 @@ use Rattle.es_cluster.specs.Tied.{GrowsBy, IsTied}
 use Rattle.es_cluster.specs.Turned.{IsSeated, IsTiedAfter, NamesOthers, WaitsRightly}
 use Rattle.es_cluster.specs.declared.member.Progress.{Progress}
 use Rattle.es_cluster.specs.Turns.{Takes}
+use Rattle.es_theorems.specs.Sleepless.{never_sleeps_in}
 
 -- each of these tickets is agent n's
 abbrev pub AllHeld : ℕ → Ledger → Tickets → Type 0
@@ -36,9 +37,10 @@ Apart (t ∷ ts) = OtherThan t.1.serial ts × Apart ts
 abbrev pub Only : ℕ → Ledger → Tickets → Type 0
 Only n l ts = (k : ℕ) (r : Row) → holder_of l k ≡ Some (n, r) → OtherThan k ts → ⊥
 
--- its history is a run so far, its buffer objects rise, and what it holds are its tickets
+-- its history is a run so far of a plan by which it never sleeps, its buffer objects rise, and what it holds are its tickets
 pub record Going (b : AgentView) (l : Ledger) : Type 0 where
   pub run : IsRunOver b.over b.plan b.history
+  pub calm : never_sleeps_in b.plan ≡ true
   pub rising : is_rising_from 0 (reverse b.over) ≡ true
   pub newest_is : newest b.over ≤ made b.history
   pub held : AllHeld b.number l (tickets b)

@@ -1,5 +1,5 @@
 -- The next event of the ledger is a wait: its agent takes its turns up to it, and waits, or is told to skip its job at once.
-use Rattle.std.proofs.Common.{◌≡◌, ◌||◌, ℕ, suc, ◌<◌, ◌==◌, ◌&&◌, Bool, true, false, cond, sym, ◌∙◌, ap, refl, subst, arith, List, [], ◌∷◌, ◌++◌, append-nil, take, length, Some, None, eq-eqb, eqb-true}
+use Rattle.std.proofs.Common.{◌≡◌, ◌||◌, ℕ, suc, ◌<◌, ◌==◌, ◌&&◌, Bool, true, false, cond, sym, ◌∙◌, ap, refl, subst, arith, List, [], ◌∷◌, ◌++◌, append-nil, take, length, Some, None, eq-eqb, eqb-true, inl}
 use Rattle.std.specs.Prelude.{is_some, slice_get}
 use Rattle.std.specs.Option.{option_map_or}
 use Rattle.std.proofs.lemmas.Bool.{false≢true}
@@ -48,6 +48,7 @@ use Rattle.es_theorems.proofs.Settling.{finished, left_as, met_of, rearranged_on
 use Rattle.es_theorems.proofs.Stepping.{agent_there, parts_same, turns_append}
 use Rattle.es_theorems.proofs.Swapping.{ready_after}
 use Rattle.es_theorems.proofs.TurningThreads.{next_of, turn}
+use Rattle.es_theorems.proofs.Calm.{moves_on}
 
 -- What is told where a wait begins
 
@@ -122,8 +123,8 @@ stays n all c es i s b u here may wants skip = record {
       after = b;
       agent = here;
       agents = sym (set_same c.agents i b here);
-      turn = (s, wants, refl);
-      told = (s, wants, told_stay);
+      turn = (inl (s, wants), refl);
+      told = inl (s, wants, told_stay);
       ledger = grows_one i m (Acted i (WaitingEvent s) ∷ m) (Acted i (WaitingEvent s)) (Waits s) refl refl;
       number = refl;
       legal = (subst (λ k. LegalSoFar k (Acted i (WaitingEvent s) ∷ m)) (sym u.number) (u.steps.0.legal, u.legal), refl);
@@ -285,12 +286,15 @@ skips_now n all c es i s b e rest j d ds whole u here left is asks may wants som
         ∙ end_asked (tickets b) met.0 (asked_by b e) (Passes s ∷ take j ds) met_now
         ∙ closes_is b un.row e un.next
 
-    tells : WaitsRightly Moved b c.ledger (record { agents = c.ledger.agents; history = first.event ∷ l })
-    tells t asked' stay =
+    right : (t : ℕ) → need b ≡ asks_message t → (told m c.ledger.agents b.number t).0 ≡ Stay → ⊥
+    right t asked' stay =
         let it : (told m n i s).0 ≡ Skip = ap turn_of (told_here m n i s true may.3 may.4 may.6 skip) in
         let same : t ≡ s = same_sender b t s asked' wants in
         let there : (told m n i s).0 ≡ Stay = ap (λ t. turn_of (told m n i t)) (sym same) ∙ ap (λ k. turn_of (told m k i t)) (sym u.number) ∙ ap (λ k. turn_of (told m c.ledger.agents k t)) (sym was.number) ∙ stay in
         let clash : ◌≡◌ {A = Told} Skip Stay = sym it ∙ there in cc
+
+    tells : WaitsRightly Moved b c.ledger (record { agents = c.ledger.agents; history = first.event ∷ l })
+    tells = moves_on b c.ledger (record { agents = c.ledger.agents; history = first.event ∷ l }) was.calm right
 
     t : Turn n all c i (grown b un.row e) (first.event ∷ l) first.behind rest
     t = turn n all c (Acted i (WaitingEvent s) ∷ first.event ∷ []) first.behind i b e rest u2 here left2 is un

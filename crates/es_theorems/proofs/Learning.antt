@@ -130,8 +130,8 @@ silent_none (d ∷ ds) are = one d are.0 (silent_none ds are.1)
     one Ends is rest = rest
     one (Sleeps s i w) is rest = rest
     one (Notifies s i m k) is rest = rest
-    one Wakes is rest = rest
-    one TimesOut is rest = rest
+    one (Wakes o) is rest = rest
+    one (TimesOut o) is rest = rest
     one _ is rest = cc
 
 pub learns : (n : ℕ) (c : ClusterView) (words : Words) (i : ℕ) (m : Ledger) (b : AgentView) (e : Event) (r : Option Row) (ds : List Deed) → HasWords n c.ledger.history words → AtTurn n c i m b e r ds → Does n c.ledger.history i (renamed (name n c.ledger.history) b.over) e ds

@@ -1,9 +1,11 @@
 pub mod Telling
 pub mod Doing
 pub mod Spending
+pub mod Calm
 pub mod Commands
 pub mod Messages
 pub mod Newest
+pub mod Sleepless
 pub mod Deciding
 pub mod Turning
 pub mod Running
@@ -32,13 +34,13 @@ mod Coming
 mod Unfolding
 mod Gathering
 pub mod Playing
-pub mod Sleepless
 mod TurningThreads
 mod Needing
 mod Settling
 mod Stepping
 mod Hearing
 mod Through
+mod Awake
 mod Starting
 pub mod Draining
 pub mod Ending
@@ -76,4 +78,5 @@ mod Wordless
 mod Reporting
 pub mod Reports
 mod ExampleWords
+mod ExampleSleepless
 mod ExampleOrdered

@@ -5,6 +5,8 @@ use Rattle.std.specs.Option.{option_and_then, option_map_or}
 use Rattle.std.proofs.lemmas.Bool.{and_parts, false≢true, not-true}
 use Rattle.es_value.specs.declared.value.Value.{Value}
 use Rattle.es_event.specs.declared.access.Access.{Access}
+use Rattle.es_event.specs.declared.access.WaitResult.{WaitResult}
+use Rattle.es_event.specs.declared.access.Task.{Task}
 use Rattle.es_event.specs.declared.command.Command.{Command}
 use Rattle.es_event.specs.declared.command.Command.TheVariants.{SharedArrayBuffer}
 use Rattle.es_event.specs.declared.event.Answer.{Answer}
@@ -15,7 +17,7 @@ use Rattle.es_event.specs.declared.ledger_event.LedgerEvent.TheVariants.{Acted}
 use Rattle.es_event.specs.declared.ledger_event.Act.TheVariants.{Waiting, Passed}
 use Rattle.es_event.specs.declared.row.Row.{Row}
 use Rattle.es_event.specs.Commands.{first}
-use Rattle.es_event.specs.Numbers.{access_of, index_of}
+use Rattle.es_event.specs.Numbers.{index_of, task_of}
 use Rattle.es_event.specs.Follows.{Permits}
 use Rattle.es_event.specs.History.{History}
 use Rattle.es_event.specs.Jobs.{Receivers, job, receivers}
@@ -25,13 +27,14 @@ use Rattle.es_event.specs.Order.{Due, receive, run as run_due, due, phase}
 use Rattle.es_event.specs.Runs.{IsRunOver}
 use Rattle.es_event.specs.Sharing.{Buffers}
 use Rattle.es_event.specs.Waiters.{asleep}
+use Rattle.es_event.specs.Heard.{wait_given}
 use Rattle.es_theorems.proofs.Doing.{meant}
 use Rattle.es_theorems.specs.Doing.{event_of}
-use Rattle.es_match.specs.Deeds.{Deed, Opens, Posts, Takes, Spends, Accesses, Passes, Ends, deed}
+use Rattle.es_match.specs.Deeds.{Deed, Opens, Posts, Takes, Spends, Accesses, Passes, Ends, deed, Notifies, Wakes, TimesOut}
 use Rattle.es_match.specs.Patience.{ends_wait}
-use Rattle.es_match.specs.Asks.{nothing, to_receive, to_refuse, to_pass, asks_did, between_jobs, given, wants_room}
+use Rattle.es_match.specs.Asks.{nothing, to_receive, to_refuse, to_pass, asks_did, between_jobs, given, wants_room, asks_wait, asks_word}
 use Rattle.es_match.specs.Cluster.{awaited, is_refusal_asked}
-use Rattle.es_match.specs.Meets.{Tickets, after, gives, is_access, is_one, is_post, opening, refused_in, serials_of, sole, spends, within}
+use Rattle.es_match.specs.Meets.{Tickets, after, gives, is_access, is_one, is_post, opening, refused_in, serials_of, sole, spends, within, is_end_of_sleep, is_miss, is_notify}
 use Rattle.es_ledger.specs.Turns.{asked, judged, told}
 use Rattle.es_ledger.specs.declared.turn.Turn.{Turn}
 use Rattle.es_ledger.specs.declared.turn.Turn.TheVariants.{Ready, Stay, Skip}
@@ -134,10 +137,34 @@ post_none : (t : Tickets) (q : ℕ) (v : Value) (s : ℕ) (d : Deed) → ends_wa
 post_none t q v s (Posts r m) is = cc
 post_none t q v s _ is = refl
 
+miss_none : (t : Tickets) (b : Value) (i : ℤ) (w : ℕ) (s : ℕ) (d : Deed) → ends_wait s d ≡ true → is_miss t b i w d ≡ false
+miss_none t b i w s (Accesses q j c old) is = cc
+miss_none t b i w s _ is = refl
+
+sleep_none : (t : Tickets) (b : Value) (i : ℤ) (w : ℕ) (r : WaitResult) (s : ℕ) (d : Deed) → ends_wait s d ≡ true → is_end_of_sleep t b i w r d ≡ false
+sleep_none t b i w WaitResult.Woken s (Wakes o) is = cc
+sleep_none t b i w WaitResult.TimedOut s (TimesOut o) is = cc
+sleep_none t b i w WaitResult.Woken s _ is = refl
+sleep_none t b i w WaitResult.TimedOut s _ is = refl
+sleep_none t b i w WaitResult.NotEqual s _ is = refl
+
+notify_none : (t : Tickets) (b : Value) (i : ℤ) (n : ℕ) (v : Value) (s : ℕ) (d : Deed) → ends_wait s d ≡ true → is_notify t b i n v d ≡ false
+notify_none t b i n v s (Notifies q j m k) is = cc
+notify_none t b i n v s _ is = refl
+
+wait_none : (b : Value) (i : ℤ) (w : ℕ) (r : WaitResult) (t left : Tickets) (d : Deed) (ds : List Deed) (s : ℕ) → after t (asks_wait b i w r) (d ∷ ds) ≡ Some left → ends_wait s d ≡ false
+wait_none b i w WaitResult.Woken t left d ds s e = is_one_none (is_end_of_sleep t b i w WaitResult.Woken) d ds s (sleep_none t b i w WaitResult.Woken s) (some_if_true _ t left e)
+wait_none b i w WaitResult.NotEqual t left d ds s e = is_one_none (is_miss t b i w) d ds s (miss_none t b i w s) (some_if_true _ t left e)
+wait_none b i w WaitResult.TimedOut t left d ds s e = is_one_none (is_end_of_sleep t b i w WaitResult.TimedOut) d ds s (sleep_none t b i w WaitResult.TimedOut s) (some_if_true _ t left e)
+
+word_none : (b : Value) (i : ℤ) (k : Task) (v : Value) (t left : Tickets) (d : Deed) (ds : List Deed) (s : ℕ) → after t (asks_word b i k v) (d ∷ ds) ≡ Some left → ends_wait s d ≡ false
+word_none b i (Task.Access m) v t left d ds s e = is_one_none (is_access t b i m v) d ds s (access_none t b i m v s) (some_if_true _ t left e)
+word_none b i (Task.Sleep w) v t left d ds s e = wait_none b i w (wait_given v) t left d ds s e
+word_none b i (Task.Notify n) v t left d ds s e = is_one_none (is_notify t b i n v) d ds s (notify_none t b i n v s) (some_if_true _ t left e)
+
 did_none : (c : Command) (vs : List Value) (a : Answer) (t left : Tickets) (d : Deed) (ds : List Deed) (s : ℕ) → after t (asks_did c vs a) (d ∷ ds) ≡ Some left → ends_wait s d ≡ false
 did_none (SharedArrayBuffer to n) vs a t left d ds s e = sole_none (opening t n (given a)) d ds left s (opening_none t n (given a) s) e
-did_none (Command.Atomic c) vs a t left d ds s e =
-    is_one_none (is_access t (first vs) (index_of c vs) (access_of c vs) (given a)) d ds s (access_none t (first vs) (index_of c vs) (access_of c vs) (given a) s) (some_if_true _ t left e)
+did_none (Command.Atomic c) vs a t left d ds s e = word_none (first vs) (index_of c vs) (task_of c vs) (given a) t left d ds s e
 did_none (Command.Post q y) vs a t left d ds s e = is_one_none (is_post t q (first vs)) d ds s (post_none t q (first vs) s) (some_if_true _ t left e)
 did_none _ vs a t left d ds s e = cc
 
@@ -186,8 +213,19 @@ first_message b r _ s d ds left next met named ends = cc
 
 -- Whether the agent closes
 
+word_closes : (b : Value) (i : ℤ) (k : Task) (v : Value) → closes (asks_word b i k v) ≡ false
+word_closes b i (Task.Access m) v = refl
+word_closes b i (Task.Sleep w) v = ended (wait_given v)
+  where
+    ended : (r : WaitResult) → closes (asks_wait b i w r) ≡ false
+    ended WaitResult.Woken = refl
+    ended WaitResult.NotEqual = refl
+    ended WaitResult.TimedOut = refl
+word_closes b i (Task.Notify n) v = refl
+
 pub did_not_close : (c : Command) (vs : List Value) (a : Answer) → closes (asks_did c vs a) ≡ false
 did_not_close (SharedArrayBuffer to n) vs a = refl
+did_not_close (Command.Atomic c) vs a = word_closes (first vs) (index_of c vs) (task_of c vs) (given a)
 did_not_close _ vs a = refl
 
 pub refused_not : (t : Bool) → closes (cond t to_refuse nothing) ≡ false

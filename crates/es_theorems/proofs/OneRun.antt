@@ -10,12 +10,13 @@ use Rattle.es_cluster.specs.declared.member.Progress.TheVariants.{Moved, Waiting
 use Rattle.es_cluster.specs.Moves.{all_over, mover, rests}
 use Rattle.es_cluster.specs.State.{ClusterView, first_state}
 use Rattle.es_cluster.specs.Turns.{Turned}
-use Rattle.es_cluster.specs.Watched.{AreMoves, AreTurns, FitsIn, TakenTurn, busy, busy_after}
+use Rattle.es_cluster.specs.Watched.{AreMoves, AreTurns, FitsIn, TakenTurn, busy, busy_after, GoesAhead}
 use Rattle.es_cluster.proofs.Standing.{set_same}
 use Rattle.es_theorems.specs.Alike.{Alike}
 use Rattle.es_theorems.specs.Moving.{move_in, moves_of}
-use Rattle.es_theorems.specs.Together.{Same, Together}
-use Rattle.es_theorems.proofs.Running.{left_waits, none_moves, right_waits, same_mover, same_over, same_through, same_turned, stands_after, stands_first, turn_together}
+use Rattle.es_theorems.specs.Together.{Same, Together, Stands}
+use Rattle.es_theorems.specs.Sleepless.{never_sleeps}
+use Rattle.es_theorems.proofs.Running.{left_waits, none_moves, right_waits, same_mover, same_over, same_through, same_turned, stands_after, stands_first, turn_together, never_begins}
 use Rattle.es_theorems.proofs.Telling.{same}
 
 -- An agent that has ended changes nothing
@@ -55,10 +56,15 @@ idle Moved n c still = absurd (still refl)
 idle Waiting n c still = refl
 idle Ended n c still = refl
 
+-- who goes ahead moves
+ahead_moves : (t : TakenTurn) → Stands t.before → GoesAhead t → t.progress ≡ Moved
+ahead_moves t stands (inl moved) = moved
+ahead_moves t stands (inr begins) = absurd (never_begins t.agent t.before t.after stands begins)
+
 -- and no move begins or ends with it
-still_first : (first : Option ℕ) (t : TakenTurn) → FitsIn first t → (t.progress ≡ Moved → ⊥) → busy_after t.progress t.agent t.after ≡ first
-still_first (Some n) t fits still = absurd (still fits.0)
-still_first None t fits still = idle t.progress t.agent t.after still
+still_first : (first : Option ℕ) (t : TakenTurn) → Stands t.before → FitsIn first t → (t.progress ≡ Moved → ⊥) → busy_after t.progress t.agent t.after ≡ first
+still_first (Some n) t stands fits still = absurd (still (ahead_moves t stands fits.0))
+still_first None t stands fits still = idle t.progress t.agent t.after still
 
 turn_from : (t : TakenTurn) (c : ClusterView) → t.before ≡ c → Turned t.progress t.agent t.before t.after → Turned t.progress t.agent c t.after
 turn_from t c at turn = subst (λ c. Turned t.progress t.agent c t.after) at turn
@@ -68,7 +74,7 @@ turn_from t c at turn = subst (λ c. Turned t.progress t.agent c t.after) at tur
 one_agent : (first : Option ℕ) (t u : TakenTurn) (c d : ClusterView) → Same c d → t.before ≡ c → u.before ≡ d → FitsIn first t → FitsIn first u → t.progress ≡ Moved → u.progress ≡ Moved → u.agent ≡ t.agent
 one_agent (Some n) t u c d same at on fits others moved moves = others.1 ∙ sym fits.1
 one_agent None t u c d same at on fits others moved moves =
-    let is : Some u.agent ≡ Some t.agent = sym (others moves) ∙ ap mover on ∙ sym (same_mover c d same) ∙ ap mover (sym at) ∙ fits moved in
+    let is : Some u.agent ≡ Some t.agent = sym (others (inl moves)) ∙ ap mover on ∙ sym (same_mover c d same) ∙ ap mover (sym at) ∙ fits (inl moved) in
     inner is
 
 moved_on : (n : ℕ) (c d x y : ClusterView) → Together c d → Turned Moved n c x → Turned Moved n d y → Together x y
@@ -93,7 +99,7 @@ same_moves [] (u ∷ us) first c d x y both at fits over on others end = elim (m
       absurd (none_moves u.agent d u.after both.right (sym (same_over c d both.same) ∙ ap all_over (sym at) ∙ over) here)
   | inr e ↦
       let next = right_still u.progress u.agent c d u.after both (turn_from u d on.0 on.1) e in
-      same_moves [] us first c u.after x y next at fits over on.2 (subst (λ o. AreMoves o us None) (still_first first u others.0 e) others.1) end
+      same_moves [] us first c u.after x y next at fits over on.2 (subst (λ o. AreMoves o us None) (still_first first u (subst Stands (sym on.0) both.right) others.0 e) others.1) end
       ∙ sym (ap (λ ms. ms ++ moves_of us) (no_move u.progress u.agent (slice_get u.after.agents u.agent) e))
 ]
 same_moves (t ∷ ts) [] first c d x y both at fits over on others end = elim (moved_or_not t.progress) [
@@ -103,17 +109,17 @@ same_moves (t ∷ ts) [] first c d x y both at fits over on others end = elim (m
   | inr e ↦
       let next = left_still t.progress t.agent c d t.after both (turn_from t c at.0 at.1) e in
       ap (λ ms. ms ++ moves_of ts) (no_move t.progress t.agent (slice_get t.after.agents t.agent) e)
-      ∙ same_moves ts [] first t.after d x y next at.2 (subst (λ o. AreMoves o ts None) (still_first first t fits.0 e) fits.1) over on others end
+      ∙ same_moves ts [] first t.after d x y next at.2 (subst (λ o. AreMoves o ts None) (still_first first t (subst Stands (sym at.0) both.left) fits.0 e) fits.1) over on others end
 ]
 same_moves (t ∷ ts) (u ∷ us) first c d x y both at fits over on others end = elim (moved_or_not t.progress) [
   | inr e ↦
       let next = left_still t.progress t.agent c d t.after both (turn_from t c at.0 at.1) e in
       ap (λ ms. ms ++ moves_of ts) (no_move t.progress t.agent (slice_get t.after.agents t.agent) e)
-      ∙ same_moves ts (u ∷ us) first t.after d x y next at.2 (subst (λ o. AreMoves o ts None) (still_first first t fits.0 e) fits.1) over on others end
+      ∙ same_moves ts (u ∷ us) first t.after d x y next at.2 (subst (λ o. AreMoves o ts None) (still_first first t (subst Stands (sym at.0) both.left) fits.0 e) fits.1) over on others end
   | inl e ↦ elim (moved_or_not u.progress) [
     | inr f ↦
         let next = right_still u.progress u.agent c d u.after both (turn_from u d on.0 on.1) f in
-        same_moves (t ∷ ts) us first c u.after x y next at fits over on.2 (subst (λ o. AreMoves o us None) (still_first first u others.0 f) others.1) end
+        same_moves (t ∷ ts) us first c u.after x y next at fits over on.2 (subst (λ o. AreMoves o us None) (still_first first u (subst Stands (sym on.0) both.right) others.0 f) others.1) end
         ∙ sym (ap (λ ms. ms ++ moves_of us) (no_move u.progress u.agent (slice_get u.after.agents u.agent) f))
     | inl f ↦
         let same = one_agent first t u c d both.same at.0 on.0 fits.0 others.0 e f in
@@ -127,8 +133,8 @@ same_moves (t ∷ ts) (u ∷ us) first c d x y both at fits over on others end =
   ]
 ]
 
-pub one_run : (plan : Plan) (ts us : List TakenTurn) (c d : ClusterView) → AreTurns ts (first_state plan) c → AreMoves None ts None → all_over c ≡ true → AreTurns us (first_state plan) d → AreMoves None us None → all_over d ≡ true
+pub one_run : (plan : Plan) (ts us : List TakenTurn) (c d : ClusterView) → never_sleeps plan ≡ true → AreTurns ts (first_state plan) c → AreMoves None ts None → all_over c ≡ true → AreTurns us (first_state plan) d → AreMoves None us None → all_over d ≡ true
     → moves_of ts ≡ moves_of us
-one_run plan ts us c d at fits over on others end =
+one_run plan ts us c d calm at fits over on others end =
     let first = first_state plan in
-    same_moves ts us None first first c d (record { left = stands_first plan; right = stands_first plan; same = record { agents = refl; number = refl; ledgers = same [] } }) at fits over on others end
+    same_moves ts us None first first c d (record { left = stands_first plan calm; right = stands_first plan calm; same = record { agents = refl; number = refl; ledgers = same [] } }) at fits over on others end

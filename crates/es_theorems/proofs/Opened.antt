@@ -17,7 +17,8 @@ use Rattle.es_event.specs.LegalLedger.{LegalSoFar}
 use Rattle.es_event.specs.Rows.{held_by, line_of, moved, row}
 use Rattle.es_event.specs.Sharing.{Buffers, row_at}
 use Rattle.es_event.specs.declared.ledger_event.Act.{Act}
-use Rattle.es_match.specs.Deeds.{Deed, Opens, Posts, Spends, Accesses, deed, part, part_of, taking, acting}
+use Rattle.es_match.specs.Deeds.{Deed, Opens, Posts, Spends, Accesses, deed, part, part_of, taking, acting, sleep_of}
+use Rattle.es_match.specs.declared.deed.Sleep.{Sleep}
 use Rattle.es_ledger.proofs.Made.{Each, IsMade, all_made}
 use Rattle.es_theorems.specs.Renamed.{AreOpened, AreSent, IsOpened, IsSent}
 use Rattle.es_theorems.proofs.Holding.{held_line, held_taken, line_first, line_moved, line_other, none_moved}
@@ -62,9 +63,9 @@ sent_by_ticket : (l : Ledger) (a : ℕ) (o : Option (ℕ × Row)) (d : Deed) →
 sent_by_ticket l a None d is = tt
 sent_by_ticket l a (Some p) d is = sent_if l _ d is
 
-act_sent : (m : Ledger) (act : Act) → IsSent m (acting act)
-act_sent m (Waiting s) = tt
-act_sent m _ = tt
+act_sent : (m : Ledger) (o : Option Sleep) (act : Act) → IsSent m (acting o act)
+act_sent m o (Waiting s) = tt
+act_sent m o _ = tt
 
 sent_newest : (n : ℕ) (l : Ledger) (e : LedgerEvent) (a : ℕ) → LegalSoFar n (e ∷ l) → AreSent (e ∷ l) (part_of a (deed l e))
 sent_newest n l (Posted t u m) a legal = sent_if (Posted t u m ∷ l) _ (Posts u m) (opened_later l (Posted t u m) m (posted_opened n l t u m legal))
@@ -72,7 +73,7 @@ sent_newest n l (Opened b w k c) a legal = sent_if (Opened b w k c ∷ l) _ (Ope
 sent_newest n l (Taken t u) a legal = sent_if (Taken t u ∷ l) _ (taking l t (front l t u)) tt
 sent_newest n l (Spent k) a legal = sent_by_ticket (Spent k ∷ l) a (holder_of l k) (Spends k) tt
 sent_newest n l (Accessed k i m old) a legal = sent_by_ticket (Accessed k i m old ∷ l) a (holder_of l k) (Accesses k i m old) tt
-sent_newest n l (Acted c act) a legal = sent_if (Acted c act ∷ l) _ (acting act) (act_sent (Acted c act ∷ l) act)
+sent_newest n l (Acted c act) a legal = sent_if (Acted c act ∷ l) _ (acting (sleep_of l c) act) (act_sent (Acted c act ∷ l) (sleep_of l c) act)
 sent_newest n l (Drained t u) a legal = tt
 
 pub all_sent : (n : ℕ) (l : Ledger) → LegalSoFar n l → (a : ℕ) → AreSent l (part l a)

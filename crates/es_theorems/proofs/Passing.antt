@@ -7,7 +7,7 @@ use Rattle.es_event.specs.declared.ledger_event.Act.TheVariants.{Waiting, Passed
 use Rattle.es_event.specs.declared.row.Row.{Row}
 use Rattle.es_event.specs.Ledger.{Ledger, front, holder_of}
 use Rattle.es_event.specs.LegalLedger.{ComesNext, LegalSoFar, owed}
-use Rattle.es_match.specs.Deeds.{Deed, Opens, Posts, Spends, Accesses, Waits, Passes, Ends, deed, part, part_of, taking, Sleeps, Notifies, Wakes, TimesOut}
+use Rattle.es_match.specs.Deeds.{Deed, Opens, Posts, Spends, Accesses, Waits, Passes, Ends, deed, part, part_of, taking, Sleeps, Notifies, Wakes, TimesOut, sleep_of}
 use Rattle.std.proofs.lemmas.Bool.{and_parts, eqb-true}
 use Rattle.es_theorems.proofs.Known.{waits_known}
 
@@ -52,8 +52,8 @@ newest_aims n l (Acted c (Waiting s)) a legal = aim_if n a _ (Waits s) (λ t. tt
 newest_aims n l (Acted c Ended) a legal = aim_if n a _ Ends (λ t. tt)
 newest_aims n l (Acted c (Slept s i w)) a legal = aim_if n a _ (Sleeps s i w) (λ t. tt)
 newest_aims n l (Acted c (Notified s i m k)) a legal = aim_if n a _ (Notifies s i m k) (λ t. tt)
-newest_aims n l (Acted c Woke) a legal = aim_if n a _ Wakes (λ t. tt)
-newest_aims n l (Acted c TimedOut) a legal = aim_if n a _ TimesOut (λ t. tt)
+newest_aims n l (Acted c Woke) a legal = aim_if n a _ (Wakes (sleep_of l c)) (λ t. tt)
+newest_aims n l (Acted c TimedOut) a legal = aim_if n a _ (TimesOut (sleep_of l c)) (λ t. tt)
 newest_aims n l (Drained t u) a legal = tt
 
 all_aim : (n : ℕ) (l : Ledger) → LegalSoFar n l → (a : ℕ) → AllAim n a (part l a)

@@ -15,7 +15,8 @@ use Rattle.es_event.specs.Follows.{AtCommand, Permits, done_for, refused_now}
 use Rattle.es_event.specs.History.{History}
 use Rattle.es_event.specs.Jobs.{Receivers, receivers}
 use Rattle.es_event.specs.Later.{collects_now}
-use Rattle.es_event.specs.Legal.{Lawful, values_of, word_in}
+use Rattle.es_event.specs.Heard.{heard_by}
+use Rattle.es_event.specs.Legal.{Lawful, values_of}
 use Rattle.es_event.specs.Order.{Due, begin, receive, run, clean, take_cell, finish, end_job, close, due, RunsNow}
 use Rattle.es_event.specs.Rules.{refusal}
 use Rattle.es_event.specs.Runs.{ComesNext}
@@ -43,7 +44,7 @@ due_touch over into h _ = None
 did_touch : (n i : ℕ) (over : Buffers) (r : Option Row) (into : Receivers) (h : History) (c : Command) (vs : List Value) (a : Answer) → r ≡ opened_row n i h (Did (c, vs, a)) → Lawful (with_new r h over) into h (Did (c, vs, a)) → touch_by over (Did (c, vs, a)) ≡ command_touch over into h c
 did_touch n i over r into h (Atomic c) vs a rows l =
     let here : Lawful over into h (Did (Atomic c, vs, a)) = subst (λ r. Lawful (with_new r h over) into h (Did (Atomic c, vs, a))) rows l in
-    let free : refusal over h (Atomic c) vs ≡ None = is_accepted over h (Atomic c) vs (word_in a) a here.1 in
+    let free : refusal over h (Atomic c) vs ≡ None = is_accepted over h (Atomic c) vs (heard_by (Atomic c) a) a here.1 in
     ap (touch_with over (Atomic c)) here.0
     ∙ sym (ap (λ o. if_none o (touch_with over (Atomic c) (values_of into h (reads (Atomic c))))) (ap (refusal over h (Atomic c)) (sym here.0) ∙ free))
 did_touch n i over r into h _ vs a rows l = refl

@@ -1,11 +1,11 @@
 -- Along a run by turns agents go on, and plans stay; so what it ends in is an outcome.
-use Rattle.std.proofs.Common.{true, ◌≡◌, ℕ, suc, ◌∙◌, ap, refl, List, [], ◌∷◌, length}
+use Rattle.std.proofs.Common.{true, ◌≡◌, ℕ, suc, ◌∙◌, ap, refl, List, [], ◌∷◌, length, inl, inr}
 use Rattle.es_event.specs.declared.outcome.Outcome.{Outcome}
 use Rattle.es_cluster.specs.declared.member.Progress.{Progress}
 use Rattle.es_cluster.specs.declared.member.Progress.TheVariants.{Moved, Waiting}
 use Rattle.es_record.specs.AgentView.{AgentView}
 use Rattle.es_cluster.specs.Ends.{EndsIn}
-use Rattle.es_cluster.specs.Moves.{all_over, with_drained, Rest, RunsOut, RunsToEnd, moves, over, rested, turned as rests_later, waits}
+use Rattle.es_cluster.specs.Moves.{all_over, with_drained, IsMove, Rest, RunsOut, RunsToEnd, moves, over, rested, slept, turned as rests_later, waits}
 use Rattle.es_cluster.specs.State.{ClusterView, plans}
 use Rattle.es_cluster.specs.Turns.{AllTurned, Turned}
 use Rattle.es_theorems.proofs.Cluster.{Well, plans_turned, well_turned}
@@ -24,12 +24,17 @@ plans_after p n c d t = record { plans_are = plans_turned p n c d t; number = t.
 
 plans_rest : (n : ℕ) (c d : ClusterView) → Rest n c d → SamePlans c d
 plans_rest n c d (rested is) = record { plans_are = refl; number = refl }
+plans_rest n c d (slept is begins) = plans_after Waiting n c d begins.0
 plans_rest n c d (rests_later {mid = mid} is t more) = plans_then c mid d (plans_after Moved n c mid t) (plans_rest n mid d more)
+
+plans_move : (n : ℕ) (c d : ClusterView) → IsMove n c d → SamePlans c d
+plans_move n c d (inl move) = plans_then c move.0 d (plans_after Moved n c move.0 move.1) (plans_rest n move.0 d move.2)
+plans_move n c d (inr begins) = plans_after Waiting n c d begins.0
 
 plans_run : (c d : ClusterView) → RunsOut c d → SamePlans c d
 plans_run c d (over is) = record { plans_are = refl; number = refl }
-plans_run c d (waits n {mid = mid} t more) = plans_then c mid d (plans_after Waiting n c mid t) (plans_run mid d more)
-plans_run c d (moves n {mid = mid} is move more) = plans_then c mid d (plans_then c move.0 mid (plans_after Moved n c move.0 move.1) (plans_rest n move.0 mid move.2)) (plans_run mid d more)
+plans_run c d (waits n {mid = mid} t quiet more) = plans_then c mid d (plans_after Waiting n c mid t) (plans_run mid d more)
+plans_run c d (moves n {mid = mid} is move more) = plans_then c mid d (plans_move n c mid move) (plans_run mid d more)
 
 pub plans_to_end : (c d : ClusterView) → RunsToEnd c d → SamePlans c d
 plans_to_end c d run =
@@ -48,16 +53,21 @@ plans_length (b ∷ bs) = ap suc (plans_length bs)
 
 well_rest : (n : ℕ) (c d : ClusterView) → Well c → Rest n c d → Well d
 well_rest n c d w (rested is) = w
+well_rest n c d w (slept is begins) = well_turned Waiting n c d w begins.0
 well_rest n c d w (rests_later {mid = mid} is t more) = well_rest n mid d (well_turned Moved n c mid w t) more
+
+well_move : (n : ℕ) (c d : ClusterView) → Well c → IsMove n c d → Well d
+well_move n c d w (inl move) = well_rest n move.0 d (well_turned Moved n c move.0 w move.1) move.2
+well_move n c d w (inr begins) = well_turned Waiting n c d w begins.0
 
 well_run : (c d : ClusterView) → Well c → RunsOut c d → Well d
 well_run c d w (over is) = w
-well_run c d w (waits n {mid = mid} t more) = well_run mid d (well_turned Waiting n c mid w t) more
-well_run c d w (moves n {mid = mid} is move more) = well_run mid d (well_rest n move.0 mid (well_turned Moved n c move.0 w move.1) move.2) more
+well_run c d w (waits n {mid = mid} t quiet more) = well_run mid d (well_turned Waiting n c mid w t) more
+well_run c d w (moves n {mid = mid} is move more) = well_run mid d (well_move n c mid w move) more
 
 pub over_run : (c d : ClusterView) → RunsOut c d → all_over d ≡ true
 over_run c d (over is) = is
-over_run c d (waits n {mid = mid} t more) = over_run mid d more
+over_run c d (waits n {mid = mid} t quiet more) = over_run mid d more
 over_run c d (moves n {mid = mid} is move more) = over_run mid d more
 
 pub run_has_an_outcome : (c d : ClusterView) → Well c → RunsOut c d → (o : Outcome) × EndsIn (with_drained d) o

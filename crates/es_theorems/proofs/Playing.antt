@@ -1,6 +1,7 @@
 -- What events leave that follow one after the other.
 use Rattle.std.proofs.Common.{◌≡◌, ℕ, ◌&&◌, ◌||◌, not, Bool, true, false, cond, sym, ◌∙◌, ap, refl, subst, List, [], ◌∷◌, ◌++◌, append-nil, append_assoc, Option, Some, None, ◌⊎◌, inl, inr, ne_eqb, eq-eqb}
 use Rattle.std.specs.Option.{option_and_then, option_map, option_map_or}
+use Rattle.std.specs.Prelude.{ℤ}
 use Rattle.std.proofs.lemmas.Bool.{and_parts, false≢true}
 use Rattle.es_event.specs.declared.ledger_event.Body.{Body}
 use Rattle.es_event.specs.declared.ledger_event.Body.TheVariants.{Plain, Block}
@@ -8,12 +9,13 @@ use Rattle.es_event.specs.declared.ledger_event.LedgerEvent.{LedgerEvent}
 use Rattle.es_event.specs.declared.ledger_event.LedgerEvent.TheVariants.{Opened, Posted, Taken, Spent, Accessed, Drained, Acted}
 use Rattle.es_event.specs.declared.ledger_event.Act.TheVariants.{Waiting, Passed, Ended, Slept, Notified, Woke, TimedOut}
 use Rattle.es_event.specs.declared.row.Row.{Row}
+use Rattle.es_event.specs.declared.access.WaitResult.{WaitResult}
 use Rattle.es_event.specs.Ledger.{Ledger, ended, front, holder_of, is_end_of, waits}
 use Rattle.es_event.specs.Waiters.{asleep}
-use Rattle.es_match.specs.Deeds.{Deed, Owned, Opens, Posts, Takes, Spends, Accesses, Waits, Passes, Ends, deed, is_wait, part, part_of, taking, Sleeps, Notifies, Wakes, TimesOut}
+use Rattle.es_match.specs.Deeds.{Deed, Owned, Opens, Posts, Takes, Spends, Accesses, Waits, Passes, Ends, deed, is_wait, part, part_of, taking, Sleeps, Notifies, Wakes, TimesOut, sleep_of}
 use Rattle.es_match.specs.Patience.{drained_last, ends_wait, has_drained, is_nobodys, is_patient, may_do, patient, may_stir}
-use Rattle.es_match.specs.Asks.{Asking, nothing, to_open, to_measure, to_compare, to_access, to_post, to_receive, to_refuse, to_pass, to_empty, to_close}
-use Rattle.es_match.specs.Meets.{Tickets, after, is_access, is_one, is_pass, is_post, is_refusal, no_more, opening, pair, receiving, serials_of, sole, spends, strike, within}
+use Rattle.es_match.specs.Asks.{Asking, nothing, to_open, to_measure, to_compare, to_access, to_miss, to_sleep, to_notify, to_post, to_receive, to_refuse, to_pass, to_empty, to_close}
+use Rattle.es_match.specs.Meets.{Tickets, after, is_access, is_one, is_pass, is_post, is_refusal, no_more, opening, pair, receiving, serials_of, sole, spends, strike, within, is_end_of_sleep, is_miss, is_notify}
 use Rattle.es_cluster.specs.Tied.{GrowsBy}
 use Rattle.es_cluster.proofs.Growing.{grows_none, grows_on, grows_one}
 use Rattle.es_theorems.specs.Ahead.{Acts, Steps, ahead, played}
@@ -22,6 +24,7 @@ use Rattle.es_theorems.specs.Underway.{closes, has_end, is_end}
 use Rattle.es_cluster.proofs.Growing.{doer}
 use Rattle.es_theorems.proofs.Gathering.{part_mine}
 use Rattle.es_theorems.proofs.Commands.{some_if_true, sole_of, one_of}
+use Rattle.es_value.specs.declared.value.Value.{Value}
 
 -- Parts
 
@@ -112,8 +115,8 @@ end_is l (Acted c (Passed s)) a d is = ap is_end (its_deed c a (Passes s) d is)
 end_is l (Acted c Ended) a d is = eq-eqb c a (doer (deed l (Acted c Ended)) a c d is) ∙ ap is_end (its_deed c a Ends d is)
 end_is l (Acted c (Slept s i w)) a d is = ap is_end (its_deed c a (Sleeps s i w) d is)
 end_is l (Acted c (Notified s i m k)) a d is = ap is_end (its_deed c a (Notifies s i m k) d is)
-end_is l (Acted c Woke) a d is = ap is_end (its_deed c a Wakes d is)
-end_is l (Acted c TimedOut) a d is = ap is_end (its_deed c a TimesOut d is)
+end_is l (Acted c Woke) a d is = ap is_end (its_deed c a (Wakes (sleep_of l c)) d is)
+end_is l (Acted c TimedOut) a d is = ap is_end (its_deed c a (TimesOut (sleep_of l c)) d is)
 end_is l (Drained s r) a d is = cc
 
 or_swapped : (a b c : Bool) → (a || (b || c)) ≡ ((b || a) || c)
@@ -174,12 +177,20 @@ refusal_end (d ∷ []) e = cc
 refusal_end (b ∷ c ∷ d ∷ ds) e = cc
 refusal_end (c ∷ d ∷ []) e = cc
 
+sleep_end : (t : Tickets) (b : Value) (i : ℤ) (w : ℕ) (r : WaitResult) → is_end_of_sleep t b i w r Ends ≡ false
+sleep_end t b i w WaitResult.Woken = refl
+sleep_end t b i w WaitResult.NotEqual = refl
+sleep_end t b i w WaitResult.TimedOut = refl
+
 pub end_asked : (t left : Tickets) (w : Asking) (ds : List Deed) → after t w ds ≡ Some left → has_end ds ≡ closes w
 end_asked t left nothing ds e = none_end ds (some_if_true _ t left e)
 end_asked t left (to_open n v) ds e = sole_end (opening t n v) ds left refl e
 end_asked t left (to_measure b v) ds e = none_end ds (and_parts (no_more ds) _ (some_if_true _ t left e)).0
 end_asked t left (to_compare b c v) ds e = none_end ds (and_parts (no_more ds) _ (some_if_true _ t left e)).0
 end_asked t left (to_access b i m v) ds e = is_one_end (is_access t b i m v) ds refl (some_if_true _ t left e)
+end_asked t left (to_miss b i w) ds e = is_one_end (is_miss t b i w) ds refl (some_if_true _ t left e)
+end_asked t left (to_sleep b i w r) ds e = is_one_end (is_end_of_sleep t b i w r) ds (sleep_end t b i w r) (some_if_true _ t left e)
+end_asked t left (to_notify b i n v) ds e = is_one_end (is_notify t b i n v) ds refl (some_if_true _ t left e)
 end_asked t left (to_post a v) ds e = is_one_end (is_post t a v) ds refl (some_if_true _ t left e)
 end_asked t left (to_receive s v) ds e = sole_end (receiving t s v) ds left refl e
 end_asked t left to_refuse ds e = refusal_end ds (some_if_true _ t left e)
@@ -199,8 +210,8 @@ is_alone (Passes s) = true
 is_alone Ends = true
 is_alone (Sleeps s i w) = true
 is_alone (Notifies s i m k) = true
-is_alone Wakes = true
-is_alone TimesOut = true
+is_alone (Wakes o) = true
+is_alone (TimesOut o) = true
 
 sole_alone : {A : Type 0} (f : Deed → Option A) (d : Deed) (ds : List Deed) (x : A) → option_and_then f (sole (d ∷ ds)) ≡ Some x → ds ≡ []
 sole_alone f d [] x e = refl
@@ -234,6 +245,9 @@ one_or_more t left (to_open n v) d ds e = inl (sole_alone (opening t n v) d ds l
 one_or_more t left (to_measure b v) d ds e = cc
 one_or_more t left (to_compare b c v) d ds e = cc
 one_or_more t left (to_access b i m v) d ds e = inl (is_one_alone (is_access t b i m v) d ds (some_if_true _ t left e))
+one_or_more t left (to_miss b i w) d ds e = inl (is_one_alone (is_miss t b i w) d ds (some_if_true _ t left e))
+one_or_more t left (to_sleep b i w r) d ds e = inl (is_one_alone (is_end_of_sleep t b i w r) d ds (some_if_true _ t left e))
+one_or_more t left (to_notify b i n v) d ds e = inl (is_one_alone (is_notify t b i n v) d ds (some_if_true _ t left e))
 one_or_more t left (to_post a v) d ds e = inl (is_one_alone (is_post t a v) d ds (some_if_true _ t left e))
 one_or_more t left (to_receive s v) d ds e = inl (sole_alone (receiving t s v) d ds left e)
 one_or_more t left to_refuse d ds e = inr (refusal_more d ds (some_if_true _ t left e))

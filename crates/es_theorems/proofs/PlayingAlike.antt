@@ -21,8 +21,10 @@ use Rattle.es_theorems.specs.Doing.{did, event_of}
 use Rattle.es_theorems.proofs.Doing.{Meant, did_more, meant}
 use Rattle.es_theorems.proofs.Telling.{same_holder}
 use Rattle.es_theorems.proofs.Turning.{Done, done, still_owes_nothing}
+use Rattle.es_theorems.proofs.Sleepless.{calm_before}
 use Rattle.es_theorems.specs.Renamed.{told_of}
 use Rattle.es_theorems.specs.Steps.{AreSilent, AtTurn, is_silent}
+use Rattle.es_theorems.specs.Calm.{Calm}
 
 -- Two ledgers of which agents know the same
 
@@ -63,6 +65,7 @@ one_more l m _ x tables = record { known = x.known; told = x.told; marked = x.ma
 
 wait_leaves : (n : ℕ) (l : Ledger) (d : Deed) → is_wait d ≡ true → SameLore (event_of n d ∷ l) l
 wait_leaves n l (Waits s) is = record { known = refl; told = refl; marked = refl; accesses = refl }
+wait_leaves n l (Sleeps s i w) is = record { known = refl; told = refl; marked = refl; accesses = refl }
 wait_leaves n l _ is = cc
 
 pub silent_leave : (n : ℕ) (ds : List Deed) (l : Ledger) → AreSilent ds → SameLore (did n ds l) l
@@ -77,8 +80,8 @@ silent_leave n (d ∷ ds) l are = onward (did n ds (event_of n d ∷ l)) (event_
     one Ends is = record { known = refl; told = refl; marked = refl; accesses = refl }
     one (Sleeps s i w) is = record { known = refl; told = refl; marked = refl; accesses = refl }
     one (Notifies s i m k) is = record { known = refl; told = refl; marked = refl; accesses = refl }
-    one Wakes is = record { known = refl; told = refl; marked = refl; accesses = refl }
-    one TimesOut is = record { known = refl; told = refl; marked = refl; accesses = refl }
+    one (Wakes o) is = record { known = refl; told = refl; marked = refl; accesses = refl }
+    one (TimesOut o) is = record { known = refl; told = refl; marked = refl; accesses = refl }
     one _ is = cc
 
 -- What an agent accesses is through a ticket of its own
@@ -143,16 +146,17 @@ plays_next k n l e es are none legal before earlier ds is = by_wait (is_wait d) 
           theirs = theirs_more n before.deeds d l earlier.theirs (theirs_same m (did n before.deeds l) n d before.alike (theirs_of m n d e means.event are.0.1));
         })
 
-plays_each : (k n : ℕ) (l : Ledger) (es : List LedgerEvent) → AreDeedsOf n es l → owed l ≡ None → LegalSoFar k (es ++ l) → (ds : List Deed) → part (es ++ l) n ≡ part l n ++ ds → Plays n l (es ++ l) ds
-plays_each k n l [] are none legal ds is =
+plays_each : (k n : ℕ) (l : Ledger) (es : List LedgerEvent) → AreDeedsOf n es l → owed l ≡ None → LegalSoFar k (es ++ l) → Calm n (es ++ l) → (ds : List Deed) → part (es ++ l) n ≡ part l n ++ ds → Plays n l (es ++ l) ds
+plays_each k n l [] are none legal calm ds is =
     let empty : ds ≡ [] = append_cancel_left (part l n) ds [] (sym is ∙ sym (append-nil (part l n))) in
     subst (Plays n l l) (sym empty) (record { lore = itself l; theirs = tt })
-plays_each k n l (e ∷ es) are none legal ds is =
-    let before = done k n l (es ++ l) (es, refl, are.1) none legal.1 in
-    plays_next k n l e es are none legal before (plays_each k n l es are.1 none legal.1 before.deeds before.part_is) ds is
+plays_each k n l (e ∷ es) are none legal calm ds is =
+    let earlier = calm_before (es ++ l) e n calm in
+    let before = done k n l (es ++ l) (es, refl, are.1) none legal.1 earlier in
+    plays_next k n l e es are none legal before (plays_each k n l es are.1 none legal.1 earlier before.deeds before.part_is) ds is
 
 pub plays : (n : ℕ) (c : ClusterView) (i : ℕ) (m : Ledger) (b : AgentView) (e : Event) (r : Option Row) (ds : List Deed) → AtTurn n c i m b e r ds → Plays i c.ledger.history m ds
 plays n c i m b e r ds x =
     let l = c.ledger.history in
     subst (λ m. Plays i l m ds) (sym x.grows.1)
-    (plays_each n i l x.grows.0 x.grows.2 x.along.stands.undrained (subst (LegalSoFar n) x.grows.1 x.legal) ds (ap (λ m. part m i) (sym x.grows.1) ∙ x.part_is))
+    (plays_each n i l x.grows.0 x.grows.2 x.along.stands.undrained (subst (LegalSoFar n) x.grows.1 x.legal) (subst (Calm i) x.grows.1 x.calm) ds (ap (λ m. part m i) (sym x.grows.1) ∙ x.part_is))

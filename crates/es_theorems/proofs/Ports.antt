@@ -11,8 +11,9 @@ use Rattle.es_event.specs.declared.row.Row.{Row}
 use Rattle.es_event.specs.Ledger.{Ledger, front, holder_of, is_at, port_of}
 use Rattle.es_event.specs.LegalLedger.{ComesNext, LegalSoFar, has_message, owed}
 use Rattle.es_event.specs.declared.ledger_event.Act.{Act}
-use Rattle.es_match.specs.Deeds.{Deed, Opens, Posts, Takes, Spends, Accesses, deed, part, part_of, taking, acting}
+use Rattle.es_match.specs.Deeds.{Deed, Opens, Posts, Takes, Spends, Accesses, deed, part, part_of, taking, acting, sleep_of}
 use Rattle.es_match.specs.Patience.{has_drained}
+use Rattle.es_match.specs.declared.deed.Sleep.{Sleep}
 use Rattle.es_laws.specs.Races.{Mark, known}
 use Rattle.es_theorems.specs.Alone.{Letter, addressed, times}
 use Rattle.es_theorems.specs.Renamed.{IsPort, got_in, posted_in, sent_in, told_of, took_in}
@@ -166,13 +167,13 @@ taken_at f l t u s r there is = at (t == s) (u == r) refl refl
     at false true left right = unmoved f l (Taken t u) s r is (port_at t u s r false true _ _ left right) (port_at t u s r false true _ _ left right) refl none (take_here t u s r _ _ false true right left)
     at false false left right = unmoved f l (Taken t u) s r is (port_at t u s r false false _ _ left right) (port_at t u s r false false _ _ left right) refl none (take_here t u s r _ _ false false right left)
 
-act_sends : (f : Body → Letter) (act : Act) → posted_in f (acting act) ≡ []
-act_sends f (Waiting s) = refl
-act_sends f _ = refl
+act_sends : (f : Body → Letter) (o : Option Sleep) (act : Act) → posted_in f (acting o act) ≡ []
+act_sends f o (Waiting s) = refl
+act_sends f o _ = refl
 
-act_takes : (act : Act) → took_in (acting act) ≡ []
-act_takes (Waiting s) = refl
-act_takes _ = refl
+act_takes : (o : Option Sleep) (act : Act) → took_in (acting o act) ≡ []
+act_takes o (Waiting s) = refl
+act_takes o _ = refl
 
 pub is_port : (n : ℕ) (f : Body → Letter) (l : Ledger) (s r : ℕ) → LegalSoFar n l → has_drained l ≡ false → IsPort f l s r
 is_port n f [] s r legal dry = record { lies = refl; within = omega arith; tells = refl; many = refl }
@@ -182,5 +183,5 @@ is_port n f (Opened b w k a ∷ l) s r legal dry = quiet f l (Opened b w k a) s 
 is_port n f (Spent k ∷ l) s r legal dry = quiet f l (Spent k) s r (is_port n f l s r legal.1 dry) refl refl refl (by_spender f (holder_of l k) (Spends k) s refl refl).0 (by_spender f (holder_of l k) (Spends k) r refl refl).1
 is_port n f (Accessed k i m old ∷ l) s r legal dry =
     quiet f l (Accessed k i m old) s r (is_port n f l s r legal.1 dry) refl refl refl (by_spender f (holder_of l k) (Accesses k i m old) s refl refl).0 (by_spender f (holder_of l k) (Accesses k i m old) r refl refl).1
-is_port n f (Acted a act ∷ l) s r legal dry = quiet f l (Acted a act) s r (is_port n f l s r legal.1 dry) refl refl refl (none_sent f _ (acting act) (act_sends f act)) (none_got _ (acting act) (act_takes act))
+is_port n f (Acted a act ∷ l) s r legal dry = quiet f l (Acted a act) s r (is_port n f l s r legal.1 dry) refl refl refl (none_sent f _ (acting (sleep_of l a) act) (act_sends f (sleep_of l a) act)) (none_got _ (acting (sleep_of l a) act) (act_takes (sleep_of l a) act))
 is_port n f (Drained t u ∷ l) s r legal dry = cc

@@ -20,7 +20,8 @@ use Rattle.es_event.specs.Follows.{Follows, Permits, done_for}
 use Rattle.es_event.specs.History.{History}
 use Rattle.es_event.specs.Identities.{made, object_of}
 use Rattle.es_event.specs.Jobs.{Receivers, receivers}
-use Rattle.es_event.specs.Legal.{Arrives, HasWords, Lawful, LegalBy, values_of, word_in}
+use Rattle.es_event.specs.Heard.{Heard, heard_by}
+use Rattle.es_event.specs.Legal.{Arrives, HasWords, Lawful, LegalBy, values_of}
 use Rattle.es_event.specs.Numbers.{index_of, index_read, words_read}
 use Rattle.es_event.specs.Order.{Due, due, run}
 use Rattle.es_event.specs.Rules.{completion, first_refusal, of_buffer, refusal, refuse_or, result, of_number}
@@ -63,7 +64,7 @@ block_renamed f over v none = ap (λ r. option_map_or (λ r. r.block) r 0) (row_
 abbrev refused_of : History → AtomicParts → List Value → ℕ → Option Refusal
 refused_of h c vs k = first_refusal (of_buffer h (first vs) ∷ of_number (index_read c vs) ∷ (is_index (index_of c vs) k, IndexOutOfRange) ∷ map of_number (words_read c vs))
 
-completed : (f : ℕ → ℕ) (over : Buffers) (h : History) → TellsApart f over → (c : Command) (vs : List Value) (w : ℕ) → completion (renamed f over) h c vs w ≡ completion over h c vs w
+completed : (f : ℕ → ℕ) (over : Buffers) (h : History) → TellsApart f over → (c : Command) (vs : List Value) (w : Heard) → completion (renamed f over) h c vs w ≡ completion over h c vs w
 completed f over h a (Length to b) vs w = ap (λ k. refuse_or (refusal over h (Length to b) vs) (Gives (Number (pos k)))) (words_renamed f over (first vs))
 completed f over h a (SameBlock to b c) vs w =
     ap (λ x. refuse_or (refusal over h (SameBlock to b c) vs) (Gives (Boolean x)))
@@ -97,7 +98,7 @@ arrives f over h (Object o) x = (x.0, ap is_some (row_renamed f over o) ∙ at (
 arrives f over h _ x = x
 
 lawful : (f : ℕ → ℕ) (over : Buffers) (into : Receivers) (h : History) → TellsApart f over → (e : Event) → Lawful over into h e → Lawful (renamed f over) into h e
-lawful f over into h a (Did (c, vs, r)) x = (x.0, completed f over h a c vs (word_in r) ∙ x.1, x.2, has_words f over (made h + 1) (opens_words c) x.3)
+lawful f over into h a (Did (c, vs, r)) x = (x.0, completed f over h a c vs (heard_by c r) ∙ x.1, x.2, has_words f over (made h + 1) (opens_words c) x.3)
 lawful f over into h a (Received t v) x = arrives f over h v x
 lawful f over into h a _ x = x
 

@@ -30,6 +30,7 @@ use Rattle.es_theorems.specs.Underway.{Left, Settled, Turn, Underway, has_end}
 use Rattle.es_theorems.proofs.Needing.{EndsFirst, closes_is, message_first}
 use Rattle.es_theorems.proofs.Playing.{end_asked}
 use Rattle.es_theorems.proofs.TurningThreads.{next_of, turn}
+use Rattle.es_theorems.proofs.Calm.{moves_on}
 
 abbrev pub left_as : (a : Account) (b : AgentView) (ds es : List Deed) → ds ≡ es → Left a b ds → Left a b es
 left_as a b ds es same left = record { plan = left.plan; rest = left.rest; history = left.history; final = left.final; go = ap (goes (between_jobs b.history) (came_to b) left.rest) (sym same) ∙ left.go; said = left.said }
@@ -99,7 +100,7 @@ pub local_turn : (n : ℕ) (all : List Account) (c : ClusterView) (es : List Led
     → (left : Left (account_of all i) b (ahead es c.ledger.history i)) → left.rest ≡ e ∷ rest → (x : Unfolded b e rest (ahead es c.ledger.history i) left.final) → deeds_asked b e ≡ 0
     → Turn n all c i (grown b x.row e) c.ledger.history es rest
 local_turn n all c es i b e rest u here left is x none =
-    turn n all c [] es i b e rest u here left is x (grows_none i m) (λ j other. refl) first free over (λ s asks. absurd (no_message s asks))
+    turn n all c [] es i b e rest u here left is x (grows_none i m) (λ j other. refl) first free over (moves_on b c.ledger (record { agents = c.ledger.agents; history = m }) was.calm (λ s asks. absurd (no_message s asks)))
   where
     m : Ledger
     m = c.ledger.history

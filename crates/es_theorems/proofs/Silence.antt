@@ -1,5 +1,5 @@
 -- An agent of a plan that shares no word accesses none.
-use Rattle.std.proofs.Common.{◌≡◌, ℕ, ◌-◌, true, false, not, refl, subst, List, [], ◌∷◌, drop, Some, None}
+use Rattle.std.proofs.Common.{◌≡◌, ℕ, true, false, not, refl, subst, List, [], ◌∷◌, drop, Some, None}
 use Rattle.std.specs.Prelude.{slice_get}
 use Rattle.std.specs.List.{list_all, list_any}
 use Rattle.std.proofs.lemmas.Bool.{and_parts, not-true, or_parts}

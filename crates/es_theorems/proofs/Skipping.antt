@@ -23,6 +23,7 @@ use Rattle.es_cluster.proofs.Mover.{settled_at}
 use Rattle.es_ledger.proofs.Waking.{awake_unlisted}
 use Rattle.es_theorems.proofs.Choosing.{Chosen, Skips, ended_below, skips_is, stuck_is}
 use Rattle.es_theorems.proofs.Ports.{is_port}
+use Rattle.es_theorems.proofs.Calm.{calm_awake}
 
 -- An agent in its place
 
@@ -114,7 +115,7 @@ rests_there c stands legal dry j b at is = by_end (ended c.ledger.history j) ref
     by_end true e is = inl (done_is c stands j b at ∙ e)
     by_end false e is =
         let was : StandsAt c j b = stands.each j b at in
-        let stuck = stuck_is c.ledger.history j (awake_unlisted c.ledger.agents c.ledger.history j legal (ap (asleep c.ledger.history) (sym was.number) ∙ was.tied.awake)) is in
+        let stuck = stuck_is c.ledger.history j (awake_unlisted c.ledger.agents c.ledger.history j legal (ap (asleep c.ledger.history) (sym was.number) ∙ calm_awake b c.ledger.history was.calm was.tied)) is in
         let asks : need b ≡ asks_message stuck.sender = was.tied.awaits stuck.sender (ap (λ k. waits c.ledger.history k) was.number ∙ stuck.waiting) in
         inr (stuck.sender, message_due b (due b.plan b.history) stuck.sender asks, lets_wait c stands legal dry stuck.sender j b at stuck.none stuck.going)
 

@@ -8,13 +8,13 @@ use Rattle.es_event.specs.Ledger.{Ledger, ended as has_ended, waits}
 use Rattle.es_event.specs.LegalLedger.{ComesNext, MayCome}
 use Rattle.es_event.specs.Order.{phase}
 use Rattle.es_event.specs.Waiters.{asleep}
-use Rattle.es_cluster.proofs.Midway.{still_awake}
-use Rattle.es_theorems.proofs.Sleepless.{first_awake, met_awake}
+use Rattle.es_theorems.proofs.Sleepless.{awake_one}
 use Rattle.es_match.specs.Deeds.{Deed, deed, is_wait, part}
 use Rattle.es_match.specs.Patience.{ends_wait, has_drained}
 use Rattle.es_match.specs.Cluster.{Account, account_of}
 use Rattle.es_match.specs.Meets.{Tickets, after}
 use Rattle.es_ledger.specs.Turns.{told}
+use Rattle.es_ledger.specs.declared.turn.Turn.TheVariants.{Stay}
 use Rattle.es_record.specs.AgentView.{AgentView}
 use Rattle.es_agent.specs.Tickets.{is_ended, tickets}
 use Rattle.es_cluster.specs.Tied.{came_to}
@@ -37,6 +37,8 @@ use Rattle.es_theorems.proofs.Needing.{closes_is, message_first, told_right}
 use Rattle.es_theorems.proofs.Playing.{alone_asked, end_alone, end_asked, end_is, ended_played, free_after, free_played, mine_grows, mine_none, part_played, played_append, tail_asked}
 use Rattle.es_theorems.proofs.Settling.{left_as, met_of, rearranged_on, settle}
 use Rattle.es_theorems.proofs.TurningThreads.{next_of, turn}
+use Rattle.es_theorems.proofs.Calm.{calm_awake, moves_on}
+use Rattle.es_rules.specs.Needs.{need, asks_message}
 
 -- Turns one after the other
 
@@ -123,7 +125,7 @@ moves n all c x es i d b e rest j whole u mine quick here left is asks = record 
     goes some = record {
       known = acts.0;
       going = ap (λ t. t || has_ended m i) (end_is m x i d mine ∙ no_end (is_end d) refl) ∙ acts.1;
-      awake = still_awake m x i d mine (first_awake d (take j later) (met_awake (tickets b) met.0 (asked_by b e) (d ∷ take j later) met_now)) (ap (asleep m) (sym was.number) ∙ was.tied.awake);
+      awake = awake_one m x i u.steps.0.calm (ap (asleep m) (sym was.number) ∙ calm_awake b m was.calm was.tied);
       paid = owes_nothing m x i d mine;
       undrained = ap (λ t. t || has_drained m) (drains_nothing m x i d mine) ∙ acts.2;
     }
@@ -167,11 +169,14 @@ moves n all c x es i d b e rest j whole u mine quick here left is asks = record 
         ∙ end_asked (tickets b) met.0 (asked_by b e) (d ∷ take j later) met_now
         ∙ closes_is b un.row e un.next
 
-    tells : WaitsRightly Moved b c.ledger (record { agents = c.ledger.agents; history = played (x ∷ g.first) m })
-    tells s wants stay =
+    right : (s : ℕ) → need b ≡ asks_message s → (told m c.ledger.agents b.number s).0 ≡ Stay → ⊥
+    right s wants stay =
         let f = message_first b un.row e s (take (deeds_asked b e) (ahead (x ∷ es) m i)) met.0 was.run un.next wants met.1 un.named in
         let ends : ends_wait s d ≡ true = ap (ends_wait s) (sym (first_same d f.first (take j later) f.others (sym now_is ∙ f.is))) ∙ f.ends in
         told_right n m x i s d comes mine ends (ap (λ k. (told m k i s).0) (sym u.number) ∙ ap (λ k. (told m c.ledger.agents k s).0) (sym was.number) ∙ stay)
+
+    tells : WaitsRightly Moved b c.ledger (record { agents = c.ledger.agents; history = played (x ∷ g.first) m })
+    tells = moves_on b c.ledger (record { agents = c.ledger.agents; history = played (x ∷ g.first) m }) was.calm right
 
     t : Turn n all c i (grown b un2.row e) (played (x ∷ g.first) m) g.others rest
     t = turn n all c (x ∷ g.first) g.others i b e rest u2 here left2 is un2 (mine_grows i (x ∷ g.first) m all_mine) (λ k other. mine_none i k (x ∷ g.first) m all_mine other) deeds

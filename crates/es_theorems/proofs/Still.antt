@@ -18,6 +18,7 @@ use Rattle.es_cluster.proofs.Hearing.{where_stay}
 use Rattle.es_cluster.specs.declared.member.Progress.TheVariants.{Waiting, Ended}
 use Rattle.es_cluster.specs.State.{ClusterView}
 use Rattle.es_cluster.specs.Turns.{Turned}
+use Rattle.es_cluster.specs.Turned.{WaitsOn}
 use Rattle.es_cluster.proofs.Standing.{set_same}
 use Rattle.es_theorems.specs.Alone.{Letter, Words, World}
 use Rattle.es_theorems.specs.Renamed.{HasWords, got_in, letter_of, local_of, lore_of, name, posted_in, renamed, sent_in, world_of}
@@ -56,18 +57,18 @@ told_same f l m k a s same is = ap f (where_stay l m k a s is) ∙ at (is_some (
 abbrev standing : ℕ → Ledger → List AgentView → Words → World
 standing n l bs words = record { locals = map (local_of n l) bs; lore = lore_of n l; words = words }
 
-pub waits_still : (i : ℕ) (c d : ClusterView) (words : Words) → Turned Waiting i c d → world_of d words ≡ world_of c words
-waits_still i c d words turn =
-    let agents : d.agents ≡ c.agents = turn.agents ∙ ap (λ b. slice_set c.agents i b) turn.turn.2 ∙ set_same c.agents i turn.before turn.agent in
+pub waits_still : (i : ℕ) (c d : ClusterView) (words : Words) → (turn : Turned Waiting i c d) → WaitsOn turn.before c.ledger d.ledger → world_of d words ≡ world_of c words
+waits_still i c d words turn on =
+    let agents : d.agents ≡ c.agents = turn.agents ∙ ap (λ b. slice_set c.agents i b) turn.turn.1 ∙ set_same c.agents i turn.before turn.agent in
     ap (λ n. standing n d.ledger.history d.agents words) turn.number ∙ ap (λ bs. standing c.ledger.agents d.ledger.history bs words) agents
-    ∙ told_same (λ l. standing c.ledger.agents l c.agents words) c.ledger.history d.ledger.history c.ledger.agents turn.before.number turn.told.0
-    (ap (λ all. record { locals = all; lore = lore_of c.ledger.agents c.ledger.history; words = words }) (waits_locals c.ledger.agents c.ledger.history turn.before.number turn.told.0 c.agents)) turn.told.2
+    ∙ told_same (λ l. standing c.ledger.agents l c.agents words) c.ledger.history d.ledger.history c.ledger.agents turn.before.number on.0
+    (ap (λ all. record { locals = all; lore = lore_of c.ledger.agents c.ledger.history; words = words }) (waits_locals c.ledger.agents c.ledger.history turn.before.number on.0 c.agents)) on.2
 
-pub waits_words : (n i : ℕ) (c d : ClusterView) (words : Words) → Turned Waiting i c d → HasWords n c.ledger.history words → HasWords n d.ledger.history words
-waits_words n i c d words turn holds =
-    subst (λ l. HasWords n l words) (sym (where_stay c.ledger.history d.ledger.history c.ledger.agents turn.before.number turn.told.0 turn.told.2)) (at (is_some (waits c.ledger.history turn.before.number) || asleep c.ledger.history turn.before.number))
+pub waits_words : (n i : ℕ) (c d : ClusterView) (words : Words) → (turn : Turned Waiting i c d) → WaitsOn turn.before c.ledger d.ledger → HasWords n c.ledger.history words → HasWords n d.ledger.history words
+waits_words n i c d words turn on holds =
+    subst (λ l. HasWords n l words) (sym (where_stay c.ledger.history d.ledger.history c.ledger.agents turn.before.number on.0 on.2)) (at (is_some (waits c.ledger.history turn.before.number) || asleep c.ledger.history turn.before.number))
   where
-    at : (t : Bool) → HasWords n (cond t c.ledger.history (Acted turn.before.number (WaitingEvent turn.told.0) ∷ c.ledger.history)) words
+    at : (t : Bool) → HasWords n (cond t c.ledger.history (Acted turn.before.number (WaitingEvent on.0) ∷ c.ledger.history)) words
     at true = holds
     at false = record { named_so = λ b x some less. holds.named_so b x some (omega (arith, less)); others = λ k x none. holds.others k x (λ b some less same. none b some (omega (arith, less)) same) }
 

@@ -17,21 +17,26 @@ use Rattle.es_event.specs.Rows.{held_by, moved, row}
 use Rattle.es_event.specs.Ledger.{Ledger, awaited, ended, front, holder_of, is_end_of, issues, moved_if, newest_size, newest_word, opened, opens, port_of, queued, serial_in, serials, size, table, table_after, waits, word, writes, written_by}
 use Rattle.es_event.specs.LegalLedger.{ComesNext, LegalSoFar, MayCome, has_message, owed, skips}
 use Rattle.es_event.specs.Totals.{is_drained, is_posted, is_taken}
+use Rattle.es_event.specs.Waiters.{asleep}
 use Rattle.es_ledger.proofs.Lines.{holder_at}
 use Rattle.es_ledger.proofs.Lying.{lying_all}
 use Rattle.es_match.specs.Deeds.{Deed, Spends, deed}
 use Rattle.es_match.specs.Patience.{has_drained, may_do}
+use Rattle.es_match.proofs.Sleeping.{has_a_sleep}
 use Rattle.es_theorems.specs.Ahead.{Acts, Like, May}
 use Rattle.es_theorems.specs.Ready.{Goes, Ready}
 use Rattle.es_theorems.proofs.Beside.{Beside, beside, deed_beside, lists_beside, may_beside, ready_deed, ready_lists, ready_may, ready_asleep, asleep_beside}
 use Rattle.es_theorems.proofs.Choosing.{Skips, alone_goes, skips_is}
-use Rattle.es_cluster.proofs.Growing.{doer, ended_other, asleep_other, waits_other}
+use Rattle.es_cluster.proofs.Growing.{doer, ended_other, sleep_other, waits_other}
 use Rattle.es_theorems.proofs.Turning.{owes_nothing}
 use Rattle.es_theorems.proofs.Framing.{drains_nothing, holder_agent, holder_other, moved_append, moved_twice, not_in_port, spender}
 use Rattle.es_theorems.proofs.Spending.{or_swapped}
 use Rattle.es_ledger.proofs.Numbered.{none_next, numbered}
 
 -- It stays ready
+
+asleep_other : (l : Ledger) (x : LedgerEvent) (b a : ℕ) (d : Deed) → deed l x ≡ Some (b, d) → (a ≡ b → ⊥) → asleep (x ∷ l) a ≡ asleep l a
+asleep_other l x b a d is other = sym (has_a_sleep (x ∷ l) a) ∙ ap is_some (sleep_other l x b a d is other) ∙ has_a_sleep l a
 
 pub goes_after : (k : ℕ) (l : Ledger) (a b : ℕ) (x : LedgerEvent) (d : Deed) → deed l x ≡ Some (b, d) → (a ≡ b → ⊥) → Goes k l a → Goes k (x ∷ l) a
 goes_after k l a b x d is other goes = record {
@@ -171,7 +176,8 @@ added a b c = omega arith
 
 deed_ready : (k : ℕ) (l m : Ledger) (a : ℕ) (f : LedgerEvent) → Ready k l a f → Ready k m a f → deed m f ≡ deed l f
 deed_ready k l m a (Spent s) left right = ap (option_map (λ p. (p.0, Spends s))) right.0.1 ∙ sym (ap (option_map (λ p. (p.0, Spends s))) left.0.1)
-deed_ready k l m a (Acted b act) left right = refl
+deed_ready k l m a (Acted b (Passed s)) left right = refl
+deed_ready k l m a (Acted b Ended) left right = refl
 deed_ready k l m a _ left right = absurd left
 
 -- Both orders

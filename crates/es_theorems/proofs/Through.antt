@@ -13,6 +13,7 @@ use Rattle.es_theorems.proofs.Doing.{meant}
 use Rattle.es_theorems.specs.Through.{Through}
 use Rattle.es_theorems.specs.Ahead.{played}
 use Rattle.es_theorems.specs.Underway.{Stepped, Underway}
+use Rattle.es_theorems.specs.Calm.{is_calm}
 use Rattle.es_theorems.proofs.Gathering.{a_wait}
 use Rattle.es_theorems.proofs.Hearing.{wait_step}
 use Rattle.es_theorems.proofs.Liking.{like, like_through}
@@ -24,8 +25,9 @@ step n all c x es i d wholes u mine = at (is_wait d) refl
     at : (w : Bool) → is_wait d ≡ w → Stepped n all c (x ∷ es)
     at false quick = deed_step n all c x es i d wholes u mine quick
     at true w =
-        let wait = a_wait d w in
-        let event : x ≡ Acted i (WaitingEvent wait.0) = (meant n c.ledger.history x i d (subst (ComesNext n c.ledger.history x) u.stands.undrained u.steps.0.legal) mine).event ∙ ap (event_of i) wait.1 in
+        let its = (meant n c.ledger.history x i d (subst (ComesNext n c.ledger.history x) u.stands.undrained u.steps.0.legal) mine).event in
+        let wait = a_wait i d w (ap is_calm (sym its) ∙ u.steps.0.calm) in
+        let event : x ≡ Acted i (WaitingEvent wait.0) = its ∙ ap (event_of i) wait.1 in
         subst (λ x. Stepped n all c (x ∷ es)) (sym event) (wait_step n all c es i wait.0 wholes (subst (λ x. Underway n all c (x ∷ es)) event u))
 
 pub through : (fuel n : ℕ) (all : List Account) (c : ClusterView) (es : List LedgerEvent) → ((i : ℕ) → i < n → IsWhole (account_of all i)) → Underway n all c es → length es < suc fuel → Through n all c es

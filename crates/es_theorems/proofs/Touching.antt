@@ -10,7 +10,7 @@ use Rattle.es_event.specs.declared.event.Event.{Event}
 use Rattle.es_event.specs.declared.row.Row.{Row}
 use Rattle.es_event.specs.Access.{change_by}
 use Rattle.es_event.specs.Order.{Due, receive}
-use Rattle.es_event.specs.Runs.{a_word, silence}
+use Rattle.es_event.specs.Heard.{a_word, silence}
 use Rattle.es_laws.specs.Races.{Mark, first_of}
 use Rattle.es_theorems.specs.Alone.{Finds, GoFar, Goes, Hears, IsSane, Letter, Local, Locals, Lore, Touch, Touched, Words, World, addressed, changes, clash, hears_at, is_known, is_over, learned, left_over, letters, lore_after, new_lore, over_block, plain, posted_by, sent_by, times, touch_by, touched_by, touched_now, words_after, change_at, lore_with, own_mark}
 use Rattle.es_theorems.proofs.Spending.{test_turned}

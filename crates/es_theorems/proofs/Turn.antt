@@ -1,5 +1,5 @@
 -- An agent that is asked takes a turn: its next event, or it waits on, or it has ended.
-use Rattle.std.proofs.Common.{◌≡◌, ◌≢◌, ℕ, zero, suc, ◌+◌, ◌^◌, ◌<◌, ◌==◌, ◌&&◌, ◌||◌, Bool, true, false, cond, if◌then◌else◌, not, sym, ◌∙◌, ap, refl, subst, arith, eq-eqb, nat_lt, List, [], ◌∷◌, ◌++◌, map, Option, Some, None, Result, Ok, Err}
+use Rattle.std.proofs.Common.{◌≡◌, ◌≢◌, ℕ, zero, suc, ◌+◌, ◌^◌, ◌<◌, ◌==◌, ◌&&◌, ◌||◌, Bool, true, false, cond, if◌then◌else◌, not, sym, ◌∙◌, ap, refl, subst, arith, eq-eqb, nat_lt, List, [], ◌∷◌, ◌++◌, map, Option, Some, None, Result, Ok, Err, inl}
 use Rattle.std.specs.Prelude.{ℤ, pos, negsuc, unsigned_abs, is_some, slice_index_or}
 use Rattle.std.specs.List.{filter, Contains, list_all}
 use Rattle.std.specs.Option.{option_and_then}
@@ -11,6 +11,7 @@ use Rattle.es_event.specs.declared.access.Access.{Access}
 use Rattle.es_event.specs.declared.access.Change.{Change}
 use Rattle.es_event.specs.declared.access.Edit.{Edit}
 use Rattle.es_event.specs.declared.access.Modification.{Modification}
+use Rattle.es_event.specs.declared.access.Task.{Task}
 use Rattle.es_event.specs.declared.atomic.Operation.{Operation}
 use Rattle.es_event.specs.declared.command.Command.{Command}
 use Rattle.es_event.specs.declared.command.Command.TheVariants.{Atomic, Let, Post}
@@ -29,6 +30,7 @@ use Rattle.es_event.specs.declared.literal.Literal.{Literal}
 use Rattle.es_event.specs.declared.row.Row.{Row}
 use Rattle.es_event.specs.Access.{to_uint32, IsStorable, change_by, edit_of}
 use Rattle.es_event.specs.Commands.{reads, first}
+use Rattle.es_event.specs.Heard.{silence}
 use Rattle.es_event.specs.History.{History}
 use Rattle.es_event.specs.Identities.{is_in, is_there, made}
 use Rattle.es_event.specs.Jobs.{receivers}
@@ -43,6 +45,7 @@ use Rattle.es_event.specs.Follows.{Permits}
 use Rattle.es_event.specs.Report.{refusal_text}
 use Rattle.es_event.specs.Rows.{row}
 use Rattle.es_event.specs.Rules.{completion, refusal}
+use Rattle.es_event.specs.Waiters.{asleep}
 use Rattle.es_event.proofs.Entries.{inner}
 use Rattle.es_event.proofs.Finishing.{is_open}
 use Rattle.es_event.proofs.Listing.{TheDead, the_dead, dead_there}
@@ -57,7 +60,7 @@ use Rattle.es_ledger.specs.declared.turn.Turn.TheVariants.{Ready, Stay, Skip}
 use Rattle.es_ledger.proofs.Tying.{next_legal}
 use Rattle.es_record.specs.AgentView.{AgentView, IsNext, with_buffer}
 use Rattle.es_rules.specs.Giving.{MayGive}
-use Rattle.es_rules.specs.Needs.{Need, Request, for_block, for_post, for_buffer_post, for_access, asked as asked_of, asks_nobody, asks_marks, asks_copy, asks_late_marks, asks_ledger, asks_message, asks_closing, asks_nothing, need, need_of, access_at, posts_to, Brings, TakesDone, TakesTicket, TakesWord}
+use Rattle.es_rules.specs.Needs.{Need, Request, for_block, for_post, for_buffer_post, for_word, asked as asked_of, asks_nobody, asks_marks, asks_copy, asks_late_marks, asks_ledger, asks_message, asks_closing, asks_nothing, need, need_of, at_word, posts_to, Brings, TakesDone, TakesTicket, TakesWord}
 use Rattle.es_rules.proofs.Answering.{block_makes, block_next, buffer_received, done_next, job_skipped, caught_next, local_done, may_give_nothing, may_give_word, message_refused, refused_next, refuses_due, value_received}
 use Rattle.es_rules.proofs.Needs.{finish_due, ledger_due, local_command, message_due, not_refused}
 use Rattle.es_agent.specs.Later.{opening}
@@ -77,6 +80,8 @@ use Rattle.es_cluster.proofs.Local.{AreNamed}
 use Rattle.es_cluster.proofs.MovingMembers.{Step, Stays, admitted_moves, admitted_step, admitted_tickets, closed_moves, collected_moves, collected_step, done_stays, keeps, local_leaves, no_step, opened_leaves, received_stays, refused_stays, skipped_stays}
 use Rattle.es_cluster.proofs.Tying.{access_ties, admitted_ties, buffer_ties, closed_ties, collected_ties, finished_ties, local_ties, opened_ties, opening_grows, opens, owned, post_grows, post_ties, receive_ties, refused_ties, spending_grows, takes, taking_grows}
 use Rattle.es_cluster.proofs.Mover.{asked_awaits, asked_ends, by_asked}
+use Rattle.es_theorems.specs.Sleepless.{is_for_sleep, never_sleeps_in}
+use Rattle.es_theorems.proofs.Calm.{calm_awake, calm_task, due_calm, moves_on, task_access}
 use Rattle.es_theorems.proofs.Going.{AllHeld, Apart, Going, Only, OtherThan, Standing, Turn}
 use Rattle.es_theorems.proofs.Holding.{held_new, held_taken, holds_it, front_plain, not_mine, not_yet, word_small}
 use Rattle.es_theorems.proofs.Only.{Gives as GivesTo, only_after, only_besides, only_more, only_none, only_returned}
@@ -124,6 +129,7 @@ going_on : (b : AgentView) (l m : Ledger) (e : Event) → Going b l → GrowsByO
     → Only b.number m (tickets (record b { history = e ∷ b.history })) → Going (record b { history = e ∷ b.history }) m
 going_on b l m e g step held apart only = record {
   run = run_on b (record b { history = e ∷ b.history }) g.run step;
+  calm = g.calm;
   rising = g.rising;
   newest_is = (let small = g.newest_is in omega (arith, small));
   held = held;
@@ -143,6 +149,7 @@ going_with b l m e r g a more held mine other only =
     let same = admitted_tickets b (record (with_buffer r b) { history = e ∷ b.history }) r g.run a in
     record {
       run = run_on b (record (with_buffer r b) { history = e ∷ b.history }) g.run (admitted_moves b (record (with_buffer r b) { history = e ∷ b.history }) r a);
+      calm = g.calm;
       rising = still_rises b.over (made b.history + 1) r g.rising (let small = g.newest_is in omega (arith, small));
       newest_is = omega (arith, more);
       held = subst (AllHeld b.number m) (sym same) (held_more b.number m (tickets b) (made b.history + 1, r) held mine);
@@ -170,15 +177,15 @@ moves_to b new l m x step takes told grows tied over legal going = record {
 }
 
 -- it asks for no message, so it was not told to stay
-unasked : (b : AgentView) (l m : LedgerView) (d : Need) → need b ≡ d → ((s : ℕ) → d ≡ asks_message s → ⊥) → WaitsRightly Moved b l m
-unasked b l m d is other s asks = absurd (other s (sym is ∙ asks))
+unasked : (b : AgentView) (l m : LedgerView) (d : Need) → never_sleeps_in b.plan ≡ true → need b ≡ d → ((s : ℕ) → d ≡ asks_message s → ⊥) → WaitsRightly Moved b l m
+unasked b l m d calm is other = moves_on b l m calm (λ s asks. absurd (other s (sym is ∙ asks)))
 
 -- A step that it takes alone
 
 permitted_at : (b : AgentView) (d : Due) (e : Event) → due b.plan b.history ≡ d → Lawful b.over (receivers b.plan.jobs) b.history e → Permits b.over (receivers b.plan.jobs) b.history d e → IsNext b e
 permitted_at b d e is lawful permits = record { lawful = lawful; permitted = subst (λ d. Permits b.over (receivers b.plan.jobs) b.history d e) (sym is) permits }
 
-local_command_next : (b : AgentView) (x : Option (List ℕ)) (c : Command) (o : Result Answer Refusal) → due b.plan b.history ≡ run x c → need_of b (run x c) ≡ asks_nobody → completion b.over b.history c (values_of (receivers b.plan.jobs) b.history (reads c)) 0 ≡ o → (e : Event) × IsNext b e
+local_command_next : (b : AgentView) (x : Option (List ℕ)) (c : Command) (o : Result Answer Refusal) → due b.plan b.history ≡ run x c → need_of b (run x c) ≡ asks_nobody → completion b.over b.history c (values_of (receivers b.plan.jobs) b.history (reads c)) silence ≡ o → (e : Event) × IsNext b e
 local_command_next b x c (Ok r) is asks gives =
     let alone = local_command b x c asks in
     let vs = values_of (receivers b.plan.jobs) b.history (reads c) in
@@ -190,7 +197,7 @@ local_command_next b (Some x) c (Err code) is asks gives =
 local_at : (b : AgentView) (d : Due) → due b.plan b.history ≡ d → need_of b d ≡ asks_nobody → (e : Event) × IsNext b e
 local_at b (begin n) is asks = (JobBegun n, permitted_at b (begin n) (JobBegun n) is tt refl)
 local_at b (receive n s) is asks = cc
-local_at b (run x c) is asks = local_command_next b x c (completion b.over b.history c (values_of (receivers b.plan.jobs) b.history (reads c)) 0) is asks refl
+local_at b (run x c) is asks = local_command_next b x c (completion b.over b.history c (values_of (receivers b.plan.jobs) b.history (reads c)) silence) is asks refl
 local_at b (clean r) is asks = (CleanupBegun r, permitted_at b (clean r) (CleanupBegun r) is tt refl)
 local_at b (take_cell n) is asks =
     let some : SomeAt b.over (receivers b.plan.jobs) b.history (take_cell n) = subst (SomeAt b.over (receivers b.plan.jobs) b.history) is (some_next b.over b.plan b.history (λ none. let clash : nothing ≡ take_cell n = sym none ∙ is in cc)) in
@@ -206,7 +213,7 @@ alone b l x is =
     let next = local_at b (due b.plan b.history) refl is in
     let new = record b { history = next.0 ∷ b.history } in
     let stays = local_leaves b new is (next.0, next.1, refl) in
-    moves_to b new l l.history x stays.step stays.moves (unasked b l l asks_nobody is (λ s e. cc)) (grows_none b.number l.history)
+    moves_to b new l l.history x stays.step stays.moves (unasked b l l asks_nobody x.going.calm is (λ s e. cc)) (grows_none b.number l.history)
     (local_ties b new (stake b) l (ready b l x) is x.going.run (named b l.history x.going) (next.0, next.1, refl)) refl x.legal
     (going_still b l.history l.history next.0 x.going stays x.going.held x.going.only)
 
@@ -214,7 +221,7 @@ copied : (b : AgentView) (l : LedgerView) → Standing b l → need b ≡ asks_c
 copied b l x is =
     let new = record b { history = opening ∷ b.history } in
     let stays = opened_leaves b new is refl in
-    moves_to b new l l.history x stays.step stays.moves (unasked b l l asks_copy is (λ s e. cc)) (grows_none b.number l.history)
+    moves_to b new l l.history x stays.step stays.moves (unasked b l l asks_copy x.going.calm is (λ s e. cc)) (grows_none b.number l.history)
     (opened_ties b new (stake b) l (ready b l x) is refl) refl x.legal
     (going_still b l.history l.history opening x.going stays x.going.held x.going.only)
 
@@ -239,7 +246,7 @@ emptied : {chosen : List ℕ → Type 0} (b new : AgentView) (l : LedgerView) (d
 emptied b new l d ids x is other same next empties ties =
     let m = spent (among ids (tickets b)) l.history in
     let all = spending b l (λ t. is_in ids t.0) x in
-    moves_to b new l m x (collected_step b new (among ids (tickets b)) empties) (collected_moves b new (among ids (tickets b)) empties) (unasked b l (with_history l m) d is other)
+    moves_to b new l m x (collected_step b new (among ids (tickets b)) empties) (collected_moves b new (among ids (tickets b)) empties) (unasked b l (with_history l m) d x.going.calm is other)
     (map (λ t. Spent t.1.serial) (among ids (tickets b)), refl, all.deeds) (ties all.deeds) (spent_over (among ids (tickets b)) l.history b.number) (all.legal, all.owes)
     (subst (λ b. Going b m) (sym same) (emptying b l ids x next all))
 
@@ -302,7 +309,7 @@ opened_block b l n x is =
     let grows = opening_grows b l.history m b.number (opened l.history + 1) n (serials l.history + 1) refl refl in
     let fetched = opens b (stake b) l m n r (ready b l x) is refl refl in
     let one = block_makes b at.0 r fits at.1 in
-    moves_to b new l m x (admitted_step b new r admits) (admitted_moves b new r admits) (unasked b l (with_history l m) (asks_ledger (for_block n)) is (λ s e. cc)) grows
+    moves_to b new l m x (admitted_step b new r admits) (admitted_moves b new r admits) (unasked b l (with_history l m) (asks_ledger (for_block n)) x.going.calm is (λ s e. cc)) grows
     (admitted_ties b new m r x.going.run fetched admits) refl
     (next_legal l.agents l.history (Opened (opened l.history + 1) n (serials l.history + 1) b.number) x.legal (refl, refl, x.seated.known) refl)
     (going_with b l.history m e r x.going admits (omega (arith, one))
@@ -320,7 +327,7 @@ done_there b l r a e x is may other none over grows comes owes ties =
     let new = record b { history = told_event ∷ b.history } in
     let does : DoesWith b a new = (told_event, (may.command, may.is_due, refl), done_next b a may.command may may.is_due, refl) in
     let stays = done_stays b new a does in
-    moves_to b new l (e ∷ l.history) x stays.step stays.moves (unasked b l (with_history l (e ∷ l.history)) (asks_ledger r) is (λ s f. cc)) grows (ties new does) over (next_legal l.agents l.history e x.legal comes owes)
+    moves_to b new l (e ∷ l.history) x stays.step stays.moves (unasked b l (with_history l (e ∷ l.history)) (asks_ledger r) x.going.calm is (λ s f. cc)) grows (ties new does) over (next_legal l.agents l.history e x.legal comes owes)
     (going_still b l.history (e ∷ l.history) told_event x.going stays (held_after l.agents l.history e b.number (tickets b) x.legal.0 other x.going.held)
     (only_after b.number l.history e (tickets b) none x.going.only))
 
@@ -372,56 +379,58 @@ storable_of : (o : Operation) (v w old : ℕ) → v < 2 ^ 32 → w < 2 ^ 32 → 
 storable_of (Operation.Load to) v w old few next small = tt
 storable_of (Operation.Store n) v w old few next small = few
 storable_of (Operation.Modify to how n) v w old few next small = storable_modified how v old few small
+storable_of (Operation.Wait to n) v w old few next small = tt
+storable_of (Operation.Notify to c) v w old few next small = tt
 storable_of (Operation.CompareExchange to e r) v w old few next small = if_written (old == v)
   where
     if_written : (b : Bool) → IsStorable (cond b (Change.Write w) Change.Keep)
     if_written true = next
     if_written false = tt
 
-storable_at : (v : Value) (j : ℤ) (c : Access) (o i old : ℕ) (a : Access) → access_at v j c ≡ Some (for_access o i a) → IsStorable (change_by c.edit old) → IsStorable (change_by a.edit old)
+storable_at : (v : Value) (j : ℤ) (c : Access) (o i old : ℕ) (a : Access) → at_word v j (Task.Access c) ≡ Some (for_word o i (Task.Access a)) → IsStorable (change_by c.edit old) → IsStorable (change_by a.edit old)
 storable_at (Object p) j c o i old a is may =
-    let same : for_access p (unsigned_abs j) c ≡ for_access o i a = inner is in
+    let same : for_word p (unsigned_abs j) (Task.Access c) ≡ for_word o i (Task.Access a) = inner is in
     let access : c ≡ a = cc in
     subst (λ (a : Access). IsStorable (change_by a.edit old)) access may
 storable_at _ j c o i old a is may = cc
 
-post_no_access : (t : ℕ) (u : Value) (o i : ℕ) (a : Access) → Some (posts_to t u) ≡ Some (for_access o i a) → ⊥
+post_no_access : (t : ℕ) (u : Value) (o i : ℕ) (a : Task) → Some (posts_to t u) ≡ Some (for_word o i a) → ⊥
 post_no_access t (Object p) o i a e = cc
 post_no_access t u o i a e = cc
 
-storable_asked : (c : Command) (vs : List Value) (o i old : ℕ) (a : Access) → asked_of c vs ≡ Some (for_access o i a) → old < 2 ^ 32 → IsStorable (change_by a.edit old)
-storable_asked (Atomic c) vs o i old a is small =
-    storable_at (first vs) (index_of c vs) (access_of c vs) o i old a is
+storable_asked : (c : Command) (vs : List Value) (o i old : ℕ) (a : Access) → is_for_sleep c ≡ false → asked_of c vs ≡ Some (for_word o i (Task.Access a)) → old < 2 ^ 32 → IsStorable (change_by a.edit old)
+storable_asked (Atomic c) vs o i old a calm is small =
+    storable_at (first vs) (index_of c vs) (access_of c vs) o i old a (ap (at_word (first vs) (index_of c vs)) (sym (task_access c vs calm)) ∙ is)
     (storable_of c.operation (word_at 0 (words_read c vs)) (word_at 1 (words_read c vs)) old (small_at 0 (words_read c vs)) (small_at 1 (words_read c vs)) small)
-storable_asked (Post t y) vs o i old a is small = absurd (post_no_access t (first vs) o i a is)
-storable_asked _ vs o i old a is small = cc
+storable_asked (Post t y) vs o i old a calm is small = absurd (post_no_access t (first vs) o i (Task.Access a) is)
+storable_asked _ vs o i old a calm is small = cc
 
-storable : (b : AgentView) (o i old : ℕ) (a : Access) → need b ≡ asks_ledger (for_access o i a) → old < 2 ^ 32 → IsStorable (change_by a.edit old)
-storable b o i old a is small =
-    let at = ledger_due b (due b.plan b.history) (for_access o i a) is in
+storable : (b : AgentView) (o i old : ℕ) (a : Access) → never_sleeps_in b.plan ≡ true → need b ≡ asks_ledger (for_word o i (Task.Access a)) → old < 2 ^ 32 → IsStorable (change_by a.edit old)
+storable b o i old a calm is small =
+    let at = ledger_due b (due b.plan b.history) (for_word o i (Task.Access a)) is in
     let vs = values_of (receivers b.plan.jobs) b.history (reads at.0) in
-    storable_asked at.0 vs o i old a (not_refused (refusal b.over b.history at.0 vs) (asked_of at.0 vs) (for_access o i a) at.3).1 small
+    storable_asked at.0 vs o i old a (due_calm b.plan b.history at.1.0 at.0 calm at.1.1) (not_refused (refusal b.over b.history at.0 vs) (asked_of at.0 vs) (for_word o i (Task.Access a)) at.3).1 small
 
-may_answer : (b : AgentView) (o i w : ℕ) (a : Access) → need b ≡ asks_ledger (for_access o i a) → w < 2 ^ 32 → MayGive b (answer_to a w)
+may_answer : (b : AgentView) (o i w : ℕ) (a : Access) → need b ≡ asks_ledger (for_word o i (Task.Access a)) → w < 2 ^ 32 → MayGive b (answer_to a w)
 may_answer b o i w a is small = by_gift a.gives_word refl
   where
     by_gift : (g : Bool) → a.gives_word ≡ g → MayGive b (if g then Gives (Number (pos w)) else Nothing)
     by_gift true g = may_give_word b w (subst TakesWord (sym is) g) small
-    by_gift false g = may_give_nothing b (subst TakesDone (sym is) g)
+    by_gift false g = may_give_nothing b (subst TakesDone (sym is) (ap not g))
 
-accessed : (b : AgentView) (l : LedgerView) (o i : ℕ) (a : Access) → Standing b l → need b ≡ asks_ledger (for_access o i a) → Turn Moved b l
+accessed : (b : AgentView) (l : LedgerView) (o i : ℕ) (a : Access) → Standing b l → need b ≡ asks_ledger (for_word o i (Task.Access a)) → Turn Moved b l
 accessed b l o i a x is =
-    let t = ticket_of b l.history o x.going (aims_at_ticket b (for_access o i a) o x.going.run is refl) in
+    let t = ticket_of b l.history o x.going (aims_at_ticket b (for_word o i (Task.Access a)) o x.going.run is refl) in
     let r = t.0 in
     let w = word l.history r.block i in
     let small = word_small l.agents l.history x.legal.0 r.block i in
     let change = change_by a.edit w in
     let e = Accessed r.serial i change w in
-    let inside = aims_inside b (for_access o i a) o i is refl refl r (ticket_named b o r x.going.rising t.1) in
+    let inside = aims_inside b (for_word o i (Task.Access a)) o i is refl refl r (ticket_named b o r x.going.rising t.1) in
     let mine : Contains (rows_of b) r = ticket_held b (stake b) o r (refl, λ p. refl) t.1 in
-    done_there b l (for_access o i a) (answer_to a w) e x is (may_answer b o i w a is small) (λ k f. cc) (λ k gives. gives) refl
+    done_there b l (for_word o i (Task.Access a)) (answer_to a w) e x is (may_answer b o i w a is small) (λ k f. cc) (λ k gives. gives) refl
     (grows_one b.number l.history (e ∷ l.history) e (Accesses r.serial i change w) refl (owned b (stake b) l r (Accesses r.serial i change w) refl (ready b l x).holder mine))
-    (subst (λ h. Reaches h i (λ q. (w ≡ word l.history q.block i) × IsStorable change)) (sym t.2) (inside, (refl, storable b o i w a is small))) refl
+    (subst (λ h. Reaches h i (λ q. (w ≡ word l.history q.block i) × IsStorable change)) (sym t.2) (inside, (refl, storable b o i w a x.going.calm is small))) refl
     (λ new does. access_ties b new (stake b) l (e ∷ l.history) o i w a r (ready b l x) is mine t.1 refl does)
 
 -- A message
@@ -481,13 +490,16 @@ refused b l s c k x is there is_front full =
 -- the wait is recorded, where it is not yet
 
 asked_legal : (b : AgentView) (l : LedgerView) (s : ℕ) → Standing b l → need b ≡ asks_message s → has_message l.history s b.number ≡ false → LegalLedger l.agents (asked l.history b.number s)
-asked_legal b l s x is none = subst (λ z. LegalLedger l.agents (cond (is_some (waits l.history b.number) || z) l.history (Acted b.number (WaitingEvent s) ∷ l.history))) (sym x.tied.awake) (at (waits l.history b.number) refl)
+asked_legal b l s x is none = subst (λ z. LegalLedger l.agents (cond (is_some (waits l.history b.number) || z) l.history (Acted b.number (WaitingEvent s) ∷ l.history))) (sym awake) (at (waits l.history b.number) refl)
   where
+    awake : asleep l.history b.number ≡ false
+    awake = calm_awake b l.history x.going.calm x.tied
+
     others : (s < l.agents) × (b.number ≢ s)
     others = subst (λ d. NamesOthers d b.number l.agents) is x.others
 
     at : (w : Option ℕ) → waits l.history b.number ≡ w → LegalLedger l.agents (cond (is_some w || false) l.history (Acted b.number (WaitingEvent s) ∷ l.history))
-    at None w = next_legal l.agents l.history (Acted b.number (WaitingEvent s)) x.legal (x.seated.known, others.0, others.1, none, w, x.seated.over ∙ open_for b (asks_message s) (λ f. cc) is, x.tied.awake) refl
+    at None w = next_legal l.agents l.history (Acted b.number (WaitingEvent s)) x.legal (x.seated.known, others.0, others.1, none, w, x.seated.over ∙ open_for b (asks_message s) (λ f. cc) is, awake) refl
     at (Some t) w = x.legal
 
 asked_held : (b : AgentView) (l : LedgerView) (s : ℕ) → Standing b l → AllHeld b.number (asked l.history b.number s) (tickets b)
@@ -498,7 +510,7 @@ asked_only b l s x = by_asked (λ k. Only b.number k (tickets b)) l.history b.nu
 
 -- one that waits on goes on still
 pub asked_going : (b : AgentView) (l : LedgerView) (s : ℕ) → Standing b l → Going b (asked l.history b.number s)
-asked_going b l s x = record { run = x.going.run; rising = x.going.rising; newest_is = x.going.newest_is; held = asked_held b l s x; apart = x.going.apart; only = asked_only b l s x }
+asked_going b l s x = record { run = x.going.run; calm = x.going.calm; rising = x.going.rising; newest_is = x.going.newest_is; held = asked_held b l s x; apart = x.going.apart; only = asked_only b l s x }
 
 asked_grows : (l : Ledger) (n s : ℕ) → GrowsBy n l (asked l n s)
 asked_grows l n s = by_asked (λ k. GrowsBy n l k) l n s (grows_none n l) (grows_one n l (Acted n (WaitingEvent s) ∷ l) (Acted n (WaitingEvent s)) (Waits s) refl refl)
@@ -509,8 +521,8 @@ stays b l s x is none heard =
     record {
       after = b;
       ledger = with_history l m;
-      takes = (s, is, refl);
-      told = (s, is, heard);
+      takes = (inl (s, is), refl);
+      told = inl (s, is, heard);
       grows = asked_grows l.history b.number s;
       number = refl;
       tied = stay_ties b (stake b) l m b.number s (ready b l x) is refl refl;
@@ -532,7 +544,7 @@ skipped b l s x is none may heard =
     let grows = grows_on b.number l.history k m (asked_grows l.history b.number s) (grows_one b.number k m (Acted b.number (Passed s)) (Passes s) refl refl) in
     moves_to b new l m x stays.step stays.moves (goes_on b l (with_history l m) s Skip m is heard (λ f. cc)) grows
     (skipped_ties b new (stake b) l m b.number s (ready b l x) is refl refl skip) (asked_ends l.history b.number s b.number)
-    (next_legal l.agents k (Acted b.number (Passed s)) legal (asked_awaits b l.history s x.tied.awake x.tied.awaits is, may) refl)
+    (next_legal l.agents k (Acted b.number (Passed s)) legal (asked_awaits b l.history s (calm_awake b l.history x.going.calm x.tied) x.tied.awaits is, may) refl)
     (going_still b l.history m (Skipped at.0 s) x.going stays (held_after l.agents k (Acted b.number (Passed s)) b.number (tickets b) legal.0 (λ k f. cc) (asked_held b l s x))
     (only_after b.number k (Acted b.number (Passed s)) (tickets b) (λ k gives. gives) (asked_only b l s x)))
 
@@ -582,7 +594,7 @@ closed b l x is =
       after = new;
       ledger = with_history l m;
       takes = moves;
-      told = unasked b l (with_history l m) asks_closing is (λ s f. cc);
+      told = unasked b l (with_history l m) asks_closing x.going.calm is (λ s f. cc);
       grows = grows;
       number = refl;
       tied = closed_ties b new (stake b) l m out (ready b l x) is refl refl all.deeds refl;
@@ -619,7 +631,7 @@ asks_so b l x asks_late_marks is = (Moved, finished b l x is)
 asks_so b l x (asks_ledger (for_block n)) is = (Moved, opened_block b l n x is)
 asks_so b l x (asks_ledger (for_post a v)) is = (Moved, posted b l a v x is)
 asks_so b l x (asks_ledger (for_buffer_post a o)) is = (Moved, posted_buffer b l a o x is)
-asks_so b l x (asks_ledger (for_access o i a)) is = (Moved, accessed b l o i a x is)
+asks_so b l x (asks_ledger (for_word o i t)) is = let a = calm_task b o i t x.going.calm is in (Moved, accessed b l o i a.0 x (is ∙ ap (λ t. asks_ledger (for_word o i t)) a.1))
 asks_so b l x (asks_message s) is = hears b l s x is
 asks_so b l x asks_closing is = (Moved, closed b l x is)
 asks_so b l x asks_nothing is = (Ended, rests b l x is)

@@ -6,7 +6,7 @@ use Rattle.es_event.specs.declared.event.Event.{Event}
 use Rattle.es_event.specs.declared.row.Row.{Row}
 use Rattle.es_event.specs.Ledger.{Ledger}
 use Rattle.es_event.specs.LegalLedger.{LegalSoFar}
-use Rattle.es_event.specs.Order.{Due, receive, run, due}
+use Rattle.es_event.specs.Order.{Due, receive, due}
 use Rattle.es_event.specs.Runs.{ComesNext}
 use Rattle.es_match.specs.Deeds.{Deed, part}
 use Rattle.es_match.specs.Cluster.{DeedsMeet}
@@ -21,6 +21,7 @@ use Rattle.es_theorems.proofs.Turning.{Done, after_event as grown_by, done, move
 use Rattle.es_theorems.specs.Alone.{Goes, Words, after_event, learned, lore_after, new_lore, posted_by, touch_by, with_new, words_after}
 use Rattle.es_theorems.specs.Renamed.{AreOpened, HasWords, got_in, letter_of, local_of, locals_of, lore_of, name, renamed, renamed_row, sent_in, world_of}
 use Rattle.es_theorems.specs.Steps.{Along, AreOver, AtTurn, HasCome, Keeps, Means}
+use Rattle.es_theorems.specs.Calm.{Calm}
 use Rattle.es_theorems.proofs.DoingAlike.{means_alone}
 use Rattle.es_theorems.proofs.Learning.{learns}
 use Rattle.es_theorems.proofs.Names.{names_apart}
@@ -31,6 +32,7 @@ use Rattle.es_theorems.proofs.Receiving.{means_message}
 use Rattle.es_theorems.proofs.Renaming.{comes_renamed, new_renamed, run_renamed}
 use Rattle.es_theorems.proofs.Skipping.{mapped_at}
 use Rattle.es_theorems.proofs.Wording.{words_turn}
+use Rattle.es_theorems.proofs.Running.{turn_calm}
 
 -- What comes, and by which deeds
 
@@ -70,8 +72,11 @@ step n c words i d along holds turn = record { event = e; row = r; is = turn.tur
     legal : LegalSoFar n d.ledger.history
     legal = subst (λ k. LegalSoFar k d.ledger.history) (turn.number ∙ along.number) turn.legal.0
 
+    calm : Calm i d.ledger.history
+    calm = turn_calm i c d along.stands turn
+
     doing : Done i l d.ledger.history
-    doing = done n i l d.ledger.history turn.ledger along.stands.undrained legal
+    doing = done n i l d.ledger.history turn.ledger along.stands.undrained legal calm
 
     before : DeedsMeet b.history (part l i) (came_to b)
     before = subst (λ k. DeedsMeet b.history (part l k) (came_to b)) was.number was.tied.ties
@@ -96,8 +101,9 @@ step n c words i d along holds turn = record { event = e; row = r; is = turn.tur
       legal = legal;
       part_is = doing.part_is;
       alike = doing.alike;
-      moved = move i l d.ledger.history b e r before now turn.turn.2 doing;
-      told = turn.told;
+      moved = move i l d.ledger.history b e r before now turn.turn.2 was.calm doing;
+      calm = calm;
+      told = turn.told.0;
     }
 
 -- Buffers after it

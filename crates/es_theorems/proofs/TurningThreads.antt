@@ -12,7 +12,7 @@ use Rattle.es_event.specs.LegalLedger.{LegalSoFar, owed}
 use Rattle.es_event.specs.Order.{phase}
 use Rattle.es_event.specs.Runs.{IsRunOver}
 use Rattle.es_event.specs.Waiters.{asleep}
-use Rattle.es_theorems.proofs.Sleepless.{awake_played, came_awake, has_sleep}
+use Rattle.es_theorems.proofs.Sleepless.{awake_played}
 use Rattle.es_match.specs.Deeds.{Deed, part}
 use Rattle.es_match.specs.Asks.{between_jobs, ends_job}
 use Rattle.es_match.specs.Cluster.{Account, account_of, refused_senders}
@@ -28,15 +28,17 @@ use Rattle.es_cluster.specs.Ends.{IsWhole}
 use Rattle.es_cluster.specs.State.{ClusterView}
 use Rattle.es_cluster.specs.Turns.{Turned}
 use Rattle.es_cluster.proofs.Standing.{by_place, set_here, within}
+use Rattle.es_cluster.proofs.Midway.{no_sleep}
 use Rattle.es_theorems.specs.Together.{StandsAt}
 use Rattle.es_theorems.proofs.Running.{stands_after}
 use Rattle.es_theorems.proofs.Turning.{still_owes_nothing}
 use Rattle.es_theorems.specs.Ahead.{ahead, played}
-use Rattle.es_theorems.specs.Grown.{Unfolded, asked_by, deeds_asked, grown}
+use Rattle.es_theorems.specs.Grown.{Unfolded, deeds_asked, grown}
 use Rattle.es_theorems.specs.Underway.{Left, Turn, Underway}
 use Rattle.es_theorems.proofs.Gathering.{legal_far, steps_apart, steps_first}
 use Rattle.es_theorems.proofs.Playing.{ahead_append, last_played, part_played, patient_played}
 use Rattle.es_theorems.proofs.Unfolding.{unfolds}
+use Rattle.es_theorems.proofs.Calm.{calm_awake}
 
 -- what is left when the first are taken
 pub rest_is : (k : ℕ) (ds xs ys : List Deed) → xs ≡ take k ds → ds ≡ xs ++ ys → drop k ds ≡ ys
@@ -98,16 +100,20 @@ turn n all c xs ys i b e rest u here left is x grows others deeds free over told
     split : part (played xs m) b.number ≡ part m b.number ++ take (deeds_asked b e) (ahead (xs ++ ys) m i)
     split = part_played xs m b.number ∙ ap (λ ds. part m b.number ++ ds) (ap (ahead xs m) was.number ∙ deeds)
 
+    up : asleep (played xs m) b.number ≡ false
+    up = awake_played n xs m b.number (steps_first n xs ys m u.steps) (calm_awake b m was.calm was.tied)
+
     settled : IsSettled new (played xs m)
     settled = record {
       tied = record {
         ties = (part m b.number, take (deeds_asked b e) (ahead (xs ++ ys) m i), came_to b, split, was.tied.ties, x.met);
         awaits = λ s waiting. (let clash : ◌≡◌ {A = Option ℕ} None (Some s) = sym free ∙ ap (waits (played xs m)) (sym was.number) ∙ waiting in cc);
-        awake = ap (asleep (played xs m)) was.number ∙ awake_played xs m i (ap has_sleep deeds ∙ came_awake (came_to b) (came_to new) (asked_by b e) (take (deeds_asked b e) (ahead (xs ++ ys) m i)) x.met) (ap (asleep m) (sym was.number) ∙ was.tied.awake);
+        sleeps = λ s is. absurd (no_sleep (played xs m) b.number s up is);
         waits_end = patient_played n xs m (steps_first n xs ys m u.steps) was.tied.waits_end;
         drains_end = last_played n xs m (steps_first n xs ys m u.steps) was.tied.drains_end;
       };
       free = ap (waits (played xs m)) was.number ∙ free;
+      awake = up;
     }
 
     turned : Turned Moved i c after

@@ -1,10 +1,11 @@
 -- How many blocks agents opened, and how many messages they posted and took, their histories say; and of all of them together the ledger.
 use Rattle.std.proofs.Common.{◌≡◌, ℕ, ◌+◌, ◌<◌, ◌==◌, ◌&&◌, Bool, true, false, cond, not, sym, ◌∙◌, ap, refl, subst, arith, List, [], ◌∷◌, ◌++◌, Option, Some, None, eq-eqb}
 use Rattle.std.specs.Option.{option_map, option_map_or}
+use Rattle.std.specs.Prelude.{ℤ}
 use Rattle.std.proofs.lemmas.Bool.{and_parts}
 use Rattle.es_value.specs.declared.value.Value.{Value}
 use Rattle.es_event.specs.declared.command.Command.{Command}
-use Rattle.es_event.specs.declared.command.Command.TheVariants.{SharedArrayBuffer}
+use Rattle.es_event.specs.declared.command.Command.TheVariants.{SharedArrayBuffer, Atomic}
 use Rattle.es_event.specs.declared.event.Answer.{Answer}
 use Rattle.es_event.specs.declared.event.Event.{Event}
 use Rattle.es_event.specs.declared.event.Event.TheVariants.{Did, Refused}
@@ -15,17 +16,22 @@ use Rattle.es_event.specs.declared.ledger_event.LedgerEvent.TheVariants.{Opened,
 use Rattle.es_event.specs.declared.ledger_event.Act.{Act}
 use Rattle.es_event.specs.declared.ledger_event.Act.TheVariants.{Waiting}
 use Rattle.es_event.specs.declared.row.Row.{Row}
-use Rattle.es_event.specs.Commands.{opens_words}
+use Rattle.es_event.specs.declared.access.WaitResult.{WaitResult}
+use Rattle.es_event.specs.declared.access.Task.{Task}
+use Rattle.es_event.specs.Commands.{opens_words, first}
 use Rattle.es_event.specs.History.{History}
 use Rattle.es_event.specs.Ledger.{Ledger, front, holder_of, opened, opens}
 use Rattle.es_event.specs.LegalLedger.{ComesNext, LegalSoFar, owed}
 use Rattle.es_event.specs.Sharing.{blocks_opened, opens_at}
 use Rattle.es_event.specs.Totals.{is_posted, is_taken, posted, taken}
+use Rattle.es_event.specs.Heard.{wait_given}
+use Rattle.es_event.specs.Numbers.{index_of, task_of}
 use Rattle.es_event.proofs.Entries.{inner}
-use Rattle.es_match.specs.Deeds.{Deed, Owned, Opens, Posts, Takes, Spends, Accesses, Waits, Passes, Ends, deed, is_wait, part, part_of, taking, acting}
-use Rattle.es_match.specs.Asks.{Asking, nothing, to_open, to_measure, to_compare, to_access, to_post, to_receive, to_refuse, to_pass, to_empty, to_close, asks, asks_did, between_jobs, wants_room}
+use Rattle.es_match.specs.Deeds.{Deed, Owned, Opens, Posts, Takes, Spends, Accesses, Waits, Passes, Ends, deed, is_wait, part, part_of, taking, acting, Notifies, Wakes, TimesOut, sleep_of}
+use Rattle.es_match.specs.Asks.{Asking, nothing, to_open, to_measure, to_compare, to_access, to_miss, to_sleep, to_notify, to_post, to_receive, to_refuse, to_pass, to_empty, to_close, asks, asks_did, between_jobs, wants_room, asks_wait, asks_word, given}
 use Rattle.es_match.specs.Cluster.{DeedsMeet}
-use Rattle.es_match.specs.Meets.{Came, Tickets, after, is_access, is_pass, is_post, is_refusal, no_more, opening, pair, receiving, serials_of, spends_ticket_in, within}
+use Rattle.es_match.specs.Meets.{Came, Tickets, after, is_access, is_pass, is_post, is_refusal, no_more, opening, pair, receiving, serials_of, spends_ticket_in, within, is_end_of_sleep, is_miss, is_notify}
+use Rattle.es_match.specs.declared.deed.Sleep.{Sleep}
 use Rattle.es_match.proofs.Bridge.{mapped}
 use Rattle.es_ledger.specs.Laws.{sum_below}
 use Rattle.es_ledger.proofs.Sums.{sum_none, sum_one, sum_plus, sum_same, sum_zero}
@@ -82,6 +88,24 @@ met_weight x y z t left (to_access b i m v) ds met = let one = one_of (is_access
     at : (d : Deed) → is_access t b i m v d ≡ true → weight x y z d ≡ 0
     at (Accesses s j done old) met = refl
     at _ met = cc
+met_weight x y z t left (to_miss b i w) ds met = let one = one_of (is_miss t b i w) ds (some_if_true _ t left met) in ap (weigh x y z) one.1 ∙ sole_weight x y z one.0 ∙ at one.0 one.2
+  where
+    at : (d : Deed) → is_miss t b i w d ≡ true → weight x y z d ≡ 0
+    at (Accesses s j done old) met = refl
+    at _ met = cc
+met_weight x y z t left (to_sleep b i w r) ds met = let one = one_of (is_end_of_sleep t b i w r) ds (some_if_true _ t left met) in ap (weigh x y z) one.1 ∙ sole_weight x y z one.0 ∙ at r one.0 one.2
+  where
+    at : (r : WaitResult) (d : Deed) → is_end_of_sleep t b i w r d ≡ true → weight x y z d ≡ 0
+    at WaitResult.Woken (Wakes o) met = refl
+    at WaitResult.TimedOut (TimesOut o) met = refl
+    at WaitResult.Woken _ met = cc
+    at WaitResult.TimedOut _ met = cc
+    at WaitResult.NotEqual _ met = cc
+met_weight x y z t left (to_notify b i n v) ds met = let one = one_of (is_notify t b i n v) ds (some_if_true _ t left met) in ap (weigh x y z) one.1 ∙ sole_weight x y z one.0 ∙ at one.0 one.2
+  where
+    at : (d : Deed) → is_notify t b i n v d ≡ true → weight x y z d ≡ 0
+    at (Notifies s j m k) met = refl
+    at _ met = cc
 met_weight x y z t left (to_post a v) ds met = let one = one_of (is_post t a v) ds (some_if_true _ t left met) in ap (weigh x y z) one.1 ∙ sole_weight x y z one.0 ∙ at one.0 one.2
   where
     at : (d : Deed) → is_post t a v d ≡ true → weight x y z d ≡ y
@@ -112,8 +136,19 @@ deeds_weight x y z (e ∷ h) ds c m =
     omega (arith, split, before, newest)
 
 -- which tells how many blocks it opened
+opens_word : (b : Value) (i : ℤ) (t : Task) (v : Value) → asked_weight 1 0 0 (asks_word b i t v) ≡ 0
+opens_word b i (Task.Access m) v = refl
+opens_word b i (Task.Sleep w) v = ended (wait_given v)
+  where
+    ended : (r : WaitResult) → asked_weight 1 0 0 (asks_wait b i w r) ≡ 0
+    ended WaitResult.Woken = refl
+    ended WaitResult.NotEqual = refl
+    ended WaitResult.TimedOut = refl
+opens_word b i (Task.Notify n) v = refl
+
 opens_did : (c : Command) (vs : List Value) (r : Answer) → asked_weight 1 0 0 (asks_did c vs r) ≡ option_map_or {U = ℕ} (λ n. 1) (opens_words c) 0
 opens_did (SharedArrayBuffer to n) vs r = refl
+opens_did (Atomic a) vs r = opens_word (first vs) (index_of a vs) (task_of a vs) (given r)
 opens_did _ vs r = refl
 
 opens_event : (between : Bool) (e : Event) → asked_weight 1 0 0 (asks between e) ≡ opens_at e
@@ -160,9 +195,9 @@ by_ticket : (n x y z : ℕ) (o : Option (ℕ × Row)) (d : Deed) → weight x y 
 by_ticket n x y z None d none = sum_none n
 by_ticket n x y z (Some p) d none = light n x y z (Some (p.0, d)) (λ k c is. ap (weight x y z) (sym (deed_in is)) ∙ none)
 
-act_weight : (x y z : ℕ) (act : Act) → weight x y z (acting act) ≡ 0
-act_weight x y z (Waiting s) = refl
-act_weight x y z _ = refl
+act_weight : (x y z : ℕ) (o : Option Sleep) (act : Act) → weight x y z (acting o act) ≡ 0
+act_weight x y z o (Waiting s) = refl
+act_weight x y z o _ = refl
 
 event_once : (n x y z : ℕ) (l : Ledger) (e : LedgerEvent) (o : Option ℕ) → LegalSoFar n l → ComesNext n l e o → sum_below n (λ a. weigh x y z (part_of a (deed l e))) ≡ event_weight x y z e
 event_once n x y z l e (Some k) legal comes = subst (λ e. sum_below n (λ a. weigh x y z (part_of a (deed l e))) ≡ event_weight x y z e) (sym comes) (by_ticket n x y z (holder_of l k) (Spends k) refl)
@@ -171,7 +206,7 @@ event_once n x y z l (Posted a r m) None legal comes = once n x y z a (Posts r m
 event_once n x y z l (Taken s r) None legal comes = once n x y z r (taking l s (front l s r)) refl (its_agents n l s r legal comes).1
 event_once n x y z l (Spent k) None legal comes = by_ticket n x y z (holder_of l k) (Spends k) refl
 event_once n x y z l (Accessed k i m old) None legal comes = by_ticket n x y z (holder_of l k) (Accesses k i m old) refl
-event_once n x y z l (Acted a act) None legal comes = light n x y z (Some (a, acting act)) (λ k d is. ap (weight x y z) (sym (deed_in is)) ∙ act_weight x y z act)
+event_once n x y z l (Acted a act) None legal comes = light n x y z (Some (a, acting (sleep_of l a) act)) (λ k d is. ap (weight x y z) (sym (deed_in is)) ∙ act_weight x y z (sleep_of l a) act)
 event_once n x y z l (Drained s r) None legal comes = sum_none n
 
 pub agents_weight : (n x y z : ℕ) (l : Ledger) → LegalSoFar n l → sum_below n (λ a. weigh x y z (part l a)) ≡ ledger_weight x y z l
@@ -213,7 +248,7 @@ ledger_taken (e ∷ l) = counted is_taken l e ∙ ap (λ k. k + taken l) (one e)
 deed_weight : (x y z n : ℕ) (l : Ledger) (e : LedgerEvent) (d : Deed) → deed l e ≡ Some (n, d) → weight x y z d ≡ event_weight x y z e
 deed_weight x y z n l (Spent k) d is = ap (weight x y z) (sym (held_deed (holder_of l k) n (Spends k) d is))
 deed_weight x y z n l (Accessed k i m old) d is = ap (weight x y z) (sym (held_deed (holder_of l k) n (Accesses k i m old) d is))
-deed_weight x y z n l (Acted a act) d is = ap (weight x y z) (sym (deed_in is)) ∙ act_weight x y z act
+deed_weight x y z n l (Acted a act) d is = ap (weight x y z) (sym (deed_in is)) ∙ act_weight x y z (sleep_of l a) act
 deed_weight x y z n l (Drained s r) d is = cc
 deed_weight x y z n l _ d is = ap (weight x y z) (sym (deed_in is))
 

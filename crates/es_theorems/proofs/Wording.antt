@@ -35,8 +35,8 @@ silent_words i (d ∷ ds) l are b x = silent_words i ds (event_of i d ∷ l) are
     one Ends is = refl
     one (Sleeps s j w) is = refl
     one (Notifies s j m k) is = refl
-    one Wakes is = refl
-    one TimesOut is = refl
+    one (Wakes o) is = refl
+    one (TimesOut o) is = refl
     one _ is = cc
 
 -- what becomes of a word by a change

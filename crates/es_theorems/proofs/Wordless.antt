@@ -17,6 +17,7 @@ use Rattle.es_theorems.proofs.Pending.{touch_due}
 use Rattle.es_theorems.proofs.Racing.{no_race_by_names}
 use Rattle.es_theorems.proofs.Silence.{touches_none}
 use Rattle.es_theorems.proofs.Touching.{lore_mine, lore_other}
+use Rattle.es_theorems.proofs.Calm.{wordless_calm}
 
 abbrev AreWordless : Locals → Type 0
 AreWordless all = (i : ℕ) (a : Local) → slice_get all i ≡ Some a → shares_no_word a.plan ≡ true
@@ -61,6 +62,6 @@ first_wordless k agents n (p ∷ ps) shares (suc i) a is = first_wordless k agen
 pub messages_alone : (plan : Plan) (ns : List ℕ) (c : ClusterView) → share_no_word plan ≡ true → AllTurned ns (first_state plan) c → has_no_race c.ledger.history ≡ true
 messages_alone plan ns c shares turned =
     let n = length plan.agents in
-    let x = from_first plan ns c turned in
+    let x = from_first plan ns c (wordless_calm plan shares) turned in
     let none = none_touched n x.steps (world_of (first_state plan) (λ b x. 0)) (world_of c x.words) (first_wordless n n 0 plan.agents shares) x.far in
     no_race_by_names n c x.words x.along.number x.along.legal (λ i j p q y z other at_i at_j clash. (let off = ap (λ ts. slice_get ts p) (sym (none i)) ∙ at_i in cc))

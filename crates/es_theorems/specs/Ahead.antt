@@ -7,16 +7,18 @@ use Rattle.es_event.specs.LegalLedger.{ComesNext, owed}
 use Rattle.es_match.specs.Deeds.{Deed, Owned, deed, part_of}
 use Rattle.es_match.specs.Patience.{has_drained, may_do, may_stir}
 use Rattle.es_theorems.specs.Alike.{Alike}
+use Rattle.es_theorems.specs.Calm.{is_calm}
 
 -- who does it is one of n agents and has not ended, nothing was drained, and a wait or a sleep is ended by it
 abbrev pub Acts : ℕ → Ledger → Owned → Type 0
 Acts n l None = ⊤
 Acts n l (Some p) = (p.0 < n) × (ended l p.0 ≡ false) × (has_drained l ≡ false) × (may_do (waits l p.0) p.1 ≡ true) × (may_stir (asleep l p.0) p.1 ≡ true)
 
--- the event may come next, and its agent may do it
+-- the event may come next, its agent may do it, and nobody sleeps by it
 pub record May (n : ℕ) (l : Ledger) (e : LedgerEvent) : Type 0 where
   pub legal : ComesNext n l e (owed l)
   pub acts : Acts n l (deed l e)
+  pub calm : is_calm e ≡ true
 
 -- these events, the oldest first, may come one after the other
 abbrev pub Steps : ℕ → List LedgerEvent → Ledger → Type 0

@@ -22,7 +22,8 @@ use Rattle.es_event.specs.Identities.{made}
 use Rattle.es_event.specs.Numbers.{access_of, index_of}
 use Rattle.es_event.specs.Order.{Due, receive, due, phase}
 use Rattle.es_event.specs.Rows.{row}
-use Rattle.es_event.specs.Runs.{ComesNext, Heard, IsRunOver, a_word, heard, silence}
+use Rattle.es_event.specs.Heard.{Heard, a_word, silence}
+use Rattle.es_event.specs.Runs.{ComesNext, IsRunOver, heard}
 use Rattle.es_event.specs.Sharing.{Buffers, block_of, blocks_opened, row_of}
 use Rattle.es_agent.specs.Tickets.{is_ended}
 use Rattle.es_laws.specs.Races.{Mark, first_of, is_mark}

@@ -23,8 +23,8 @@ event_of n (Passes s) = Acted n (Passed s)
 event_of n Ends = Acted n Ended
 event_of n (Sleeps s i w) = Acted n (Slept s i w)
 event_of n (Notifies s i m k) = Acted n (Notified s i m k)
-event_of n Wakes = Acted n Woke
-event_of n TimesOut = Acted n TimedOut
+event_of n (Wakes o) = Acted n Woke
+event_of n (TimesOut o) = Acted n TimedOut
 
 -- the ledger after these deeds of agent n, the oldest first
 abbrev pub did : ℕ → List Deed → Ledger → Ledger
@@ -48,8 +48,8 @@ Fits l n (Passes s) = has_message l s n ≡ false
 Fits l n Ends = ⊤
 Fits l n (Sleeps s i w) = ReachesAs n (holder_of l s) i (λ r. w ≡ word l r.block i)
 Fits l n (Notifies s i m k) = ReachesAs n (holder_of l s) i (λ r. k ≡ taken_there l r.block i m)
-Fits l n Wakes = is_listed l n ≡ false
-Fits l n TimesOut = is_listed l n ≡ true
+Fits l n (Wakes o) = is_listed l n ≡ false
+Fits l n (TimesOut o) = is_listed l n ≡ true
 
 -- so does each of these, the oldest first
 abbrev pub AllFit : ℕ → List Deed → Ledger → Type 0

@@ -1,4 +1,5 @@
 pub mod Alike
+pub mod Sleepless
 pub mod Moving
 pub mod TurnsLaws
 pub mod Doing
@@ -6,6 +7,7 @@ pub mod Settled
 pub mod Move
 pub mod Together
 pub mod ThreadsLaws
+pub mod Calm
 pub mod Ahead
 pub mod Ready
 pub mod Found

@@ -12,7 +12,7 @@ use Rattle.es_cluster.specs.State.{ClusterView, first_state}
 use Rattle.es_cluster.specs.Turns.{AllTurned}
 use Rattle.es_outcome.specs.Outcomes.{IsClusterOutcome}
 
--- the command reads or writes a word of a block (Atomics.load, store and add)
+-- the command is on a word of a block (The Atomics Object)
 abbrev pub is_on_word : Command → Bool
 is_on_word (Command.Atomic a) = true
 is_on_word _ = false

@@ -67,8 +67,8 @@ posted_in f (Passes s) = []
 posted_in f Ends = []
 posted_in f (Sleeps s i w) = []
 posted_in f (Notifies s i n k) = []
-posted_in f Wakes = []
-posted_in f TimesOut = []
+posted_in f (Wakes o) = []
+posted_in f (TimesOut o) = []
 
 abbrev pub took_in : Deed → List ℕ
 took_in (Opens b w s) = []
@@ -81,8 +81,8 @@ took_in (Passes s) = []
 took_in Ends = []
 took_in (Sleeps s i w) = []
 took_in (Notifies s i n k) = []
-took_in Wakes = []
-took_in TimesOut = []
+took_in (Wakes o) = []
+took_in (TimesOut o) = []
 
 -- what these deeds sent, and of whom they took messages, the oldest first
 abbrev pub sent_in : (Body → Letter) → List Deed → List (ℕ × Letter)
@@ -150,8 +150,8 @@ IsSent l (Passes s) = ⊤
 IsSent l Ends = ⊤
 IsSent l (Sleeps s i w) = ⊤
 IsSent l (Notifies s i n k) = ⊤
-IsSent l Wakes = ⊤
-IsSent l TimesOut = ⊤
+IsSent l (Wakes o) = ⊤
+IsSent l (TimesOut o) = ⊤
 
 abbrev pub AreSent : Ledger → List Deed → Type 0
 AreSent l [] = ⊤

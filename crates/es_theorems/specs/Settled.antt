@@ -14,7 +14,7 @@ use Rattle.es_event.specs.Commands.{first}
 use Rattle.es_event.specs.Ledger.{Ledger, opened, serials, holder_of, word}
 use Rattle.es_event.specs.Numbers.{access_of, index_of}
 use Rattle.es_event.specs.Rows.{row}
-use Rattle.es_event.specs.Runs.{Heard, silence, a_word}
+use Rattle.es_event.specs.Heard.{Heard, silence, a_word}
 use Rattle.es_event.specs.Sharing.{row_of}
 use Rattle.es_match.specs.Deeds.{Deed, Opens, Posts, Accesses}
 use Rattle.es_match.specs.Meets.{Tickets}

@@ -24,6 +24,7 @@ use Rattle.es_rules.specs.Needs.{asks_message, need}
 use Rattle.es_cluster.specs.Tied.{GrowsBy}
 use Rattle.es_cluster.specs.State.{ClusterView}
 use Rattle.es_theorems.specs.Alike.{Alike}
+use Rattle.es_theorems.specs.Calm.{Calm}
 use Rattle.es_theorems.specs.Doing.{did}
 use Rattle.es_theorems.specs.Move.{Move}
 use Rattle.es_theorems.specs.Together.{Stands}
@@ -65,6 +66,7 @@ pub record AtTurn (n : ℕ) (c : ClusterView) (i : ℕ) (m : Ledger) (b : AgentV
   pub part_is : part m i ≡ part c.ledger.history i ++ ds
   pub alike : Alike m (did i ds c.ledger.history)
   pub moved : Move i c.ledger.history b e r ds
+  pub calm : Calm i m
   pub told : (s : ℕ) → need b ≡ asks_message s → (told c.ledger.history c.ledger.agents b.number s).0 ≢ Stay
 
 -- a ticket that comes is of a block that was opened, and of a new object
@@ -84,8 +86,8 @@ is_silent (Passes s) = true
 is_silent Ends = true
 is_silent (Sleeps s i w) = true
 is_silent (Notifies s i n k) = true
-is_silent Wakes = true
-is_silent TimesOut = true
+is_silent (Wakes o) = true
+is_silent (TimesOut o) = true
 
 abbrev pub AreSilent : List Deed → Type 0
 AreSilent [] = ⊤

@@ -1,4 +1,5 @@
--- To believe: what is said of every outcome of a run in threads; the contract of a function that does nothing.
+-- To believe: what is said of every outcome of a run in threads, mostly of plans whose agents never sleep; the contract of a function that does
+-- nothing.
 use Rattle.std.specs.Prelude.{ℕ, ◌≡◌, true, List, reverse}
 use Rattle.std.specs.List.{list_all}
 use Rattle.es_event.specs.declared.outcome.Outcome.{Outcome}
@@ -12,6 +13,7 @@ use Rattle.es_cluster.specs.Moves.{RunsToEnd, all_over, with_drained}
 use Rattle.es_cluster.specs.State.{ClusterView, first_state}
 use Rattle.es_cluster.specs.Turns.{AllTurned}
 use Rattle.es_theorems.specs.Alike.{SameEnd}
+use Rattle.es_theorems.specs.Sleepless.{never_sleeps}
 use Rattle.es_outcome.specs.Outcomes.{IsClusterOutcome}
 
 -- turns of the plan's agents, one after the other and from the first, after which all have ended; and what that ends in, once the messages
@@ -28,9 +30,9 @@ pub record ComesByTurns (p : Plan) (o : Outcome) : Type 0 where
   pub reported : report o ≡ report outcome
   pub parts : (a : ℕ) → part (reverse o.ledger) a ≡ part (reverse outcome.ledger) a
 
--- Whatever agents that run beside each other come to, they come to by turns too: threads refine turns.
+-- Whatever agents that never sleep come to beside each other, they come to by turns too: threads refine turns.
 abbrev pub ThreadsRefineTurns : Type 0
-ThreadsRefineTurns = (plan : Plan) (o : Outcome) → IsClusterOutcome plan o → ComesByTurns plan o
+ThreadsRefineTurns = (plan : Plan) (o : Outcome) → never_sleeps plan ≡ true → IsClusterOutcome plan o → ComesByTurns plan o
 
 -- And what turns come to, once all has been drained, is an outcome of agents that run beside each other.
 abbrev pub TurnsAreOutcomes : Type 0
@@ -40,18 +42,19 @@ TurnsAreOutcomes = (plan : Plan) (turns : List ℕ) (end : ClusterView) (o : Out
 abbrev pub ByTurnsIsAnOutcome : Type 0
 ByTurnsIsAnOutcome = (plan : Plan) (c : ClusterView) (o : Outcome) → RunsToEnd (first_state plan) c → EndsIn c o → IsClusterOutcome plan o
 
--- So each plan has an outcome, whose agents name others alone and whose callbacks collect nothing.
+-- So each plan has an outcome, whose agents never sleep and name others alone and whose callbacks collect nothing.
 abbrev pub EachPlanHasAnOutcome : Type 0
-EachPlanHasAnOutcome = (plan : Plan) → all_name_others plan ≡ true → list_all callbacks_collect_nothing plan.agents ≡ true → (o : Outcome) × IsClusterOutcome plan o
+EachPlanHasAnOutcome = (plan : Plan) → never_sleeps plan ≡ true → all_name_others plan ≡ true → list_all callbacks_collect_nothing plan.agents ≡ true → (o : Outcome) × IsClusterOutcome plan o
 
 -- what turns of the plan end in is the same, whatever turns they are
 abbrev pub TurnsEndAlike : Plan → Type 0
 TurnsEndAlike plan =
     (ns ms : List ℕ) (c d : ClusterView) (o q : Outcome) → AllTurned ns (first_state plan) c → EndsIn (with_drained c) o → AllTurned ms (first_state plan) d → EndsIn (with_drained d) q → SameEnd o q
 
--- So where all turns of a plan end alike, all its runs in threads do: who asks whether threads can differ has to look at turns alone.
+-- So where all turns of a plan whose agents never sleep end alike, all its runs in threads do: who asks whether threads can differ has to look
+-- at turns alone.
 abbrev pub ThreadsEndAsTurnsDo : Type 0
-ThreadsEndAsTurnsDo = (plan : Plan) (o q : Outcome) → TurnsEndAlike plan → IsClusterOutcome plan o → IsClusterOutcome plan q → SameEnd o q
+ThreadsEndAsTurnsDo = (plan : Plan) (o q : Outcome) → never_sleeps plan ≡ true → TurnsEndAlike plan → IsClusterOutcome plan o → IsClusterOutcome plan q → SameEnd o q
 
 -- what turns of the plan report is the same, whatever turns they are
 abbrev pub TurnsReportAlike : Plan → Type 0
@@ -60,4 +63,4 @@ TurnsReportAlike plan =
 
 -- The same of reports alone, which do not tell in which order blocks were opened.
 abbrev pub ThreadsReportAsTurnsDo : Type 0
-ThreadsReportAsTurnsDo = (plan : Plan) (o q : Outcome) → TurnsReportAlike plan → IsClusterOutcome plan o → IsClusterOutcome plan q → report o ≡ report q
+ThreadsReportAsTurnsDo = (plan : Plan) (o q : Outcome) → never_sleeps plan ≡ true → TurnsReportAlike plan → IsClusterOutcome plan o → IsClusterOutcome plan q → report o ≡ report q

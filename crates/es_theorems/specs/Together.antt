@@ -1,5 +1,5 @@
 -- Internal: a cluster in the middle of a run by turns, and two that tell the same.
-use Rattle.std.specs.Prelude.{ℕ, ◌≡◌, length, None, Some, slice_get}
+use Rattle.std.specs.Prelude.{ℕ, ◌≡◌, true, length, None, Some, slice_get}
 use Rattle.es_event.specs.LegalLedger.{owed}
 use Rattle.es_event.specs.Runs.{IsRunOver}
 use Rattle.es_cluster.specs.Tied.{IsTied}
@@ -7,13 +7,15 @@ use Rattle.es_cluster.specs.Turned.{IsSeated}
 use Rattle.es_record.specs.AgentView.{AgentView}
 use Rattle.es_cluster.specs.State.{ClusterView}
 use Rattle.es_theorems.specs.Alike.{Alike}
+use Rattle.es_theorems.specs.Sleepless.{never_sleeps_in}
 
--- it is agent n, with its place and its part in the ledger, and its history is a run of its plan so far
+-- it is agent n, with its place and its part in the ledger, and its history is a run of its plan so far, by which it never sleeps
 pub record StandsAt (c : ClusterView) (n : ℕ) (b : AgentView) : Type 0 where
   pub number : b.number ≡ n
   pub tied : IsTied b c.ledger.history
   pub seated : IsSeated b c.ledger
   pub run : IsRunOver b.over b.plan b.history
+  pub calm : never_sleeps_in b.plan ≡ true
 
 -- so is each agent, and nothing was drained yet
 pub record Stands (c : ClusterView) : Type 0 where

@@ -6,7 +6,7 @@ use Rattle.es_event.specs.Ledger.{Ledger}
 use Rattle.es_event.specs.LegalLedger.{LegalSoFar}
 use Rattle.es_match.specs.Deeds.{Deed, Opens, Posts, Takes, Spends, Accesses, Waits, Passes, Ends, Sleeps, Notifies, Wakes, TimesOut, part}
 use Rattle.es_match.specs.Patience.{drained_last, patient}
-use Rattle.es_match.specs.Asks.{Asking, nothing, to_open, to_measure, to_compare, to_access, to_post, to_receive, to_refuse, to_pass, to_empty, to_close, between_jobs}
+use Rattle.es_match.specs.Asks.{Asking, nothing, to_open, to_measure, to_compare, to_access, to_miss, to_sleep, to_notify, to_post, to_receive, to_refuse, to_pass, to_empty, to_close, between_jobs}
 use Rattle.es_match.specs.Cluster.{Account, IsSaid, account_of}
 use Rattle.es_match.specs.Goes.{goes}
 use Rattle.es_match.specs.Meets.{Came}
@@ -88,8 +88,8 @@ is_end (Passes s) = false
 is_end Ends = true
 is_end (Sleeps s i w) = false
 is_end (Notifies s i n k) = false
-is_end Wakes = false
-is_end TimesOut = false
+is_end (Wakes o) = false
+is_end (TimesOut o) = false
 
 abbrev pub has_end : List Deed → Bool
 has_end [] = false
@@ -101,6 +101,9 @@ closes (to_open n v) = false
 closes (to_measure b v) = false
 closes (to_compare b c v) = false
 closes (to_access b i m v) = false
+closes (to_miss b i w) = false
+closes (to_sleep b i w r) = false
+closes (to_notify b i n v) = false
 closes (to_post a v) = false
 closes (to_receive s v) = false
 closes to_refuse = false

@@ -6,7 +6,7 @@ use Rattle.es_event.specs.declared.ledger_event.LedgerEvent.TheVariants.{Opened,
 use Rattle.es_event.specs.History.{History}
 use Rattle.es_event.specs.Ledger.{Ledger}
 use Rattle.es_match.specs.Deeds.{Deed, Opens, Posts, Takes, Spends, Accesses, Waits, Passes, Ends, Sleeps, Notifies, Wakes, TimesOut}
-use Rattle.es_match.specs.Asks.{Asking, nothing, to_open, to_measure, to_compare, to_access, to_post, to_receive, to_refuse, to_pass, to_empty, to_close, asks, between_jobs}
+use Rattle.es_match.specs.Asks.{Asking, nothing, to_open, to_measure, to_compare, to_access, to_miss, to_sleep, to_notify, to_post, to_receive, to_refuse, to_pass, to_empty, to_close, asks, between_jobs}
 
 -- what is opened weighs x, what is posted y, and what is taken z
 abbrev pub weight : ℕ → ℕ → ℕ → Deed → ℕ
@@ -20,8 +20,8 @@ weight x y z (Passes s) = 0
 weight x y z Ends = 0
 weight x y z (Sleeps s i w) = 0
 weight x y z (Notifies s i n k) = 0
-weight x y z Wakes = 0
-weight x y z TimesOut = 0
+weight x y z (Wakes o) = 0
+weight x y z (TimesOut o) = 0
 
 abbrev pub weigh : ℕ → ℕ → ℕ → List Deed → ℕ
 weigh x y z [] = 0
@@ -34,6 +34,9 @@ asked_weight x y z (to_open n v) = x
 asked_weight x y z (to_measure b v) = 0
 asked_weight x y z (to_compare b c v) = 0
 asked_weight x y z (to_access b i m v) = 0
+asked_weight x y z (to_miss b i w) = 0
+asked_weight x y z (to_sleep b i w r) = 0
+asked_weight x y z (to_notify b i n v) = 0
 asked_weight x y z (to_post a v) = y
 asked_weight x y z (to_receive s v) = z
 asked_weight x y z to_refuse = z

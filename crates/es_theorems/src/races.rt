@@ -1,4 +1,4 @@
-//! What holds of plans whose agents share words, where messages order their accesses. Each law is the
+//! What holds of plans whose agents share words and never sleep, where messages order their accesses. Each law is the
 //! contract of a function that does nothing. Two accesses race here where no message orders them: all are
 //! sequentially consistent, so none is a data race (ECMA-262, Memory Model), and yet their order may show.
 

@@ -1,4 +1,4 @@
-//! What holds of runs by turns. Each law is the contract of a function that does nothing.
+//! What holds of runs by turns of plans whose agents never sleep. Each law is the contract of a function that does nothing.
 
 ghost use Rattle.es_theorems.specs.TurnsLaws.{EachAgentTakesATurn, EachPlanComesToAnEnd, NoClusterIsStuck, TurnsAreOneRun, TurnsHaveOneEnd, WhatIsLeftComesToAnEnd, WhatIsLeftHasOneEnd};
 

@@ -81,6 +81,8 @@ access_begun st b (Operation.Load to) = two st (codes "load") to b
 access_begun st b (Operation.Store n) = one st (codes "store") b
 access_begun st b (Operation.Modify to how n) = two st (word_for how) to b
 access_begun st b (Operation.CompareExchange to e r) = two st (codes "compareexchange") to b
+access_begun st b (Operation.Wait to n) = two st (codes "wait") to b
+access_begun st b (Operation.Notify to c) = two st (codes "notify") to b
 
 -- on a word of a buffer's block
 abbrev pub access_text : Style → AtomicParts → List ℕ

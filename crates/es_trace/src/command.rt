@@ -155,10 +155,14 @@ fn write_access<W: Write>(style: Style, atomic: &Atomic, writer: &mut W) -> Resu
     write_begun(style, buffer, operation, writer)?;
     write_operand(style, atomic.index(), writer)?;
     match operation {
-        Operation::Load { .. } => Ok(()),
-        Operation::Store { number } | Operation::Modify { number, .. } => {
-            write_operand(style, number, writer)
-        }
+        Operation::Load { .. } | Operation::Notify { count: None, .. } => Ok(()),
+        Operation::Store { number }
+        | Operation::Modify { number, .. }
+        | Operation::Wait { number, .. }
+        | Operation::Notify {
+            count: Some(number),
+            ..
+        } => write_operand(style, number, writer),
         Operation::CompareExchange {
             expected,
             replacement,
@@ -190,6 +194,8 @@ fn write_begun<W: Write>(
             buffer,
             writer,
         ),
+        Operation::Wait { to, .. } => write_two(style, "wait", to, buffer, writer),
+        Operation::Notify { to, .. } => write_two(style, "notify", to, buffer, writer),
     }
 }
 

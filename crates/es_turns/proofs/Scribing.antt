@@ -68,13 +68,13 @@ have_more names (c ∷ bs) (t ∷ ss) b s have keeps = (have.0, have_more names 
 
 pub takes_plan : (p : Progress) (old new : AgentView) → Takes p old new → new.plan ≡ old.plan
 takes_plan Moved old new step = ap (λ (b : AgentView). b.plan) step.3
-takes_plan Waiting old new step = ap (λ (b : AgentView). b.plan) step.2
+takes_plan Waiting old new step = ap (λ (b : AgentView). b.plan) step.1
 takes_plan Ended old new step = ap (λ (b : AgentView). b.plan) step.1
 
 -- one that does not move stays, and nothing is told of it
 pub stays : (p : Progress) (old new : AgentView) → (p ≡ Waiting) ⊎ (p ≡ Ended) → Takes p old new → new ≡ old
 stays Moved old new is takes = elim is [ inl e ↦ cc | inr e ↦ cc ]
-stays Waiting old new is takes = takes.2
+stays Waiting old new is takes = takes.1
 stays Ended old new is takes = takes.1
 
 nothing_told : (v : View) (names : List (List ℕ)) (p : Progress) (b : AgentView) → (p ≡ Waiting) ⊎ (p ≡ Ended) → IsMoveTold v names p (Some b) []

@@ -1,16 +1,14 @@
-//! What an agent asks the ledger for: blocks, words, and that something is posted.
+//! What an agent asks the ledger for: blocks, and that something is posted.
 
 ghost use Rattle.std.specs.Prelude.{ℕ, ◌≡◌, ◌≢◌, ◌<◌, OnOk, OnErr, IfOk};
-ghost use Rattle.es_rules.specs.Needs.{need, asks_ledger, for_block, for_post, for_buffer_post, for_access, TakesTicket};
+ghost use Rattle.es_rules.specs.Needs.{need, asks_ledger, for_block, for_post, for_buffer_post, TakesTicket};
 ghost use Rattle.es_cluster.specs.Members.{HoldsBeside, member_of};
 ghost use Rattle.es_cluster.specs.Tied.{IsSettled};
 ghost use Rattle.es_cluster.specs.Turned.{WaitsRightly, Keeps, GrowsByOne, Proceeds, StaysTied};
-ghost use Rattle.es_agent.specs.Tickets.{DoesWith};
-ghost use Rattle.es_cluster.specs.Midway.{IsHeld, HasFetched, answer_to};
+ghost use Rattle.es_cluster.specs.Midway.{IsHeld, HasFetched};
 
 use crate::member::Progress;
 use es_agent::{AdmitFault, AgentCore};
-use es_event::Access;
 use es_ledger::LedgerCore;
 use es_ticket::{LedgerName, Stake, Ticket};
 use es_value::{Id, NoMemory, Value};
@@ -106,40 +104,4 @@ pub(crate) fn post_buffer<L: LedgerName>(
     ledger.post_buffer(stake, receiver, core.ticket(buffer))?;
     core.answer_done()?;
     Ok(Progress::Moved)
-}
-
-/// The agent does this to the word at an index of a buffer object's block.
-pub(crate) fn access_word<L: LedgerName>(
-    core: &mut AgentCore<L>,
-    stake: &mut Stake<L>,
-    ledger: &mut LedgerCore<L>,
-    buffer: Id,
-    index: usize,
-    access: Access,
-) -> Result<Progress, NoMemory>
-    requires due { need core.old ≡ asks_ledger (for_access buffer index access) }
-    requires ready { IsHeld core.old stake.old ledger.old }
-    ensures ok { IfOk result (λ p. Proceeds p (member_of core.old stake.old) (member_of core.new stake.new)) }
-    ensures told { IfOk result (λ p. WaitsRightly p core.old ledger.old ledger.new) }
-    ensures err { OnErr result (core.new ≡ core.old) }
-    ensures tied { IfOk result (λ p. StaysTied p core.old ledger.old core.new ledger.new) }
-    ensures keeps { Keeps core.old ledger.old core.new stake.new ledger.new }
-{
-    let _ = core.history();
-    let old = ledger.edit(stake, core.ticket(buffer), index, access.edit)?;
-    answer(core, access, old)?;
-    Ok(Progress::Moved)
-}
-
-/// The agent takes the word that was there, where its command gives it.
-fn answer<L: LedgerName>(core: &mut AgentCore<L>, access: Access, old: u32) -> Result<(), NoMemory>
-    requires due { (o i : ℕ) × (need core.old ≡ asks_ledger (for_access o i access)) }
-    ensures ok { OnOk result (DoesWith core.old (answer_to access old) core.new) }
-    ensures err { OnErr result (core.new ≡ core.old) }
-{
-    if access.gives_word {
-        core.answer_word(old)
-    } else {
-        core.answer_done()
-    }
 }

@@ -4,7 +4,7 @@ ghost use Rattle.std.specs.Prelude.{◌≡◌, map, IfOk, IfErr};
 ghost use Rattle.serde_json.specs.View.{items_of};
 ghost use Rattle.serde_json.specs.Events.{items_len};
 ghost use Rattle.es_event.specs.Commands.{atomic};
-ghost use Rattle.es_reading.specs.Forms.{compare_form, load_form, modification_named, modify_form, shared_form, store_form};
+ghost use Rattle.es_reading.specs.Forms.{compare_form, count_form, load_form, modification_named, modify_form, notify_form, shared_form, store_form, wait_form};
 ghost use Rattle.es_reading.specs.Reading.{Gives, said, form_read};
 
 use super::registry::registry_command;
@@ -14,6 +14,7 @@ use crate::known_names::KnownNames;
 use crate::operand::AgentNumber;
 use crate::operands::{five, four, three, two};
 use crate::part::Seen;
+use crate::parts::has_exactly;
 use crate::scope::Scope;
 use crate::version::Version;
 use es_event::{Atomic, Command, Modification, Operand as Amount, Operation};
@@ -45,6 +46,8 @@ pub(crate) fn shared_command<V: Seen>(
         "load" => load(names, scope, operands, spot),
         "store" => store(names, scope, operands, spot),
         "compareexchange" => compare_exchange(names, scope, operands, spot),
+        "wait" => wait(names, scope, operands, spot),
+        "notify" => notify(names, scope, operands, spot),
         "post" => {
             let (AgentNumber(receiver), from) = two(names, scope, operands, spot)?;
             Ok(Command::Post { receiver, from })
@@ -154,6 +157,56 @@ fn compare_exchange<V: Seen>(
         }
         Version::One | Version::Two => Err(spot.fault(FaultCode::Operands)),
     }
+}
+
+fn wait<V: Seen>(
+    names: &mut KnownNames,
+    scope: &Scope,
+    operands: &[V],
+    spot: Spot,
+) -> Result<Command, ReadFault>
+    ensures { Gives (λ c. c) result (form_read (said scope.now) spot (wait_form (said scope.now).version) (items_of (map V.shown operands.now))) }
+{
+    match scope.version() {
+        Version::Three => {
+            let (to, buffer, index, number) = four(names, scope, operands, spot)?;
+            access(names, buffer, index, Operation::Wait { to, number })
+        }
+        Version::One | Version::Two => Err(spot.fault(FaultCode::Operands)),
+    }
+}
+
+fn notify<V: Seen>(
+    names: &mut KnownNames,
+    scope: &Scope,
+    operands: &[V],
+    spot: Spot,
+) -> Result<Command, ReadFault>
+    ensures { Gives (λ c. c) result (form_read (said scope.now) spot (notify_form (said scope.now).version (items_len (items_of (map V.shown operands.now)))) (items_of (map V.shown operands.now))) }
+{
+    match scope.version() {
+        Version::Three => notify_of(names, scope, operands, spot),
+        Version::One | Version::Two => Err(spot.fault(FaultCode::Operands)),
+    }
+}
+
+/// A `notify`, with a count where there are four operands.
+fn notify_of<V: Seen>(
+    names: &mut KnownNames,
+    scope: &Scope,
+    operands: &[V],
+    spot: Spot,
+) -> Result<Command, ReadFault>
+    ensures { Gives (λ c. c) result (form_read (said scope.now) spot (count_form (items_len (items_of (map V.shown operands.now)))) (items_of (map V.shown operands.now))) }
+{
+    if has_exactly(operands, 4) {
+        let (to, buffer, index, count) = four(names, scope, operands, spot)?;
+        let count = Some(count);
+        return access(names, buffer, index, Operation::Notify { to, count });
+    }
+    let (to, buffer, index) = three(names, scope, operands, spot)?;
+    let count = None;
+    access(names, buffer, index, Operation::Notify { to, count })
 }
 
 /// A command on a word of a buffer's block.

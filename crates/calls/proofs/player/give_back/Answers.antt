@@ -17,6 +17,9 @@ returns-in-Plain-clause-held g c = (subst (λ v. Suits v c.args.core.now c.args.
 pub returns-in-Word-clause-held : goal.returns-in-Word-clause-held
 returns-in-Word-clause-held g c = (subst (λ v. Suits v c.args.core.now c.args.stake.now) c.in-Word.is c.requires).held
 
+pub returns-in-WaitEnded-clause-held : goal.returns-in-WaitEnded-clause-held
+returns-in-WaitEnded-clause-held g c = (subst (λ v. Suits v c.args.core.now c.args.stake.now) c.in-WaitEnded.is c.requires).held
+
 pub returns-in-Done-clause-held : goal.returns-in-Done-clause-held
 returns-in-Done-clause-held g c = (subst (λ v. Suits v c.args.core.now c.args.stake.now) c.in-Done.is c.requires).held
 

@@ -23,6 +23,12 @@ answer_word-requires-clause-takes g c = (subst (λ v. Suits v c.args.core.now c.
 pub answer_word-requires-clause-held : goal.answer_word-requires-clause-held
 answer_word-requires-clause-held g c = (subst (λ v. Suits v c.args.core.now c.args.stake.now) c.in-Word.is c.requires).held
 
+pub answer_wait-requires-clause-takes : goal.answer_wait-requires-clause-takes
+answer_wait-requires-clause-takes g c = (subst (λ v. Suits v c.args.core.now c.args.stake.now) c.in-WaitEnded.is c.requires).asked
+
+pub answer_wait-requires-clause-held : goal.answer_wait-requires-clause-held
+answer_wait-requires-clause-held g c = (subst (λ v. Suits v c.args.core.now c.args.stake.now) c.in-WaitEnded.is c.requires).held
+
 pub answer_done-requires-clause-takes : goal.answer_done-requires-clause-takes
 answer_done-requires-clause-takes g c = (subst (λ v. Suits v c.args.core.now c.args.stake.now) c.in-Done.is c.requires).asked
 

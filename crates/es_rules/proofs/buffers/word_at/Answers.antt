@@ -22,11 +22,11 @@ returns-in_err-index-clause-err c =
     let number : number_at b a.index ≡ Err code = search rules in
     refused_so c.from_residual-in_err-index.result code (refusal_at b a) c.from_residual-in_err-index.ensures.1 (no_index b a (number_at b a.index) (numbers_at b a.operation) code buffer number)
 
-pub returns-in_err-first-clause-err : goal.returns-in_err-first-clause-err
-returns-in_err-first-clause-err c =
+pub returns-in_err-task-clause-err : goal.returns-in_err-task-clause-err
+returns-in_err-task-clause-err c =
     let b = c.args.agent.now in
     let a = c.args.atomic.now in
-    let code = c.in_err-first.field-0.0 in
+    let code = c.in_err-task.field-0.0 in
     let j = c.in_ok-index.index in
     let value : c.value.result.now ≡ var (receivers b.plan.jobs) b.history a.buffer = c.value.ensures.said ∙ ap (var (receivers b.plan.jobs) b.history) c.buffer.ensures in
     let buffer : (of_buffer b.history (var (receivers b.plan.jobs) b.history a.buffer)).0 ≡ true = ap (λ v. (of_buffer b.history v).0) (sym value) ∙ c.in_ok-buffer.ensures.ok.1 in
@@ -34,4 +34,4 @@ returns-in_err-first-clause-err c =
     let here = some_index _ c.index_below.result _ c.in-Some.index c.index_below.ensures c.in-Some.is in
     let index : is_index j (words_of b.over (var (receivers b.plan.jobs) b.history a.buffer)) ≡ true = search rules in
     let none : first_refusal (map of_number (numbers_at b a.operation)) ≡ Some code = search rules in
-    refused_so c.from_residual-in_err-first.result code (refusal_at b a) c.from_residual-in_err-first.ensures.1 (no_word b a (number_at b a.index) j (numbers_at b a.operation) code buffer number index none)
+    refused_so c.from_residual-in_err-task.result code (refusal_at b a) c.from_residual-in_err-task.ensures.1 (no_word b a (number_at b a.index) j (numbers_at b a.operation) code buffer number index none)

@@ -7,4 +7,4 @@ pub returns-in-Post : goal.returns-in-Post
 returns-in-Post c = c.post_request.ensures ∙ ap (request c.args.agent.now) (sym c.in-Post.is)
 
 pub returns-in-Atomic : goal.returns-in-Atomic
-returns-in-Atomic c = c.access_request.ensures ∙ sym (request_there c.args.agent.now c.in-Atomic.atomic) ∙ ap (request c.args.agent.now) (sym c.in-Atomic.is)
+returns-in-Atomic c = c.word_request.ensures ∙ sym (request_there c.args.agent.now c.in-Atomic.atomic) ∙ ap (request c.args.agent.now) (sym c.in-Atomic.is)

@@ -2,4 +2,4 @@ use Rattle.es_theorems.proofs.Reports.{reports_as_by_turns}
 use Rattle.es_theorems.proofs.races.without_races_threads_report_as_by_turns.Goals as goal
 
 pub returns : goal.returns
-returns g plan c o q a run free ends = reports_as_by_turns plan c o q a run free ends
+returns g plan c o q calm a run free ends = reports_as_by_turns plan c o q calm a run free ends

@@ -1,5 +1,6 @@
-use Rattle.std.proofs.Common.{◌≡◌, ◌<◌, false, length}
-use Rattle.es_cluster.specs.Asked.{GoesOn, cleanup_left, plan_left}
+use Rattle.std.proofs.Common.{◌≡◌, ◌<◌, ◌≤◌, false, length}
+use Rattle.es_event.specs.Waiters.{asleep}
+use Rattle.es_cluster.specs.Asked.{GoesOn, Sweeps, cleanup_left, plan_left}
 use Rattle.es_cluster.specs.State.{plans}
 use Rattle.es_cluster.specs.Watched.{busy}
 use Rattle.es_cluster.specs.Watching.{IsKept}
@@ -8,11 +9,15 @@ use Rattle.es_cluster.proofs.cluster.ClusterCore.clean_up.Given as goal
 abbrev pub invariant-loop-self : goal.invariant-loop-self
 invariant-loop-self g l = record {
   known : l.agent < length l.self.agents;
+  size : length l.self.agents ≡ length l.fn.self.agents;
   whole : l.self.failed ≡ false;
   plans : plans l.self.agents ≡ plans l.fn.self.agents;
+  awake : asleep l.self.ledger.history l.agent ≡ false;
   watched : IsKept g.W.Watcher.knows g.W.Watcher.tells (busy l.agent l.fn.self) (busy l.agent l.self) l.fn.self l.self l.fn.watcher l.watcher;
   goes : GoesOn l.agent l.fn.self l.self;
+  swept : Sweeps l.agent l.fn.self → Sweeps l.agent l.self;
   same : plan_left l.agent l.self ≡ plan_left l.agent l.fn.self;
+  less : cleanup_left l.agent l.self ≤ cleanup_left l.agent l.fn.self;
 }
 
 abbrev pub decreases-loop-self : goal.decreases-loop-self

@@ -1,4 +1,4 @@
-use Rattle.std.proofs.Common.{◌≡◌, refl, ap, subst, sym, ◌∙◌}
+use Rattle.std.proofs.Common.{◌≡◌, refl, ap, subst, sym, ◌∙◌, inl}
 use Rattle.std.specs.Prelude.{IfOk}
 use Rattle.es_event.specs.Ledger.{Ledger, ended}
 use Rattle.es_event.specs.LegalLedger.{has_message}
@@ -47,7 +47,7 @@ returns-in-Ready-clause-tied g c =
     subst (λ l. IfOk c.receive.result (λ p. StaysTied p c.args.core.now l c.receive.new.core c.receive.new.ledger)) ledger c.receive.ensures.tied
 
 pub returns-in-Stay-clause-told : goal.returns-in-Stay-clause-told
-returns-in-Stay-clause-told g c = (
+returns-in-Stay-clause-told g c = inl (
   c.args.sender,
   c.requires.due,
   subst (λ n. ◌≡◌ {A = Turn × Ledger} (Stay, c.await_message.new.self.history) (told c.args.ledger.now.history c.args.ledger.now.agents n c.args.sender)) c.number.ensures

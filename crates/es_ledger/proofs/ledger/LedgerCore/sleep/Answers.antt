@@ -1,4 +1,4 @@
-use Rattle.std.proofs.Common.{◌≡◌, ◌∙◌, sym, ap, arith, length}
+use Rattle.std.proofs.Common.{◌≡◌, ◌∙◌, sym, ap, length}
 use Rattle.es_event.specs.Ledger.{word}
 use Rattle.es_ledger.proofs.Tying.{in_history, stake_there, stake_inside, reserved_room}
 use Rattle.es_ledger.proofs.Slept.{lies_down, slept_ties}
