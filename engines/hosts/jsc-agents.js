@@ -7,7 +7,7 @@
   for (const name of ["words", "turns"]) load(`${folder}/${name}.js`);
   const LOOK = 5; // milliseconds between looks at agents that go at once
   const words = new Int32Array(new SharedArrayBuffer(4 * ThreadWords.WORDS));
-  const { byTurns, unlock, accounts } = turnsOf({ how, words, seed: Number(seed) });
+  const { byTurns, unlock, accounts, lacking } = turnsOf({ how, words, seed: Number(seed) });
 
   function start(plan, names, place) {
     const files = [`${folder}/words.js`, ...scripts, `${folder}/thread.js`, `${folder}/jsc-agent.js`];
@@ -32,6 +32,8 @@
     return lines;
   }
   function answer({ agents }) {
+    const skipped = lacking(agents);
+    if (skipped) return { skipped };
     const names = agents.map(({ name }) => name), places = [...agents.keys()];
     words.fill(0);
     agents.forEach((plan, place) => start(plan, names, place));

@@ -19,7 +19,7 @@ const SLICE = 50, LOOK = 5; // milliseconds: for a thread to tell of an error; b
 const scripts = process.argv.slice(2);
 const option = (name) => scripts.includes(name) ? scripts.splice(scripts.indexOf(name), 2)[1] : undefined;
 const how = option("--turns"), words = new Int32Array(new SharedArrayBuffer(4 * WORDS)), threads = [];
-const { byTurns, unlock, accounts } = turnsOf({ how, words, seed: Number(option("--seed") ?? 1) });
+const { byTurns, unlock, accounts, lacking } = turnsOf({ how, words, seed: Number(option("--seed") ?? 1) });
 
 // The thread for agents of a place, with ports to those of the places before it.
 function threadOf(place) {
@@ -42,6 +42,8 @@ function threadOf(place) {
 }
 
 async function answer({ agents }) {
+  const skipped = lacking(agents);
+  if (skipped) return { skipped };
   const names = agents.map(({ name }) => name), places = [...agents.keys()], all = places.map(threadOf);
   words.fill(0, 0, FAILED);
   all.forEach(({ worker }, place) => worker.postMessage({ plan: agents[place], names }));

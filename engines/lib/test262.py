@@ -66,7 +66,7 @@ def operand(use, arg):
 
 def is_number(use, arg):
     """Whether an index or a number is written, and is no variable."""
-    return use in "inp" and not isinstance(arg, str)
+    return use in "inpq" and not isinstance(arg, str)
 
 
 def is_named(value):
@@ -130,6 +130,8 @@ class Test:
             raise Unfit("the plan has several agents")
         if "try" in self.words_of_plan():
             raise Unfit("a caught refusal has the plan's words, and not those of the engine")
+        if self.words_of_plan() & {"wait", "notify"}:
+            raise Unfit("a test of one agent wakes nobody")
         read = rules.read_plan(json.dumps(plan).encode())
         self.seen = worlds.explore(read, complete, at_once=not self.words_of_plan() & set(rules.COLLECTING))
         self.by_name, self.recorded = set(), {}  # the variables whose values are named; the choices that are kept, by name
@@ -284,7 +286,7 @@ class Test:
         """All variables of the lines, but for those of choices."""
         uses = ((use, arg) for place, command in self.commands() if self.is_done(place) or place in self.seen.refused
                 for use, arg in zip(rules.USES[command[0]] + rules.ONE_MORE_USE.get(command[0], ""), command[1:]))
-        found = {variable(arg) for use, arg in uses if use in "xinp" + rules.READ and not is_number(use, arg)}
+        found = {variable(arg) for use, arg in uses if use in "xinpq" + rules.READ and not is_number(use, arg)}
         return sorted(found | ({"held"} if self.callbacks() and self.collects else set()))
 
     def callbacks(self):

@@ -31,7 +31,7 @@ EXCHANGING = "Atomics.sub, and, or, xor, exchange and compareExchange, on a Uint
 VALIDATE = "Atomics.load, store and add: ValidateIntegerTypedArray, ValidateAtomicAccess, ToUint32"
 NUMBERS = "ToIntegerOrInfinity, StringToNumber, of an index or a number that is a variable"
 TRY = "The try Statement: evaluation of a TryStatement with a Catch"
-WAITING = "Atomics.wait and notify: DoWait, AddWaiter, RemoveWaiters"
+WAITING = "Atomics.wait and notify, on an Int32Array over a shared block"
 MESSAGES = "Agent Clusters: messages between agents"
 
 # the section of what a command answers, and of what it refuses

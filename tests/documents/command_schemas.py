@@ -16,12 +16,10 @@ sys.path.insert(0, os.path.join(TOP, "tests", "lib"))
 import rules
 
 DOCS = os.path.join(TOP, "docs")
-# what the program does not know yet
-ABSENT = rules.AHEAD
 # what the schema calls an operand, by what it is for
 DEFINED = dict.fromkeys(rules.READ, "read") | {
     "x": "assigned", "k": "key", "l": "literal", "t": "text", "c": "callback", "a": "other_agent", "z": "words",
-    **dict.fromkeys("inp", "number"),
+    **dict.fromkeys("inpq", "number"),
 }
 
 
@@ -64,7 +62,7 @@ def tried():
 
 def in_callbacks():
     """The words of the commands that a callback may have."""
-    return [word for word in rules.COMMANDS if word not in [*rules.COLLECTING, *ABSENT]]
+    return [word for word in rules.COMMANDS if word not in rules.COLLECTING]
 
 
 def plan_schema(text):
@@ -77,7 +75,7 @@ def plan_schema(text):
 
 def trace_schema(text):
     """The schema of traces with the words of all commands but `try`, which a line has no command with."""
-    known = [word for word in rules.COMMANDS if word not in [*ABSENT, "try"]]
+    known = [word for word in rules.COMMANDS if word != "try"]
     words = textwrap.fill(", ".join(map(json.dumps, known)), 120, initial_indent=" " * 12, subsequent_indent=" " * 12)
     start = text.index('"enum": [\n', text.index('\n    "command": {')) + len('"enum": [\n')
     return text[:start] + words + text[text.index("\n          ]", start):]

@@ -300,7 +300,7 @@ def recorded(tests, folder):
         text = file.read()
     right = ran.returncode == 0 and text.startswith("a\n<!-- ") and text.endswith(" -->\nc\n") and "\nb\n" not in text
     tests.check(right and re.search(r"^\| node [^|]*\| random \| 4 \| 0 \|", text, re.MULTILINE), f"record: {ran}: {text}")
-    wanted = r"^\| node [^|]*, by turns of a command \| random \| 5 \| 5 \| 0 \| 0 \| 0 \|"
+    wanted = r"^\| node [^|]*, by turns of a command \| random \| 5 \| 0 \| 5 \| 0 \| 0 \| 0 \|"
     tests.check(re.search(wanted, text, re.MULTILINE), f"record, rows of threads: {text}")
 
 

@@ -42,9 +42,6 @@ VERSIONS = [1, 2, 3]
 # what version 1 has not, and what version 2 has not
 SINCE_TWO = [word for word, row in COMMANDS.items() if row.get("since") == 2]
 SINCE_THREE = [word for word, row in COMMANDS.items() if row.get("since") == 3]
-# words of version 3 that the program does not know yet, and refuses as it refuses any other; who tries the whole of version 3
-# by these rules alone empties the list
-AHEAD = [word for word, row in COMMANDS.items() if row.get("ahead")]
 # what no callback may have
 COLLECTING = ["collect", "collectlater"]
 # the most agents that a plan has, and so the most that a `notify` wakes
@@ -237,7 +234,7 @@ def read_plan(data):
     version = plan["version"].whole()
     if version not in VERSIONS:
         raise Refused(3)
-    words = [word for word, row in COMMANDS.items() if row.get("since", 1) <= version and word not in AHEAD]
+    words = [word for word, row in COMMANDS.items() if row.get("since", 1) <= version]
     numbers = Number if version < 3 else (Number, str)
     agents = plan["agents"]
     if not 1 <= len(agents) <= MOST_AGENTS:

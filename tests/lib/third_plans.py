@@ -374,7 +374,7 @@ def alone(rng):
     calls = random_plans.without_collections(agents[0]["callbacks"])
     growing = Sleeper(rng, {**agents[0], "callbacks": calls}, rules.Ledger(), {"a": None}, AT_ONCE, OFTEN_AT_ONCE)
     rules.run_turns({"a": growing})
-    return known(rng, {"version": 3, "agents": agents})
+    return {"version": 3, "agents": agents}
 
 
 def gathered(rng):
@@ -494,21 +494,9 @@ def runs_of(drawn):
         yield from (job["run"] for job in agent["jobs"])
 
 
-def known(rng, drawn):
-    """The plan without the words that the program does not know, of which few plans keep some."""
-    for run in runs_of(drawn) if rules.AHEAD and rng.random() < 0.98 else ():
-        run[:] = [step for step in run if not is_ahead(step, rules.AHEAD)]
-    return drawn
-
-
-def is_ahead(step, ahead):
-    """Whether the word of a command, or of that behind its `try`, is one of these."""
-    return any(word in ahead for word in rules.bared(step)[:1])
-
-
 def plan(rng):
     """A plan of version 3, which few faults are put into."""
-    return known(rng, rng.choices([grown, talks, gathered, early, many, faulty], [46, 16, 12, 10, 2, 14])[0](rng))
+    return rng.choices([grown, talks, gathered, early, many, faulty], [46, 16, 12, 10, 2, 14])[0](rng)
 
 
 def text(rng):

@@ -190,7 +190,7 @@ def of_ledger(event):
         case "slept":
             return f"{event['agent']} sleeps at word {event['index']} by ticket {event['ticket']}", str(event["word"])
         case "notified":
-            return f"word {event['index']} notified by ticket {event['ticket']}", str(len(event["woken"]))
+            return f"word {event['index']} notified by ticket {event['ticket']}", str(event["woken"])
         case "woke" | "timed out" as what:
             return f"{event['agent']} wakes", '"ok"' if what == "woke" else '"timed-out"'
         case "waiting":

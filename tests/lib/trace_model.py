@@ -67,9 +67,8 @@ class Ledger(rules.Ledger):
         return sleep
 
     def notify(self, block, index, count):
-        sleepers = [*self.sleepers[block, index]]
         woken = super().notify(block, index, count)
-        self.note("notified", ticket=block.serial, index=index, woken=[sleep.agent for sleep in sleepers[:woken]])
+        self.note("notified", ticket=block.serial, index=index, woken=woken)
         return woken
 
     def time_out(self, sleep):

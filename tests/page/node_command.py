@@ -356,8 +356,8 @@ def warned(count, what, answer, wanted, fault):
 def of_module(count):
     """The same rows by the calls of the module, and what it knows of operands."""
     rows, table = [*warned_rows()], json.loads(read("tests", "rows", "commands.json"))
-    known = {word: row for word, row in table.items() if not row.get("ahead") and word != "try"}
-    forms = [(word, uses) for word, row in known.items() for uses in {row["operands"], row["operands"] + row.get("and", "")}]
+    bare = {word: row for word, row in table.items() if word != "try"}
+    forms = [(word, uses) for word, row in bare.items() for uses in {row["operands"], row["operands"] + row.get("and", "")}]
     flags = [] if node_package.is_wide() else [node_package.FLAG]
     paths = [os.path.join(PLAY, *name) for name in (("explain.mjs",), ("page", "mistakes", "words.mjs"))]
     asked = {"plans": [plan for _, plan, _, _ in rows], "forms": [(word, len(uses)) for word, uses in forms]}
@@ -370,7 +370,7 @@ def of_module(count):
         for explained, answer in given:
             by_module(count, f"the module: {name}", plan, (fault, lines), explained, answer)
     for (word, uses), found in zip(forms, answers["variables"], strict=True):
-        wanted = {"read": [at for at, use in enumerate(uses) if use in "vohwmsrbinp"], "assigned": uses.find("x")}
+        wanted = {"read": [at for at, use in enumerate(uses) if use in "vohwmsrbinpq"], "assigned": uses.find("x")}
         count.expect(f"the variables of {word} with {len(uses)} operands", found, wanted)
 
 

@@ -8,7 +8,7 @@ const read = (path) => readFileSync(new URL(`../../${path}`, import.meta.url), "
 /** The letters of the tables: variables that have what their commands take, and literals. */
 const LITERALS = { L: 5, I: 1, N: 3, P: 7 };
 const BEFORE = `const ${Object.entries(LITERALS).map(([name, value]) => `${name} = ${value}`).join(", ")};
-let X = {}, Y = {}, Z = {}, O = { K: {} }, H = {}, T = {}, B = new Uint32Array(new SharedArrayBuffer(16)), D = new Uint32Array(new SharedArrayBuffer(4));
+let X = {}, Y = {}, Z = {}, O = { K: {} }, H = {}, T = {}, B = new Int32Array(new SharedArrayBuffer(16)), D = new Uint32Array(new SharedArrayBuffer(4));
 const W = new WeakRef(Y), M = new WeakMap(), S = new WeakSet(), R = new FinalizationRegistry(() => {});
 function C() {}
 agent("A", async () => {});
@@ -44,7 +44,7 @@ function isOf(form, given) {
 function* ofPlans(textOf) {
   const rows = rowsOf("docs/PLANS.md", "Commands");
   const commands = JSON.parse(read("tests/rows/commands.json"));
-  const words = Object.keys(commands).filter((word) => !commands[word].ahead); // the program does not know the others yet
+  const words = Object.keys(commands);
   const named = rows.map(([[form]]) => form.split(" ")[0]);
   yield { holds: named.sort().join() === words.sort().join(), what: "docs/PLANS.md has a row for each command" };
   for (const [forms, lines] of rows) {

@@ -212,12 +212,12 @@ function timed() {
 
 /** What the interpreter knows of the operands of commands is what commands.json says. */
 function operands() {
-  for (const [word, { operands: uses, and = "", ahead }] of Object.entries(JSON.parse(readFileSync(here("../rows/commands.json"), "utf8")))) {
-    if (ahead || word === "try") continue;
+  for (const [word, { operands: uses, and = "" }] of Object.entries(JSON.parse(readFileSync(here("../rows/commands.json"), "utf8")))) {
+    if (word === "try") continue;
     const all = [...uses + and], areVariables = (operands, letters) => all.every((use, place) => (
       [[word], ["try", "caught", word]].every((words) => isVariable([...words, ...operands], words.length + place) === letters.includes(use))));
-    check(areVariables(all.map((use, place) => `${use}${place}`), "xvohwmsrbinp"), `the variables of ${word}`);
-    check(areVariables(all.map((use, place) => ("inp".includes(use) ? place : use)), "xvohwmsrb"), `the variables of ${word} beside numbers`);
+    check(areVariables(all.map((use, place) => `${use}${place}`), "xvohwmsrbinpq"), `the variables of ${word}`);
+    check(areVariables(all.map((use, place) => ("inpq".includes(use) ? place : use)), "xvohwmsrb"), `the variables of ${word} beside numbers`);
     check(assigns([word, "name"], "name") === uses.startsWith("x"), `whether ${word} assigns`);
   }
 }

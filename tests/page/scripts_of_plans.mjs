@@ -12,7 +12,10 @@ const amount = (given) => (typeof given === "string" ? v(given) : given);
 /** The methods of Atomics by their commands. */
 const ATOMICS = {
   load: "load", store: "store", add: "add", sub: "sub", and: "and", or: "or", xor: "xor", exchange: "exchange", compareexchange: "compareExchange",
+  wait: "wait", notify: "notify",
 };
+/** Those that take a view of signed words alone. */
+const SIGNED = new Set(["wait", "notify"]);
 
 /** What makes a thing, and the class of which it is one. */
 const CLASSES = { weakmap: "WeakMap", weakset: "WeakSet" };
@@ -23,12 +26,13 @@ const CLASSES = { weakmap: "WeakMap", weakset: "WeakSet" };
     - A plan's objects have no prototype. Where it uses what an object of JavaScript inherits, its objects must not have one either.
     - Keys are written as the report writes them. */
 function formsOf(words, keys) {
-  const view = (b) => (words.has("buffer") ? `new Uint32Array(${v(b)})` : v(b));
+  const view = (b, name = "Uint32Array") => (words.has("buffer") ? `new ${name}(${v(b)})` : v(b));
   const method = (maker, name) => (o, ...operands) => (
     words.has(maker) ? `${v(o)}.${name}(${all(operands)})` : `${CLASSES[maker]}.prototype.${name}.call(${all([o, ...operands])})`);
   const object = keys.some((key) => key in {}) ? "Object.create(null)" : "{}";
   const atomics = Object.entries(ATOMICS).map(([word, name]) => {
-    const write = (b, ...numbers) => `Atomics.${name}(${[view(b), ...numbers.map(amount)].join(", ")})`;
+    const type = SIGNED.has(word) ? "Int32Array" : "Uint32Array";
+    const write = (b, ...numbers) => `Atomics.${name}(${[view(b, type), ...numbers.map(amount)].join(", ")})`;
     return [word, word === "store" ? write : gives(write)];
   });
   return {

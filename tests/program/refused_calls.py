@@ -30,8 +30,8 @@ from refusing import Refusing
 
 ROWS = os.path.join(TOP, "tests", "rows")
 REFUSE = os.path.join(TOP, "tests", "program", "refuse.c")
-CALLS = "Perform Collect BeginLater FinishLater Admit Receive AnswerWord AnswerDone Skip".split()
-CALLS += "OpenBlock Post PostBuffer AwaitMessage Access".split()  # of the ledger
+CALLS = "Perform Collect BeginLater FinishLater Admit Receive AnswerWord AnswerWait AnswerDone Skip".split()
+CALLS += "OpenBlock Post PostBuffer AwaitMessage Access WaitAt Notify".split()  # of the ledger
 PADS = 10  # so many rows are made of one of calls.txt
 ROUNDS = 80  # so many turns each agent has after those of a row
 AROUND = 5  # so many growths before the first turn are refused too; those of the words differ by no more

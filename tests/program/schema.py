@@ -50,6 +50,8 @@ LETTERS = {
     "assigned": "X", "read": "YZOWMSRHTBD", "key": "K", "literal": "L", "text": ("TEXT",), "callback": "C",
     "other_agent": "A", "number": "NIP", "words": "N",
 }
+# The definitions with two lists of operands each.
+BY_COUNT = {"register": "register_form", "notify": "count_form"}
 SOME_OPERAND = {
     "name": "x", "literal": None, "text": "t", "callback": "c", "agent": "b", "amount": -1, "words": 1,
 }
@@ -151,8 +153,8 @@ def table():
     found = {}
     for word, takes in [*re.findall(r'codes "(\w+)"\) then (.*)', text), *((word, "modify_form v") for word in modified)]:
         lines = [takes]
-        if takes.startswith("register_form"):
-            lines = re.findall(r"(?:then|else) (takes .*)", text.split("register_form n =")[1].split("\n\n")[0])
+        if word in BY_COUNT:
+            lines = re.findall(r"(?:then|else) (takes .*)", text.split(f"{BY_COUNT[word]} n =")[1].split("\n\n")[0])
         elif form := re.match(r"(\w+_form) v", takes):
             lines = re.findall(rf"^{form[1]} (?:Three|v)(?: how)? = (takes.*)", text, re.M)[:1]
         for line in lines:

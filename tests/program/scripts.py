@@ -1,7 +1,7 @@
 #!/usr/bin/env python3
 """Scripts of agents and what they report, worked out by hand from the rules: the rows of tests/rows/scripts. The program runs
-each in threads, by turns, and in threads beside a watcher; those in clusters.txt a hundred times in threads, those in
-later.txt ten times, and with eight helpers besides.
+each in threads, by turns, and in threads beside a watcher; those in clusters.txt and waiting.txt a hundred times in threads,
+those in later.txt ten times, and with eight helpers besides.
 
 Usage: scripts.py PROGRAM. Prints each run that ends otherwise, and `N passed, M failed` last.
 
@@ -19,7 +19,7 @@ import subprocess
 import sys
 
 TOP = os.path.dirname(os.path.dirname(os.path.dirname(os.path.abspath(__file__))))
-TIMES_IN_THREADS = {"clusters.txt": 100, "later.txt": 10}
+TIMES_IN_THREADS = {"clusters.txt": 100, "later.txt": 10, "waiting.txt": 100}
 HELPED = ["later.txt"]
 # Of these the operand with this number is a literal. Of the others each whole number is a number.
 LITERAL_AT = {"let": 2, "symbolfor": 2}

@@ -231,7 +231,6 @@ def drawn(plans, seed):
 
 
 def main():
-    rules.AHEAD.clear()
     count, seen = running.Count(), drawn(int(sys.argv[1]), int(sys.argv[2]))
     for kind in [*KINDS, *sorted(set(seen) - set(KINDS))]:
         print(f"{seen[kind]:8} {kind}")

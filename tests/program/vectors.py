@@ -1,9 +1,8 @@
 #!/usr/bin/env python3
-"""What version 3 of the format says of plans, by rules.py: the rows of vectors.jsonl, which were worked out by hand, each a
-plan with its report, or with the fault that it is refused with; and what the program says of those whose words it knows. And
-a plan of version 1 or 2 without a fault keeps its report where its number is made 3, by both: those of scripts/, whose
-reports were worked out by hand, the examples, and random plans. And random plans of version 3 say the same event by event, by
-players.py and by trace_model.py.
+"""What version 3 of the format says of plans, by rules.py and by the program: the rows of vectors.jsonl, which were worked out
+by hand, each a plan with its report, or with the fault that it is refused with. And a plan of version 1 or 2 without a fault
+keeps its report where its number is made 3, by both: those of scripts/, whose reports were worked out by hand, the examples,
+and random plans. And random plans of version 3 say the same event by event, by players.py and by trace_model.py.
 
 Usage: vectors.py PROGRAM COUNT SEED. Prints each plan that is answered otherwise, and `N passed, M failed` last.
 """
@@ -36,22 +35,13 @@ def by_program(data):
     return running.unwarned(running.answer([sys.argv[1], "run", "--turns"], data))
 
 
-def is_known(plan, ahead):
-    """Whether the program knows each word of a plan."""
-    return not any(third_plans.is_ahead(step, ahead) for run in third_plans.runs_of(plan) for step in run)
-
-
-def of_rows(count, ahead):
-    known = 0
+def of_rows(count):
     with open(os.path.join(ROWS, "vectors.jsonl"), encoding="ascii") as rows:
         for row in map(json.loads, rows):
             refused, data = row.get("refused"), json.dumps(row["plan"]).encode()
             want = (1, "", f"{refused}\n") if refused else (0, row["report"], "")
             count.expect(row["name"], rules.answer(data), want)
-            if is_known(row["plan"], ahead):
-                known += 1
-                count.expect(f"{row['name']} by the program", by_program(data), want)
-    print(f"the program knows the words of {known} rows")
+            count.expect(f"{row['name']} by the program", by_program(data), want)
 
 
 def made_three(data):
@@ -124,9 +114,8 @@ def traced(plan):
 
 
 def main():
-    count, ahead, plans, seed = running.Count(), [*rules.AHEAD], int(sys.argv[2]), int(sys.argv[3])
-    rules.AHEAD.clear()
-    of_rows(count, ahead)
+    count, plans, seed = running.Count(), int(sys.argv[2]), int(sys.argv[3])
+    of_rows(count)
     of_scripts(count)
     of_examples(count)
     of_random(count, plans, seed)

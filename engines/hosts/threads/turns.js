@@ -1,5 +1,6 @@
 // The main thread's part of each host with threads: it gives the turns, by words on which agents wait, lets an agent go on
-// that waits for a message in vain, and counts messages.
+// that waits for a message in vain, and counts messages. A plan whose agents sleep and wake each other is not for it: who
+// sleeps in its turn would keep all turns.
 "use strict";
 globalThis.turnsOf = function ({ how, words, seed }) {
   const { COMMAND, DOES, ENDED, FAILED, JOB, POSTED, RUNNING, TAKEN, WAITING, WAITS_FOR, ofPort, own } = ThreadWords;
@@ -57,5 +58,11 @@ globalThis.turnsOf = function ({ how, words, seed }) {
     return told.filter(([, posted, came]) => posted !== came)
       .map(([name, posted, came]) => `messages of ${name}: posted ${posted}, came ${came}`);
   }
-  return { byTurns, unlock, accounts };
+  // Why a plan is left out, if it is.
+  function lacking(agents) {
+    const runs = agents.flatMap(({ jobs, callbacks }) => [...jobs.map(({ run }) => run), ...Object.values(callbacks)]);
+    const sleeps = runs.flat().some((c) => (c[0] === "try" ? c[2] : c[0]) === "wait");
+    return agents.length > 1 && sleeps ? "agents that take turns can't sleep" : undefined;
+  }
+  return { byTurns, unlock, accounts, lacking };
 };

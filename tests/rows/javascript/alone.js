@@ -69,3 +69,18 @@ Promise.reject(new Error("lost")); new WeakRef(1);
 let o = { n: 1 }; const w = new WeakRef(o); queueMicrotask(() => new WeakSet().add(5)); queueMicrotask(() => { o = null; gc(); console.log(w.deref()?.n); }); setTimeout(() => { gc(); console.log(w.deref()); }, 1); new WeakRef(5);
 /// 1 | Uncaught (in promise) TypeError: WeakRef: invalid target
 const r = new FinalizationRegistry(async (h) => { console.log(h); new WeakRef(h); }); r.register({}, 1); await turn(); gc();
+/// b woke 1 0 | a waits ok | a sees 7 | again not-equal | alone timed-out
+agent("a", async () => { const b = new SharedArrayBuffer(8), v = new Int32Array(b); postMessage(b, "b"); console.log("a waits", Atomics.wait(v, 0, 0)); console.log("a sees", Atomics.load(v, 1)); console.log("again", Atomics.wait(v, 0, 0)); console.log("alone", Atomics.wait(v, 0, 1)); });
+agent("b", async () => { const v = new Int32Array(await message("a")); Atomics.store(v, 1, 7); Atomics.store(v, 0, 1); console.log("b woke", Atomics.notify(v, 0), Atomics.notify(v, 0, 1)); });
+/// timed-out | woke 1 | ok
+agent("a", async () => { const v = new Int32Array(new SharedArrayBuffer(4)); postMessage(v, "b"); console.log(Atomics.wait(v, 0, 0)); console.log("woke", Atomics.notify(v, 0)); });
+agent("b", async () => { const v = new Int32Array(await message("a")); console.log(Atomics.wait(v, 0, 0)); });
+/// w wakes 1 | ok | w wakes 1 | ok | w wakes 1 | callback 5 ok | RangeError | w wakes 1 | then ok
+const v = new Int32Array(new SharedArrayBuffer(16)); agent("w", async () => { const all = new Int32Array(await message("main")); for (const i of [0, 1, 2, 3]) { console.log("w wakes", Atomics.notify(all, i, 1)); await turn(); } });
+postMessage(v, "w"); function* two() { yield Atomics.wait(v, 0, 0); yield Atomics.wait(v, 1, 0, 1000); } for (const one of two()) console.log(one);
+const r = new FinalizationRegistry((held) => console.log("callback", held, Atomics.wait(v, 2, 0))); r.register({}, 5); await turn(); gc(); await turn();
+Promise.resolve().then(() => console.log("then", Atomics.wait(v, 3, 0))); try { Atomics.wait(v, 9, 0); } catch (e) { console.log(e.name); }
+/// begins | goes on ok | ok 2
+agent("a", async () => { const v = new Int32Array(new SharedArrayBuffer(8)); postMessage(v, "b"); const f = async () => { console.log("begins"); return Atomics.wait(v, 1, 0); }; console.log("goes on", await f());
+async function* two() { yield Atomics.wait(v, 0, 0); yield 2; } const all = []; for await (const x of two()) all.push(x); console.log(...all); });
+agent("b", async () => { const v = new Int32Array(await message("a")); Atomics.notify(v, 1); await turn(); Atomics.notify(v, 0); });

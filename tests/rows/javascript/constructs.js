@@ -471,6 +471,16 @@ for (const [name, count] of Object.entries(calls)) {
 }
 let gone = new Int32Array(new SharedArrayBuffer(4)); const ref = new WeakRef(gone.buffer); await turn();
 console.log(Atomics.exchange(gone, { valueOf() { gone = null; gc(); return 0; } }, { valueOf() { gc(); return 7; } })); await turn(); gc(); console.log(ref.deref(), typeof gone);
+/// what Atomics.wait and notify ask for, in order, and what they give an agent alone
+const told = [], give = (name, value) => ({ valueOf() { told.push(name); return value; } }), s = new Int32Array(new SharedArrayBuffer(12), 4, 2);
+const tried = (act) => { try { console.log(act()); } catch (e) { console.log(String(e)); } console.log(told.splice(0)); };
+for (const none of [new Uint32Array(s.buffer), {}, [1], 5, "a", null, undefined]) { tried(() => Atomics.wait(none, give("index", 0), 0, 1)); tried(() => Atomics.notify(none, give("index", 0))); }
+for (const index of [-1, 2, Infinity, Symbol("s"), give("index", 9)]) { tried(() => Atomics.wait(s, index, give("value", 0), 1)); tried(() => Atomics.notify(s, index, give("count", 0))); }
+s[0] = -1;
+for (const [value, time] of [[give("value", -1), give("time", 1)], [2 ** 32 - 1, "1"], [0, -1], [Symbol("s"), 1], [-1, Symbol("s")], ["-1", 0.5], [-1.5, 1], [undefined, 0]]) tried(() => Atomics.wait(s, give("index", 0), value, time));
+for (const count of [give("count", 1), -5, Infinity, -Infinity, undefined, "2", NaN, Symbol("s")]) tried(() => Atomics.notify(s, 0, count));
+let gone = new Int32Array(new SharedArrayBuffer(4)); const ref = new WeakRef(gone.buffer); await turn();
+console.log(Atomics.wait(gone, 0, 0, { valueOf() { gone = null; gc(); return 1; } })); await turn(); gc(); console.log(ref.deref(), typeof gone);
 /// a lock of two agents, and a place that one of them takes from
 const LOCK = 0, PLACE = 1; const go = async (me, v) => { for (let i = 0; i < 3; i++) { const had = Atomics.compareExchange(v, LOCK, 0, me); if (had === 0) { console.log(me, "has it, and takes", Atomics.exchange(v, PLACE, me * 10 + i)); if (i > 0) Atomics.store(v, LOCK, 0); } else console.log(me, "waits for", had); await null; } };
 agent("a", async () => { const b = new SharedArrayBuffer(8), v = new Int32Array(b); postMessage(b, "b"); Atomics.compareExchange(v, LOCK, 0, 9); await message("b"); console.log("a lets go", Atomics.xor(v, LOCK, 9)); postMessage(1, "b"); await message("b"); await go(1, v); console.log("bits", Atomics.or(v, PLACE, 128), Atomics.and(v, PLACE, ~3), v[PLACE]); });

@@ -42,8 +42,10 @@ new SharedArrayBuffer(6);
 new SharedArrayBuffer(4 * 16385);
 /// plans load, store and change words | Atomics.isLockFree(4)
 Atomics.isLockFree(4);
-/// plans load, store and change words | Atomics.wait(v, 0, 1)
-const v = new Int32Array(new SharedArrayBuffer(4)); Atomics.wait(v, 0, 1);
+/// plans load, store and change words, and sleep at them | Atomics.waitAsync(v, 0, 1)
+const v = new Int32Array(new SharedArrayBuffer(4)); Atomics.waitAsync(v, 0, 1);
+/// a plan's wait lasts until no other agent goes on | Atomics.wait(v, 0, 0, -1)
+const v = new Int32Array(new SharedArrayBuffer(4)); Atomics.wait(v, 0, 1, 0); Atomics.wait(v, 0, 0, -1);
 /// it is its buffer | new WeakRef(v)
 const v = new Uint32Array(new SharedArrayBuffer(4)); new WeakRef(v);
 /// in jobs alone | gc()
