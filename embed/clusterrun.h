@@ -132,7 +132,7 @@ static inline void clusterrun_release(struct clusterrun_answer *answer)
 enum {
     /* The agent has one event more: it began or ended a job, received a message, did a command, or the like. */
     CLUSTERRUN_MOVED = 0,
-    /* It waits on for a message. Nothing happens before another agent has moved. */
+    /* It waits on for a message, or sleeps at a word. Nothing happens before another agent has moved. */
     CLUSTERRUN_WAITS = 1,
     /* It has ended. */
     CLUSTERRUN_ENDED = 2,
