@@ -156,6 +156,10 @@ export type LedgerLine =
   | { ledger: "added"; ticket: number; index: number; old: number; addend: number }
   | { ledger: "waiting"; agent: string; sender: string }
   | { ledger: "passed"; agent: string; sender: string }
+  | { ledger: "slept"; agent: string; ticket: number; index: number; word: number }
+  | { ledger: "notified"; ticket: number; index: number; woken: number }
+  | { ledger: "woke"; agent: string }
+  | { ledger: "timed out"; agent: string }
   | { ledger: "ended"; agent: string }
   | { ledger: "drained"; sender: string; receiver: string }
   | { ledger: "released"; block: number };

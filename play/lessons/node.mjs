@@ -24,6 +24,17 @@ const isShared = (value) => value instanceof SharedArrayBuffer;
 
 const self = () => current.getStore() ?? "main";
 
+/** The most milliseconds of a sleep: in one thread nobody can wake who sleeps. */
+const BRIEF = 1;
+const { wait } = Atomics;
+const briefly = (time) => ({
+  valueOf() {
+    const given = Number(time);
+    return given <= BRIEF ? given : BRIEF;
+  },
+});
+Atomics.wait = (words, index, value, time) => wait(words, index, value, briefly(time));
+
 /** One value as clusterrun shows it, but for the numbers of objects. */
 function shown(value, isInner = false) {
   if (typeof value === "string") return isInner ? `'${value}'` : value;

@@ -1,5 +1,5 @@
-// Which lines of a script every engine has to print, and which ones hang on what an engine may choose: when it collects, and
-// when it calls the callbacks of a FinalizationRegistry. docs/PAGE.md has the criterion.
+// Which lines of a script every engine has to print, and which ones hang on what an engine may choose: when it collects, when it
+// calls the callbacks of a FinalizationRegistry, and when an agent sleeps and wakes. docs/PAGE.md has the criterion.
 
 import { givesWord } from "../script/commands.mjs";
 import { placed } from "../script/lines.mjs";
@@ -14,6 +14,7 @@ const REASONS = {
   deref: "An engine may collect sooner or later, or never.",
   unread: (name) => `Nothing that runs later reads ${name ? `what '${name}' holds` : "the variables that lead to it"}, so an engine may let go of it.`,
   timer: "A timer may come later than its time.",
+  sleep: "Another agent may come sooner or later, or a time-out may pass before.",
   after: (why) => `What came before may be otherwise in another engine. ${why}`,
 };
 
@@ -111,9 +112,11 @@ class Agent {
     for (const [name, reason] of effects.names) this.effects.nameIsChosen(name, reason);
   }
 
-  /** Why an engine may choose what a command asks for: it was emptied, or may be at any time. Null where it may not. */
+  /** Why an engine may choose what a command asks for: it was emptied, or may be at any time; or it hangs on which agent comes
+      first. Null where it may not. */
   chooses({ event, command, values }) {
     if (event !== "did") return null;
+    if (command[0] === "wait" || command[0] === "notify") return REASONS.sleep;
     if (command[0] === "deref") return this.asks(this.heap.things.get(identityOf(values[0])).target);
     if (command[0] !== "unregister") return null;
     const [registry, token] = values.map(identityOf);

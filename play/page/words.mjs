@@ -61,6 +61,10 @@ const LEDGER = {
   added: ({ index, ticket, old, addend }) => [`word ${index} added to by ticket ${ticket}`, `${old} + ${addend}`],
   waiting: ({ agent, sender }) => [`${agent} waits for ${sender}`],
   passed: ({ agent, sender }) => [`${agent} waits no more for ${sender}`],
+  slept: ({ agent, ticket, index, word: there }) => [`${agent} sleeps at word ${index} by ticket ${ticket}`, String(there)],
+  notified: ({ ticket, index, woken }) => [`word ${index} notified by ticket ${ticket}`, String(woken)],
+  woke: ({ agent }) => [`${agent} wakes`, '"ok"'],
+  "timed out": ({ agent }) => [`${agent} wakes`, '"timed-out"'],
   ended: ({ agent }) => [`${agent} ended`],
   released: ({ block }) => [`block ${block} released`],
 };

@@ -3,8 +3,8 @@
 /** Up to which place a command's words are variables, where not all are; and the one place that is none. */
 const UP_TO = { let: 1, symbolfor: 1, registry: 1, buffer: 1 };
 const NOT = { set: 2, get: 3, delete: 3, post: 1 };
-/** The commands that give a word of a block. */
-const GIVING_WORDS = new Set(["load", "add", "sub", "and", "or", "xor", "exchange", "compareexchange"]);
+/** The commands that give a word of a block, or what hangs on one. */
+const GIVING_WORDS = new Set(["load", "add", "sub", "and", "or", "xor", "exchange", "compareexchange", "wait", "notify"]);
 const ASSIGNING = new Set([
   "let", "new", "symbol", "symbolfor", "copy", "same", "get", "delete", "weakref", "deref", "weakmap", "wmget", "wmhas", "wmdelete",
   "weakset", "wshas", "wsdelete", "registry", "unregister", "buffer", "length", "sameblock", "try", ...GIVING_WORDS,
@@ -17,7 +17,7 @@ export function isVariable(command, place) {
   return place >= 1 && place <= (UP_TO[command[0]] ?? command.length) && NOT[command[0]] !== place && typeof command[place] === "string";
 }
 
-/** Whether a command gives a word of a block, which another agent may have written. */
+/** Whether a command gives a word of a block, which another agent may have written, or what another agent did at one. */
 export const givesWord = ([word]) => GIVING_WORDS.has(word);
 
 /** Whether a command assigns a variable, which is its first operand. */

@@ -1,5 +1,5 @@
 // What runs of a script without a break, as one stack of calls. A call of the script's is no call of the interpreter's own: so a
-// script may call as deeply as engines let it.
+// script may call as deeply as engines let it. And an agent may fall asleep in the midst of it, until its turn comes again.
 
 import { broken } from "./faults.mjs";
 
@@ -54,9 +54,29 @@ export class Coroutine {
   }
 }
 
-/** Runs a body that waits for nothing. */
-export function runWhole(body) {
-  const { done, value } = new Coroutine(body).next();
+/** What is given, through all that runs, where an agent sleeps. */
+export const ASLEEP = { isAsleep: true };
+
+/** Lets a coroutine go on up to its end, or to where something is waited for. Where the agent sleeps, all that runs waits with it. */
+export function* goingOn(coroutine, input) {
+  let step = coroutine.next(input);
+  while (!step.done && step.value === ASLEEP) {
+    yield ASLEEP;
+    step = coroutine.next();
+  }
+  return step;
+}
+
+/** Runs a body that waits for nothing, but may sleep. */
+export function* running(body) {
+  const { done, value } = yield* goingOn(new Coroutine(body));
   if (!done) throw broken("something waits that must not");
+  return value;
+}
+
+/** Runs a body that waits for nothing, and does not sleep. */
+export function runWhole(body) {
+  const { done, value } = running(body).next();
+  if (!done) throw broken("something sleeps that must not");
   return value;
 }

@@ -3,7 +3,7 @@
 import { awaited, newPromise, proceed, promiseOf, reject, resolve } from "./promises.mjs";
 import { call, evaluate, evaluators, needing, raise } from "./core.mjs";
 import { Held, thrownOf } from "./bindings.mjs";
-import { Coroutine, runWhole } from "./coroutines.mjs";
+import { Coroutine, goingOn } from "./coroutines.mjs";
 import { Returned } from "./faults.mjs";
 import { bindParameters, leave, newInstance, runBody } from "./functions.mjs";
 import { closing, iterate } from "./iteration.mjs";
@@ -46,7 +46,7 @@ function keep(cx, node, value) {
 }
 
 /** Lets a generator go on: `how` is next, throw or return. */
-function resume(cx, node, generator, how, value) {
+function* resume(cx, node, generator, how, value) {
   if (generator.state === "running") raise(cx, node, "TypeError", "Generator is already running");
   if (generator.state === "new" && how !== "next") finish(cx, generator);
   if (generator.state === "done") {
@@ -56,7 +56,7 @@ function resume(cx, node, generator, how, value) {
   generator.state = "running";
   generator.inner.caller = cx;
   try {
-    const step = generator.coroutine.next({ how, value });
+    const step = yield* goingOn(generator.coroutine, { how, value });
     generator.state = step.done ? "done" : "waiting";
     const given = keep(cx, node, step.done ? step.value : step.value.yielded);
     if (step.done) cx.writer.needNoMore(given, cx.temporaries);
@@ -101,10 +101,10 @@ function* delegating(node, cx) {
     for, and then what stands for its step. */
 function* answered(node, cx, generator, { how, value }) {
   if (generator.kind === "asyncGenerator") {
-    const step = yield* awaited(cx, node, request(cx, node, generator, how, value));
+    const step = yield* awaited(cx, node, yield* request(cx, node, generator, how, value));
     return { value: yield* getProperty(cx, node, step, "value"), done: yield* getProperty(cx, node, step, "done") };
   }
-  const step = resume(cx, node, generator, how, value);
+  const step = yield* resume(cx, node, generator, how, value);
   return cx.callee.node.async ? { ...step, value: yield* awaited(cx, node, yield* awaited(cx, node, step.value)) } : step;
 }
 
@@ -124,39 +124,45 @@ evaluators.YieldExpression = yielding;
 // Generators that wait
 
 /** Each request of an async generator has a promise; they are answered one after the other. */
-function request(cx, node, generator, how, value) {
+function* request(cx, node, generator, how, value) {
   const promise = newPromise(cx.agent);
   generator.requests.push({ promise, how, value, node });
-  if (generator.requests.length === 1) answerNext(cx, generator);
+  if (generator.requests.length === 1) yield* answerNext(cx, generator);
   return promise;
 }
 
-function answerNext(cx, generator) {
+function* answerNext(cx, generator) {
   const { promise, how, value, node } = generator.requests[0];
-  const done = (inner, act) => {
+  const next = function* (inner) { if (generator.requests.length > 0) yield* answerNext(inner, generator); };
+  const give = function* (inner, found, isDone) {
     generator.requests.shift();
-    act(inner);
-    if (generator.requests.length > 0) answerNext(inner, generator);
+    yield* resolve(inner, node, promise, inner.agent.realm.stepResult(inner, node, found, isDone));
+    yield* next(inner);
   };
-  const give = (inner, found, isDone) => done(inner, () => {
-    runWhole(resolve(inner, node, promise, inner.agent.realm.stepResult(inner, node, found, isDone)));
-  });
+  const refuse = function* (inner, error) {
+    generator.requests.shift();
+    reject(inner, node, promise, error);
+    yield* next(inner);
+  };
   if (generator.state === "new" && how !== "next") finish(cx, generator);
   if (generator.state === "done") {
-    if (how === "throw") done(cx, () => reject(cx, node, promise, value));
-    else give(cx, how === "return" ? value : undefined, true);
+    if (how === "throw") yield* refuse(cx, value);
+    else yield* give(cx, how === "return" ? value : undefined, true);
     return;
   }
   generator.state = "waiting";
-  proceed(cx, generator.coroutine, {
+  yield* proceed(cx, generator.coroutine, {
     resume: { how, value },
-    yielded: (inner, found) => give(inner, found, false),
-    ended: (found, inner) => {
+    *yielded(inner, found) { yield* give(inner, found, false); },
+    *ended(found, inner) {
       generator.state = "done";
-      give(inner, found, true);
+      yield* give(inner, found, true);
       inner.writer.needNoMore(found, inner.temporaries);
     },
-    failed: (thrown, inner) => { generator.state = "done"; done(inner, () => reject(inner, node, promise, thrown.value)); },
+    *failed(thrown, inner) {
+      generator.state = "done";
+      yield* refuse(inner, thrown.value);
+    },
   });
 }
 
@@ -183,13 +189,13 @@ function* iterateAsync(cx, node, source, visit) {
 export function installGenerators(realm) {
   const { generator, asyncGenerator } = realm.protos;
   const method = (how) => function* (cx, node, self, [value]) {
-    const step = resume(cx, node, self, how, value);
+    const step = yield* resume(cx, node, self, how, value);
     return realm.stepResult(cx, node, step.value, step.done);
   };
   const itself = function* (cx, node, self) { return self; };
   realm.methods(generator, { next: method("next"), return: method("return"), throw: method("throw"), itself });
   realm.iterates(generator, "itself");
-  const waiting = (how) => function* (cx, node, self, [value]) { return request(cx, node, self, how, value); };
+  const waiting = (how) => function* (cx, node, self, [value]) { return yield* request(cx, node, self, how, value); };
   realm.methods(asyncGenerator, { next: waiting("next"), return: waiting("return"), throw: waiting("throw"), itself });
   asyncGenerator.properties.set(KNOWN.asyncIterator, asyncGenerator.properties.get("itself"));
   Object.assign(realm, { iterateAsync, beginGenerator, resumeGenerator: resume });

@@ -59,20 +59,20 @@ export function partOf(cx, node, source, key, entry, part) {
 /** How an iterator of the language goes on, without an object for each step; null of other iterators. */
 function ownSteps(cx, node, iterator) {
   if (iterator?.properties?.has("next")) return null;
-  if (iterator?.step) return { next: () => iterator.step(cx), close: null };
+  if (iterator?.step) return { *next() { return iterator.step(cx); }, close: null };
   if (iterator?.kind !== "generator") return null;
   return {
-    next: () => {
-      const { value, done } = cx.agent.realm.resumeGenerator(cx, node, iterator, "next", undefined);
+    *next() {
+      const { value, done } = yield* cx.agent.realm.resumeGenerator(cx, node, iterator, "next", undefined);
       return done ? undefined : { value };
     },
-    *close() { cx.agent.realm.resumeGenerator(cx, node, iterator, "return", undefined); },
+    *close() { yield* cx.agent.realm.resumeGenerator(cx, node, iterator, "return", undefined); },
   };
 }
 
 function* eachStep(cx, node, iterator, { next, close }, visit) {
   yield* needing(cx, iterator, function* () {
-    for (let step = next(); step !== undefined; step = next()) {
+    for (let step = yield* next(); step !== undefined; step = yield* next()) {
       if (yield* close ? closing(cx, visit, step.value, close) : visit(step.value)) return;
     }
   });

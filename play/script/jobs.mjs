@@ -4,7 +4,7 @@
 import { Context } from "./core.mjs";
 import { Held } from "./bindings.mjs";
 import { Run } from "./commands.mjs";
-import { Coroutine, runWhole } from "./coroutines.mjs";
+import { Coroutine, running } from "./coroutines.mjs";
 import { Again, ScriptFault, Thrown } from "./faults.mjs";
 import { nameLike } from "./keys.mjs";
 import { proceed } from "./promises.mjs";
@@ -29,6 +29,10 @@ export class Agent {
   now = 0;
   hasEnded = false;
   isCleaning = false;
+  /** Where it sleeps: at a word of a block, until it is told how that ended (`answer`). */
+  sleep = null;
+  /** What is left of the move in which it fell asleep. */
+  #rest = null;
   #order = 0;
   /** What was set last before the job began. */
   #begun = 0;
@@ -100,8 +104,13 @@ export class Agent {
 
   // Jobs
 
-  /** Makes one move: a whole job, a skip, or the end. */
+  /** Makes one move: a whole job, a skip, the end, or the rest of a job after a sleep. Where the agent falls asleep its move ends. */
   move() {
+    this.#rest ??= this.#moves();
+    if (this.#rest.next().done) this.#rest = null;
+  }
+
+  *#moves() {
     const task = this.next();
     if (task === null) {
       this.hasEnded = true;
@@ -117,7 +126,7 @@ export class Agent {
     this.#begun = this.#order;
     if (task.sender) job.on = [task.sender, null];
     if (task.sender && this.world.port(task.sender, this.name).length === 0) this.#skip(task, job);
-    else this.#run(task, job);
+    else yield* this.#run(task, job);
   }
 
   #skip({ node }, job) {
@@ -126,7 +135,7 @@ export class Agent {
     job.node = node;
   }
 
-  #run(task, job) {
+  *#run(task, job) {
     const { writer } = this;
     writer.beginJob(job.run);
     const cx = new Context(this, null);
@@ -134,19 +143,19 @@ export class Agent {
       const message = this.world.port(task.sender, this.name).shift();
       job.on[1] = writer.receive(job, this.world.received(this, message), cx.temporaries);
       task.received(cx, writer.machine.value(job.on[1]));
-    } else this.attempt(task.node, cx, task.act);
-    this.#drain();
+    } else yield* this.attempt(task.node, cx, task.act);
+    yield* this.#drain();
     this.#settle();
     writer.endTemporaries(task.node, cx.temporaries);
     this.#sayRejected(cx);
     writer.machine.endJob();
-    this.#clean();
+    yield* this.#clean();
   }
 
   /** Does something of the host's. What it throws nobody catches. */
-  attempt(node, cx, act) {
+  *attempt(node, cx, act) {
     try {
-      runWhole(act(cx));
+      yield* running(act(cx));
     } catch (error) {
       if (!(error instanceof Thrown)) throw error;
       this.uncaught(cx, error);
@@ -155,9 +164,9 @@ export class Agent {
   }
 
   /** Runs a body as a coroutine, whose errors nobody catches. */
-  begin(cx, body, scope) {
-    const inner = new Context(this, scope);
-    proceed(cx, new Coroutine(body(inner)), { ended: () => undefined, failed: (thrown) => this.uncaught(inner, thrown) });
+  *begin(cx, body, scope) {
+    const inner = new Context(this, scope), { agent } = inner;
+    yield* proceed(cx, new Coroutine(body(inner)), { *ended() {}, *failed(thrown) { agent.uncaught(inner, thrown); } });
   }
 
   uncaught(cx, thrown) {
@@ -181,11 +190,11 @@ export class Agent {
     this.rejected.clear();
   }
 
-  #drain() {
+  *#drain() {
     while (this.microtasks.length > 0) {
       const { node, act, carried, held } = this.microtasks.shift();
       const cx = Object.assign(new Context(this, null), { guards: 1, temporaries: carried });
-      this.attempt(node, cx, act);
+      yield* this.attempt(node, cx, act);
       for (const one of held) one.end(node, this.writer);
     }
   }
@@ -214,13 +223,13 @@ export class Agent {
     return more;
   }
 
-  #clean() {
+  *#clean() {
     const { machine } = this.writer;
     this.isCleaning = this.writer.uses.isCleaning = true;
     while (machine.queue.length > 0) {
       const registry = machine.queue.shift();
       for (let cell = machine.due(registry), goesOn = true; cell && goesOn; cell = machine.due(registry)) {
-        goesOn = this.#call(registry, cell);
+        goesOn = yield* this.#call(registry, cell);
       }
       machine.keptAlive.clear();
       if (machine.due(registry)) machine.queue.push(registry);
@@ -229,7 +238,7 @@ export class Agent {
   }
 
   /** Calls a callback. Its commands are the same at each call, or each registration gets a registry of its own. */
-  #call(registry, cell) {
+  *#call(registry, cell) {
     const { writer } = this;
     writer.machine.take(cell);
     const run = new Run();
@@ -237,8 +246,8 @@ export class Agent {
     const cx = new Context(this, null);
     const place = registry.node;
     if (!hasIdentity(cell.held)) writer.tell(cell.held, "held");
-    this.attempt(place, cx, (inner) => this.realm.invoke(inner, place, registry.callback, undefined, [cell.held]));
-    this.#drain();
+    yield* this.attempt(place, cx, (inner) => this.realm.invoke(inner, place, registry.callback, undefined, [cell.held]));
+    yield* this.#drain();
     this.#sayRejected(cx);
     if (!writer.hasRefused) writer.clear(place, "held", { temporary: true });
     const { hasRefused } = writer;

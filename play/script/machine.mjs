@@ -210,6 +210,8 @@ const DOES = {
   load: (machine, [, x, b, i]) => machine.assign(x, machine.value(b).block.words[i]),
   store: (machine, [, b, i, n]) => void (machine.value(b).block.words[i] = n),
   ...Object.fromEntries(Object.entries(CHANGES).map(([word, change]) => [word, changing(change)])),
+  wait: (machine, [, x], given) => machine.assign(x, given),
+  notify: (machine, [, x], given) => machine.assign(x, given),
   post: () => undefined,
   try: (machine, [, x], error) => machine.assign(x, error),
   collect: (machine) => machine.empty(new Graph(machine)),

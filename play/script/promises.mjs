@@ -3,7 +3,7 @@
 
 import { call, evaluate, evaluators } from "./core.mjs";
 import { Held, thrownOf } from "./bindings.mjs";
-import { Coroutine } from "./coroutines.mjs";
+import { Coroutine, goingOn } from "./coroutines.mjs";
 import { Thrown } from "./faults.mjs";
 import { bindParameters, leave, runBody } from "./functions.mjs";
 import { getProperty } from "./properties.mjs";
@@ -114,20 +114,20 @@ evaluators.AwaitExpression = function* (node, cx) {
   return yield* awaited(cx, node, yield* evaluate(node.argument, cx));
 };
 
-/** Lets a coroutine go on until it waits again, or ends. `ended` gets its value, `failed` what it threw. */
-export function proceed(cx, coroutine, { resume, ended, failed, yielded }) {
+/** Lets a coroutine go on until it waits again, or ends. `ended` gets its value, `failed` what it threw: all are generators. */
+export function* proceed(cx, coroutine, { resume, ended, failed, yielded }) {
   let step;
   try {
-    step = resume === undefined ? coroutine.next() : coroutine.next(resume);
+    step = yield* goingOn(coroutine, resume);
   } catch (error) {
     if (!(error instanceof Thrown)) throw error;
-    return failed(error, cx);
+    return yield* failed(error, cx);
   }
-  if (step.done) return ended(step.value, cx);
-  if ("yielded" in step.value) return yielded(cx, step.value.yielded);
+  if (step.done) return yield* ended(step.value, cx);
+  if ("yielded" in step.value) return yield* yielded(cx, step.value.yielded);
   const { awaits, node } = step.value;
   const go = (error) => function* (inner, found) {
-    proceed(inner, coroutine, { resume: { found, error, carried: inner.temporaries }, ended, failed, yielded });
+    yield* proceed(inner, coroutine, { resume: { found, error, carried: inner.temporaries }, ended, failed, yielded });
   };
   return subscribe(cx, node, awaits, { fulfilled: go(false), rejected: go(true) });
 }
@@ -141,7 +141,7 @@ function giveOver({ writer, temporaries }, node, promise, held) {
 }
 
 /** A call of an async function: it runs at once up to where it first waits, and gives a promise. */
-function beginAsync(cx, inner, node, callee, values) {
+function* beginAsync(cx, inner, node, callee, values) {
   const promise = newPromise(cx.agent);
   const held = new Held(node, cx.writer, "promise", promise, cx.temporaries);
   const state = { hasEnded: false, isGiven: false };
@@ -160,9 +160,9 @@ function beginAsync(cx, inner, node, callee, values) {
       leave(inner, callee.node, cx.writer);
     }
   })());
-  proceed(cx, coroutine, {
-    ended: finish,
-    failed: (thrown, there) => {
+  yield* proceed(cx, coroutine, {
+    *ended() { finish(); },
+    *failed(thrown, there) {
       reject(there, thrown.node, promise, thrown.value);
       thrown.held?.end(thrown.node, cx.writer);
       finish();
@@ -176,5 +176,5 @@ function beginAsync(cx, inner, node, callee, values) {
 /** Begins a call of an async function or of a generator. */
 export function* begin(cx, inner, node, callee, values) {
   if (callee.node.generator) return yield* cx.agent.realm.beginGenerator(cx, inner, node, callee, values);
-  return beginAsync(cx, inner, node, callee, values);
+  return yield* beginAsync(cx, inner, node, callee, values);
 }

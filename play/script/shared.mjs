@@ -1,7 +1,8 @@
 // SharedArrayBuffer and Atomics. In a plan a view is its buffer, and an index and a number are literals: the script knows them when
-// it gets there.
+// it gets there. So it does of a sleep how it ended: the other agents have had their turns by then.
 
 import { needing, raise } from "./core.mjs";
+import { ASLEEP } from "./coroutines.mjs";
 import { ScriptFault } from "./faults.mjs";
 import { newInstance } from "./functions.mjs";
 import { toNumber } from "./operators.mjs";
@@ -46,13 +47,16 @@ function* indexIn(cx, node, view, given, [command, ...numbers] = ["load"]) {
 /** A value as a whole number, or infinite. */
 export const wholeOf = (value) => Math.trunc(Number(value)) || 0;
 
-/** Values as whole numbers, from left to right. What an object's method does meanwhile may let go of the view. */
+/** A value as a number. What an object's method does meanwhile may let go of the view. */
+function* numberOf(cx, node, view, value) {
+  const convert = () => toNumber(cx, node, value);
+  return yield* isThing(value) ? needing(cx, view, convert) : convert();
+}
+
+/** Values as whole numbers, from left to right. */
 function* wholesOf(cx, node, view, values) {
   const found = [];
-  for (const value of values) {
-    const convert = () => toNumber(cx, node, value);
-    found.push(wholeOf(yield* isThing(value) ? needing(cx, view, convert) : convert()));
-  }
+  for (const value of values) found.push(wholeOf(yield* numberOf(cx, node, view, value)));
   return found;
 }
 
@@ -74,6 +78,46 @@ const changing = (name, word) => function* (cx, node, self, [view, index, first,
   return view.reads(cx.ask(node, [word, cx.operand(node, view), view.from + at, ...numbers]));
 };
 
+/** Where a call waits or wakes: a word of an Int32Array. */
+function* placeOf(cx, node, view, index, command) {
+  const { realm, world } = cx.agent;
+  if (view?.kind !== "view" || !realm.isSigned(view)) raise(cx, node, "TypeError", `${titleOf(view)} is not an int32 or BigInt64 typed array.`);
+  world.needVersion(3);
+  return view.from + (yield* indexIn(cx, node, view, index, command));
+}
+
+/** What V8 calls what is no view of signed words. */
+function titleOf(value) {
+  if (!isThing(value)) return String(value);
+  if (value.kind === "view") return "[object Uint32Array]";
+  return value.kind === "array" ? "[object Array]" : "#<Object>";
+}
+
+/** Sleeps where a word is there, and gives how that ended. A sleep has turns for its time, and no milliseconds. */
+function* wait(cx, node, self, [view, index, value, timeout]) {
+  const place = yield* placeOf(cx, node, view, index, ["wait", unasked(value)]);
+  const [whole] = yield* wholesOf(cx, node, view, [value]);
+  const time = yield* numberOf(cx, node, view, timeout), number = wordOf(whole), { block } = view.stands;
+  const words = ["wait", cx.operand(node, view), place, number];
+  if (block.words[place] !== number >>> 0) return cx.ask(node, words, "not-equal");
+  if (time <= 0) throw new ScriptFault("a plan's wait lasts until no other agent goes on: give it a time above 0, or none", node);
+  const { agent } = cx;
+  agent.world.sleep(agent, block, place);
+  yield ASLEEP;
+  const { answer } = agent.sleep;
+  agent.sleep = null;
+  return cx.ask(node, words, answer);
+}
+
+/** Wakes agents that sleep at a word: all, where it is not said how many at most. */
+function* notify(cx, node, self, [view, index, count]) {
+  const place = yield* placeOf(cx, node, view, index, ["notify"]);
+  const [whole] = count === undefined ? [Infinity] : yield* wholesOf(cx, node, view, [count]);
+  const most = Math.max(whole, 0), counts = Number.isSafeInteger(most) ? [most] : [];
+  const words = ["notify", cx.operand(node, view), place, ...counts];
+  return cx.ask(node, words, cx.agent.world.notify(view.stands.block, place, most));
+}
+
 const atomics = (realm) => ({
   *load(cx, node, self, [view, index]) {
     return realm.load(cx, node, view, yield* indexIn(cx, node, view, index));
@@ -84,6 +128,8 @@ const atomics = (realm) => ({
     return realm.store(cx, node, view, at, whole);
   },
   ...Object.fromEntries(Object.entries(CHANGING).map(([name, word]) => [name, changing(name, word)])),
+  wait,
+  notify,
 });
 
 /** Whether two shared buffers, or views of these, are over the same block: ours, since JavaScript can't ask. */
@@ -97,7 +143,7 @@ function* sameBlock(cx, node, self, [one, other]) {
   return cx.ask(node, ["sameblock", ...both.map((value) => cx.operand(node, value))]);
 }
 
-const MISSING = ["wait", "waitAsync", "notify", "isLockFree"];
+const MISSING = ["waitAsync", "isLockFree"];
 
 export function installShared(realm) {
   realm.constructorOf("SharedArrayBuffer", realm.protos.buffer, function* (cx, node, self, [bytes], newTarget) {
@@ -114,7 +160,7 @@ export function installShared(realm) {
   realm.methods(object, atomics(realm));
   for (const name of MISSING) {
     realm.constant(object, name, realm.native(name, function* (cx, node) {
-      throw new ScriptFault(`Atomics.${name} is not taken: plans load, store and change words`, node);
+      throw new ScriptFault(`Atomics.${name} is not taken: plans load, store and change words, and sleep at them`, node);
     }));
   }
 }

@@ -50,6 +50,7 @@ function installWords(realm) {
     if (index < view.count) cx.do(node, ["store", cx.operand(node, view), view.from + index, wordOf(value)]);
     return value;
   };
+  realm.isSigned = (view) => view.reads === VIEWS.Int32Array;
   /** Another view of some words of a view. */
   realm.part = (view, from, count) => (
     Object.assign(new Thing("view", view.proto), { stands: view.stands, reads: view.reads, from: view.from + from, count }));

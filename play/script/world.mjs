@@ -14,6 +14,7 @@ export class World {
   registered = new Map();
   common = new Common();
   #ports = new Map();
+  #sleeps = 0;
 
   /** `found` is what earlier runs of the same script found out. */
   constructor({ source, program, scopes, found }) {
@@ -21,7 +22,7 @@ export class World {
     const main = this.add("main");
     const { program: node } = this;
     main.schedule(node, 0, function* (cx) {
-      main.begin(cx, function* (inner) {
+      yield* main.begin(cx, function* (inner) {
         inner.scope.begin(node, inner.writer);
         yield* statements(node.body, inner);
       }, new Scope(null, main, scopes.get(node)));
@@ -60,18 +61,33 @@ export class World {
     return Object.assign(new Thing("buffer", agent.realm.protos.buffer), { block: message.block });
   }
 
+  /** An agent goes to sleep at a word of a block, as the last that sleeps there. */
+  sleep(agent, block, index) {
+    agent.sleep = { block, index, order: (this.#sleeps += 1), answer: null };
+  }
+
+  /** Wakes the first that sleep at a word, so many at most. Gives how many they were. */
+  notify(block, index, most) {
+    const sleeping = this.agents.map(({ sleep }) => sleep).filter((sleep) => sleep?.block === block && sleep.index === index && !sleep.answer);
+    const taken = sleeping.sort((one, other) => one.order - other.order).slice(0, most);
+    for (const sleep of taken) sleep.answer = "ok";
+    return taken.length;
+  }
+
   #stays(agent) {
+    if (agent.sleep) return agent.sleep.answer === null;
     const task = agent.next();
     if (!task?.sender || this.port(task.sender, agent.name).length > 0) return false;
     return !this.find(task.sender).hasEnded;
   }
 
-  /** Lets the agents take turns until all have ended. */
+  /** Lets the agents take turns until all have ended. Where all stay, the first skips its job, or its sleep times out. */
   run() {
     for (;;) {
       const going = this.agents.filter(({ hasEnded }) => !hasEnded);
       if (going.length === 0) return;
       const next = going.find((agent) => !this.#stays(agent)) ?? going[0];
+      if (next.sleep) next.sleep.answer ??= "timed-out";
       this.common.enter(next);
       next.move();
     }

@@ -10,10 +10,11 @@ const TABLE = Object.entries({
   registry: "X C", register: "R Y H or R Y H T", unregister: "X R T",
   buffer: "X N", length: "X B", sameblock: "X B D", load: "X B I", store: "B I N", add: "X B I N",
   sub: "X B I N", and: "X B I N", or: "X B I N", xor: "X B I N", exchange: "X B I N", compareexchange: "X B I N P",
+  wait: "X B I N", notify: "X B I or X B I N",
   try: "X COMMAND", post: "A Y", collect: "no operands", collectlater: "no operands",
 });
 /** The version with which a command came, where it is not the first. */
-const SINCE = { collectlater: 2, sub: 3, and: 3, or: 3, xor: 3, exchange: 3, compareexchange: 3, try: 3 };
+const SINCE = { collectlater: 2, sub: 3, and: 3, or: 3, xor: 3, exchange: 3, compareexchange: 3, wait: 3, notify: 3, try: 3 };
 /** The word that stands before a command with the variable that catches its refusal, and is no command by itself. */
 export const TRY = "try";
 /** What an operand with such a letter is; each other letter is a name. From version 3 on a whole number may be a variable's value. */
@@ -28,7 +29,7 @@ export const lettersOf = (word) => TABLE.find(([one]) => one === word)?.[1] ?? "
 function formOf(word, count) {
   const letters = lettersOf(word);
   if (letters === "no operands") return [];
-  // Only register has two forms.
+  // Only register and notify have two forms.
   const forms = letters.split(" or ");
   return (count === 4 ? forms.at(-1) : forms[0]).split(" ");
 }
