@@ -28,5 +28,6 @@ pub mod ExampleRegistryNeighbours
 pub mod ExampleNeighbours
 pub mod ExampleBuffers
 pub mod ExampleNumbers
+mod ExampleWaits
 pub mod ExampleMessages
 pub mod ExampleMessageNeighbours

@@ -7,7 +7,7 @@ pub mod Untouched
 mod After
 pub mod Made
 mod Tallies
-mod Within
+pub mod Within
 pub mod Sums
 pub mod Auditing
 mod InOrder
@@ -24,6 +24,7 @@ pub mod Ending
 pub mod Beginning
 pub mod Leaving
 pub mod Waking
+pub mod Taken
 pub mod Slept
 pub mod Waits
 pub mod Lain

@@ -13,7 +13,7 @@ use Rattle.es_ledger.proofs.Leaving.{filtered_first}
 use Rattle.es_event.specs.LegalLedger.{ComesNext, LegalSoFar, ReachesAs, owed}
 use Rattle.es_event.specs.Waiters.{asleep, block_by, is_at, is_listed, taken_there, waiter, waiters, without_first, without_one}
 
-abbrev has : ℕ → List Waiter → Bool
+abbrev pub has : ℕ → List Waiter → Bool
 has a ws = list_any (λ (w : Waiter). w.agent == a) ws
 
 either : (h b c : Bool) → (b ≡ true → c ≡ true) → (h || b) ≡ true → (h || c) ≡ true
@@ -21,11 +21,11 @@ either true b c rest is = refl
 either false b c rest is = rest is
 
 -- one that is in the longer list is in the shorter one, or came last
-has_more : (a : ℕ) (ws : List Waiter) (x : Waiter) → has a (ws ++ x ∷ []) ≡ true → (x.agent == a) ≡ false → has a ws ≡ true
+pub has_more : (a : ℕ) (ws : List Waiter) (x : Waiter) → has a (ws ++ x ∷ []) ≡ true → (x.agent == a) ≡ false → has a ws ≡ true
 has_more a [] x is other = absurd (false≢true (sym (ap (λ b. b || false) other) ∙ is))
 has_more a (w ∷ ws) x is other = either (w.agent == a) (has a (ws ++ x ∷ [])) (has a ws) (λ is. has_more a ws x is other) is
 
-later : (h b : Bool) → b ≡ true → (h || b) ≡ true
+pub later : (h b : Bool) → b ≡ true → (h || b) ≡ true
 later true b is = refl
 later false b is = is
 
@@ -37,11 +37,11 @@ has_without_one a b i (w ∷ ws) is = by (is_at b i w) is (has_without_one a b i
     by true is rest = later (w.agent == a) (has a ws) is
     by false is rest = either (w.agent == a) (has a (without_one b i ws)) (has a ws) rest is
 
-has_without : (a b i n : ℕ) (ws : List Waiter) → has a (without_first b i n ws) ≡ true → has a ws ≡ true
+pub has_without : (a b i n : ℕ) (ws : List Waiter) → has a (without_first b i n ws) ≡ true → has a ws ≡ true
 has_without a b i zero ws is = is
 has_without a b i (suc n) ws is = has_without a b i n ws (has_without_one a b i (without_first b i n ws) is)
 
-has_some : (a : ℕ) (test : Waiter → Bool) (ws : List Waiter) → has a (filter test ws) ≡ true → has a ws ≡ true
+pub has_some : (a : ℕ) (test : Waiter → Bool) (ws : List Waiter) → has a (filter test ws) ≡ true → has a ws ≡ true
 has_some a test [] is = is
 has_some a test (w ∷ ws) is = by (test w) is (has_some a test ws)
   where
@@ -60,7 +60,7 @@ has_left a (w ∷ ws) = by (w.agent == a) refl (has_left a ws)
 
 -- One act
 
-untaken : (n : ℕ) (l : Ledger) (c : ℕ) (o : Option ℕ) → ComesNext n l (Acted c Woke) o → is_listed l c ≡ false
+pub untaken : (n : ℕ) (l : Ledger) (c : ℕ) (o : Option ℕ) → ComesNext n l (Acted c Woke) o → is_listed l c ≡ false
 untaken n l c None may = may.1
 untaken n l c (Some s) may = cc
 
@@ -105,7 +105,7 @@ awake_unlisted n l a legal awake = by (is_listed l a) refl
 -- At most once
 
 -- how often an agent is in a list
-abbrev times : ℕ → List Waiter → ℕ
+abbrev pub times : ℕ → List Waiter → ℕ
 times a ws = length (filter (λ (w : Waiter). w.agent == a) ws)
 
 none_there : (a : ℕ) (ws : List Waiter) → has a ws ≡ false → times a ws ≡ 0
@@ -170,7 +170,7 @@ times_some a test (w ∷ ws) = by (test w) (times_some a test ws)
         skip false = rest
 
 -- who lies down did not sleep
-awake_before : (n : ℕ) (l : Ledger) (c s i w : ℕ) (o : Option ℕ) → ComesNext n l (Acted c (Slept s i w)) o → asleep l c ≡ false
+pub awake_before : (n : ℕ) (l : Ledger) (c s i w : ℕ) (o : Option ℕ) → ComesNext n l (Acted c (Slept s i w)) o → asleep l c ≡ false
 awake_before n l c s i w None may = may.3
 awake_before n l c s i w (Some k) may = cc
 

@@ -1,6 +1,6 @@
 -- In a legal history each ticket's holder is an agent, a port of two agents, or nobody.
-use Rattle.std.proofs.Common.{◌≡◌, ℕ, ◌<◌, ◌==◌, List, [], ◌∷◌, ◌++◌, Option, Some, None, Bool, true, false, cond, refl, sym, subst}
-use Rattle.std.specs.Option.{option_map, option_and_then}
+use Rattle.std.proofs.Common.{◌≡◌, ℕ, ◌<◌, ◌==◌, List, [], ◌∷◌, ◌++◌, Option, Some, None, Bool, true, false, cond, refl, sym, ap, subst}
+use Rattle.std.specs.Option.{option_map, option_map_or, option_and_then}
 use Rattle.es_event.specs.declared.ledger_event.Body.{Body}
 use Rattle.es_event.specs.declared.ledger_event.Body.TheVariants.{Plain, Block}
 use Rattle.es_event.specs.declared.ledger_event.LedgerEvent.{LedgerEvent}
@@ -9,7 +9,8 @@ use Rattle.es_event.specs.declared.row.Entry.{Entry}
 use Rattle.es_event.specs.declared.row.Holder.{Holder}
 use Rattle.es_event.specs.declared.row.Holder.TheVariants.{Agent, Port, Nobody}
 use Rattle.es_event.specs.Rows.{held_by, moved, line_of}
-use Rattle.es_event.specs.Ledger.{Ledger, table, front, serial_in, posted_line, moved_if}
+use Rattle.es_event.specs.declared.row.Row.{Row}
+use Rattle.es_event.specs.Ledger.{Ledger, by_agent, holder_of, table, front, serial_in, posted_line, moved_if}
 use Rattle.es_event.specs.LegalLedger.{ComesNext, LegalSoFar, owed}
 use Rattle.es_ledger.proofs.Lines.{holder_at}
 use Rattle.es_ledger.proofs.Lying.{Lying, lying_all, lies_in_front}
@@ -65,3 +66,17 @@ within_next n l _ None c lying all = all
 pub within_all : (n : ℕ) (l : Ledger) → LegalSoFar n l → AllWithin n (table l)
 within_all n [] legal = tt
 within_all n (e ∷ l) legal = within_next n l e (owed l) legal.0 (lying_all n l legal.1) (within_all n l legal.1)
+
+-- so who holds a ticket is one of the agents
+
+by_this_agent : (n : ℕ) (r q : Row) (h : Holder) (a : ℕ) → by_agent (held_by h r) ≡ Some (a, q) → IsWithin n h → a < n
+by_this_agent n r q (Agent b) a is within = subst (λ a. a < n) (ap (λ o. option_map_or (λ p. p.0) o 0) is) within
+by_this_agent n r q (Port s u) a is within = cc
+by_this_agent n r q Nobody a is within = cc
+
+pub holder_within : (n : ℕ) (l : Ledger) (s a : ℕ) (r : Row) → LegalSoFar n l → holder_of l s ≡ Some (a, r) → a < n
+holder_within n l s a r legal is = by (line_of s (table l)) refl is
+  where
+    by : (o : Option Entry) → line_of s (table l) ≡ o → option_and_then by_agent o ≡ Some (a, r) → a < n
+    by None at is = cc
+    by (Some x) at is = by_this_agent n x.row r x.holder a is (within_at n s x.holder (table l) (ap (option_map (λ e. e.holder)) at) (within_all n l legal))

@@ -1,19 +1,16 @@
--- Who holds a ticket after one more event, and that agents and receivers are among the ledger's.
-use Rattle.std.proofs.Common.{◌≡◌, ℕ, ◌<◌, ◌==◌, Bool, true, false, cond, true≢false, sym, ◌∙◌, ap, refl, subst, List, [], ◌∷◌, ◌++◌, drop, append-nil, Option, Some, None, is_some, eqb-true, eq-eqb}
-use Rattle.std.specs.Prelude.{slice_get}
-use Rattle.std.specs.Option.{IfSome, option_and_then, option_map, option_map_or}
-use Rattle.std.proofs.lemmas.Bool.{and_parts}
+-- Who holds a ticket after one more event, and that who posts is one of the agents.
+use Rattle.std.proofs.Common.{◌≡◌, ℕ, ◌<◌, ◌==◌, Bool, true, false, cond, true≢false, sym, ◌∙◌, ap, refl, List, [], ◌∷◌, ◌++◌, append-nil, Option, Some, None, eqb-true, eq-eqb}
+use Rattle.std.specs.Option.{option_and_then, option_map, option_map_or}
 use Rattle.es_event.specs.declared.ledger_event.Body.{Body}
 use Rattle.es_event.specs.declared.ledger_event.Body.TheVariants.{Plain, Block}
-use Rattle.es_event.specs.declared.ledger_event.LedgerEvent.{LedgerEvent}
-use Rattle.es_event.specs.declared.ledger_event.LedgerEvent.TheVariants.{Opened, Posted, Taken, Spent, Drained}
+use Rattle.es_event.specs.declared.ledger_event.LedgerEvent.TheVariants.{Posted, Taken}
 use Rattle.es_event.specs.declared.row.Row.{Row}
 use Rattle.es_event.specs.declared.row.Entry.{Entry}
 use Rattle.es_event.specs.declared.row.Holder.{Holder}
 use Rattle.es_event.specs.declared.row.Holder.TheVariants.{Agent, Port, Nobody}
 use Rattle.es_event.specs.Rows.{held_by, line_of, moved}
-use Rattle.es_event.specs.Ledger.{Ledger, by_agent, front, holder_of, is_at, moved_if, port_of, serial_in, table}
-use Rattle.es_event.specs.LegalLedger.{ComesNext, LegalSoFar, has_message, owed}
+use Rattle.es_event.specs.Ledger.{Ledger, by_agent, front, moved_if, serial_in, table}
+use Rattle.es_event.specs.LegalLedger.{ComesNext, LegalSoFar, owed}
 use Rattle.es_races.specs.declared.tickets.Ticket.{Ticket}
 use Rattle.es_races.specs.Pass.{add_posted, add_ticket, hand_some, hand_ticket, handed_to, held_with, ticket_of}
 
@@ -96,47 +93,7 @@ held_none (Some e) is = case_of e.holder refl is
     case_of (Port s r) at is = ap (λ w. by_agent (held_by w e.row)) at
     case_of Nobody at is = ap (λ w. by_agent (held_by w e.row)) at
 
--- Agents are few
-
-abbrev IsFew : ℕ → Option Ticket → Type 0
-IsFew n o = IfSome o (λ t. IfSome t.holder (λ a. a < n))
-
-few_added : (n k q : ℕ) (t : Ticket) (o : Option Ticket) → IfSome t.holder (λ a. a < n) → IsFew n o → IsFew n (add_ticket k t q o)
-few_added n k q t (Some u) new old = old
-few_added n k q t None new old = case_of (k == q)
-  where
-    case_of : (b : Bool) → IsFew n (cond b (Some t) None)
-    case_of true = new
-    case_of false = tt
-
-few_handed : (n k q : ℕ) (who : Option ℕ) (o : Option Ticket) → IfSome who (λ a. a < n) → IsFew n o → IsFew n (hand_ticket k who q o)
-few_handed n k q who o new old = case_of (k == q) o old
-  where
-    case_of : (b : Bool) (o : Option Ticket) → IsFew n o → IsFew n (cond b (option_map (handed_to who) o) o)
-    case_of true None old = tt
-    case_of true (Some t) old = new
-    case_of false o old = old
-
--- so is who receives what was posted
-has_before : (b : Bool) (ms : List Body) → is_some (slice_get (cond b (drop 1 ms) ms) 0) ≡ true → is_some (slice_get ms 0) ≡ true
-has_before b (m ∷ ms) is = refl
-has_before true [] is = is
-has_before false [] is = is
-
-receiver_next : (n : ℕ) (l : Ledger) (e : LedgerEvent) (o : Option ℕ) (s r : ℕ) → ComesNext n l e o → (has_message l s r ≡ true → r < n) → has_message (e ∷ l) s r ≡ true → r < n
-receiver_next n l e (Some k) s r c before has = before (subst (λ e. has_message (e ∷ l) s r ≡ true) c has)
-receiver_next n l (Posted t u m) None s r c before has = case_of (is_at s r t u) refl has
-  where
-    case_of : (b : Bool) → is_at s r t u ≡ b → is_some (slice_get (cond b (port_of l s r ++ m ∷ []) (port_of l s r)) 0) ≡ true → r < n
-    case_of true at has = subst (λ r. r < n) (sym (eqb-true r u (and_parts (s == t) (r == u) at).1)) c.1
-    case_of false at has = before has
-receiver_next n l (Taken t u) None s r c before has = before (has_before (is_at s r t u) (port_of l s r) has)
-receiver_next n l (Drained t u) None s r c before has = before (has_before (is_at s r t u) (port_of l s r) has)
-receiver_next n l _ None s r c before has = before has
-
-pub few_receivers : (n : ℕ) (l : Ledger) (s r : ℕ) → LegalSoFar n l → has_message l s r ≡ true → r < n
-few_receivers n [] s r legal has = cc
-few_receivers n (e ∷ l) s r legal has = receiver_next n l e (owed l) s r legal.0 (few_receivers n l s r legal.1) has
+-- Who posts is one of the agents
 
 pub few_senders : (n : ℕ) (l : Ledger) (a r : ℕ) (m : Body) → LegalSoFar n (Posted a r m ∷ l) → a < n
 few_senders n l a r m legal = case_of (owed l) legal.0
@@ -144,36 +101,3 @@ few_senders n l a r m legal = case_of (owed l) legal.0
     case_of : (o : Option ℕ) → ComesNext n l (Posted a r m) o → a < n
     case_of None c = c.0
     case_of (Some k) c = cc
-
-few_next : (n : ℕ) (l : Ledger) (e : LedgerEvent) (o : Option ℕ) (q : ℕ) → LegalSoFar n l → ComesNext n l e o → IsFew n (ticket_at q (table l)) → IsFew n (ticket_at q (table (e ∷ l)))
-few_next n l e (Some k) q legal c before =
-    subst (λ e. IsFew n (ticket_at q (table (e ∷ l)))) (sym c) (subst (IsFew n) (sym (handed k Nobody (table l) q)) (few_handed n k q None (ticket_at q (table l)) tt before))
-few_next n l (Opened b w s a) None q legal c before = subst (IsFew n) (sym (added (table l) _ q)) (few_added n s q _ (ticket_at q (table l)) c.2 before)
-few_next n l (Posted a r m) None q legal c before = subst (IsFew n) (sym (posted l a r m q)) (by_body m)
-  where
-    by_body : (m : Body) → IsFew n (add_posted m q (ticket_at q (table l)))
-    by_body (Plain v) = before
-    by_body (Block b s) = few_added n s q _ (ticket_at q (table l)) tt before
-few_next n l (Taken s r) None q legal c before = subst (IsFew n) (sym (taken l s r q)) (by_serial (option_and_then serial_in (front l s r)))
-  where
-    by_serial : (o : Option ℕ) → IsFew n (hand_some o (Some r) q (ticket_at q (table l)))
-    by_serial None = before
-    by_serial (Some k) = few_handed n k q (Some r) (ticket_at q (table l)) (few_receivers n l s r legal c) before
-few_next n l (Spent s) None q legal c before = subst (IsFew n) (sym (handed s Nobody (table l) q)) (few_handed n s q None (ticket_at q (table l)) tt before)
-few_next n l _ None q legal c before = before
-
-few_tickets : (n : ℕ) (l : Ledger) (q : ℕ) → LegalSoFar n l → IsFew n (ticket_at q (table l))
-few_tickets n [] q legal = tt
-few_tickets n (e ∷ l) q legal = few_next n l e (owed l) q legal.1 legal.0 (few_tickets n l q legal.1)
-
-pub few_holders : (n : ℕ) (l : Ledger) (s a : ℕ) (r : Row) → LegalSoFar n l → holder_of l s ≡ Some (a, r) → a < n
-few_holders n l s a r legal is = case_of (line_of s (table l)) (few_tickets n l s legal) is
-  where
-    by_holder : (who : Holder) (x : Row) → IfSome (option_map (λ p. p.0) (by_agent (held_by who x))) (λ a. a < n) → by_agent (held_by who x) ≡ Some (a, r) → a < n
-    by_holder (Agent b) x few is = subst (λ a. a < n) (ap (λ o. option_map_or (λ (p : ℕ × Row). p.0) o 0) is) few
-    by_holder (Port s t) x few is = cc
-    by_holder Nobody x few is = cc
-
-    case_of : (o : Option Entry) → IsFew n (option_map ticket_of o) → option_and_then by_agent o ≡ Some (a, r) → a < n
-    case_of None few is = cc
-    case_of (Some e) few is = by_holder e.holder e.row few is

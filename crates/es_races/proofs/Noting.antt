@@ -26,7 +26,8 @@ use Rattle.es_races.specs.declared.tickets.Ticket.{Ticket}
 use Rattle.es_races.specs.declared.words.Word.{Word}
 use Rattle.es_races.specs.Pass.{Carry, Has, IsUnknown, Map, Says, Sound, Stands, raise_if, add_posted, add_ticket, count_in, hand_some, hand_ticket, highest, known_in, made_by, meets, newest_at, newest_in, pair_eq, queue_in, ticket_in}
 use Rattle.es_races.specs.Verdict.{race_among, race_at, said}
-use Rattle.es_races.proofs.Holding.{ticket_at, added, few_holders, few_senders, handed, posted, taken}
+use Rattle.es_ledger.proofs.Within.{holder_within}
+use Rattle.es_races.proofs.Holding.{ticket_at, added, few_senders, handed, posted, taken}
 use Rattle.es_races.proofs.Knowing.{IsFirst, carry_first, carry_last, carry_rest, few_made, has_same, joined, made_one, none_knew, raised, told_less}
 use Rattle.es_races.proofs.Racing.{AllMarked, IsIn, IsMarked, free_more, races}
 
@@ -172,7 +173,7 @@ marked_next n (Accessed s i m w) l few legal before = case_of (holder_of l s) re
     case_of : (o : Option (ℕ × Row)) → holder_of l s ≡ o → AllMarked (map (marked_after l) (access_by o i m w) ++ marked l)
     case_of None at = before
     case_of (Some p) at = λ y among.
-        let agent = few_holders n l s p.0 p.1 legal at in
+        let agent = holder_within n l s p.0 p.1 legal at in
         in_front _ y (marked l) among (record { own = refl; few = omega (arith, agent, few) }) before
 marked_next n _ l few legal before = before
 
@@ -200,7 +201,7 @@ module _ (l : Ledger) (s i w : ℕ) (m : Change) (a b : ℕ) (r : Row) (old : Pa
   one = ap (λ o. access_by o i m w) holder ∙ ap (λ b. record { agent = a; block = b; index = i; change = m; old = w } ∷ []) block
 
   few_agent : a < 8
-  few_agent = let small = few_holders stands.agents l s a r stands.legal.1 holder in omega (arith, small, stands.few)
+  few_agent = let small = holder_within stands.agents l s a r stands.legal.1 holder in omega (arith, small, stands.few)
 
   made : known_in old.known a a ≡ made_by a (accesses l)
   made = stands.says.sound.own a few_agent

@@ -29,6 +29,7 @@ use Rattle.es_theorems.specs.Calm.{is_calm}
 use Rattle.es_theorems.proofs.Choosing.{Chosen, Skips, Stuck, chosen_is, chosen_one, skips_is, stuck_here, stuck_is}
 use Rattle.es_cluster.proofs.Growing.{doer, ended_other, waits_other}
 use Rattle.es_ledger.proofs.Waking.{awake_unlisted}
+use Rattle.es_ledger.proofs.Taken.{held_as}
 use Rattle.es_theorems.proofs.Framing.{holder_agent, holder_other, spender}
 use Rattle.es_theorems.proofs.Doing.{reaches_as, reaches_so}
 use Rattle.es_ledger.proofs.Numbered.{numbered, only_by}
@@ -268,11 +269,6 @@ deed_beside k l f _ b d is mine = refl
 postable_beside : (k : ℕ) (l : Ledger) (f : LedgerEvent) (b : ℕ) (m : Body) → Beside k l f b → IsPostable l b m → IsPostable (f ∷ l) b m
 postable_beside k l f b (Plain v) is may = may
 postable_beside k l f b (Block c q) is may = (may.0 ∙ ap (λ n. n + 1) (sym is.serials), ap (λ rs. nat_lt 0 (count_of rs c)) is.held ∙ may.1)
-
--- the ticket that an agent reaches a word by
-pub held_as : (o : Option (ℕ × Row)) (a i : ℕ) (asked : Row → Type 0) → ReachesAs a o i asked → (r : Row) × (o ≡ Some (a, r))
-held_as None a i asked is = absurd is
-held_as (Some p) a i asked is = (p.1, ap (λ n. Some (n, p.1)) is.0)
 
 pub holder_beside : (k : ℕ) (l : Ledger) (f : LedgerEvent) (b s i : ℕ) (asked : Row → Type 0) → Beside k l f b → ReachesAs b (holder_of l s) i asked → holder_of (f ∷ l) s ≡ holder_of l s
 holder_beside k l f b s i asked is may = let held = held_as (holder_of l s) b i asked may in is.holders s held.0 held.1 ∙ sym held.1

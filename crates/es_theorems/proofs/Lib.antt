@@ -41,6 +41,7 @@ mod Stepping
 mod Hearing
 mod Through
 mod Awake
+mod Dozing
 mod Starting
 pub mod Draining
 pub mod Ending

@@ -21,3 +21,4 @@ pub mod Renamed
 pub mod Messages
 pub mod Steps
 pub mod WithoutRaces
+pub mod Sleepers

@@ -2,10 +2,11 @@
 //! event, with what it does in the ledger, is settled by what it is and did and by what the ledger says, so two runs of
 //! one plan come to the same end; each agent that is asked takes a turn, so each plan comes to an end. A run in threads
 //! comes to nothing that turns do not come to. Agents that share no words, or whose accesses to words messages order, do
-//! the same, whatever their order.
+//! the same, whatever their order. And of every plan: a sleeper's block stays.
 #![tactic(auto)]
 
 mod races;
+mod sleepers;
 mod threads;
 mod turns;
 mod without_words;
@@ -15,6 +16,7 @@ pub use races::{
     without_races_threads_report_as_by_turns, without_races_threads_say_as_by_turns,
     without_races_turns_say_alike,
 };
+pub use sleepers::a_sleepers_block_is_not_released;
 pub use threads::{
     by_turns_is_an_outcome, each_plan_has_an_outcome, threads_end_as_turns_do,
     threads_refine_turns, threads_report_as_turns_do, turns_are_outcomes,
