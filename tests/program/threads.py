@@ -28,13 +28,14 @@ other's end takes none before. What else the machine does makes these looks long
 
 The second runs the same plans in threads with each of these numbers of helpers; the report must be that of rules.py.
 
-The third runs three plans RUNS times each, in which little is done and threads wake each other: two agents that post
-to and fro, a ring of eight, and eight that wait in vain again and again, until the first skips a job and posts. No run
-may take ten times as long as the plan's median: a thread that is not woken can hang, or show so. Other load on the
-machine shows so too, and so each is followed by a run by turns, whose times are printed, and no more. On a virtual
-machine the host may take processors away (`steal` in /proc/stat). So the runs are made by twenties, and where the host
-took more than a fiftieth of our processors' time during one, the reports of these runs must be right too, but their
-times do not count, and twenty more are made. How many did not count is printed.
+The third runs five plans RUNS times each, in which little is done and threads wake each other: two agents that post
+to and fro, a ring of eight, and eight that wait in vain again and again, until the first skips a job and posts; and two
+and eight agents that sleep at words by turns, each until the one before notifies. No run may take ten times as long as
+the plan's median: a thread that is not woken can hang, or show so. Other load on the machine shows so too, and so each
+is followed by a run by turns, whose times are printed, and no more. On a virtual machine the host may take processors
+away (`steal` in /proc/stat). So the runs are made by twenties, and where the host took more than a fiftieth of our
+processors' time during one, the reports of these runs must be right too, but their times do not count, and twenty more
+are made. How many did not count is printed.
 """
 
 import argparse
@@ -153,6 +154,23 @@ def skips(agents, rounds):
         waits = {"on": [names[place - 1], "m"], "run": posted if place else []}
         jobs[name] += [waits, {"run": [["let", "m", 1], *posted]} if place == 0 else {"run": [["say", "m"]]}] * rounds
     return raceless_plans.plan_of(jobs)
+
+
+def wakings(agents, rounds):
+    """In each round each agent but the first sleeps at a word of its own until the one before has stored there and
+    notified, and then does so for the next; the first begins, and sleeps till the last has come round."""
+    names = [f"a{number}" for number in range(agents)]
+    jobs = {name: [{"on": [names[0], "m"], "run": []}] for name in names[1:]}
+    posts = [["post", name, "m"] for name in names[1:]]
+    jobs = {names[0]: [{"run": [["buffer", "m", agents * rounds], *posts]}], **jobs}
+    for number in range(rounds):
+        words = [agents * number + place for place in range(agents)]
+        for place, name in enumerate(names):
+            sleeps = [["wait", "x", "m", words[place], 0], ["load", "y", "m", words[place]], ["say", "y"]]
+            following = words[(place + 1) % agents]
+            wakes = [["store", "m", following, 1], ["notify", "n", "m", following]]
+            jobs[name].append({"run": [*sleeps, *wakes] if place else [*wakes, *sleeps]})
+    return {**raceless_plans.plan_of(jobs), "version": 3}
 
 
 def timed(program, data, *options):
@@ -312,7 +330,10 @@ def main():
         tried, failed = given.count + 2, try_plans(trial, given.count, given.jobs)
         failed += try_sleeping(given.program) + try_waking_at_once(given.program)
     else:
-        plans = {"ping-pong": ring(2, 400), "ring": ring(8, 200), "skips": skips(8, 25)}
+        plans = {
+            "ping-pong": ring(2, 400), "ring": ring(8, 200), "skips": skips(8, 25),
+            "wakings of two": wakings(2, 200), "wakings of eight": wakings(8, 25),
+        }
         tried = given.waking * len(plans)
         failed = sum(try_waking(given.program, name, plan, given.waking) for name, plan in plans.items())
     print(f"{tried - failed} passed, {failed} failed")

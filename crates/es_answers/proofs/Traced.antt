@@ -1,5 +1,5 @@
 -- A trace is of a legal run, whose end is the plan's outcome; and it tells each event of each agent.
-use Rattle.std.proofs.Common.{◌≡◌, ℕ, zero, suc, ◌+◌, ◌<◌, ◌==◌, Bool, true, false, cond, sym, ◌∙◌, ap, refl, arith, List, [], ◌∷◌, ◌++◌, append-nil, append_assoc, map, reverse, length, take, Some, inl, inr}
+use Rattle.std.proofs.Common.{◌≡◌, ℕ, zero, suc, ◌+◌, ◌<◌, ◌==◌, Bool, true, false, cond, sym, ◌∙◌, ap, refl, arith, List, [], ◌∷◌, ◌++◌, append-nil, append_assoc, map, reverse, length, take, Some}
 use Rattle.std.specs.Prelude.{slice_get, slice_index_or}
 use Rattle.std.specs.List.{AllByRecursion}
 use Rattle.std.proofs.lemmas.Bool.{eqb-true, eqb-false}
@@ -15,7 +15,7 @@ use Rattle.es_cluster.specs.declared.member.Progress.{Progress}
 use Rattle.es_cluster.specs.declared.member.Progress.TheVariants.{Moved, Waiting, Ended}
 use Rattle.es_record.specs.AgentView.{AgentView}
 use Rattle.es_cluster.specs.Ends.{EndsIn}
-use Rattle.es_cluster.specs.Moves.{IsMove, Rest, RunsOut, all_over, moves, over, rested, slept, turned as rests_later, waits, with_drained}
+use Rattle.es_cluster.specs.Moves.{RunsOut, all_over, moves, over, waits, with_drained}
 use Rattle.es_cluster.specs.State.{ClusterView, first_state, first_views, plans}
 use Rattle.es_cluster.specs.Turns.{Takes, Turned}
 use Rattle.es_cluster.specs.Watched.{AreTurns, TakenTurn}
@@ -24,9 +24,8 @@ use Rattle.es_cluster.proofs.Ended.{there}
 use Rattle.es_cluster.proofs.Standing.{set_here, set_there, within}
 use Rattle.es_theorems.specs.Together.{Same}
 use Rattle.es_theorems.specs.Moving.{moves_of}
-use Rattle.es_theorems.specs.Sleepless.{never_sleeps}
-use Rattle.es_theorems.proofs.OneRun.{one_run}
-use Rattle.es_theorems.proofs.Running.{runs_same, stands_first}
+use Rattle.es_theorems.proofs.OneRun.{one_run, runs_same}
+use Rattle.es_theorems.proofs.Running.{stands_anyhow}
 use Rattle.es_theorems.proofs.Telling.{same}
 use Rattle.es_theorems.proofs.Cluster.{well_first}
 use Rattle.es_theorems.proofs.Plans.{plans_length, plans_to_end, run_has_an_outcome}
@@ -46,9 +45,9 @@ legal_turns (t ∷ ts) old new are = (are.1.legal, legal_turns ts t.after new ar
 pub legal_trace : (v : View) (plan : Plan) (text : List ℕ) (trace : IsTraceByTurns v plan text) → AllByRecursion (λ (t : TakenTurn). LegalLedger t.after.ledger.agents t.after.ledger.history) trace.turns
 legal_trace v plan text trace = legal_turns trace.turns (first_state plan) trace.end trace.taken
 
-pub trace_outcome : (v : View) (plan : Plan) (text : List ℕ) → never_sleeps plan ≡ true → all_name_others plan ≡ true → (trace : IsTraceByTurns v plan text) → (o : Outcome) × EndsIn (with_drained trace.end) o × IsByTurns plan o
-trace_outcome v plan text calm others trace =
-    let out = run_has_an_outcome (first_state plan) trace.end (well_first plan calm others) trace.runs in
+pub trace_outcome : (v : View) (plan : Plan) (text : List ℕ) → all_name_others plan ≡ true → (trace : IsTraceByTurns v plan text) → (o : Outcome) × EndsIn (with_drained trace.end) o × IsByTurns plan o
+trace_outcome v plan text others trace =
+    let out = run_has_an_outcome (first_state plan) trace.end (well_first plan others) trace.runs in
     (out.0, out.1, (with_drained trace.end, (trace.end, trace.runs, refl), out.1))
 
 -- the plans and the number of agents stay
@@ -58,24 +57,6 @@ trace_in_threads v plan text trace o ends =
     let same = plans_to_end (first_state plan) end (trace.end, trace.runs, refl) in
     let are : plans end.agents ≡ plan.agents = same.plans_are ∙ first_plans (length plan.agents) 0 plan.agents in
     outcome_of plan end o are (sym (plans_length end.agents) ∙ ap length are ∙ sym same.number) ends
-
--- what a run leads to is legal, if what it begins with is
-abbrev IsLegal : ClusterView → Type 0
-IsLegal c = LegalLedger c.ledger.agents c.ledger.history
-
-legal_rest : (n : ℕ) (c d : ClusterView) → IsLegal c → Rest n c d → IsLegal d
-legal_rest n c d legal (rested is) = legal
-legal_rest n c d legal (slept is begins) = begins.0.legal
-legal_rest n c d legal (rests_later {mid = mid} is t more) = legal_rest n mid d t.legal more
-
-legal_move : (n : ℕ) (c d : ClusterView) → IsMove n c d → IsLegal d
-legal_move n c d (inl m) = legal_rest n m.0 d m.1.legal m.2
-legal_move n c d (inr begins) = begins.0.legal
-
-legal_run : (c d : ClusterView) → IsLegal c → RunsOut c d → IsLegal d
-legal_run c d legal (over is) = legal
-legal_run c d legal (waits n {mid = mid} t same more) = legal_run mid d t.legal more
-legal_run c d legal (moves n {mid = mid} is move more) = legal_run mid d (legal_move n c mid move) more
 
 -- Events, one turn after the other
 
@@ -140,16 +121,14 @@ history_at (h ∷ hs) (x ∷ bs) zero b same is =
     sym (reverse-reverse h) ∙ ap reverse first ∙ ap (λ b. reverse b.history) (inner is)
 history_at (h ∷ hs) (x ∷ bs) (suc n) b same is = history_at hs bs n b (cc) is
 
-pub tells_outcome : (v : View) (plan : Plan) (text : List ℕ) (trace : IsTraceByTurns v plan text) (o : Outcome) (n : ℕ) → never_sleeps plan ≡ true → IsByTurns plan o → n < length plan.agents
+pub tells_outcome : (v : View) (plan : Plan) (text : List ℕ) (trace : IsTraceByTurns v plan text) (o : Outcome) (n : ℕ) → IsByTurns plan o → n < length plan.agents
     → events_by n trace.turns ≡ slice_index_or o.histories n []
-tells_outcome v plan text trace o n calm ends known =
+tells_outcome v plan text trace o n ends known =
     let first = first_state plan in
     let begun = there first.agents n (let size = first_length (length plan.agents) 0 plan.agents in omega (arith, size, known)) in
     let all = all_events n trace.turns first trace.end begun.0 trace.taken begun.1 in
     let last = ends.1 in
-    let both : Same trace.end last.0 = runs_same trace.end.ledger.agents last.0.ledger.agents first first trace.end last.0
-    (record { left = stands_first plan calm; right = stands_first plan calm; same = record { agents = refl; number = refl; ledgers = same [] } }) trace.runs last.1
-    (legal_run first trace.end (tt, refl) trace.runs).0 (legal_run first last.0 (tt, refl) last.1).0 in
+    let both : Same trace.end last.0 = runs_same first trace.end last.0 (stands_anyhow plan) trace.runs last.1 in
     let agents : ends.0.agents ≡ trace.end.agents = ap (λ c. c.agents) last.2 ∙ sym both.agents in
     sym (all.2 ∙ ap (λ h. reverse h ++ events_by n trace.turns) (first_new (length plan.agents) 0 plan.agents n begun.0 begun.1))
     ∙ sym (history_at o.histories ends.0.agents n all.0 ends.2.agents.are (ap (λ bs. slice_get bs n) agents ∙ all.1))
@@ -161,7 +140,7 @@ ends_over c d (over is) = is
 ends_over c d (waits n {mid = mid} t same more) = ends_over mid d more
 ends_over c d (moves n {mid = mid} is move more) = ends_over mid d more
 
-pub traces_one_run : (v w : View) (plan : Plan) (s t : List ℕ) (one : IsTraceByTurns v plan s) (other : IsTraceByTurns w plan t) → never_sleeps plan ≡ true → moves_of one.turns ≡ moves_of other.turns
-traces_one_run v w plan s t one other calm =
+pub traces_one_run : (v w : View) (plan : Plan) (s t : List ℕ) (one : IsTraceByTurns v plan s) (other : IsTraceByTurns w plan t) → moves_of one.turns ≡ moves_of other.turns
+traces_one_run v w plan s t one other =
     let first = first_state plan in
-    one_run plan one.turns other.turns one.end other.end calm one.taken one.moves (ends_over first one.end one.runs) other.taken other.moves (ends_over first other.end other.runs)
+    one_run plan one.turns other.turns one.end other.end one.taken one.moves (ends_over first one.end one.runs) other.taken other.moves (ends_over first other.end other.runs)

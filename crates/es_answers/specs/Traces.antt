@@ -14,7 +14,6 @@ use Rattle.es_cluster.specs.Ends.{EndsIn}
 use Rattle.es_cluster.specs.Moves.{with_drained}
 use Rattle.es_cluster.specs.Watched.{TakenTurn}
 use Rattle.es_theorems.specs.Moving.{moves_of}
-use Rattle.es_theorems.specs.Sleepless.{never_sleeps}
 use Rattle.es_outcome.specs.Outcomes.{IsClusterOutcome}
 use Rattle.es_options.specs.declared.view.View.{View}
 use Rattle.es_turns.specs.Answer.{IsByTurns}
@@ -25,10 +24,10 @@ use Rattle.es_turns.specs.Tracing.{IsTraceByTurns}
 abbrev pub ATraceIsOfALegalRun : Type 0
 ATraceIsOfALegalRun = (v : View) (plan : Plan) (text : List ℕ) (trace : IsTraceByTurns v plan text) → AllByRecursion (λ (t : TakenTurn). LegalLedger t.after.ledger.agents t.after.ledger.history) trace.turns
 
--- What its turns led to is an outcome of the plan by turns, if its agents never sleep, once the messages are out that nobody took.
+-- What its turns led to is an outcome of the plan by turns, once the messages are out that nobody took.
 abbrev pub ATraceHasAnOutcome : Type 0
 ATraceHasAnOutcome =
-    (v : View) (plan : Plan) (text : List ℕ) → never_sleeps plan ≡ true → all_name_others plan ≡ true → (trace : IsTraceByTurns v plan text) → (o : Outcome) × EndsIn (with_drained trace.end) o × IsByTurns plan o
+    (v : View) (plan : Plan) (text : List ℕ) → all_name_others plan ≡ true → (trace : IsTraceByTurns v plan text) → (o : Outcome) × EndsIn (with_drained trace.end) o × IsByTurns plan o
 
 -- And it is an outcome of agents that run beside each other: what a trace tells may happen in threads too.
 abbrev pub ATraceIsOfAnOutcome : Type 0
@@ -46,17 +45,16 @@ abbrev pub events_by : ℕ → List TakenTurn → List Event
 events_by n [] = []
 events_by n (t ∷ ts) = (if t.agent == n then newest_event t.progress (slice_get t.after.agents n) else []) ++ events_by n ts
 
--- The events that a trace tells of an agent, whose plan never sleeps, are those of its history in each outcome of the plan by turns, in their
--- order.
+-- The events that a trace tells of an agent are those of its history in each outcome of the plan by turns, in their order.
 abbrev pub ATraceTellsThePlansOutcome : Type 0
 ATraceTellsThePlansOutcome =
-    (v : View) (plan : Plan) (text : List ℕ) (trace : IsTraceByTurns v plan text) (o : Outcome) (n : ℕ) → never_sleeps plan ≡ true → IsByTurns plan o → n < length plan.agents
+    (v : View) (plan : Plan) (text : List ℕ) (trace : IsTraceByTurns v plan text) (o : Outcome) (n : ℕ) → IsByTurns plan o → n < length plan.agents
     → events_by n trace.turns ≡ slice_index_or o.histories n []
 
 -- And the answer in the row of an event that has a line in the report is that line. So the rows that are lines of a report are the report's.
 abbrev pub AnAnswerIsTheReportsLine : Type 0
 AnAnswerIsTheReportsLine = (e : Event) → (line e ≡ [] → ⊥) → answer_text e ≡ line e
 
--- Two traces of one plan whose agents never sleep, whatever each shows, tell the same moves, one after the other.
+-- Two traces of one plan, whatever each shows, tell the same moves, one after the other.
 abbrev pub TracesHaveOneRun : Type 0
-TracesHaveOneRun = (v w : View) (plan : Plan) (s t : List ℕ) (one : IsTraceByTurns v plan s) (other : IsTraceByTurns w plan t) → never_sleeps plan ≡ true → moves_of one.turns ≡ moves_of other.turns
+TracesHaveOneRun = (v w : View) (plan : Plan) (s t : List ℕ) (one : IsTraceByTurns v plan s) (other : IsTraceByTurns w plan t) → moves_of one.turns ≡ moves_of other.turns

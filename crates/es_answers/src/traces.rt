@@ -8,7 +8,7 @@ pub fn a_trace_is_of_a_legal_run()
     ensures { ATraceIsOfALegalRun }
 {}
 
-/// What the turns of a trace led to is an outcome of the plan by turns, if its agents never sleep.
+/// What the turns of a trace led to is an outcome of the plan by turns.
 pub fn a_trace_has_an_outcome()
     ensures { ATraceHasAnOutcome }
 {}
@@ -19,7 +19,7 @@ pub fn a_trace_is_of_an_outcome()
 {}
 
 /// The events that a trace tells of an agent are those of its history in the plan's outcome by turns, in their
-/// order, if the plan's agents never sleep.
+/// order.
 pub fn a_trace_tells_the_plans_outcome()
     ensures { ATraceTellsThePlansOutcome }
 {}
@@ -30,8 +30,7 @@ pub fn an_answer_is_the_reports_line()
     ensures { AnAnswerIsTheReportsLine }
 {}
 
-/// Two traces of one plan whose agents never sleep, whatever each shows, tell the same moves, one after the
-/// other.
+/// Two traces of one plan, whatever each shows, tell the same moves, one after the other.
 pub fn traces_have_one_run()
     ensures { TracesHaveOneRun }
 {}

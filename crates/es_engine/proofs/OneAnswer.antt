@@ -22,7 +22,7 @@ one_answer false a b plan s t apart first second = first.3 ∙ reports_in_thread
 -- what is answered of a plan that runs in threads is what its run by turns reports
 as_reported : (plan : Plan) (text : List ℕ) → never_sleeps plan ≡ true → all_name_others plan ≡ true → no_callback_collects plan ≡ true → HasNoRaceByTurns plan → IsAnswer false false plan text → IsAnswer false true plan text
 as_reported plan text calm others quiet free is =
-    let e = plan_comes_to_an_end plan calm others quiet in
+    let e = plan_comes_to_an_end plan others quiet in
     (e.1, outcome_of_run plan e.0 e.1 e.2 e.3, (e.0, e.2, e.3), is.3 ∙ reports_as_by_turns plan e.0 is.0 e.1 calm is.1 e.2 (free e.0 e.2) e.3)
 
 as_by_turns : (check turns : Bool) (plan : Plan) (text : List ℕ) → never_sleeps plan ≡ true → all_name_others plan ≡ true → no_callback_collects plan ≡ true → HasNoRaceByTurns plan → IsAnswer check turns plan text → IsAnswer check true plan text
@@ -34,7 +34,7 @@ as_by_turns false false plan text calm others quiet free is = as_reported plan t
 pub one_without_races : (check a b : Bool) (plan : Plan) (s t : List ℕ) → never_sleeps plan ≡ true → all_name_others plan ≡ true → no_callback_collects plan ≡ true → HasNoRaceByTurns plan → IsAnswer check a plan s → IsAnswer check b plan t → s ≡ t
 one_without_races true a b plan s t calm others quiet free first second = first ∙ sym second
 one_without_races false a b plan s t calm others quiet free first second =
-    let e = plan_comes_to_an_end plan calm others quiet in
+    let e = plan_comes_to_an_end plan others quiet in
     first.3 ∙ reports_as_by_turns plan e.0 first.0 e.1 calm first.1 e.2 (free e.0 e.2) e.3 ∙ sym (reports_as_by_turns plan e.0 second.0 e.1 calm second.1 e.2 (free e.0 e.2) e.3) ∙ sym second.3
 
 pub runs_as_by_turns : (r : Result ℕ RunFault) (options : Options) (plan : Plan) (before after old new : Option (List ℕ)) → GavePlan before after plan → all_name_others plan ≡ true → no_callback_collects plan ≡ true

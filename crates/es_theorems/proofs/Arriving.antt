@@ -1,9 +1,8 @@
 -- A cluster whose agents go on runs by turns to its end, and no cluster is stuck.
-use Rattle.std.proofs.Common.{◌≡◌, inl, inr, ℕ, zero, suc, ◌+◌, ◌<◌, ◌≤◌, ◌&&◌, Bool, true, false, sym, ◌∙◌, ap, refl, subst, arith, List, [], ◌∷◌, ◌++◌, length, map, reverse, Some, None}
+use Rattle.std.proofs.Common.{◌≡◌, ◌⊎◌, inl, inr, ℕ, zero, suc, ◌+◌, ◌<◌, ◌≤◌, ◌&&◌, Bool, true, false, sym, ◌∙◌, ap, refl, subst, arith, List, [], ◌∷◌, ◌++◌, length, map, reverse, Some, None}
 use Rattle.std.specs.Prelude.{slice_get}
 use Rattle.std.specs.List.{AllByRecursion, list_all}
 use Rattle.std.proofs.lemmas.List.{reverse-reverse}
-use Rattle.std.proofs.lemmas.Bool.{false≢true}
 use Rattle.es_event.specs.declared.event.Event.{Event}
 use Rattle.es_event.specs.declared.ledger_event.LedgerEvent.TheVariants.{Drained, Spent}
 use Rattle.es_event.specs.declared.outcome.Outcome.{Outcome}
@@ -22,84 +21,75 @@ use Rattle.es_record.specs.AgentView.{AgentView}
 use Rattle.es_agent.specs.Tickets.{is_ended, tickets}
 use Rattle.es_cluster.specs.declared.member.Progress.{Progress}
 use Rattle.es_cluster.specs.declared.member.Progress.TheVariants.{Moved, Waiting, Ended}
-use Rattle.es_cluster.specs.Asked.{AskedEach, AskedUpTo, BeginsMove, FirstTurn, GoesOn, Hears, Sweeps, Works, cleanup_left, cleans_at, plan_left, plans_left, queues_left}
+use Rattle.es_cluster.specs.Asked.{AskedEach, AskedUpTo, BeginsMove, CleansUp, FirstTurn, Hears, Works, cleanup_left, cleans_at, plan_left, plans_left, queues_left}
 use Rattle.es_cluster.specs.Ends.{AreHistories, EndsIn, HaveNoTicket, IsWhole}
-use Rattle.es_cluster.specs.Moves.{Rest, RunsOut, RunsToEnd, all_over, cleans_quietly, is_over, rested, rests_at, with_drained, over as runs_over}
+use Rattle.es_cluster.specs.Moves.{Rest, RunsOut, RunsToEnd, all_over, cleans_quietly, is_over, rested, rests_at, slept, turned as rests_later, with_drained, over as runs_over}
 use Rattle.es_cluster.specs.State.{ArePlaced, AreTied, ClusterView, accounts, first_state, names_of}
 use Rattle.es_cluster.specs.Turns.{AllTurned, Turned}
 use Rattle.es_cluster.proofs.Beginning.{starts_quiet}
 use Rattle.es_cluster.proofs.Draining.{Outlasts, Over, drained_over, drained_stands}
 use Rattle.es_cluster.proofs.Ended.{ends_in, there}
-use Rattle.es_cluster.proofs.Finishing.{asked_all, asked_mover, asked_next, begins_again, cleaning_unrested, goes_more, cleaned_less, move_on, moved_less, runs_out, sweeps_on, swept, works_moved}
+use Rattle.es_cluster.proofs.Finishing.{asked_all, asked_mover, asked_next, asleep_same, begins_again, cleaned_less, cleaned_rest, cleaning_unrested, falls_asleep, move_on, moved_less, runs_out, sweeps_on, swept, works_moved}
 use Rattle.es_cluster.proofs.Histories.{are_ended}
 use Rattle.es_cluster.proofs.Rounds.{hears}
 use Rattle.es_theorems.proofs.Cluster.{Well, ask, inside_turned, quiet_all, quiet_turned, well_all, well_first, works_of}
 use Rattle.es_theorems.specs.TurnsLaws.{SomeAgentMoves}
-use Rattle.es_theorems.specs.Sleepless.{never_sleeps}
 use Rattle.es_theorems.proofs.Going.{Only}
 use Rattle.es_theorems.proofs.Only.{none_held, only_after}
 use Rattle.es_theorems.proofs.Stepping.{turns_append}
-use Rattle.es_theorems.proofs.Calm.{calm_awake}
 
--- An agent that does not rest moves
-
-unrested_moves : (p : Progress) (n : ℕ) (c d : ClusterView) → Well d → n < length d.agents → rests_at n c ≡ false → Works p n c d → p ≡ Moved
-unrested_moves Moved n c d v known busy works = refl
-unrested_moves Waiting n c d v known busy works = elim works [
-  | inl rests ↦ absurd (false≢true (sym busy ∙ rests))
-  | inr sleeps ↦ (
-      let found = there d.agents n known in
-      let b = found.0 in
-      let up : asleep d.ledger.history n ≡ false = ap (asleep d.ledger.history) (sym (v.placed.each n b found.1).number) ∙ calm_awake b d.ledger.history (v.going n b found.1).calm (v.tied.each n b found.1) in
-      absurd (false≢true (sym up ∙ sleeps)))
-]
-unrested_moves Ended n c d v known busy works = absurd (false≢true (sym busy ∙ works))
-
--- The cleanup queue of an agent is worked off
+-- The cleanup queue of an agent is worked off, unless it begins to sleep before
 
 record Cleaned (n : ℕ) (c : ClusterView) : Type 0 where
+  lies : Bool
   end : ClusterView
   well : Well end
   quiet : cleans_quietly end ≡ true
   known : n < length end.agents
-  goes : GoesOn n c end
-  still : cleans_at n end ≡ false
+  goes : CleansUp lies n c end
   plan : plan_left n end ≡ plan_left n c
   queue : cleanup_left n end ≤ cleanup_left n c
-  sweeps : Sweeps n c → Sweeps n end
 
-clean : (k n : ℕ) (c : ClusterView) → Well c → cleans_quietly c ≡ true → n < length c.agents → cleanup_left n c < k → Cleaned n c
-clean zero n c w quiet known less = absurd (omega (arith, less))
-clean (suc k) n c w quiet known less = by_queue (cleans_at n c) refl (λ d v q i l. clean k n d v q i l)
+clean_more : (lies : Bool) (n : ℕ) (c d end : ClusterView) → cleans_at n c ≡ true → Turned Moved n c d → Works Moved n c d → CleansUp lies n d end → CleansUp lies n c end
+clean_more true n c d end up t works rest = rests_later (cleaning_unrested n c up) t rest
+clean_more false n c d end up t works rest = ((λ last more. rests_later (cleaning_unrested n c up) t (rest.0 last more)), rest.1, rest.2, (λ s. rest.3 (sweeps_on Moved n c d up refl works)))
+
+clean : (k n : ℕ) (c : ClusterView) → Well c → cleans_quietly c ≡ true → n < length c.agents → asleep c.ledger.history n ≡ false → cleanup_left n c < k → Cleaned n c
+clean zero n c w quiet known awake less = absurd (omega (arith, less))
+clean (suc k) n c w quiet known awake less = by_queue (cleans_at n c) refl (λ d v q i a l. clean k n d v q i a l)
   where
-    by_queue : (b : Bool) → cleans_at n c ≡ b → ((d : ClusterView) → Well d → cleans_quietly d ≡ true → n < length d.agents → cleanup_left n d < k → Cleaned n d) → Cleaned n c
-    by_queue false up again = record { end = c; well = w; quiet = quiet; known = known; goes = λ end rest. rest; still = up; plan = refl; queue = omega arith; sweeps = λ s. s }
+    Onward : Type 0
+    Onward = (d : ClusterView) → Well d → cleans_quietly d ≡ true → n < length d.agents → asleep d.ledger.history n ≡ false → cleanup_left n d < k → Cleaned n d
+
+    lain : (p : Progress) (d : ClusterView) → Well d → cleans_at n c ≡ true → (p ≡ Waiting) ⊎ (p ≡ Ended) → Turned p n c d → Works p n c d → Cleaned n c
+    lain p d v up still t works =
+        let busy = cleaning_unrested n c up in
+        let begins = falls_asleep p n c d still busy awake t works in
+        let same = asleep_same n c d begins in
+        let queue = same.1 in
+        record { lies = true; end = d; well = v; quiet = quiet_turned p n c d t quiet; known = inside_turned p n n c d t known; goes = slept busy begins; plan = same.0; queue = omega (arith, queue) }
+
+    by_progress : (p : Progress) (d : ClusterView) → Well d → cleans_at n c ≡ true → Onward → Turned p n c d → Works p n c d → Hears p n c d → Cleaned n c
+    by_progress Waiting d v up again t works heard = lain Waiting d v up (inl refl) t works
+    by_progress Ended d v up again t works heard = lain Ended d v up (inr refl) t works
+    by_progress Moved d v up again t works heard =
+        let left = works_moved Moved n c d true up refl works in
+        let fewer = left.1 in
+        let rest = again d v (quiet_turned Moved n c d t quiet) (inside_turned Moved n n c d t known) heard.1 (omega (arith, less, fewer)) in
+        let kept = rest.queue in
+        record { lies = rest.lies; end = rest.end; well = rest.well; quiet = rest.quiet; known = rest.known; goes = clean_more rest.lies n c d rest.end up t works rest.goes; plan = rest.plan ∙ left.0; queue = omega (arith, kept, fewer) }
+
+    by_queue : (b : Bool) → cleans_at n c ≡ b → Onward → Cleaned n c
+    by_queue false up again = record { lies = false; end = c; well = w; quiet = quiet; known = known; goes = ((λ end rest. rest), up, awake, swept n c up); plan = refl; queue = omega arith }
     by_queue true up again =
         let s = ask n c w known in
         let did = works_of s.progress n c s.after w quiet s.turned in
-        let busy = cleaning_unrested n c up in
-        let inside = inside_turned s.progress n n c s.after s.turned known in
-        let moved = unrested_moves s.progress n c s.after s.well inside busy did.0 in
-        let left = works_moved s.progress n c s.after true up moved did.0 in
-        let fewer = left.1 in
-        let rest = again s.after s.well (quiet_turned s.progress n c s.after s.turned quiet) inside (omega (arith, less, fewer)) in
-        let kept = rest.queue in
-        record {
-          end = rest.end;
-          well = rest.well;
-          quiet = rest.quiet;
-          known = rest.known;
-          goes = λ end more. goes_more s.progress n c c s.after (λ end rest. rest) busy moved s.turned end (rest.goes end more);
-          still = rest.still;
-          plan = rest.plan ∙ left.0;
-          queue = omega (arith, kept, fewer);
-          sweeps = λ s'. rest.sweeps (sweeps_on s.progress n c s.after up moved did.0);
-        }
+        by_progress s.progress s.after s.well up again s.turned did.0 did.1
 
-cleaned : (n : ℕ) (c : ClusterView) → Well c → cleans_quietly c ≡ true → n < length c.agents → Cleaned n c
-cleaned n c w quiet known = clean (suc (cleanup_left n c)) n c w quiet known (omega arith)
+cleaned : (n : ℕ) (c : ClusterView) → Well c → cleans_quietly c ≡ true → n < length c.agents → asleep c.ledger.history n ≡ false → Cleaned n c
+cleaned n c w quiet known awake = clean (suc (cleanup_left n c)) n c w quiet known awake (omega arith)
 
--- A move goes on until its agent rests
+-- A move goes on until its agent rests or sleeps
 
 record Finished (n : ℕ) (c : ClusterView) : Type 0 where
   end : ClusterView
@@ -108,37 +98,56 @@ record Finished (n : ℕ) (c : ClusterView) : Type 0 where
   rest : Rest n c end
   less : plan_left n end ≤ plan_left n c
 
-finish_clean : (k n : ℕ) (c : ClusterView) → Well c → cleans_quietly c ≡ true → n < length c.agents → cleans_at n c ≡ false → plan_left n c < k → Finished n c
-finish_clean zero n c w quiet known still less = absurd (omega (arith, less))
-finish_clean (suc k) n c w quiet known still less = by_rest (rests_at n c) refl (λ d v q i s l. finish_clean k n d v q i s l)
+-- once its cleanup queue is worked off
+finish_from : (n : ℕ) (c : ClusterView) → (q : Cleaned n c) → (cleans_at n q.end ≡ false → asleep q.end.ledger.history n ≡ false → Finished n q.end) → Finished n c
+finish_from n c q onward = by q.lies q.goes
   where
-    by_rest : (b : Bool) → rests_at n c ≡ b → ((d : ClusterView) → Well d → cleans_quietly d ≡ true → n < length d.agents → cleans_at n d ≡ false → plan_left n d < k → Finished n d) → Finished n c
+    same : plan_left n q.end ≡ plan_left n c
+    same = q.plan
+
+    by : (lies : Bool) → CleansUp lies n c q.end → Finished n c
+    by true rest = record { end = q.end; well = q.well; quiet = q.quiet; rest = rest; less = (let plan = same in omega (arith, plan)) }
+    by false goes =
+        let f = onward goes.1 goes.2 in
+        let last = f.less in
+        let plan = same in
+        record { end = f.end; well = f.well; quiet = f.quiet; rest = goes.0 f.end f.rest; less = omega (arith, last, plan) }
+
+finish_clean : (k n : ℕ) (c : ClusterView) → Well c → cleans_quietly c ≡ true → n < length c.agents → cleans_at n c ≡ false → asleep c.ledger.history n ≡ false → plan_left n c < k → Finished n c
+finish_clean zero n c w quiet known still awake less = absurd (omega (arith, less))
+finish_clean (suc k) n c w quiet known still awake less = by_rest (rests_at n c) refl (λ d v q i s a l. finish_clean k n d v q i s a l)
+  where
+    Onward : Type 0
+    Onward = (d : ClusterView) → Well d → cleans_quietly d ≡ true → n < length d.agents → cleans_at n d ≡ false → asleep d.ledger.history n ≡ false → plan_left n d < k → Finished n d
+
+    lain : (p : Progress) (d : ClusterView) → Well d → rests_at n c ≡ false → (p ≡ Waiting) ⊎ (p ≡ Ended) → Turned p n c d → Works p n c d → Finished n c
+    lain p d v busy stays t works =
+        let begins = falls_asleep p n c d stays busy awake t works in
+        let same = (asleep_same n c d begins).0 in
+        record { end = d; well = v; quiet = quiet_turned p n c d t quiet; rest = slept busy begins; less = omega (arith, same) }
+
+    by_progress : (p : Progress) (d : ClusterView) → Well d → rests_at n c ≡ false → Onward → Turned p n c d → Works p n c d → Hears p n c d → Finished n c
+    by_progress Waiting d v busy again t works heard = lain Waiting d v busy (inl refl) t works
+    by_progress Ended d v busy again t works heard = lain Ended d v busy (inr refl) t works
+    by_progress Moved d v busy again t works heard =
+        let fewer = works_moved Moved n c d false still refl works in
+        let q = cleaned n d v (quiet_turned Moved n c d t quiet) (inside_turned Moved n n c d t known) heard.1 in
+        let same = q.plan in
+        let f = finish_from n d q (λ still awake. again q.end q.well q.quiet q.known still awake (omega (arith, less, fewer, same))) in
+        let last = f.less in
+        record { end = f.end; well = f.well; quiet = f.quiet; rest = rests_later busy t f.rest; less = omega (arith, last, fewer) }
+
+    by_rest : (b : Bool) → rests_at n c ≡ b → Onward → Finished n c
     by_rest true at again = record { end = c; well = w; quiet = quiet; rest = rested at; less = omega arith }
     by_rest false busy again =
         let s = ask n c w known in
         let did = works_of s.progress n c s.after w quiet s.turned in
-        let inside = inside_turned s.progress n n c s.after s.turned known in
-        let moved = unrested_moves s.progress n c s.after s.well inside busy did.0 in
-        let fewer = works_moved s.progress n c s.after false still moved did.0 in
-        let q = cleaned n s.after s.well (quiet_turned s.progress n c s.after s.turned quiet) inside in
-        let same = q.plan in
-        let f = again q.end q.well q.quiet q.known q.still (omega (arith, less, fewer, same)) in
-        let last = f.less in
-        record {
-          end = f.end;
-          well = f.well;
-          quiet = f.quiet;
-          rest = goes_more s.progress n c c s.after (λ end rest. rest) busy moved s.turned f.end (q.goes f.end f.rest);
-          less = omega (arith, last, same, fewer);
-        }
+        by_progress s.progress s.after s.well busy again s.turned did.0 did.1
 
-finished : (n : ℕ) (c : ClusterView) → Well c → cleans_quietly c ≡ true → n < length c.agents → Finished n c
-finished n c w quiet known =
-    let q = cleaned n c w quiet known in
-    let same = q.plan in
-    let f = finish_clean (suc (plan_left n q.end)) n q.end q.well q.quiet q.known q.still (omega arith) in
-    let last = f.less in
-    record { end = f.end; well = f.well; quiet = f.quiet; rest = q.goes f.end f.rest; less = omega (arith, last, same) }
+finished : (n : ℕ) (c : ClusterView) → Well c → cleans_quietly c ≡ true → n < length c.agents → asleep c.ledger.history n ≡ false → Finished n c
+finished n c w quiet known awake =
+    let q = cleaned n c w quiet known awake in
+    finish_from n c q (λ still awake. finish_clean (suc (plan_left n q.end)) n q.end q.well q.quiet q.known still awake (omega arith))
 
 -- Agents are asked by rising number
 
@@ -217,12 +226,12 @@ run_begun k j c less few again_plan again_queue (begun_one b d first known w qui
 
     by_queue : (t : Bool) → b.cleans ≡ t → Ran c
     by_queue false clean =
-        let f = finished b.agent d w quiet known in
+        let f = finished b.agent d w quiet known first.awake in
         let fewer = moved_less b c d f.end first clean f.rest f.less in
         onward f.end f.rest (again_plan f.end f.well f.quiet (omega (arith, less, fewer)))
     by_queue true up =
-        let q = cleaned b.agent d w quiet known in
-        let rest = q.goes q.end (rested (swept b.agent q.end q.still (q.sweeps (first.swept up)))) in
+        let q = cleaned b.agent d w quiet known first.awake in
+        let rest = cleaned_rest q.lies b.agent d q.end (first.swept up) q.goes in
         let fewer = cleaned_less b c d q.end first up rest q.plan q.queue in
         let same = fewer.0 in
         let shorter = fewer.1 in
@@ -287,7 +296,7 @@ ends c w over = (o, ends_in d later o stands.0 stands.1 (once.legal, once.paid) 
     nothing a less =
         let found = there c.agents a (let size = w.placed.size in omega (arith, size, less)) in
         let b = found.0 in
-        subst (λ a. Only a c.ledger.history []) (w.placed.each a b found.1).number (subst (Only b.number c.ledger.history) (without_tickets b (closed a b found.1)) (w.going a b found.1).only)
+        subst (λ a. Only a c.ledger.history []) (w.placed.each a b found.1).number (subst (Only b.number c.ledger.history) (without_tickets b (closed a b found.1)) (w.going a b found.1).rack.only)
 
     once : Over (λ l. (a : ℕ) → a < n → Only a l []) n (after_drain c.ledger.history n)
     once = drained_over (λ l. (a : ℕ) → a < n → Only a l []) n c.ledger.history (none_outlasts n) (record { legal = w.legal.0; paid = w.legal.1; over = over; kept = nothing })
@@ -314,18 +323,18 @@ comes_to_an_end c w quiet =
     let out = ends r.end r.well r.over in
     (with_drained r.end, out.0, (r.end, r.runs, refl), out.1)
 
-pub plan_comes_to_an_end : (p : Plan) → never_sleeps p ≡ true → all_name_others p ≡ true → list_all callbacks_collect_nothing p.agents ≡ true → (e : ClusterView) × (o : Outcome) × RunsToEnd (first_state p) e × EndsIn e o
-plan_comes_to_an_end p calm others quiet = comes_to_an_end (first_state p) (well_first p calm others) (starts_quiet p (first_state p) refl quiet)
+pub plan_comes_to_an_end : (p : Plan) → all_name_others p ≡ true → list_all callbacks_collect_nothing p.agents ≡ true → (e : ClusterView) × (o : Outcome) × RunsToEnd (first_state p) e × EndsIn e o
+plan_comes_to_an_end p others quiet = comes_to_an_end (first_state p) (well_first p others) (starts_quiet p (first_state p) refl quiet)
 
-pub rest_comes_to_an_end : (p : Plan) (ns : List ℕ) (c : ClusterView) → never_sleeps p ≡ true → all_name_others p ≡ true → list_all callbacks_collect_nothing p.agents ≡ true → AllTurned ns (first_state p) c → (e : ClusterView) × (o : Outcome) × RunsToEnd c e × EndsIn e o
-rest_comes_to_an_end p ns c calm others quiet turned =
-    comes_to_an_end c (well_all ns (first_state p) c (well_first p calm others) turned) (quiet_all ns (first_state p) c turned (starts_quiet p (first_state p) refl quiet))
+pub rest_comes_to_an_end : (p : Plan) (ns : List ℕ) (c : ClusterView) → all_name_others p ≡ true → list_all callbacks_collect_nothing p.agents ≡ true → AllTurned ns (first_state p) c → (e : ClusterView) × (o : Outcome) × RunsToEnd c e × EndsIn e o
+rest_comes_to_an_end p ns c others quiet turned =
+    comes_to_an_end c (well_all ns (first_state p) c (well_first p others) turned) (quiet_all ns (first_state p) c turned (starts_quiet p (first_state p) refl quiet))
 
 -- Each agent takes a turn, and none of them all are stuck
 
-pub each_takes_a_turn : (p : Plan) (ns : List ℕ) (c : ClusterView) (n : ℕ) → never_sleeps p ≡ true → all_name_others p ≡ true → AllTurned ns (first_state p) c → n < length c.agents → (q : Progress) × (d : ClusterView) × Turned q n c d
-each_takes_a_turn p ns c n calm others turned known =
-    let s = ask n c (well_all ns (first_state p) c (well_first p calm others) turned) known in
+pub each_takes_a_turn : (p : Plan) (ns : List ℕ) (c : ClusterView) (n : ℕ) → all_name_others p ≡ true → AllTurned ns (first_state p) c → n < length c.agents → (q : Progress) × (d : ClusterView) × Turned q n c d
+each_takes_a_turn p ns c n others turned known =
+    let s = ask n c (well_all ns (first_state p) c (well_first p others) turned) known in
     (s.progress, s.after, s.turned)
 
 same_end : (c d : ClusterView) → Well c → Well d → d.agents ≡ c.agents → (m : ℕ) → m ≤ c.ledger.agents → all_ended d.ledger.history m ≡ all_ended c.ledger.history m
@@ -352,7 +361,7 @@ first_goes : (c : ClusterView) → Well c → all_over c ≡ false → Round c �
 first_goes c w going (one_moves ns n mid new taken same known t heard before x y) = record { waits = ns; mid = mid; waited = taken; agents = same; mover = n; after = new; moves = t }
 first_goes c w going (none_moves ns mid taken same upto x) = second_goes c mid ns w x going taken same upto.number (asked_all c.ledger.agents c mid refl upto) (round mid x)
 
-pub not_stuck : (p : Plan) (ns : List ℕ) (c : ClusterView) → never_sleeps p ≡ true → all_name_others p ≡ true → AllTurned ns (first_state p) c → all_over c ≡ false → SomeAgentMoves c
-not_stuck p ns c calm others turned going =
-    let w = well_all ns (first_state p) c (well_first p calm others) turned in
+pub not_stuck : (p : Plan) (ns : List ℕ) (c : ClusterView) → all_name_others p ≡ true → AllTurned ns (first_state p) c → all_over c ≡ false → SomeAgentMoves c
+not_stuck p ns c others turned going =
+    let w = well_all ns (first_state p) c (well_first p others) turned in
     first_goes c w going (round c w)

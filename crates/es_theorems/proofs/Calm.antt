@@ -151,7 +151,7 @@ is_about_sleep (to_pass s) = false
 is_about_sleep (to_empty ids) = false
 is_about_sleep to_close = false
 
-did_calm : (c : Command) (vs : List Value) (a : Answer) → is_for_sleep c ≡ false → is_about_sleep (asks_did c vs a) ≡ false
+pub did_calm : (c : Command) (vs : List Value) (a : Answer) → is_for_sleep c ≡ false → is_about_sleep (asks_did c vs a) ≡ false
 did_calm (Atomic c) vs a calm = ap (λ t. is_about_sleep (asks_word (first vs) (index_of c vs) t (given a))) (task_access c vs calm)
 did_calm (SharedArrayBuffer to n) vs a calm = refl
 did_calm (Length to b) vs a calm = refl
@@ -178,14 +178,14 @@ event_calm over plan h t _ calm may = refl
 
 -- What it asks for
 
-word_asked : (v : Value) (j : ℤ) (t u : Task) (o i : ℕ) → at_word v j t ≡ Some (for_word o i u) → t ≡ u
+pub word_asked : (v : Value) (j : ℤ) (t u : Task) (o i : ℕ) → at_word v j t ≡ Some (for_word o i u) → t ≡ u
 word_asked v j t u o i is = by (object_of v) is
   where
     by : (q : Option ℕ) → option_map (λ o. for_word o (unsigned_abs j) t) q ≡ Some (for_word o i u) → t ≡ u
     by None is = cc
     by (Some p) is = cc
 
-post_no_word : (r : ℕ) (v : Value) (o i : ℕ) (t : Task) → Some (posts_to r v) ≡ Some (for_word o i t) → ⊥
+pub post_no_word : (r : ℕ) (v : Value) (o i : ℕ) (t : Task) → Some (posts_to r v) ≡ Some (for_word o i t) → ⊥
 post_no_word r (Object p) o i t is = cc
 post_no_word r v o i t is = cc
 

@@ -1,26 +1,27 @@
 -- A cluster whose agents go on: each that is asked takes a turn, after which they go on still; so do they after any turn.
-use Rattle.std.proofs.Common.{◌≡◌, ℕ, zero, suc, ◌+◌, ◌<◌, true, false, sym, ◌∙◌, ap, refl, subst, arith, List, [], ◌∷◌, length, reverse, Some, Ok}
+use Rattle.std.proofs.Common.{◌≡◌, ℕ, zero, suc, ◌+◌, ◌<◌, true, false, sym, ◌∙◌, ap, refl, subst, arith, List, [], ◌∷◌, length, reverse, Option, Some, None, Ok, inl, inr}
 use Rattle.std.specs.Prelude.{slice_get, slice_set}
 use Rattle.std.specs.List.{list_all}
+use Rattle.es_event.specs.declared.ledger_event.Act.{Act}
+use Rattle.es_event.specs.declared.ledger_event.Act.TheVariants.{Slept}
+use Rattle.es_event.specs.declared.ledger_event.LedgerEvent.TheVariants.{Acted}
 use Rattle.es_event.specs.declared.plan.AgentPlan.{AgentPlan}
 use Rattle.es_event.specs.declared.plan.Plan.{Plan}
 use Rattle.es_event.specs.Jobs.{callbacks_collect_nothing}
 use Rattle.es_event.specs.Ledger.{Ledger}
 use Rattle.es_event.specs.LegalLedger.{LegalLedger, LegalSoFar}
-use Rattle.es_event.specs.Order.{phase}
 use Rattle.es_event.specs.Others.{all_name_others}
 use Rattle.es_event.proofs.Entries.{inner}
-use Rattle.es_match.specs.Meets.{Tickets}
 use Rattle.es_ticket.specs.Stakes.{is_rising_from}
 use Rattle.es_ledger.specs.LedgerView.{LedgerView}
-use Rattle.es_ledger.specs.Turns.{asked, told}
+use Rattle.es_ledger.specs.Turns.{asked}
+use Rattle.es_ledger.specs.declared.turn.Turn.{Turn as Told}
 use Rattle.es_ledger.specs.declared.turn.Turn.TheVariants.{Stay}
-use Rattle.es_record.specs.AgentView.{AgentView, with_row}
-use Rattle.es_rules.specs.Needs.{asks_message, need}
-use Rattle.es_agent.specs.Tickets.{is_ended, tickets}
-use Rattle.es_agent.proofs.Racks.{no_tickets, open_before}
-use Rattle.es_cluster.specs.Tied.{GrowsBy}
-use Rattle.es_cluster.specs.Turned.{OthersStay}
+use Rattle.es_record.specs.AgentView.{AgentView}
+use Rattle.es_agent.specs.Tickets.{tickets}
+use Rattle.es_agent.proofs.Racks.{no_tickets}
+use Rattle.es_cluster.specs.Tied.{GrowsBy, IsTied}
+use Rattle.es_cluster.specs.Turned.{OthersStay, SleepsOn, WaitsOn, WaitsRightly}
 use Rattle.es_cluster.specs.declared.member.Progress.{Progress}
 use Rattle.es_cluster.specs.declared.member.Progress.TheVariants.{Moved, Waiting, Ended}
 use Rattle.es_cluster.proofs.Hearing.{where_stay}
@@ -31,19 +32,15 @@ use Rattle.es_cluster.specs.Turns.{AllTurned, Takes, Turned}
 use Rattle.es_cluster.proofs.Beginning.{first_holds}
 use Rattle.es_cluster.proofs.Ended.{there}
 use Rattle.es_cluster.proofs.Named.{names}
-use Rattle.es_cluster.proofs.Resting.{nothing_over}
-use Rattle.es_cluster.proofs.Standing.{by_place, mapped_still, placed_after, placed_here, set_here, set_length, tied_after, tied_of, within}
+use Rattle.es_cluster.proofs.Mover.{by_asked}
+use Rattle.es_cluster.proofs.Sleeping.{begun_at, by_rest, no_message, roused_stays, some_turn}
+use Rattle.es_cluster.proofs.Standing.{by_place, mapped_still, placed_after, placed_here, set_length, tied_after, tied_of, within}
 use Rattle.es_cluster.proofs.Turning.{stepped}
-use Rattle.es_theorems.specs.Alike.{Alike}
-use Rattle.es_theorems.specs.Together.{Stands}
-use Rattle.es_theorems.specs.Sleepless.{never_sleeps, never_sleeps_in}
-use Rattle.es_theorems.proofs.Running.{turn_together, first_calm}
-use Rattle.es_theorems.proofs.Telling.{same, turned, same_holder}
-use Rattle.es_theorems.proofs.Going.{AllHeld, Going, Standing, Turn}
+use Rattle.es_theorems.proofs.Going.{Going, Racked, Standing, Turn}
 use Rattle.es_theorems.proofs.Only.{only_beside}
 use Rattle.es_theorems.proofs.Rack.{held_beside}
-use Rattle.es_theorems.proofs.Turn.{asked_going, takes_turn}
-use Rattle.es_theorems.proofs.Calm.{waits_on}
+use Rattle.es_theorems.proofs.Racked.{goes_on_after, quiet}
+use Rattle.es_theorems.proofs.Turn.{takes_turn}
 
 -- each agent has its place and its part in the ledger, which is legal, and goes on
 pub record Well (c : ClusterView) : Type 0 where
@@ -63,12 +60,9 @@ takes_same Ended b new t = (ap (λ b. b.number) t.1, ap (λ b. b.plan) t.1)
 going_beside : (n m : ℕ) (b : AgentView) (l k : Ledger) → GrowsBy n l k → LegalSoFar m k → (b.number ≡ n → ⊥) → Going b l → Going b k
 going_beside n m b l k grows legal other g = record {
   run = g.run;
-  calm = g.calm;
   rising = g.rising;
   newest_is = g.newest_is;
-  held = held_beside m n l k b.number (tickets b) grows legal other g.held;
-  apart = g.apart;
-  only = only_beside n l k b.number (tickets b) grows other g.only;
+  rack = record { held = held_beside m n l k b.number (tickets b) grows legal other g.rack.held; apart = g.rack.apart; only = only_beside n l k b.number (tickets b) grows other g.rack.only };
 }
 
 well_after : (p : Progress) (n : ℕ) (c d : ClusterView) → Well c → (t : Turned p n c d) → Going t.after d.ledger.history → Well d
@@ -94,6 +88,38 @@ well_after p n c d w t g = record {
         let same = takes_same p t.before t.after t.turn in
         placed_here t.before t.after c.ledger d.ledger n (w.placed.each n t.before t.agent) same.0 same.1 t.seated t.number
 
+-- one that waits or sleeps on holds what it held, whatever the ledger recorded of it
+waits_still : (k : ℕ) (b : AgentView) (l m : LedgerView) → WaitsRightly Waiting b l m → IsTied b l.history → LegalSoFar k l.history → Going b l.history → Going b m.history
+waits_still k b l m told tied legal g = record { run = g.run; rising = g.rising; newest_is = g.newest_is; rack = elim told [ inl on ↦ on_for on | inr on ↦ on_at on ] }
+  where
+    acted : (a : Act) → Racked b.number (Acted b.number a ∷ l.history) (tickets b)
+    acted a = quiet k b.number l.history (Acted b.number a) (tickets b) legal (λ j f. cc) (λ j f. f) g.rack
+
+    is : (h : Ledger) → m.history ≡ h → Racked b.number h (tickets b) → Racked b.number m.history (tickets b)
+    is h same r = subst (λ h. Racked b.number h (tickets b)) (sym same) r
+
+    on_for : WaitsOn b l m → Racked b.number m.history (tickets b)
+    on_for on =
+        is (asked l.history b.number on.0) (where_stay l.history m.history l.agents b.number on.0 on.2) (by_asked (λ h. Racked b.number h (tickets b)) l.history b.number on.0 g.rack (acted (Act.Waiting on.0)))
+
+    on_at : SleepsOn b l m → Racked b.number m.history (tickets b)
+    on_at on =
+        by_rest (Some Stay) m.history l.history l.agents b.number on.1 on.2 on.3 on.6
+        (λ sleeping told more. is l.history (roused_stays l.history m.history l.agents b.number more (some_turn _ told)) g.rack)
+        (λ waiting told more. no_message b l.history on.0 on.1 on.2 tied on.4 waiting)
+        (λ awake there told more. is (begun_at l.history b.number on.3 on.1 on.2) (roused_stays (begun_at l.history b.number on.3 on.1 on.2) m.history l.agents b.number more (some_turn _ told)) (acted (Slept on.3.serial on.1 on.2)))
+        (λ awake other told more. let clash : ◌≡◌ {A = Option Told} (Some Stay) None = told in cc)
+
+pub well_turned : (p : Progress) (n : ℕ) (c d : ClusterView) → Well c → Turned p n c d → Well d
+well_turned Moved n c d w t =
+    let b = t.before in
+    let grows = subst (λ n. GrowsBy n c.ledger.history d.ledger.history) (sym (w.placed.each n b t.agent).number) t.ledger in
+    well_after Moved n c d w t (goes_on_after d.ledger.agents b t.after c.ledger.history d.ledger.history (w.going n b t.agent) (w.tied.each n b t.agent) w.legal.1 t.legal.0 grows t.turn t.tied.tied)
+well_turned Waiting n c d w t =
+    well_after Waiting n c d w t (subst (λ b. Going b d.ledger.history) (sym t.turn.1) (waits_still c.ledger.agents t.before c.ledger d.ledger t.told (w.tied.each n t.before t.agent) w.legal.0 (w.going n t.before t.agent)))
+well_turned Ended n c d w t =
+    well_after Ended n c d w t (subst (λ b. Going b d.ledger.history) (sym t.turn.1) (subst (λ (l : LedgerView). Going t.before l.history) (sym t.told) (w.going n t.before t.agent)))
+
 -- A turn that is asked for
 
 standing : (n : ℕ) (c : ClusterView) (b : AgentView) → Well c → slice_get c.agents n ≡ Some b → Standing b c.ledger
@@ -109,7 +135,7 @@ pub record TakesTurn (n : ℕ) (c : ClusterView) : Type 0 where
   pub well : Well after
 
 turn_at : (p : Progress) (n : ℕ) (c : ClusterView) (b : AgentView) → Well c → slice_get c.agents n ≡ Some b → Turn p b c.ledger → TakesTurn n c
-turn_at p n c b w is t = record { progress = p; after = new; turned = taken; well = well_after p n c new w taken t.going }
+turn_at p n c b w is t = record { progress = p; after = new; turned = taken; well = well_turned p n c new w taken }
   where
     new : ClusterView
     new = record { agents = slice_set c.agents n t.after; ledger = t.ledger; failed = false }
@@ -143,89 +169,24 @@ first_bare agents n [] i b is = cc
 first_bare agents n (p ∷ ps) zero b is = (ap (λ b. b.over) (sym (inner is)), ap (λ b. b.history) (sym (inner is)))
 first_bare agents n (p ∷ ps) (suc i) b is = first_bare agents (n + 1) ps i b is
 
-going_bare : (b : AgentView) → b.over ≡ [] → b.history ≡ [] → never_sleeps_in b.plan ≡ true → Going b []
-going_bare b bare new calm = record {
+going_bare : (b : AgentView) → b.over ≡ [] → b.history ≡ [] → Going b []
+going_bare b bare new = record {
   run = rw (bare, new) (tt, tt);
-  calm = calm;
   rising = ap (λ over. is_rising_from 0 (reverse over)) bare;
   newest_is = rw bare (omega arith);
-  held = subst (AllHeld b.number []) (sym (no_tickets b bare)) tt;
-  apart = rw (no_tickets b bare) tt;
-  only = λ k r is other. cc;
+  rack = subst (Racked b.number []) (sym (no_tickets b bare)) (record { held = tt; apart = tt; only = λ k r is other. cc });
 }
 
-pub well_first : (p : Plan) → never_sleeps p ≡ true → all_name_others p ≡ true → Well (first_state p)
-well_first p calm others =
+pub well_first : (p : Plan) → all_name_others p ≡ true → Well (first_state p)
+well_first p others =
     let holds = first_holds p.agents (first_state p).agents (first_state p).ledger refl refl refl others in
     record {
       placed = holds.0;
       tied = holds.1;
       legal = (tt, refl);
       whole = refl;
-      going = λ n b is. (let bare = first_bare (length p.agents) 0 p.agents n b is in going_bare b bare.0 bare.1 (first_calm (length p.agents) 0 p.agents n b calm is));
+      going = λ n b is. (let bare = first_bare (length p.agents) 0 p.agents n b is in going_bare b bare.0 bare.1);
     }
-
--- After any turn
-
-held_alike : (l m : Ledger) (n : ℕ) (ts : Tickets) → Alike l m → AllHeld n l ts → AllHeld n m ts
-held_alike l m n [] alike held = tt
-held_alike l m n (t ∷ ts) alike held = (sym (same_holder l m t.1.serial alike) ∙ held.0, held_alike l m n ts alike held.1)
-
-going_alike : (b : AgentView) (l m : Ledger) → Alike l m → Going b l → Going b m
-going_alike b l m alike g = record {
-  run = g.run;
-  calm = g.calm;
-  rising = g.rising;
-  newest_is = g.newest_is;
-  held = held_alike l m b.number (tickets b) alike g.held;
-  apart = g.apart;
-  only = λ k r is other. g.only k r (same_holder l m k alike ∙ is) other;
-}
-
-stands : (c : ClusterView) → Well c → Stands c
-stands c w = record {
-  size = w.placed.size;
-  each = λ n b is. record { number = (w.placed.each n b is).number; tied = w.tied.each n b is; seated = (w.placed.each n b is).seated; run = (w.going n b is).run; calm = (w.going n b is).calm };
-  undrained = w.legal.1;
-}
-
-found_same : (c : ClusterView) (n : ℕ) (x y : AgentView) → slice_get c.agents n ≡ Some x → slice_get c.agents n ≡ Some y → x ≡ y
-found_same c n x y a b = inner (sym a ∙ b)
-
--- an agent that has one event more goes on as the one that was asked
-moved_well : (n : ℕ) (c d e : ClusterView) (q : Progress) → Well c → Turned Moved n c d → (x : Turned q n c e) → Well e → Well d
-moved_well n c d e Moved w t x v =
-    let both = turn_together d.ledger.agents e.ledger.agents n c c d e
-    (record { left = stands c w; right = stands c w; same = record { agents = refl; number = refl; ledgers = same c.ledger.history } }) t x t.legal.0 x.legal.0 in
-    let here = within c.agents n t.before t.agent in
-    let mine : slice_get d.agents n ≡ Some t.after = ap (λ bs. slice_get bs n) t.agents ∙ set_here c.agents n t.after here in
-    let other : slice_get e.agents n ≡ Some t.after = ap (λ bs. slice_get bs n) (sym both.same.agents) ∙ mine in
-    well_after Moved n c d w t (going_alike t.after e.ledger.history d.ledger.history (turned d.ledger.history e.ledger.history both.same.ledgers) (v.going n t.after other))
-moved_well n c d e Waiting w t x v =
-    let same : x.before ≡ t.before = found_same c n x.before t.before x.agent t.agent in
-    let on = waits_on x.before c.ledger e.ledger (w.going n x.before x.agent).calm x.told in
-    let asks : need t.before ≡ asks_message on.0 = ap need (sym same) ∙ on.1 in
-    let stays : (told c.ledger.history c.ledger.agents t.before.number on.0).0 ≡ Stay =
-    ap (λ (b : AgentView). (told c.ledger.history c.ledger.agents b.number on.0).0) (sym same) ∙ sym (ap (λ p. p.0) on.2) in
-    absurd (t.told.0 on.0 asks stays)
-moved_well n c d e Ended w t x v =
-    let same : x.before ≡ t.before = found_same c n x.before t.before x.agent t.agent in
-    let over : is_ended (phase t.before.history) ≡ true = nothing_over t.before (ap need (sym same) ∙ x.turn.0) in
-    let open' : is_ended (phase t.before.history) ≡ false = open_before (with_row t.turn.1 t.before) t.turn.0 t.turn.2 in
-    let clash : true ≡ false = sym over ∙ open' in
-    cc
-
-pub well_turned : (p : Progress) (n : ℕ) (c d : ClusterView) → Well c → Turned p n c d → Well d
-well_turned Moved n c d w t =
-    let x = ask n c w (within c.agents n t.before t.agent) in
-    moved_well n c d x.after x.progress w t x.turned x.well
-well_turned Waiting n c d w t =
-    let on = waits_on t.before c.ledger d.ledger (w.going n t.before t.agent).calm t.told in
-    let history : d.ledger.history ≡ asked c.ledger.history t.before.number on.0 = where_stay c.ledger.history d.ledger.history c.ledger.agents t.before.number on.0 on.2 in
-    let going = asked_going t.before c.ledger on.0 (standing n c t.before w t.agent) in
-    well_after Waiting n c d w t (subst (λ b. Going b d.ledger.history) (sym t.turn.1) (subst (Going t.before) (sym history) going))
-well_turned Ended n c d w t =
-    well_after Ended n c d w t (subst (λ b. Going b d.ledger.history) (sym t.turn.1) (subst (λ (l : LedgerView). Going t.before l.history) (sym t.told) (w.going n t.before t.agent)))
 
 pub well_all : (ns : List ℕ) (c d : ClusterView) → Well c → AllTurned ns c d → Well d
 well_all [] c d w turned = subst Well (sym turned) w

@@ -62,7 +62,7 @@ has_row : (o : Option Row) (test : Row → Bool) → option_map_or test o false 
 has_row None test e = cc
 has_row (Some r) test e = (r, refl, e)
 
-its_serial : (t : Tickets) (v : Value) (s : ℕ) → is_ticket t v s ≡ true → s ≡ serial_at t v
+pub its_serial : (t : Tickets) (v : Value) (s : ℕ) → is_ticket t v s ≡ true → s ≡ serial_at t v
 its_serial t v s e =
     let r = has_row (row_of t v) (λ r. r.serial == s) e in
     sym (eqb-true r.0.serial s r.2) ∙ sym (ap (λ o. option_map_or (λ r. r.serial) o 0) r.1)
@@ -72,10 +72,10 @@ its_block t v k e =
     let r = has_row (row_of t v) (λ r. r.block == k) e in
     sym (eqb-true r.0.block k r.2) ∙ sym (ap (λ o. option_map_or (λ r. r.block) o 0) r.1)
 
-its_index : (i : ℤ) (j : ℕ) → same_index i j ≡ true → j ≡ unsigned_abs i
+pub its_index : (i : ℤ) (j : ℕ) → same_index i j ≡ true → j ≡ unsigned_abs i
 its_index i j e = sym (ap unsigned_abs ((Decides-int_eq i (pos j)).0 e))
 
-its_word : (l : Ledger) (s i w : ℕ) → Reaches (holder_of l s) i (λ r. w ≡ word l r.block i) → w ≡ word_at l s i
+pub its_word : (l : Ledger) (s i w : ℕ) → Reaches (holder_of l s) i (λ r. w ≡ word l r.block i) → w ≡ word_at l s i
 its_word l s i w is = by_holder (holder_of l s) is
   where
     by_holder : (o : Option (ℕ × Row)) → Reaches o i (λ r. w ≡ word l r.block i) → w ≡ option_map_or (λ p. word l p.1.block i) o 0
@@ -83,7 +83,7 @@ its_word l s i w is = by_holder (holder_of l s) is
     by_holder (Some p) is = is.1
 
 -- a command's answer that is this number
-its_answer : (r : Answer) (w : ℕ) → is_number (given r) w ≡ true → word_in r ≡ w
+pub its_answer : (r : Answer) (w : ℕ) → is_number (given r) w ≡ true → word_in r ≡ w
 its_answer (Gives (Number i)) w e = by_sign i ((Decides-int_eq i (pos w)).0 e)
   where
     by_sign : (i : ℤ) → i ≡ pos w → word_in (Gives (Number i)) ≡ w

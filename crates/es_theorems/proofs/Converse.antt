@@ -17,7 +17,6 @@ use Rattle.es_outcome.specs.Outcomes.{IsClusterOutcome}
 use Rattle.es_outcome.proofs.Ended.{told_plans}
 use Rattle.es_outcome.proofs.Telling.{told_histories}
 use Rattle.es_theorems.proofs.Ending.{names_are}
-use Rattle.es_theorems.specs.Sleepless.{never_sleeps}
 
 -- a cluster that has the plans of the plan still
 outcome_of : (p : Plan) (c : ClusterView) (q : Outcome) → SamePlans (first_state p) c → EndsIn c q → IsClusterOutcome p q
@@ -41,5 +40,5 @@ outcome_of_turns p ns c q turned ends =
 pub outcome_of_run : (p : Plan) (c : ClusterView) (q : Outcome) → RunsToEnd (first_state p) c → EndsIn c q → IsClusterOutcome p q
 outcome_of_run p c q run ends = outcome_of p c q (plans_to_end (first_state p) c run) ends
 
-pub some_outcome : (p : Plan) → never_sleeps p ≡ true → all_name_others p ≡ true → list_all callbacks_collect_nothing p.agents ≡ true → (o : Outcome) × IsClusterOutcome p o
-some_outcome p calm others quiet = let e = plan_comes_to_an_end p calm others quiet in (e.1, outcome_of_run p e.0 e.1 e.2 e.3)
+pub some_outcome : (p : Plan) → all_name_others p ≡ true → list_all callbacks_collect_nothing p.agents ≡ true → (o : Outcome) × IsClusterOutcome p o
+some_outcome p others quiet = let e = plan_comes_to_an_end p others quiet in (e.1, outcome_of_run p e.0 e.1 e.2 e.3)

@@ -1,7 +1,7 @@
 -- What an agent does next is settled by its view, and by what the ledger says.
-use Rattle.std.proofs.Common.{◌≡◌, ℕ, ◌+◌, ◌&&◌, true, false, cond, sym, ◌∙◌, ap, refl, subst, List, [], ◌∷◌, Option, Some, None, Ok, Err}
+use Rattle.std.proofs.Common.{◌≡◌, ℕ, ◌+◌, ◌&&◌, true, false, cond, sym, ◌∙◌, ap, refl, subst, List, [], ◌∷◌, Option, Some, None, Ok, Err, Bool, drop}
 use Rattle.std.proofs.lemmas.Bool.{false≢true, and_parts}
-use Rattle.std.specs.Prelude.{nat_lt, is_none}
+use Rattle.std.specs.Prelude.{nat_lt, is_none, unsigned_abs}
 use Rattle.es_value.specs.Limits.{most_identities}
 use Rattle.es_value.specs.declared.value.Value.{Value}
 use Rattle.es_value.specs.declared.value.Value.TheVariants.{Object}
@@ -14,32 +14,40 @@ use Rattle.es_event.specs.declared.event.Refusal.TheVariants.{TooManyValues}
 use Rattle.es_event.specs.declared.ledger_event.Body.{Body}
 use Rattle.es_event.specs.declared.ledger_event.Body.TheVariants.{Plain, Block}
 use Rattle.es_event.specs.declared.row.Row.{Row}
-use Rattle.es_event.specs.Commands.{collects, reads}
+use Rattle.es_event.specs.Commands.{collects, reads, first}
 use Rattle.es_event.specs.Follows.{AtCommand, HasRoom, Permits, done_for, refused_now}
 use Rattle.es_event.specs.Identities.{made, object_of}
 use Rattle.es_event.specs.Jobs.{job, receivers}
-use Rattle.es_event.specs.Heard.{Heard, a_message, heard_by}
+use Rattle.es_event.specs.Heard.{Heard, a_message, heard_by, a_wait, a_word, heard_at, wait_given, wait_in, word_in}
 use Rattle.es_event.specs.Legal.{values_of}
 use Rattle.es_event.specs.Later.{snapshot}
 use Rattle.es_event.specs.Ledger.{Ledger}
 use Rattle.es_event.specs.Order.{Due, begin, receive, run, clean, take_cell, finish, end_job, close, due}
 use Rattle.es_event.specs.Rules.{completion, refusal, refuse_or, result}
 use Rattle.es_event.specs.Runs.{ComesNext, IsRunOver, heard}
-use Rattle.es_event.specs.Sharing.{AgreeSoFar}
+use Rattle.es_event.specs.Sharing.{AgreeSoFar, Buffers}
 use Rattle.es_event.proofs.Extending.{agrees_longer, agrees_with_itself, all_refusals, same_completion}
 use Rattle.es_event.proofs.Next.{done_beside, empties_beside, one_next}
-use Rattle.es_match.specs.Asks.{asks_did, between_jobs, nothing as asks_nothing, to_refuse, wants_room}
+use Rattle.es_match.specs.Asks.{asks_did, between_jobs, nothing as asks_nothing, to_refuse, wants_room, asks_wait, asks_word, given, to_notify}
 use Rattle.es_match.specs.Cluster.{awaited, is_refusal_asked}
 use Rattle.es_match.specs.Deeds.{Deed, Spends}
 use Rattle.es_match.specs.Meets.{after, refused_in, serials_of, spends, ticket_in, within}
-use Rattle.es_record.specs.AgentView.{AgentView, with_row}
+use Rattle.es_record.specs.AgentView.{AgentView, IsNext, with_row}
 use Rattle.es_agent.specs.Tickets.{tickets}
 use Rattle.es_cluster.proofs.Asking.{at_command, at_message, awaited_at}
+use Rattle.es_event.specs.declared.atomic.AtomicParts.{AtomicParts}
+use Rattle.es_event.specs.declared.atomic.Operation.{Operation}
+use Rattle.es_event.specs.declared.operand.Operand.{Operand}
+use Rattle.es_event.specs.declared.command.Command.TheVariants.{Atomic}
+use Rattle.es_event.specs.Numbers.{access_of, after_operand, index_of, most_taken, task_by, word_at, words_read}
+use Rattle.es_theorems.proofs.Waiting.{SettlesNotify, SettlesWait, as_move, is_ending, no_ending, settles_notify, settles_wait}
+use Rattle.es_theorems.proofs.Calm.{did_calm}
+use Rattle.es_theorems.specs.Settled.{serial_at}
 use Rattle.es_theorems.specs.Alike.{Alike}
 use Rattle.es_theorems.specs.Doing.{did}
 use Rattle.es_theorems.specs.Move.{Move, asked_by}
-use Rattle.es_theorems.specs.Sleepless.{is_for_sleep}
-use Rattle.es_theorems.proofs.Calm.{done_calm, due_calm}
+use Rattle.es_theorems.specs.Rousing.{Way, shown}
+use Rattle.es_theorems.specs.Sleepless.{is_for_sleep, is_of_sleep}
 use Rattle.es_theorems.proofs.Commands.{Settles, no_row, none_more, settles, some_if_true}
 use Rattle.es_theorems.proofs.Messages.{Receives, Refuses, Says, Skips, next_words, taking_next, receives, refuses, skips}
 use Rattle.es_theorems.proofs.Spending.{in_any_order}
@@ -55,12 +63,12 @@ by_deeds : (n : ℕ) (l : Ledger) (ds es : List Deed) → ds ≡ es → Alike (d
 by_deeds n l ds es is = subst (λ es. Alike (did n ds l) (did n es l)) is (same (did n ds l))
 
 -- where the same ticket comes, and the same is heard, the event is the same
-one_event : (n : ℕ) (l : Ledger) (b : AgentView) (e f : Event) (r q : Option Row) (ds es : List Deed) → Move n l b e r ds → Move n l b f q es → r ≡ q → heard e ≡ heard f → e ≡ f
-one_event n l b e f r q ds es x y rows hears =
-    one_next (with_row q b).over b.plan b.history e f (subst (λ r. ComesNext (with_row r b).over b.plan b.history e) rows (x.next.lawful, x.next.permitted)) (y.next.lawful, y.next.permitted) hears
+one_event : (b : AgentView) (e f : Event) (r q : Option Row) → IsNext (with_row r b) e → IsNext (with_row q b) f → r ≡ q → heard e ≡ heard f → e ≡ f
+one_event b e f r q x y rows hears =
+    one_next (with_row q b).over b.plan b.history e f (subst (λ r. ComesNext (with_row r b).over b.plan b.history e) rows (x.lawful, x.permitted)) (y.lawful, y.permitted) hears
 
-agree : (n : ℕ) (l : Ledger) (b : AgentView) (e f : Event) (r q : Option Row) (ds es : List Deed) → Move n l b e r ds → Move n l b f q es → r ≡ q → heard e ≡ heard f → Alike (did n ds l) (did n es l) → Agree n l e f r q ds es
-agree n l b e f r q ds es x y rows hears alike = record { event = one_event n l b e f r q ds es x y rows hears; row = rows; alike = alike }
+agree : (n : ℕ) (l : Ledger) (b : AgentView) (e f : Event) (r q : Option Row) (ds es : List Deed) → IsNext (with_row r b) e → IsNext (with_row q b) f → r ≡ q → heard e ≡ heard f → Alike (did n ds l) (did n es l) → Agree n l e f r q ds es
+agree n l b e f r q ds es x y rows hears alike = record { event = one_event b e f r q x y rows hears; row = rows; alike = alike }
 
 -- Events that ask nothing
 
@@ -78,11 +86,11 @@ both_quiet : (n : ℕ) (l : Ledger) (b : AgentView) (e f : Event) (r q : Option 
 both_quiet n l b e f r q ds es left right hears x y =
     let a = is_quiet n l b e r ds left x in
     let c = is_quiet n l b f q es right y in
-    agree n l b e f r q ds es x y (a.row ∙ sym c.row) hears (by_deeds n l ds es (a.deeds ∙ sym c.deeds))
+    agree n l b e f r q ds es x.next y.next (a.row ∙ sym c.row) hears (by_deeds n l ds es (a.deeds ∙ sym c.deeds))
 
 -- A command
 
-agrees_row : (b : AgentView) (r : Option Row) → AgreeSoFar b.history b.over (with_row r b).over
+pub agrees_row : (b : AgentView) (r : Option Row) → AgreeSoFar b.history b.over (with_row r b).over
 agrees_row b None = agrees_with_itself b.history b.over
 agrees_row b (Some r) = agrees_longer b.history b.over r
 
@@ -119,7 +127,7 @@ both_done : (n : ℕ) (l : Ledger) (b : AgentView) (c d k : Command) (vs us : Li
 both_done n l b c d k vs us a z r q ds es p o calm x y =
     let u = settled d vs a r ds p x in
     let v = settled k us z q es o y in
-    agree n l b (Did (d, vs, a)) (Did (k, us, z)) r q ds es x y (u.row ∙ sym v.row) (ap (λ d. heard_by d a) p ∙ u.hears ∙ sym v.hears ∙ sym (ap (λ k. heard_by k z) o)) (by_deeds n l ds es (u.deeds ∙ sym v.deeds))
+    agree n l b (Did (d, vs, a)) (Did (k, us, z)) r q ds es x.next y.next (u.row ∙ sym v.row) (ap (λ d. heard_by d a) p ∙ u.hears ∙ sym v.hears ∙ sym (ap (λ k. heard_by k z) o)) (by_deeds n l ds es (u.deeds ∙ sym v.deeds))
   where
     values : List Value
     values = values_of (receivers b.plan.jobs) b.history (reads c)
@@ -130,13 +138,91 @@ both_done n l b c d k vs us a z r q ds es p o calm x y =
         let asks : asks_did d vs a ≡ asks_did c values a = ap (λ d. asks_did d vs a) p ∙ ap (λ vs. asks_did c vs a) read in
         settles n l (tickets b) x.left (made b.history) c values a r ds calm (ap (λ q. after (tickets b) q ds) (sym asks) ∙ x.met) (ap (λ q. ticket_in q ds) (sym asks) ∙ x.came) x.fit
 
+-- A command that waits at a word, or notifies
+
+-- what it did is the same ledger
+by_ledgers : (n : ℕ) (l : Ledger) (ds es : List Deed) → did n ds l ≡ did n es l → Alike (did n ds l) (did n es l)
+by_ledgers n l ds es is = subst (Alike (did n ds l)) is (same (did n ds l))
+
+-- the values that it reads
+abbrev pub values_read : AgentView → Command → List Value
+values_read b c = values_of (receivers b.plan.jobs) b.history (reads c)
+
+-- what it asks
+pub asks_so : (b : AgentView) (c d : Command) (vs : List Value) (a : Answer) (r : Option Row) (ds : List Deed) (n : ℕ) (l : Ledger) → d ≡ c → Way n l b (Did (d, vs, a)) r ds → asks_did d vs a ≡ asks_did c (values_read b c) a
+asks_so b c d vs a r ds n l p x =
+    let read : vs ≡ values_of (receivers b.plan.jobs) b.history (reads c) = x.next.lawful.0 ∙ ap (λ d. values_of (receivers b.plan.jobs) b.history (reads d)) p in
+    ap (λ d. asks_did d vs a) p ∙ ap (λ vs. asks_did c vs a) read
+
+waited : (n : ℕ) (l : Ledger) (b : AgentView) (k : AtomicParts) (to : List ℕ) (number : Operand) (d : Command) (vs : List Value) (a : Answer) (r : Option Row) (ds : List Deed) → k.operation ≡ Operation.Wait to number → d ≡ Atomic k → Way n l b (Did (d, vs, a)) r ds
+    → SettlesWait n l (serial_at (tickets b) (first (values_read b (Atomic k)))) (unsigned_abs (index_of k (values_read b (Atomic k)))) (word_at 0 (words_read k (values_read b (Atomic k)))) a r ds
+waited n l b k to number d vs a r ds operation p x =
+    let us = values_read b (Atomic k) in
+    let asks : asks_did d vs a ≡ asks_wait (first us) (index_of k us) (word_at 0 (words_read k us)) (wait_given (given a)) =
+    asks_so b (Atomic k) d vs a r ds n l p x ∙ ap (λ o. asks_word (first us) (index_of k us) (task_by o (access_of k us) (word_at 0 (words_read k us)) (after_operand k.index (drop 1 us))) (given a)) operation in
+    settles_wait n l (tickets b) x.left (made b.history) (first us) (index_of k us) (word_at 0 (words_read k us)) a r ds (ap (λ q. after (tickets b) q (shown ds)) (sym asks) ∙ x.met) (ap (λ q. ticket_in q (shown ds)) (sym asks) ∙ x.came) x.fit x.led
+
+both_waited : (n : ℕ) (l : Ledger) (b : AgentView) (k : AtomicParts) (to : List ℕ) (number : Operand) (d g : Command) (vs us : List Value) (a z : Answer) (r q : Option Row) (ds es : List Deed) → k.operation ≡ Operation.Wait to number → d ≡ Atomic k → g ≡ Atomic k
+    → Way n l b (Did (d, vs, a)) r ds → Way n l b (Did (g, us, z)) q es → Agree n l (Did (d, vs, a)) (Did (g, us, z)) r q ds es
+both_waited n l b k to number d g vs us a z r q ds es operation p o x y =
+    let u = waited n l b k to number d vs a r ds operation p x in
+    let v = waited n l b k to number g us z q es operation o y in
+    let hears : (a : Answer) → heard_by (Atomic k) a ≡ a_wait (wait_in a) = λ a. ap (λ o. heard_at o a) operation in
+    agree n l b (Did (d, vs, a)) (Did (g, us, z)) r q ds es x.next y.next (u.row ∙ sym v.row)
+    (ap (λ d. heard_by d a) p ∙ hears a ∙ ap a_wait (u.ended ∙ sym v.ended) ∙ sym (hears z) ∙ sym (ap (λ g. heard_by g z) o))
+    (by_ledgers n l ds es (u.leaves ∙ sym v.leaves))
+
+notified : (n : ℕ) (l : Ledger) (b : AgentView) (k : AtomicParts) (to : List ℕ) (count : Option Operand) (d : Command) (vs : List Value) (a : Answer) (r : Option Row) (ds : List Deed) → k.operation ≡ Operation.Notify to count → d ≡ Atomic k → Way n l b (Did (d, vs, a)) r ds
+    → SettlesNotify l (serial_at (tickets b) (first (values_read b (Atomic k)))) (unsigned_abs (index_of k (values_read b (Atomic k)))) (most_taken count (after_operand k.index (drop 1 (values_read b (Atomic k))))) a r ds
+notified n l b k to count d vs a r ds operation p x =
+    let us = values_read b (Atomic k) in
+    let many = most_taken count (after_operand k.index (drop 1 us)) in
+    let asks : asks_did d vs a ≡ to_notify (first us) (index_of k us) many (given a) =
+    asks_so b (Atomic k) d vs a r ds n l p x ∙ ap (λ o. asks_word (first us) (index_of k us) (task_by o (access_of k us) (word_at 0 (words_read k us)) (after_operand k.index (drop 1 us))) (given a)) operation in
+    let m = as_move n l b (Did (d, vs, a)) r ds (ap is_ending asks) x in
+    settles_notify n l (tickets b) m.left (made b.history) (first us) (index_of k us) many a r ds (ap (λ q. after (tickets b) q ds) (sym asks) ∙ m.met) (ap (λ q. ticket_in q ds) (sym asks) ∙ m.came) m.fit
+
+both_notified : (n : ℕ) (l : Ledger) (b : AgentView) (k : AtomicParts) (to : List ℕ) (count : Option Operand) (d g : Command) (vs us : List Value) (a z : Answer) (r q : Option Row) (ds es : List Deed) → k.operation ≡ Operation.Notify to count → d ≡ Atomic k → g ≡ Atomic k
+    → Way n l b (Did (d, vs, a)) r ds → Way n l b (Did (g, us, z)) q es → Agree n l (Did (d, vs, a)) (Did (g, us, z)) r q ds es
+both_notified n l b k to count d g vs us a z r q ds es operation p o x y =
+    let u = notified n l b k to count d vs a r ds operation p x in
+    let v = notified n l b k to count g us z q es operation o y in
+    let hears : (a : Answer) → heard_by (Atomic k) a ≡ a_word (word_in a) = λ a. ap (λ o. heard_at o a) operation in
+    agree n l b (Did (d, vs, a)) (Did (g, us, z)) r q ds es x.next y.next (u.row ∙ sym v.row)
+    (ap (λ d. heard_by d a) p ∙ hears a ∙ ap a_word (u.took ∙ sym v.took) ∙ sym (hears z) ∙ sym (ap (λ g. heard_by g z) o))
+    (by_deeds n l ds es (u.deeds ∙ sym v.deeds))
+
+both_of_sleep : (n : ℕ) (l : Ledger) (b : AgentView) (c d k : Command) (vs us : List Value) (a z : Answer) (r q : Option Row) (ds es : List Deed) → d ≡ c → k ≡ c → is_for_sleep c ≡ true → Way n l b (Did (d, vs, a)) r ds → Way n l b (Did (k, us, z)) q es
+    → Agree n l (Did (d, vs, a)) (Did (k, us, z)) r q ds es
+both_of_sleep n l b (Atomic c) d k vs us a z r q ds es p o sleeps x y = by c.operation refl sleeps
+  where
+    by : (how : Operation) → c.operation ≡ how → is_of_sleep how ≡ true → Agree n l (Did (d, vs, a)) (Did (k, us, z)) r q ds es
+    by (Operation.Wait to number) is e = both_waited n l b c to number d k vs us a z r q ds es is p o x y
+    by (Operation.Notify to count) is e = both_notified n l b c to count d k vs us a z r q ds es is p o x y
+    by (Operation.Load to) is e = cc
+    by (Operation.Store number) is e = cc
+    by (Operation.Modify to how number) is e = cc
+    by (Operation.CompareExchange to expected number) is e = cc
+both_of_sleep n l b _ d k vs us a z r q ds es p o sleeps x y = cc
+
+-- a command that does neither ends no sleep
+did_plain : (b : AgentView) (c d : Command) (vs : List Value) (a : Answer) → d ≡ c → is_for_sleep c ≡ false → is_ending (asked_by b (Did (d, vs, a))) ≡ false
+did_plain b c d vs a p calm = ap (λ d. is_ending (asks_did d vs a)) p ∙ no_ending (asks_did c vs a) (did_calm c vs a calm)
+
+both_did : (n : ℕ) (l : Ledger) (b : AgentView) (c d k : Command) (vs us : List Value) (a z : Answer) (r q : Option Row) (ds es : List Deed) → d ≡ c → k ≡ c → Way n l b (Did (d, vs, a)) r ds → Way n l b (Did (k, us, z)) q es → Agree n l (Did (d, vs, a)) (Did (k, us, z)) r q ds es
+both_did n l b c d k vs us a z r q ds es p o x y = by (is_for_sleep c) refl
+  where
+    by : (t : Bool) → is_for_sleep c ≡ t → Agree n l (Did (d, vs, a)) (Did (k, us, z)) r q ds es
+    by true sleeps = both_of_sleep n l b c d k vs us a z r q ds es p o sleeps x y
+    by false calm = both_done n l b c d k vs us a z r q ds es p o calm (as_move n l b (Did (d, vs, a)) r ds (did_plain b c d vs a p calm) x) (as_move n l b (Did (k, us, z)) q es (did_plain b c k us z o calm) y)
+
 no_ticket_emptied : (n : ℕ) (l : Ledger) (b : AgentView) (ids : List ℕ) (r : Option Row) (ds : List Deed) → Move n l b (Emptied ids) r ds → r ≡ None
 no_ticket_emptied n l b ids r ds x = no_row (made b.history) r x.came
 
 both_emptied : (n : ℕ) (l : Ledger) (b : AgentView) (ids jds : List ℕ) (r q : Option Row) (ds es : List Deed) → Move n l b (Emptied ids) r ds → Move n l b (Emptied jds) q es → Agree n l (Emptied ids) (Emptied jds) r q ds es
 both_emptied n l b ids jds r q ds es x y =
     let rows : r ≡ q = no_ticket_emptied n l b ids r ds x ∙ sym (no_ticket_emptied n l b jds q es y) in
-    let event : ◌≡◌ {A = Event} (Emptied ids) (Emptied jds) = one_event n l b (Emptied ids) (Emptied jds) r q ds es x y rows refl in
+    let event : ◌≡◌ {A = Event} (Emptied ids) (Emptied jds) = one_event b (Emptied ids) (Emptied jds) r q x.next y.next rows refl in
     let all : ids ≡ jds = cc in
     let mine : spends false (serials_of (within ids (tickets b))) ds ≡ true = some_if_true _ _ x.left x.met in
     let other : spends false (serials_of (within jds (tickets b))) es ≡ true = some_if_true _ _ y.left y.met in
@@ -150,24 +236,37 @@ both_emptied n l b ids jds r q ds es x y =
 not_emptied : (n : ℕ) (l : Ledger) (b : AgentView) (x : Option (List ℕ)) (c : Command) (code : Refusal) (ids : List ℕ) (r q : Option Row) (ds es : List Deed) → due b.plan b.history ≡ run x c → Move n l b (Refused code) r ds → Move n l b (Emptied ids) q es → ⊥
 not_emptied n l b k c code ids r q ds es at x y =
     let rows : r ≡ q = (is_quiet n l b (Refused code) r ds (refused_quiet b k c code at) x).row ∙ sym (no_ticket_emptied n l b ids q es y) in
-    let event : ◌≡◌ {A = Event} (Refused code) (Emptied ids) = one_event n l b (Refused code) (Emptied ids) r q ds es x y rows refl in cc
+    let event : ◌≡◌ {A = Event} (Refused code) (Emptied ids) = one_event b (Refused code) (Emptied ids) r q x.next y.next rows refl in cc
+
+refused_plain : (b : AgentView) (code : Refusal) → is_ending (asked_by b (Refused code)) ≡ false
+refused_plain b code = by (between_jobs b.history && wants_room code)
+  where
+    by : (t : Bool) → is_ending (cond t to_refuse asks_nothing) ≡ false
+    by true = refl
+    by false = refl
+
+refused_move : (n : ℕ) (l : Ledger) (b : AgentView) (code : Refusal) (r : Option Row) (ds : List Deed) → Way n l b (Refused code) r ds → Move n l b (Refused code) r ds
+refused_move n l b code r ds x = as_move n l b (Refused code) r ds (refused_plain b code) x
+
+emptied_move : (n : ℕ) (l : Ledger) (b : AgentView) (ids : List ℕ) (r : Option Row) (ds : List Deed) → Way n l b (Emptied ids) r ds → Move n l b (Emptied ids) r ds
+emptied_move n l b ids r ds x = as_move n l b (Emptied ids) r ds refl x
 
 commanded : (n : ℕ) (l : Ledger) (b : AgentView) → IsRunOver b.over b.plan b.history → (w : Option (List ℕ)) (c : Command) → due b.plan b.history ≡ run w c → (e f : Event) (r q : Option Row) (ds es : List Deed)
-    → AtCommand (with_row r b).over (receivers b.plan.jobs) b.history w c e → AtCommand (with_row q b).over (receivers b.plan.jobs) b.history w c f → Move n l b e r ds → Move n l b f q es → Agree n l e f r q ds es
+    → AtCommand (with_row r b).over (receivers b.plan.jobs) b.history w c e → AtCommand (with_row q b).over (receivers b.plan.jobs) b.history w c f → Way n l b e r ds → Way n l b f q es → Agree n l e f r q ds es
 commanded n l b history w c at (Did (d, vs, a)) (Did (k, us, z)) r q ds es p o x y =
-    both_done n l b (done_for (refused_now (with_row q b).over (receivers b.plan.jobs) b.history c) w c) d k vs us a z r q ds es (p ∙ ap (λ o. done_for o w c) (same_refusal b history r q c)) o
-    (done_calm (refused_now (with_row q b).over (receivers b.plan.jobs) b.history c) w c (due_calm b.plan b.history w c x.calm at)) x y
+    both_did n l b (done_for (refused_now (with_row q b).over (receivers b.plan.jobs) b.history c) w c) d k vs us a z r q ds es (p ∙ ap (λ o. done_for o w c) (same_refusal b history r q c)) o x y
 commanded n l b history w c at (Did (d, vs, a)) (Refused code) r q ds es p o x y =
     absurd (not_refused b history r q c d vs a code (done_beside (with_row r b).over (receivers b.plan.jobs) b.history w c d o.0 p) x.next.lawful.0 x.next.lawful.1 o.1)
 commanded n l b history w c at (Did (d, vs, a)) (Emptied ids) r q ds es p o x y =
     absurd (false≢true (sym x.next.lawful.2 ∙ ap collects (empties_beside (with_row r b).over (receivers b.plan.jobs) b.history w c d o.0 p) ∙ (and_parts (collects c) (is_none (snapshot b.history)) o.0).0))
 commanded n l b history w c at (Refused code) (Did (k, us, z)) r q ds es p o x y =
     absurd (not_refused b history q r c k us z code (done_beside (with_row q b).over (receivers b.plan.jobs) b.history w c k p.0 o) y.next.lawful.0 y.next.lawful.1 p.1)
-commanded n l b history w c at (Refused code) (Refused other) r q ds es p o x y = both_quiet n l b (Refused code) (Refused other) r q ds es (refused_quiet b w c code at) (refused_quiet b w c other at) refl x y
-commanded n l b history w c at (Refused code) (Emptied ids) r q ds es p o x y = absurd (not_emptied n l b w c code ids r q ds es at x y)
+commanded n l b history w c at (Refused code) (Refused other) r q ds es p o x y =
+    both_quiet n l b (Refused code) (Refused other) r q ds es (refused_quiet b w c code at) (refused_quiet b w c other at) refl (refused_move n l b code r ds x) (refused_move n l b other q es y)
+commanded n l b history w c at (Refused code) (Emptied ids) r q ds es p o x y = absurd (not_emptied n l b w c code ids r q ds es at (refused_move n l b code r ds x) (emptied_move n l b ids q es y))
 commanded n l b history w c at (Emptied ids) (Did (k, us, z)) r q ds es p o x y = absurd (false≢true (sym y.next.lawful.2 ∙ ap collects (empties_beside (with_row q b).over (receivers b.plan.jobs) b.history w c k p.0 o) ∙ (and_parts (collects c) (is_none (snapshot b.history)) p.0).0))
-commanded n l b history w c at (Emptied ids) (Refused code) r q ds es p o x y = absurd (not_emptied n l b w c code ids q r es ds at y x)
-commanded n l b history w c at (Emptied ids) (Emptied jds) r q ds es p o x y = both_emptied n l b ids jds r q ds es x y
+commanded n l b history w c at (Emptied ids) (Refused code) r q ds es p o x y = absurd (not_emptied n l b w c code ids q r es ds at (refused_move n l b code q es y) (emptied_move n l b ids r ds x))
+commanded n l b history w c at (Emptied ids) (Emptied jds) r q ds es p o x y = both_emptied n l b ids jds r q ds es (emptied_move n l b ids r ds x) (emptied_move n l b jds q es y)
 commanded n l b history w c at (Did (d, vs, a)) _ r q ds es p o x y = absurd o
 commanded n l b history w c at (Refused code) _ r q ds es p o x y = absurd o
 commanded n l b history w c at (Emptied ids) _ r q ds es p o x y = absurd o
@@ -221,12 +320,12 @@ messaged n l b history j s at (Received t v) (Received u z) r q ds es p o x y =
     let c = received n l b s u z q es o.0 y in
     let body : c.body ≡ a.body = (let found = sym c.front_is ∙ a.front_is in cc) in
     let both = same_says a.body (next_words l s n) (made b.history) v z r q a.says (subst (λ m. Says m (next_words l s n) (made b.history) z q) body c.says) in
-    agree n l b (Received t v) (Received u z) r q ds es x y both.1 (ap a_message both.0) (by_deeds n l ds es (a.deeds ∙ sym c.deeds))
+    agree n l b (Received t v) (Received u z) r q ds es x.next y.next both.1 (ap a_message both.0) (by_deeds n l ds es (a.deeds ∙ sym c.deeds))
 messaged n l b history j s at (Received t v) (Skipped i u) r q ds es p o x y = absurd (false≢true (sym (skipped n l b s i u q es o.1 y).none ∙ (received n l b s t v r ds p.0 x).there))
 messaged n l b history j s at (Received t v) (Refused code) r q ds es p o x y = absurd (not_received n l b s v r ds es p.1 o.1 (received n l b s t v r ds p.0 x) (declined n l b history j s at code q es o.0 y).refuses)
 messaged n l b history j s at (Skipped i t) (Received u z) r q ds es p o x y = absurd (false≢true (sym (skipped n l b s i t r ds p.1 x).none ∙ (received n l b s u z q es o.0 y).there))
 messaged n l b history j s at (Skipped i t) (Skipped k u) r q ds es p o x y =
-    agree n l b (Skipped i t) (Skipped k u) r q ds es x y (no_ticket_skipped n l b i t r ds x ∙ sym (no_ticket_skipped n l b k u q es y)) refl
+    agree n l b (Skipped i t) (Skipped k u) r q ds es x.next y.next (no_ticket_skipped n l b i t r ds x ∙ sym (no_ticket_skipped n l b k u q es y)) refl
     (by_deeds n l ds es ((skipped n l b s i t r ds p.1 x).deeds ∙ sym (skipped n l b s k u q es o.1 y).deeds))
 messaged n l b history j s at (Skipped i t) (Refused code) r q ds es p o x y = absurd (false≢true (sym (skipped n l b s i t r ds p.1 x).none ∙ (declined n l b history j s at code q es o.0 y).refuses.there))
 messaged n l b history j s at (Refused code) (Received u z) r q ds es p o x y = absurd (not_received n l b s z q es ds o.1 p.1 (received n l b s u z q es o.0 y) (declined n l b history j s at code r ds p.0 x).refuses)
@@ -235,7 +334,7 @@ messaged n l b history j s at (Refused code) (Refused other) r q ds es p o x y =
     let a = declined n l b history j s at code r ds p.0 x in
     let c = declined n l b history j s at other q es o.0 y in
     let serial : c.refuses.serial ≡ a.refuses.serial = (let found = sym c.refuses.front_is ∙ a.refuses.front_is in cc) in
-    agree n l b (Refused code) (Refused other) r q ds es x y (a.row ∙ sym c.row) refl
+    agree n l b (Refused code) (Refused other) r q ds es x.next y.next (a.row ∙ sym c.row) refl
     (by_deeds n l ds es (a.refuses.deeds ∙ ap (λ k. taking_next l s n ∷ Spends k ∷ []) (sym serial) ∙ sym c.refuses.deeds))
 messaged n l b history j s at (Received t v) _ r q ds es p o x y = absurd o
 messaged n l b history j s at (Skipped i t) _ r q ds es p o x y = absurd o
@@ -251,16 +350,24 @@ both_closed n l b r q ds es x y = record {
   alike = in_any_order true n l (serials_of (tickets b)) ds es (some_if_true _ _ x.left x.met) (some_if_true _ _ y.left y.met);
 }
 
+-- what is heard while a job waits for a message ends no sleep
+heard_plain : (b : AgentView) (over : Buffers) (j s : ℕ) (e : Event) → Permits over (receivers b.plan.jobs) b.history (receive j s) e → is_ending (asked_by b e) ≡ false
+heard_plain b over j s (Received t v) may = refl
+heard_plain b over j s (Skipped i t) may = refl
+heard_plain b over j s (Refused code) may = refused_plain b code
+heard_plain b over j s _ may = absurd may
+
 by_due : (n : ℕ) (l : Ledger) (b : AgentView) → IsRunOver b.over b.plan b.history → (d : Due) → due b.plan b.history ≡ d → (e f : Event) (r q : Option Row) (ds es : List Deed)
-    → Permits (with_row r b).over (receivers b.plan.jobs) b.history d e → Permits (with_row q b).over (receivers b.plan.jobs) b.history d f → Move n l b e r ds → Move n l b f q es → Agree n l e f r q ds es
+    → Permits (with_row r b).over (receivers b.plan.jobs) b.history d e → Permits (with_row q b).over (receivers b.plan.jobs) b.history d f → Way n l b e r ds → Way n l b f q es → Agree n l e f r q ds es
 by_due n l b history (run w c) at e f r q ds es p o x y = commanded n l b history w c at e f r q ds es p o x y
-by_due n l b history (receive j s) at e f r q ds es p o x y = messaged n l b history j s at e f r q ds es p o x y
-by_due n l b history (begin k) at (JobBegun i) (JobBegun j) r q ds es p o x y = both_quiet n l b (JobBegun i) (JobBegun j) r q ds es refl refl refl x y
-by_due n l b history (clean k) at (CleanupBegun i) (CleanupBegun j) r q ds es p o x y = both_quiet n l b (CleanupBegun i) (CleanupBegun j) r q ds es refl refl refl x y
-by_due n l b history (take_cell k) at (Taken i v) (Taken j z) r q ds es p o x y = both_quiet n l b (Taken i v) (Taken j z) r q ds es refl refl refl x y
-by_due n l b history (finish k) at (Emptied ids) (Emptied jds) r q ds es p o x y = both_emptied n l b ids jds r q ds es x y
-by_due n l b history end_job at JobEnded JobEnded r q ds es p o x y = both_quiet n l b JobEnded JobEnded r q ds es refl refl refl x y
-by_due n l b history close at Closed Closed r q ds es p o x y = both_closed n l b r q ds es x y
+by_due n l b history (receive j s) at e f r q ds es p o x y =
+    messaged n l b history j s at e f r q ds es p o (as_move n l b e r ds (heard_plain b (with_row r b).over j s e p) x) (as_move n l b f q es (heard_plain b (with_row q b).over j s f o) y)
+by_due n l b history (begin k) at (JobBegun i) (JobBegun j) r q ds es p o x y = both_quiet n l b (JobBegun i) (JobBegun j) r q ds es refl refl refl (as_move n l b (JobBegun i) r ds refl x) (as_move n l b (JobBegun j) q es refl y)
+by_due n l b history (clean k) at (CleanupBegun i) (CleanupBegun j) r q ds es p o x y = both_quiet n l b (CleanupBegun i) (CleanupBegun j) r q ds es refl refl refl (as_move n l b (CleanupBegun i) r ds refl x) (as_move n l b (CleanupBegun j) q es refl y)
+by_due n l b history (take_cell k) at (Taken i v) (Taken j z) r q ds es p o x y = both_quiet n l b (Taken i v) (Taken j z) r q ds es refl refl refl (as_move n l b (Taken i v) r ds refl x) (as_move n l b (Taken j z) q es refl y)
+by_due n l b history (finish k) at (Emptied ids) (Emptied jds) r q ds es p o x y = both_emptied n l b ids jds r q ds es (emptied_move n l b ids r ds x) (emptied_move n l b jds q es y)
+by_due n l b history end_job at JobEnded JobEnded r q ds es p o x y = both_quiet n l b JobEnded JobEnded r q ds es refl refl refl (as_move n l b JobEnded r ds refl x) (as_move n l b JobEnded q es refl y)
+by_due n l b history close at Closed Closed r q ds es p o x y = both_closed n l b r q ds es (as_move n l b Closed r ds refl x) (as_move n l b Closed q es refl y)
 by_due n l b history (begin k) at (JobBegun i) _ r q ds es p o x y = absurd o
 by_due n l b history (clean k) at (CleanupBegun i) _ r q ds es p o x y = absurd o
 by_due n l b history (take_cell k) at (Taken i v) _ r q ds es p o x y = absurd o
@@ -269,5 +376,5 @@ by_due n l b history end_job at JobEnded _ r q ds es p o x y = absurd o
 by_due n l b history close at Closed _ r q ds es p o x y = absurd o
 by_due n l b history _ at _ f r q ds es p o x y = absurd p
 
-pub one_way : (n : ℕ) (l : Ledger) (b : AgentView) (e f : Event) (r q : Option Row) (ds es : List Deed) → IsRunOver b.over b.plan b.history → Move n l b e r ds → Move n l b f q es → Agree n l e f r q ds es
+pub one_way : (n : ℕ) (l : Ledger) (b : AgentView) (e f : Event) (r q : Option Row) (ds es : List Deed) → IsRunOver b.over b.plan b.history → Way n l b e r ds → Way n l b f q es → Agree n l e f r q ds es
 one_way n l b e f r q ds es history x y = by_due n l b history (due b.plan b.history) refl e f r q ds es x.next.permitted y.next.permitted x y

@@ -238,7 +238,7 @@ says_touches n c words i m b k vs a r ds holds x s = record {
     change = change_by (access_of k vs).edit (word_at l serial index)
 
     calm : is_of_sleep k.operation ≡ false
-    calm = did_is_calm (with_row r b).over b.plan b.history (Atomic k) vs a x.moved.calm x.moved.next.permitted
+    calm = did_is_calm (with_row r b).over b.plan b.history (Atomic k) vs a x.never x.moved.next.permitted
 
     met : is_access (tickets b) (first vs) (index_of k vs) (access_of k vs) (given a) (Accesses serial index change (word_at l serial index)) ≡ true
     met = subst (λ ds. is_one (is_access (tickets b) (first vs) (index_of k vs) (access_of k vs) (given a)) ds ≡ true) s.deeds (some_if_true _ _ x.moved.left (ap (λ t. after (tickets b) (asks_word (first vs) (index_of k vs) t (given a)) ds) (sym (task_access k vs calm)) ∙ x.moved.met))
@@ -300,7 +300,7 @@ never_skips over b _ j t none p = p
 
 says : (n : ℕ) (c : ClusterView) (words : Words) (i : ℕ) (m : Ledger) (b : AgentView) (e : Event) (r : Option Row) (ds : List Deed) → HasWords n c.ledger.history words → AtTurn n c i m b e r ds → ((k s : ℕ) → due b.plan b.history ≡ receive k s → ⊥) → Says n c words i m b e r ds
 says n c words i m b (Did (k, vs, a)) r ds holds x none =
-    says_did n c words i m b k vs a r ds holds x (settles i c.ledger.history (tickets b) x.moved.left (made b.history) k vs a r ds (did_is_calm (with_row r b).over b.plan b.history k vs a x.moved.calm x.moved.next.permitted) x.moved.met x.moved.came x.moved.fit)
+    says_did n c words i m b k vs a r ds holds x (settles i c.ledger.history (tickets b) x.moved.left (made b.history) k vs a r ds (did_is_calm (with_row r b).over b.plan b.history k vs a x.never x.moved.next.permitted) x.moved.met x.moved.came x.moved.fit)
 says n c words i m b (Refused code) r ds holds x none = quiet n c words i m b (Refused code) r ds x (refused_at b (with_row r b).over (due b.plan b.history) code refl none x.moved.next.permitted) refl refl refl refl
 says n c words i m b (Emptied ids) r ds holds x none =
     says_nothing n c words i m b (Emptied ids) r ds (no_row (made b.history) r x.moved.came) (spends_none ds (spends_so false (serials_of (within ids (tickets b))) ds (some_if_true _ _ x.moved.left x.moved.met)).1) refl refl refl refl

@@ -1,5 +1,5 @@
 -- What two runs by turns of one plan end in is the same, but for who waited in between.
-use Rattle.std.proofs.Common.{◌≡◌, ℕ, zero, suc, sym, ◌∙◌, ap, refl, subst, List, [], ◌∷◌, map, reverse, true}
+use Rattle.std.proofs.Common.{◌≡◌, ℕ, zero, suc, sym, ◌∙◌, ap, refl, subst, List, [], ◌∷◌, map, reverse}
 use Rattle.std.proofs.lemmas.List.{reverse-reverse}
 use Rattle.es_event.specs.declared.event.Event.{Event}
 use Rattle.es_event.specs.declared.ledger_event.Body.{Body}
@@ -8,17 +8,16 @@ use Rattle.es_event.specs.declared.ledger_event.LedgerEvent.TheVariants.{Spent, 
 use Rattle.es_event.specs.declared.outcome.Outcome.{Outcome}
 use Rattle.es_event.specs.declared.plan.Plan.{Plan}
 use Rattle.es_event.specs.Ledger.{Ledger, port_of}
-use Rattle.es_event.specs.LegalLedger.{LegalSoFar}
 use Rattle.es_ledger.specs.Draining.{after_drain, drained_below, drained_each, drained_one, drained_to}
 use Rattle.es_cluster.specs.Ends.{EndsIn}
 use Rattle.es_cluster.specs.Moves.{RunsToEnd}
 use Rattle.es_cluster.specs.State.{ClusterView, first_state, names_of}
 use Rattle.es_cluster.specs.Turns.{AllTurned}
 use Rattle.es_theorems.specs.Alike.{Alike, SameEnd}
-use Rattle.es_theorems.specs.Together.{Same, Stands}
-use Rattle.es_theorems.specs.Sleepless.{never_sleeps}
-use Rattle.es_theorems.proofs.Running.{runs_same, stands_after, stands_first}
-use Rattle.es_theorems.proofs.Telling.{after_one, same}
+use Rattle.es_theorems.specs.Together.{AnyPlan, Same, StandsBy}
+use Rattle.es_theorems.proofs.OneRun.{runs_same}
+use Rattle.es_theorems.proofs.Running.{stands_after, stands_anyhow}
+use Rattle.es_theorems.proofs.Telling.{after_one}
 
 -- What nobody took is taken out of both alike
 
@@ -41,31 +40,6 @@ drained_under : (l m : Ledger) (n k : ℕ) → Alike l m → Alike (drained_belo
 drained_under l m n zero alike = alike
 drained_under l m n (suc k) alike = drained_for (drained_below l n k) (drained_below m n k) k n (drained_under l m n k alike)
 
--- What is legal after that was legal before
-
-legal_one : (k : ℕ) (l : Ledger) (s r : ℕ) (b : Body) → LegalSoFar k (drained_one l s r b) → LegalSoFar k l
-legal_one k l s r (Plain v) legal = legal.1
-legal_one k l s r (Block b q) legal = legal.1.1
-
-legal_each : (k : ℕ) (l : Ledger) (s r : ℕ) (bs : List Body) → LegalSoFar k (drained_each l s r bs) → LegalSoFar k l
-legal_each k l s r [] legal = legal
-legal_each k l s r (b ∷ bs) legal = legal_one k l s r b (legal_each k (drained_one l s r b) s r bs legal)
-
-legal_for : (k : ℕ) (l : Ledger) (r n : ℕ) → LegalSoFar k (drained_to l r n) → LegalSoFar k l
-legal_for k l r zero legal = legal
-legal_for k l r (suc n) legal = legal_for k l r n (legal_each k (drained_to l r n) n r (port_of (drained_to l r n) n r) legal)
-
-legal_under : (k : ℕ) (l : Ledger) (n m : ℕ) → LegalSoFar k (drained_below l n m) → LegalSoFar k l
-legal_under k l n zero legal = legal
-legal_under k l n (suc m) legal = legal_under k l n m (legal_for k (drained_below l n m) m n legal)
-
-legal_before : (from c : ClusterView) (o : Outcome) (run : RunsToEnd from c) → EndsIn c o → LegalSoFar c.ledger.agents run.0.ledger.history
-legal_before from c o run end =
-    let k = c.ledger.agents in
-    let all : LegalSoFar k (after_drain c.ledger.history c.ledger.agents) = subst (LegalSoFar k) end.ledger end.legal.0 in
-    let once : LegalSoFar k (after_drain run.0.ledger.history run.0.ledger.agents) = subst (LegalSoFar k) (ap (λ c. c.ledger.history) run.2) (legal_under k c.ledger.history c.ledger.agents c.ledger.agents all) in
-    legal_under k run.0.ledger.history run.0.ledger.agents run.0.ledger.agents once
-
 -- The outcomes
 
 pub reversed_twice : (hs : List (List Event)) → map reverse (map reverse hs) ≡ hs
@@ -77,7 +51,7 @@ ledger_is : (from c : ClusterView) (o : Outcome) (run : RunsToEnd from c) → En
 ledger_is from c o run end = end.ledger ∙ ap (λ c. after_drain c.ledger.history c.ledger.agents) run.2
 
 -- from any state in which the agents have their places and their parts in the ledger
-pub one_end_from : (from c d : ClusterView) (o q : Outcome) → Stands from → RunsToEnd from c → EndsIn c o → RunsToEnd from d → EndsIn d q → SameEnd o q
+pub one_end_from : (from c d : ClusterView) (o q : Outcome) → StandsBy AnyPlan from → RunsToEnd from c → EndsIn c o → RunsToEnd from d → EndsIn d q → SameEnd o q
 one_end_from from c d o q stands left a right b = record {
   names = a.names ∙ ap names_of agents ∙ sym b.names;
   histories = sym (reversed_twice o.histories) ∙ ap (map reverse) (a.agents.are ∙ ap (map (λ b. b.history)) agents ∙ sym b.agents.are) ∙ reversed_twice q.histories;
@@ -91,8 +65,7 @@ one_end_from from c d o q stands left a right b = record {
     f = right.0
 
     both : Same e f
-    both = runs_same c.ledger.agents d.ledger.agents from from e f (record { left = stands; right = stands; same = record { agents = refl; number = refl; ledgers = same from.ledger.history } })
-        left.1 right.1 (legal_before from c o left a) (legal_before from d q right b)
+    both = runs_same from e f stands left.1 right.1
 
     agents : c.agents ≡ d.agents
     agents = ap (λ c. c.agents) left.2 ∙ both.agents ∙ sym (ap (λ c. c.agents) right.2)
@@ -101,14 +74,14 @@ one_end_from from c d o q stands left a right b = record {
     alike = subst (λ n. Alike (after_drain (after_drain e.ledger.history e.ledger.agents) e.ledger.agents) (after_drain (after_drain f.ledger.history n) n)) both.number
         (drained_under (after_drain e.ledger.history e.ledger.agents) (after_drain f.ledger.history e.ledger.agents) e.ledger.agents e.ledger.agents (drained_under e.ledger.history f.ledger.history e.ledger.agents e.ledger.agents both.ledgers))
 
-pub one_end : (p : Plan) (c d : ClusterView) (o q : Outcome) → never_sleeps p ≡ true → RunsToEnd (first_state p) c → EndsIn c o → RunsToEnd (first_state p) d → EndsIn d q → SameEnd o q
-one_end p c d o q calm left a right b = one_end_from (first_state p) c d o q (stands_first p calm) left a right b
+pub one_end : (p : Plan) (c d : ClusterView) (o q : Outcome) → RunsToEnd (first_state p) c → EndsIn c o → RunsToEnd (first_state p) d → EndsIn d q → SameEnd o q
+one_end p c d o q left a right b = one_end_from (first_state p) c d o q (stands_anyhow p) left a right b
 
 -- from a state that turns led to
 
-pub stands_later : (ns : List ℕ) (c d : ClusterView) → Stands c → AllTurned ns c d → Stands d
-stands_later [] c d stands turned = subst Stands (sym turned) stands
+pub stands_later : (ns : List ℕ) (c d : ClusterView) → StandsBy AnyPlan c → AllTurned ns c d → StandsBy AnyPlan d
+stands_later [] c d stands turned = subst (StandsBy AnyPlan) (sym turned) stands
 stands_later (n ∷ ns) c d stands turned = stands_later ns turned.1 d (stands_after turned.0 n c turned.1 stands turned.2) turned.3
 
-pub rest_has_one_end : (p : Plan) (ns : List ℕ) (from c d : ClusterView) (o q : Outcome) → never_sleeps p ≡ true → AllTurned ns (first_state p) from → RunsToEnd from c → EndsIn c o → RunsToEnd from d → EndsIn d q → SameEnd o q
-rest_has_one_end p ns from c d o q calm turned left a right b = one_end_from from c d o q (stands_later ns (first_state p) from (stands_first p calm) turned) left a right b
+pub rest_has_one_end : (p : Plan) (ns : List ℕ) (from c d : ClusterView) (o q : Outcome) → AllTurned ns (first_state p) from → RunsToEnd from c → EndsIn c o → RunsToEnd from d → EndsIn d q → SameEnd o q
+rest_has_one_end p ns from c d o q turned left a right b = one_end_from from c d o q (stands_later ns (first_state p) from (stands_anyhow p) turned) left a right b

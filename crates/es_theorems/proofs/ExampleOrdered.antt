@@ -51,7 +51,7 @@ it_shares : share_no_word ordered ≡ false
 it_shares = refl
 
 its_outcome : (o : Outcome) × IsClusterOutcome ordered o
-its_outcome = some_outcome ordered refl refl refl
+its_outcome = some_outcome ordered refl refl
 
 -- One list of its steps, by the agents' own names: first all of the one agent, and then all of the other
 

@@ -1,13 +1,17 @@
--- Which plans never sleep, worked by hand.
+-- Which plans never sleep, worked by hand; and that those which do come to an end too.
 use Rattle.std.proofs.Common.{◌≡◌, true, false, refl, List, [], ◌∷◌, None, codes}
 use Rattle.std.specs.Prelude.{pos}
 use Rattle.es_event.specs.declared.atomic.Operation.{Operation}
 use Rattle.es_event.specs.declared.command.Command.{Command}
 use Rattle.es_event.specs.declared.command.Command.TheVariants.{Collect, Say, SharedArrayBuffer}
 use Rattle.es_event.specs.declared.operand.Operand.{Operand}
+use Rattle.es_event.specs.declared.outcome.Outcome.{Outcome}
 use Rattle.es_event.specs.declared.plan.AgentPlan.{AgentPlan}
+use Rattle.es_event.specs.declared.plan.Plan.{Plan}
 use Rattle.es_event.specs.Commands.{atomic}
 use Rattle.es_event.proofs.Examples.{add, compare_exchange, job_of, job_on, load, plan_with, store}
+use Rattle.es_outcome.specs.Outcomes.{IsClusterOutcome}
+use Rattle.es_theorems.proofs.Converse.{some_outcome}
 use Rattle.es_theorems.specs.Sleepless.{is_for_sleep, never_sleeps, never_sleeps_in}
 
 -- Commands
@@ -75,3 +79,14 @@ one_does = refl
 
 nobody_does : never_sleeps (record { agents = [] }) ≡ true
 nobody_does = refl
+
+-- Agents that sleep come to an end all the same
+
+abbrev both_sleep : Plan
+both_sleep = record { agents = second_job (wait ∷ []) ∷ calling (wait ∷ []) ∷ [] }
+
+they_do : never_sleeps both_sleep ≡ false
+they_do = refl
+
+their_outcome : (o : Outcome) × IsClusterOutcome both_sleep o
+their_outcome = some_outcome both_sleep refl refl

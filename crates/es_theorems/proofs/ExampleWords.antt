@@ -82,7 +82,7 @@ messages_alone = refl
 
 -- it has outcomes, and one report
 its_outcome : (o : Outcome) × IsClusterOutcome alone o
-its_outcome = some_outcome alone refl refl refl
+its_outcome = some_outcome alone refl refl
 
 its_report : (o : Outcome) → IsClusterOutcome alone o → report o ≡ report its_outcome.0
 its_report o is = reports_in_threads alone o its_outcome.0 messages_alone is its_outcome.1

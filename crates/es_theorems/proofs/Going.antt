@@ -16,7 +16,6 @@ use Rattle.es_cluster.specs.Tied.{GrowsBy, IsTied}
 use Rattle.es_cluster.specs.Turned.{IsSeated, IsTiedAfter, NamesOthers, WaitsRightly}
 use Rattle.es_cluster.specs.declared.member.Progress.{Progress}
 use Rattle.es_cluster.specs.Turns.{Takes}
-use Rattle.es_theorems.specs.Sleepless.{never_sleeps_in}
 
 -- each of these tickets is agent n's
 abbrev pub AllHeld : ℕ → Ledger → Tickets → Type 0
@@ -37,15 +36,18 @@ Apart (t ∷ ts) = OtherThan t.1.serial ts × Apart ts
 abbrev pub Only : ℕ → Ledger → Tickets → Type 0
 Only n l ts = (k : ℕ) (r : Row) → holder_of l k ≡ Some (n, r) → OtherThan k ts → ⊥
 
--- its history is a run so far of a plan by which it never sleeps, its buffer objects rise, and what it holds are its tickets
+-- what agent n holds are these tickets, and no two of them have one serial
+pub record Racked (n : ℕ) (l : Ledger) (ts : Tickets) : Type 0 where
+  pub held : AllHeld n l ts
+  pub apart : Apart ts
+  pub only : Only n l ts
+
+-- its history is a run of its plan so far, its buffer objects rise, and what it holds are its tickets
 pub record Going (b : AgentView) (l : Ledger) : Type 0 where
   pub run : IsRunOver b.over b.plan b.history
-  pub calm : never_sleeps_in b.plan ≡ true
   pub rising : is_rising_from 0 (reverse b.over) ≡ true
   pub newest_is : newest b.over ≤ made b.history
-  pub held : AllHeld b.number l (tickets b)
-  pub apart : Apart (tickets b)
-  pub only : Only b.number l (tickets b)
+  pub rack : Racked b.number l (tickets b)
 
 -- it has its place and its part in the ledger, and names others alone
 pub record Standing (b : AgentView) (l : LedgerView) : Type 0 where
@@ -66,4 +68,3 @@ pub record Turn (p : Progress) (b : AgentView) (l : LedgerView) : Type 0 where
   pub tied : IsTiedAfter p after ledger.history
   pub seated : IsSeated after ledger
   pub legal : LegalLedger ledger.agents ledger.history
-  pub going : Going after ledger.history

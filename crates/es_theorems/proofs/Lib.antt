@@ -6,15 +6,19 @@ pub mod Commands
 pub mod Messages
 pub mod Newest
 pub mod Sleepless
+pub mod Rousing
+pub mod Waiting
 pub mod Deciding
 pub mod Turning
 pub mod Running
-pub mod Ends
+pub mod Begun
 pub mod OneRun
+pub mod Ends
 pub mod Going
 pub mod Holding
 pub mod Only
 pub mod Rack
+pub mod Racked
 pub mod Turn
 pub mod Cluster
 pub mod Arriving
@@ -80,4 +84,5 @@ mod Reporting
 pub mod Reports
 mod ExampleWords
 mod ExampleSleepless
+mod ExampleSleep
 mod ExampleOrdered

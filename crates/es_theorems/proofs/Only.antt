@@ -1,6 +1,5 @@
 -- An agent holds nothing but its tickets; so one that has none holds nothing.
-use Rattle.std.proofs.Common.{◌≡◌, ◌⊎◌, inl, inr, ℕ, ◌==◌, Bool, true, false, cond, not, sym, ◌∙◌, ap, refl, subst, arith, eq-eqb, List, [], ◌∷◌, ◌++◌, Option, Some, None}
-use Rattle.std.specs.List.{filter}
+use Rattle.std.proofs.Common.{◌≡◌, ◌⊎◌, inl, inr, ℕ, ◌==◌, Bool, true, false, cond, sym, ◌∙◌, ap, refl, subst, arith, eq-eqb, List, [], ◌∷◌, ◌++◌, Option, Some, None}
 use Rattle.std.specs.Option.{option_and_then}
 use Rattle.std.proofs.lemmas.Bool.{cases_Bool, eqb-true, eqb-false}
 use Rattle.std.proofs.lemmas.List.{append-nil}
@@ -19,7 +18,6 @@ use Rattle.es_event.proofs.Entries.{inner}
 use Rattle.es_match.specs.Deeds.{Deed, deed}
 use Rattle.es_match.specs.Meets.{Tickets}
 use Rattle.es_cluster.specs.Tied.{AreDeedsOf, GrowsBy}
-use Rattle.es_cluster.specs.Turned.{spent}
 use Rattle.es_theorems.proofs.Going.{Only, OtherThan}
 use Rattle.es_theorems.proofs.Holding.{fresh, line_first, line_last, line_moved, line_other, none_moved, one_line}
 
@@ -116,7 +114,7 @@ spent_off l k a r is = at (line_of k (table l)) refl
 pub only_after : (a : ℕ) (l : Ledger) (e : LedgerEvent) (ts : Tickets) → ((k : ℕ) → Gives l e k a → ⊥) → Only a l ts → Only a (e ∷ l) ts
 only_after a l e ts none only k r is other = elim (back l e k a r is) [ inl was ↦ only k r was other | inr gives ↦ none k gives ]
 
-dropped : (k : ℕ) (ts : Tickets) (t : ℕ × Row) → OtherThan k (ts ++ t ∷ []) → OtherThan k ts × (t.1.serial ≡ k → ⊥)
+pub dropped : (k : ℕ) (ts : Tickets) (t : ℕ × Row) → OtherThan k (ts ++ t ∷ []) → OtherThan k ts × (t.1.serial ≡ k → ⊥)
 dropped k [] t other = (tt, other.0)
 dropped k (x ∷ ts) t other = let rest = dropped k ts t other.1 in ((other.0, rest.0), rest.1)
 
@@ -125,38 +123,6 @@ pub only_more : (a s : ℕ) (l : Ledger) (e : LedgerEvent) (ts : Tickets) (t : �
 only_more a s l e ts t same one only k r is other =
     let parts = dropped k ts t other in
     elim (back l e k a r is) [ inl was ↦ only k r was parts.0 | inr gives ↦ parts.1 (same ∙ one k gives) ]
-
--- where it is spent at once
-pub only_returned : (a s : ℕ) (l : Ledger) (e : LedgerEvent) (ts : Tickets) → ((k : ℕ) → Gives l e k a → s ≡ k) → Only a l ts → Only a (Spent s ∷ e ∷ l) ts
-only_returned a s l e ts one only k r is other = elim (back (e ∷ l) (Spent s) k a r is) [
-  | inl was ↦ elim (back l e k a r was) [
-    | inl before ↦ only k r before other
-    | inr gives ↦ spent_off (e ∷ l) k a r (ap (λ j. holder_of (Spent j ∷ e ∷ l) k) (sym (one k gives)) ∙ is)
-  ]
-  | inr gives ↦ gives
-]
-
--- what is held after these were spent is none of them, and was held
-pub held_spent : (l : Ledger) (out : Tickets) (k a : ℕ) (r : Row) → holder_of (spent out l) k ≡ Some (a, r) → OtherThan k out × (holder_of l k ≡ Some (a, r))
-held_spent l [] k a r is = (tt, is)
-held_spent l (t ∷ out) k a r is = elim (back (spent out l) (Spent t.1.serial) k a r is) [
-  | inl was ↦ let rest = held_spent l out k a r was in (((λ same. spent_off (spent out l) k a r (ap (λ j. holder_of (Spent j ∷ spent out l) k) (sym same) ∙ is)), rest.0), rest.1)
-  | inr gives ↦ absurd gives
-]
-
-joined : (p : ℕ × Row → Bool) (k : ℕ) (ts : Tickets) → OtherThan k (filter p ts) → OtherThan k (filter (λ t. not (p t)) ts) → OtherThan k ts
-joined p k [] x y = tt
-joined p k (t ∷ ts) x y = step (p t) x y (joined p k ts)
-  where
-    step : (b : Bool) → OtherThan k (cond b (t ∷ filter p ts) (filter p ts)) → OtherThan k (cond (not b) (t ∷ filter (λ t. not (p t)) ts) (filter (λ t. not (p t)) ts)) → (OtherThan k (filter p ts) → OtherThan k (filter (λ t. not (p t)) ts) → OtherThan k ts) → OtherThan k (t ∷ ts)
-    step true x y ih = (x.0, ih x.1 y)
-    step false x y ih = (y.0, ih x y.1)
-
-pub only_besides : (a : ℕ) (l : Ledger) (p : ℕ × Row → Bool) (ts : Tickets) → Only a l ts → Only a (spent (filter p ts) l) (filter (λ t. not (p t)) ts)
-only_besides a l p ts only k r is other = let was = held_spent l (filter p ts) k a r is in only k r was.1 (joined p k ts was.0 other)
-
-pub only_none : (a : ℕ) (l : Ledger) (ts : Tickets) → Only a l ts → Only a (spent ts l) []
-only_none a l ts only k r is other = let was = held_spent l ts k a r is in only k r was.1 was.0
 
 -- what another agent does gives it nothing
 gives_doer : (n a : ℕ) (l : Ledger) (e : LedgerEvent) (d : Deed) (k : ℕ) → deed l e ≡ Some (n, d) → Gives l e k a → a ≡ n

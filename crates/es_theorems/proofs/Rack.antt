@@ -1,5 +1,5 @@
 -- An agent's tickets: each is the agent's in the ledger, no two have one serial, and so they can be spent.
-use Rattle.std.proofs.Common.{◌≡◌, ℕ, Bool, true, false, cond, not, sym, ◌∙◌, ap, refl, subst, List, [], ◌∷◌, ◌++◌, map, Some, None}
+use Rattle.std.proofs.Common.{◌≡◌, ℕ, Bool, true, false, cond, sym, ◌∙◌, ap, refl, subst, List, [], ◌∷◌, ◌++◌, map, Some, None}
 use Rattle.std.specs.Prelude.{is_some}
 use Rattle.std.specs.List.{filter}
 use Rattle.es_event.specs.declared.ledger_event.LedgerEvent.{LedgerEvent}
@@ -15,11 +15,6 @@ use Rattle.es_cluster.specs.Turned.{spent}
 use Rattle.es_cluster.proofs.Growing.{by_ticket}
 use Rattle.es_theorems.proofs.Going.{AllHeld, Apart, OtherThan}
 use Rattle.es_theorems.proofs.Holding.{held_on}
-
--- no serial of these is one of those
-abbrev pub AllOff : Tickets → Tickets → Type 0
-AllOff ys [] = Unit {0}
-AllOff ys (z ∷ zs) = OtherThan z.1.serial ys × AllOff ys zs
 
 -- Lists
 
@@ -63,19 +58,6 @@ held_more n l (x ∷ ts) t held here = (held.0, held_more n l ts t held.1 here)
 pub other_than_held : (n k : ℕ) (l : Ledger) (ts : Tickets) → AllHeld n l ts → ((r : Row) → holder_of l k ≡ Some (n, r) → ⊥) → OtherThan k ts
 other_than_held n k l [] held none = tt
 other_than_held n k l (t ∷ ts) held none = ((λ same. none t.1 (ap (holder_of l) (sym same) ∙ held.0)), other_than_held n k l ts held.1 none)
-
-off_more : (t : ℕ × Row) (ys zs : Tickets) → AllOff ys zs → OtherThan t.1.serial zs → AllOff (t ∷ ys) zs
-off_more t ys [] off other = tt
-off_more t ys (z ∷ zs) off other = (((λ same. other.0 (sym same)), off.0), off_more t ys zs off.1 other.1)
-
--- those that pass, and the others
-pub off_both : (p : ℕ × Row → Bool) (ts : Tickets) → Apart ts → AllOff (filter p ts) (filter (λ t. not (p t)) ts)
-off_both p [] apart = tt
-off_both p (t ∷ ts) apart = step (p t) (off_both p ts apart.1)
-  where
-    step : (b : Bool) → AllOff (filter p ts) (filter (λ t. not (p t)) ts) → AllOff (cond b (t ∷ filter p ts) (filter p ts)) (cond (not b) (t ∷ filter (λ t. not (p t)) ts) (filter (λ t. not (p t)) ts))
-    step true ih = off_more t (filter p ts) (filter (λ t. not (p t)) ts) ih (other_picked (λ t. not (p t)) t.1.serial ts apart.0)
-    step false ih = (other_picked p t.1.serial ts apart.0, ih)
 
 -- One event more
 
@@ -129,7 +111,3 @@ spend_all m n l (t ∷ ts) legal owes held apart =
       deeds = ((Spends t.1.serial, by_ticket (spent ts l) t.1.serial n t.1 (Spends t.1.serial) mine), rest.deeds);
       stays = λ a k r other is. held_on m (spent ts l) (Spent t.1.serial) k a r rest.legal (λ e. other.0 (let same : t.1.serial ≡ k = cc in same)) (rest.stays a k r other.1 is);
     }
-
-pub held_besides : (m n : ℕ) (l : Ledger) (out ts : Tickets) → AllSpent m n l out → AllOff out ts → AllHeld n l ts → AllHeld n (spent out l) ts
-held_besides m n l out [] all off held = tt
-held_besides m n l out (t ∷ ts) all off held = (all.stays n t.1.serial t.1 off.0 held.0, held_besides m n l out ts all off.1 held.1)

@@ -105,7 +105,7 @@ free_by_turns plan o c calm others (end, run, is) ends free d (last, way, same) 
     let left = run_turns (first_state plan) end run in
     let right = run_turns (first_state plan) last way in
     let left_free = undrained c.ledger.history c.ledger.agents (subst (λ l. has_no_race l ≡ true) ends.ledger free) in
-    let q = comes_to last (well_all right.0 (first_state plan) last (well_first plan calm others) right.1) (over_run (first_state plan) last way) in
+    let q = comes_to last (well_all right.0 (first_state plan) last (well_first plan others) right.1) (over_run (first_state plan) last way) in
     let right_free =
     none_race plan left.0 right.0 end last o q.0 calm left.1 (subst (λ c. EndsIn c o) is ends)
     (undrained end.ledger.history end.ledger.agents (subst (λ c. has_no_race c.ledger.history ≡ true) is left_free)) right.1 q.1 in

@@ -1,9 +1,8 @@
 -- Two runs by turns of one plan come to clusters that tell the same.
-use Rattle.std.proofs.Common.{◌≡◌, ℕ, zero, suc, ◌+◌, ◌<◌, ◌||◌, not, Bool, true, cond, sym, ◌∙◌, ap, refl, subst, arith, List, [], ◌∷◌, ◌++◌, length, Option, Some, None, inl, inr}
+use Rattle.std.proofs.Common.{◌≡◌, ℕ, zero, suc, ◌+◌, ◌<◌, ◌||◌, not, Bool, true, cond, sym, ◌∙◌, ap, refl, subst, arith, List, [], ◌∷◌, ◌++◌, length, Option, Some, None, inl, inr, ◌⊎◌, false}
 use Rattle.std.specs.Prelude.{slice_get, slice_set}
 use Rattle.std.specs.List.{list_all, position_from}
-use Rattle.std.specs.Option.{option_map_or}
-use Rattle.std.proofs.lemmas.Bool.{and_parts, false≢true}
+use Rattle.std.proofs.lemmas.Bool.{and_parts}
 use Rattle.es_event.specs.declared.event.Event.{Event}
 use Rattle.es_event.specs.declared.ledger_event.LedgerEvent.{LedgerEvent}
 use Rattle.es_event.specs.declared.plan.AgentPlan.{AgentPlan}
@@ -11,8 +10,8 @@ use Rattle.es_event.specs.declared.plan.Plan.{Plan}
 use Rattle.es_event.specs.declared.row.Row.{Row}
 use Rattle.es_event.specs.Follows.{Permits}
 use Rattle.es_event.specs.Jobs.{receivers}
-use Rattle.es_event.specs.Ledger.{Ledger, ended as has_ended}
-use Rattle.es_event.specs.LegalLedger.{LegalSoFar, all_ended, has_message, owed}
+use Rattle.es_event.specs.Ledger.{Ledger, ended as has_ended, word as word_of}
+use Rattle.es_event.specs.LegalLedger.{LegalSoFar, all_ended, has_message, owed, ComesNext}
 use Rattle.es_event.specs.Order.{Phase, between, handed, inside, stopped, ended, phase, nothing, due_at}
 use Rattle.es_event.specs.Runs.{IsRunOver}
 use Rattle.es_event.specs.Waiters.{asleep}
@@ -20,32 +19,41 @@ use Rattle.es_event.proofs.Extending.{agrees_longer, still_follows, still_legal}
 use Rattle.es_match.specs.Cluster.{DeedsMeet}
 use Rattle.es_match.specs.Deeds.{Deed, part}
 use Rattle.es_record.specs.AgentView.{AgentView, IsNext, with_row}
-use Rattle.es_rules.specs.Needs.{Need, asks_ledger, asks_message, need}
-use Rattle.es_agent.specs.Tickets.{is_ended}
+use Rattle.es_rules.specs.Needs.{Need, asks_ledger, asks_message, need, for_word, asks_nothing}
+use Rattle.es_agent.specs.Tickets.{is_ended, tickets}
 use Rattle.es_cluster.specs.Tied.{IsTied, came_to}
-use Rattle.es_cluster.specs.Turned.{GrowsByOne, WaitsOn}
+use Rattle.es_cluster.specs.Turned.{GrowsByOne, WaitsOn, SleepsOn}
 use Rattle.es_cluster.specs.declared.member.Progress.{Progress}
 use Rattle.es_cluster.specs.declared.member.Progress.TheVariants.{Moved, Waiting, Ended}
-use Rattle.es_cluster.proofs.Midway.{ended_where_all}
-use Rattle.es_cluster.specs.Moves.{BeginsToSleep, IsMove, Rest, rested, slept, turned as rests_later, RunsOut, over, waits, moves, all_over, goes_on, goes_on_by, is_over, mover, or_else, rests}
+use Rattle.es_cluster.proofs.Midway.{ended_where_all, awake as up_of}
+use Rattle.es_cluster.specs.Moves.{over, all_over, goes_on, goes_on_by, is_over, mover, or_else}
 use Rattle.es_cluster.specs.State.{ClusterView, first_views, first_state}
 use Rattle.es_cluster.specs.Turns.{Takes, Turned}
 use Rattle.es_cluster.proofs.Beginning.{first_view, first_length}
-use Rattle.es_cluster.proofs.Hearing.{where_stay}
-use Rattle.es_cluster.proofs.Mover.{by_asked, stays_here}
+use Rattle.es_cluster.proofs.Mover.{by_asked, stays_here, over_asks_nothing}
 use Rattle.es_cluster.proofs.Standing.{by_place, seated_still, set_length, set_same, tied_of, tied_still, within}
+use Rattle.es_event.specs.declared.access.Task.{Task}
+use Rattle.es_event.specs.declared.ledger_event.Act.TheVariants.{Slept}
+use Rattle.es_event.specs.declared.ledger_event.LedgerEvent.TheVariants.{Acted}
+use Rattle.es_ticket.specs.Stakes.{at}
+use Rattle.es_ledger.specs.declared.turn.Turn.{Turn}
+use Rattle.es_ledger.specs.declared.turn.Turn.TheVariants.{Stay}
+use Rattle.es_cluster.specs.Midway.{asks_to_sleep}
+use Rattle.es_cluster.proofs.Sleeping.{begun_at, by_rest, no_message, roused_stays, some_turn}
+use Rattle.es_theorems.proofs.Waiting.{its_word_as}
+use Rattle.es_theorems.specs.Settled.{word_at}
+use Rattle.es_theorems.specs.Rousing.{Led, Way, awake, sleeping}
 use Rattle.es_theorems.specs.Alike.{Alike}
 use Rattle.es_theorems.specs.Calm.{Calm}
 use Rattle.es_theorems.specs.Doing.{did}
-use Rattle.es_theorems.specs.Move.{Move}
 use Rattle.es_theorems.specs.Sleepless.{never_sleeps, never_sleeps_in}
-use Rattle.es_theorems.specs.Together.{Same, Stands, StandsAt, Together}
-use Rattle.es_theorems.proofs.Calm.{calm_awake, waits_on}
+use Rattle.es_theorems.specs.Together.{Same, Stands, StandsAt, Together, AnyPlan, StandsAtBy, StandsBy}
+use Rattle.es_theorems.proofs.Calm.{waits_on}
 use Rattle.es_theorems.proofs.Deciding.{Agree, one_way}
 use Rattle.es_theorems.proofs.Doing.{all_fit_same, did_same, same_listed}
 use Rattle.es_theorems.proofs.Sleepless.{calm_view}
 use Rattle.es_theorems.proofs.Telling.{after_wait, same, same_message, through, turned}
-use Rattle.es_theorems.proofs.Turning.{Done, after_event, done, move, still_owes_nothing}
+use Rattle.es_theorems.proofs.Turning.{after_event, still_owes_nothing, DoneAll, done_all, way}
 use Rattle.es_theorems.proofs.Liking.{same_all_ended}
 
 -- A cluster before its first event
@@ -66,24 +74,38 @@ first_calm agents n (p ∷ ps) zero b calm is =
     ap (λ b. never_sleeps_in b.plan) found ∙ (and_parts (never_sleeps_in p) (list_all never_sleeps_in ps) calm).0
 first_calm agents n (p ∷ ps) (suc i) b calm is = first_calm agents (n + 1) ps i b (and_parts (never_sleeps_in p) (list_all never_sleeps_in ps) calm).1 is
 
-stands_first_at : (p : Plan) (n : ℕ) (a : AgentPlan) → n < length p.agents → never_sleeps_in a ≡ true → StandsAt (first_state p) n (first_view (length p.agents) n a)
-stands_first_at p n a known calm = record {
+stands_first_at : {Says : AgentPlan → Type 0} (p : Plan) (n : ℕ) (a : AgentPlan) → n < length p.agents → Says a → StandsAtBy Says (first_state p) n (first_view (length p.agents) n a)
+stands_first_at p n a known says = record {
   number = refl;
   tied = record { ties = (refl, refl); awaits = λ s is. cc; sleeps = λ s is. cc; waits_end = refl; drains_end = refl };
   seated = record { known = known; agents = refl; over = refl };
   run = (tt, tt);
-  calm = calm;
+  calm = says;
 }
 
-pub stands_first : (p : Plan) → never_sleeps p ≡ true → Stands (first_state p)
-stands_first p calm = record {
+stands_first_by : {Says : AgentPlan → Type 0} (p : Plan) → ((n : ℕ) (b : AgentView) → slice_get (first_views (length p.agents) 0 p.agents) n ≡ Some b → Says b.plan) → StandsBy Says (first_state p)
+stands_first_by {Says} p all = record {
   size = first_length (length p.agents) 0 p.agents;
   each = λ n b is.
       (let at = first_at (length p.agents) 0 p.agents n b is in
       let same : 0 + n ≡ n = omega arith in
-      let its : never_sleeps_in at.0 ≡ true = sym (ap (λ b. never_sleeps_in b.plan) at.1) ∙ first_calm (length p.agents) 0 p.agents n b calm is in
-      subst (StandsAt (first_state p) n) (sym (at.1 ∙ ap (λ m. first_view (length p.agents) m at.0) same)) (stands_first_at p n at.0 at.2 its));
+      let its : Says at.0 = subst (λ b. Says b.plan) at.1 (all n b is) in
+      subst (StandsAtBy Says (first_state p) n) (sym (at.1 ∙ ap (λ m. first_view (length p.agents) m at.0) same)) (stands_first_at p n at.0 at.2 its));
   undrained = refl;
+}
+
+pub stands_first : (p : Plan) → never_sleeps p ≡ true → Stands (first_state p)
+stands_first p calm = stands_first_by p (λ n b is. first_calm (length p.agents) 0 p.agents n b calm is)
+
+pub stands_anyhow : (p : Plan) → StandsBy AnyPlan (first_state p)
+stands_anyhow p = stands_first_by p (λ n b is. tt)
+
+-- whatever is said of the plans
+pub anyhow : {Says : AgentPlan → Type 0} (c : ClusterView) → StandsBy Says c → StandsBy AnyPlan c
+anyhow c stands = record {
+  size = stands.size;
+  each = λ n b is. (let was = stands.each n b is in record { number = was.number; tied = was.tied; seated = was.seated; run = was.run; calm = tt });
+  undrained = stands.undrained;
 }
 
 -- A cluster after a turn
@@ -115,26 +137,26 @@ still_run Moved b new run turn = run_on b new run turn
 still_run Waiting b new run turn = subst (λ b. IsRunOver b.over b.plan b.history) (sym turn.1) run
 still_run Ended b new run turn = subst (λ b. IsRunOver b.over b.plan b.history) (sym turn.1) run
 
-pub stands_after : (p : Progress) (n : ℕ) (c d : ClusterView) → Stands c → Turned p n c d → Stands d
-stands_after p n c d stands turn = record {
+pub stands_after : {Says : AgentPlan → Type 0} (p : Progress) (n : ℕ) (c d : ClusterView) → StandsBy Says c → Turned p n c d → StandsBy Says d
+stands_after {Says} p n c d stands turn = record {
   size = ap length turn.agents ∙ set_length c.agents n turn.after ∙ stands.size ∙ sym turn.number;
-  each = λ i b is. by_place (StandsAt d) c.agents n turn.after (within c.agents n turn.before turn.agent) here there i b (ap (λ bs. slice_get bs i) (sym turn.agents) ∙ is);
+  each = λ i b is. by_place (StandsAtBy Says d) c.agents n turn.after (within c.agents n turn.before turn.agent) here there i b (ap (λ bs. slice_get bs i) (sym turn.agents) ∙ is);
   undrained = subst (λ l. owed l ≡ None) (sym turn.ledger.1) (still_owes_nothing n c.ledger.history turn.ledger.0 turn.ledger.2 stands.undrained);
 }
   where
-    was : StandsAt c n turn.before
+    was : StandsAtBy Says c n turn.before
     was = stands.each n turn.before turn.agent
 
-    here : StandsAt d n turn.after
+    here : StandsAtBy Says d n turn.after
     here = record {
       number = number_on p turn.before turn.after turn.turn ∙ was.number;
       tied = tied_of p turn.after d.ledger.history turn.tied;
       seated = turn.seated;
       run = still_run p turn.before turn.after was.run turn.turn;
-      calm = ap never_sleeps_in (plan_on p turn.before turn.after turn.turn) ∙ was.calm;
+      calm = subst Says (sym (plan_on p turn.before turn.after turn.turn)) was.calm;
     }
 
-    there : (i : ℕ) (b : AgentView) → (i ≡ n → ⊥) → slice_get c.agents i ≡ Some b → StandsAt d i b
+    there : (i : ℕ) (b : AgentView) → (i ≡ n → ⊥) → slice_get c.agents i ≡ Some b → StandsAtBy Says d i b
     there i b other is =
         let before = stands.each i b is in
         let apart : b.number ≡ n → ⊥ = λ same. other (sym before.number ∙ same) in
@@ -152,15 +174,6 @@ stands_after p n c d stands turn = record {
 pub waits_for_one : (n : ℕ) (c d : ClusterView) → Stands c → (turn : Turned Waiting n c d) → WaitsOn turn.before c.ledger d.ledger
 waits_for_one n c d stands turn = waits_on turn.before c.ledger d.ledger (stands.each n turn.before turn.agent).calm turn.told
 
-pub never_begins : (n : ℕ) (c d : ClusterView) → Stands c → BeginsToSleep n c d → ⊥
-never_begins n c d stands begins =
-    let on = waits_for_one n c d stands begins.0 in
-    let b = begins.0.before in
-    let history = where_stay c.ledger.history d.ledger.history c.ledger.agents b.number on.0 on.2 in
-    let same : asleep d.ledger.history n ≡ asleep c.ledger.history n =
-    ap (λ l. asleep l n) history ∙ by_asked (λ l. asleep l n ≡ asleep c.ledger.history n) c.ledger.history b.number on.0 refl refl in
-    false≢true (sym begins.1 ∙ sym same ∙ begins.2)
-
 -- after a turn it is awake, and did nothing of sleep
 pub turn_calm : (n : ℕ) (c d : ClusterView) → Stands c → (turn : Turned Moved n c d) → Calm n d.ledger.history
 turn_calm n c d stands turn =
@@ -168,81 +181,81 @@ turn_calm n c d stands turn =
     calm_view turn.after n d.ledger.history (number_on Moved turn.before turn.after turn.turn ∙ was.number) (ap never_sleeps_in (plan_on Moved turn.before turn.after turn.turn) ∙ was.calm)
     (still_run Moved turn.before turn.after was.run turn.turn).1 turn.tied
 
--- Legal so far
-
-shorter : (k : ℕ) (es : List LedgerEvent) (l : Ledger) → LegalSoFar k (es ++ l) → LegalSoFar k l
+-- what is legal after that was legal before
+pub shorter : (k : ℕ) (es : List LedgerEvent) (l : Ledger) → LegalSoFar k (es ++ l) → LegalSoFar k l
 shorter k [] l legal = legal
 shorter k (e ∷ es) l legal = shorter k es l legal.1
-
-legal_before : (k : ℕ) (p : Progress) (n : ℕ) (c d : ClusterView) → Turned p n c d → LegalSoFar k d.ledger.history → LegalSoFar k c.ledger.history
-legal_before k p n c d turn legal = shorter k turn.ledger.0 c.ledger.history (subst (LegalSoFar k) turn.ledger.1 legal)
-
-legal_rest : (k n : ℕ) (c d : ClusterView) → Rest n c d → LegalSoFar k d.ledger.history → LegalSoFar k c.ledger.history
-legal_rest k n c d (rested is) legal = legal
-legal_rest k n c d (slept is begins) legal = legal_before k Waiting n c d begins.0 legal
-legal_rest k n c d (rests_later {mid = mid} is turn rest) legal = legal_before k Moved n c mid turn (legal_rest k n mid d rest legal)
-
-legal_move : (k n : ℕ) (c d : ClusterView) → IsMove n c d → LegalSoFar k d.ledger.history → LegalSoFar k c.ledger.history
-legal_move k n c d (inl m) legal = legal_before k Moved n c m.0 m.1 (legal_rest k n m.0 d m.2 legal)
-legal_move k n c d (inr begins) legal = legal_before k Waiting n c d begins.0 legal
-
-legal_run : (k : ℕ) (c d : ClusterView) → RunsOut c d → LegalSoFar k d.ledger.history → LegalSoFar k c.ledger.history
-legal_run k c d (over is) legal = legal
-legal_run k c d (waits n {mid = mid} turn same rest) legal = legal_before k Waiting n c mid turn (legal_run k mid d rest legal)
-legal_run k c d (moves n {mid = mid} is move rest) legal = legal_move k n c mid move (legal_run k mid d rest legal)
 
 -- A turn in both
 
 -- agent n of this view went on so, from a ledger to another
-record Step (n : ℕ) (b : AgentView) (l m : Ledger) (new : AgentView) : Type 0 where
-  event : Event
-  row : Option Row
-  is : new ≡ after_event b row event
-  doing : Done n l m
-  moved : Move n l b event row doing.deeds
+pub record Step (n : ℕ) (b : AgentView) (l m : Ledger) (new : AgentView) : Type 0 where
+  pub event : Event
+  pub row : Option Row
+  pub deeds : List Deed
+  pub is : new ≡ after_event b row event
+  pub alike : Alike m (did n deeds l)
+  pub way : Way n l b event row deeds
 
-step_of : (k n : ℕ) (c d : ClusterView) → Stands c → (turn : Turned Moved n c d) → LegalSoFar k d.ledger.history → Step n turn.before c.ledger.history d.ledger.history turn.after
-step_of k n c d stands turn legal =
+pub step_of : (n : ℕ) (c d : ClusterView) → StandsBy AnyPlan c → (turn : Turned Moved n c d) → Step n turn.before c.ledger.history d.ledger.history turn.after
+step_of n c d stands turn =
     let b = turn.before in
-    let was : StandsAt c n b = stands.each n b turn.agent in
+    let was : StandsAtBy AnyPlan c n b = stands.each n b turn.agent in
     let e = turn.turn.0 in
     let r = turn.turn.1 in
-    let doing : Done n c.ledger.history d.ledger.history = done k n c.ledger.history d.ledger.history turn.ledger stands.undrained legal (turn_calm n c d stands turn) in
-    let before : DeedsMeet b.history (part c.ledger.history n) (came_to b) = subst (λ n. DeedsMeet b.history (part c.ledger.history n) (came_to b)) was.number was.tied.ties in
     let tied : IsTied turn.after d.ledger.history = turn.tied.tied in
     let number : turn.after.number ≡ n = number_on Moved b turn.after turn.turn ∙ was.number in
+    let doing : DoneAll n c.ledger.history d.ledger.history = done_all d.ledger.agents n c.ledger.history d.ledger.history turn.ledger stands.undrained turn.legal.0 tied.waits_end in
+    let before : DeedsMeet b.history (part c.ledger.history n) (came_to b) = subst (λ n. DeedsMeet b.history (part c.ledger.history n) (came_to b)) was.number was.tied.ties in
     let ties : DeedsMeet turn.after.history (part d.ledger.history n) (came_to turn.after) = subst (λ n. DeedsMeet turn.after.history (part d.ledger.history n) (came_to turn.after)) number tied.ties in
     let now : DeedsMeet (e ∷ b.history) (part d.ledger.history n) (came_to (after_event b r e)) = subst (λ x. DeedsMeet x.history (part d.ledger.history n) (came_to x)) turn.turn.3 ties in
-    record { event = e; row = r; is = turn.turn.3; doing = doing; moved = move n c.ledger.history d.ledger.history b e r before now turn.turn.2 was.calm doing }
+    let up : asleep d.ledger.history n ≡ false = ap (asleep d.ledger.history) (sym number) ∙ turn.tied.awake in
+    record { event = e; row = r; deeds = doing.deeds; is = turn.turn.3; alike = doing.alike; way = way n c.ledger.history d.ledger.history b e r before now turn.turn.2 doing up }
 
-elsewhere : (n : ℕ) (l m : Ledger) (b : AgentView) (e : Event) (r : Option Row) (ds : List Deed) → Alike l m → Move n l b e r ds → Move n m b e r ds
-elsewhere n l m b e r ds alike x = record { next = x.next; left = x.left; met = x.met; came = x.came; sender = x.sender; fit = all_fit_same l m n ds alike x.fit; calm = x.calm }
+elsewhere : (n : ℕ) (l m : Ledger) (b : AgentView) (e : Event) (r : Option Row) (ds : List Deed) → Alike l m → Way n l b e r ds → Way n m b e r ds
+elsewhere n l m b e r ds alike x = record {
+  next = x.next;
+  left = x.left;
+  met = x.met;
+  came = x.came;
+  sender = x.sender;
+  fit = all_fit_same l m n ds alike x.fit;
+  led = subst (λ t. Led (cond t (sleeping None) awake) ds awake) (alike.asleep n) x.led;
+}
+
+-- from a ledger that tells the same
+pub step_from : (n : ℕ) (b new : AgentView) (k l m : Ledger) → Alike l k → Step n b l m new → Step n b k m new
+step_from n b new k l m alike x = record {
+  event = x.event;
+  row = x.row;
+  deeds = x.deeds;
+  is = x.is;
+  alike = through m (did n x.deeds l) (did n x.deeds k) x.alike (did_same l k n x.deeds alike);
+  way = elsewhere n l k b x.event x.row x.deeds alike x.way;
+}
 
 -- the two come to one view, and to ledgers that tell the same
-record Meet (l m : Ledger) (x y : AgentView) : Type 0 where
-  core : x ≡ y
-  ledgers : Alike l m
+pub record Meet (l m : Ledger) (x y : AgentView) : Type 0 where
+  pub core : x ≡ y
+  pub ledgers : Alike l m
 
-meet : (n : ℕ) (b x y : AgentView) (l m u v : Ledger) → IsRunOver b.over b.plan b.history → Alike l m → Step n b l u x → Step n b m v y → Meet u v x y
+pub meet : (n : ℕ) (b x y : AgentView) (l m u v : Ledger) → IsRunOver b.over b.plan b.history → Alike l m → Step n b l u x → Step n b m v y → Meet u v x y
 meet n b x y l m u v run alike left right =
-    let ds = left.doing.deeds in
-    let es = right.doing.deeds in
-    let agreed : Agree n l left.event right.event left.row right.row ds es =
-    one_way n l b left.event right.event left.row right.row ds es run left.moved (elsewhere n m l b right.event right.row es (turned l m alike) right.moved) in
+    let there = step_from n b y l m v (turned l m alike) right in
+    let ds = left.deeds in
+    let es = there.deeds in
+    let agreed : Agree n l left.event there.event left.row there.row ds es = one_way n l b left.event there.event left.row there.row ds es run left.way there.way in
     record {
-      core = left.is ∙ ap (λ r. after_event b r left.event) agreed.row ∙ ap (after_event b right.row) agreed.event ∙ sym right.is;
-      ledgers =
-          through u (did n ds l) v left.doing.alike
-          (through (did n ds l) (did n es l) v agreed.alike
-          (through (did n es l) (did n es m) v (did_same l m n es alike) (turned v (did n es m) right.doing.alike)));
+      core = left.is ∙ ap (λ r. after_event b r left.event) agreed.row ∙ ap (after_event b there.row) agreed.event ∙ sym there.is;
+      ledgers = through u (did n ds l) v left.alike (through (did n ds l) (did n es l) v agreed.alike (turned v (did n es l) there.alike));
     }
 
-turn_same : (k j n : ℕ) (c d x y : ClusterView) → Together c d → Turned Moved n c x → Turned Moved n d y → LegalSoFar k x.ledger.history → LegalSoFar j y.ledger.history → Same x y
-turn_same k j n c d x y both left right a b =
+turn_same : (n : ℕ) (c d x y : ClusterView) → Together c d → Turned Moved n c x → Turned Moved n d y → Same x y
+turn_same n c d x y both left right =
     let there : Some right.before ≡ Some left.before = sym right.agent ∙ ap (λ bs. slice_get bs n) (sym both.same.agents) ∙ left.agent in
     let view : right.before ≡ left.before = cc in
-    let one = step_of k n c x both.left left a in
-    let two = subst (λ b. Step n b d.ledger.history y.ledger.history right.after) view (step_of j n d y both.right right b) in
+    let one = step_of n c x both.left left in
+    let two = subst (λ b. Step n b d.ledger.history y.ledger.history right.after) view (step_of n d y both.right right) in
     let met = meet n left.before left.after right.after c.ledger.history d.ledger.history x.ledger.history y.ledger.history (both.left.each n left.before left.agent).run both.same.ledgers one two in
     record {
       agents = left.agents ∙ ap (slice_set c.agents n) met.core ∙ ap (λ bs. slice_set bs n right.after) both.same.agents ∙ sym right.agents;
@@ -250,45 +263,27 @@ turn_same k j n c d x y both left right a b =
       ledgers = met.ledgers;
     }
 
-pub turn_together : (k j n : ℕ) (c d x y : ClusterView) → Together c d → Turned Moved n c x → Turned Moved n d y → LegalSoFar k x.ledger.history → LegalSoFar j y.ledger.history → Together x y
-turn_together k j n c d x y both left right a b = record {
-  left = stands_after Moved n c x both.left left;
-  right = stands_after Moved n d y both.right right;
-  same = turn_same k j n c d x y both left right a b;
-}
+pub turn_together : (n : ℕ) (c d x y : ClusterView) → Together c d → Turned Moved n c x → Turned Moved n d y → Together x y
+turn_together n c d x y both left right = record { left = stands_after Moved n c x both.left left; right = stands_after Moved n d y both.right right; same = turn_same n c d x y both left right }
 
--- A move in both
+-- A turn in which an agent has no event more
 
-rest_together : (k j n : ℕ) (c d x y : ClusterView) → Together c d → Rest n c x → Rest n d y → LegalSoFar k x.ledger.history → LegalSoFar j y.ledger.history → Together x y
-rest_together k j n c d x y both (slept is begins) other a b = absurd (never_begins n c x both.left begins)
-rest_together k j n c d x y both (rested is) (slept at begins) a b = absurd (never_begins n d y both.right begins)
-rest_together k j n c d x y both (rests_later is turn rest) (slept at begins) a b = absurd (never_begins n d y both.right begins)
-rest_together k j n c d x y both (rested is) (rested at) a b = both
-rest_together k j n c d x y both (rested is) (rests_later at turn rest) a b = absurd (false≢true (sym at ∙ ap (λ bs. option_map_or rests (slice_get bs n) true) (sym both.same.agents) ∙ is))
-rest_together k j n c d x y both (rests_later is turn rest) (rested at) a b = absurd (false≢true (sym is ∙ ap (λ bs. option_map_or rests (slice_get bs n) true) both.same.agents ∙ at))
-rest_together k j n c d x y both (rests_later {mid = m} is turn rest) (rests_later {mid = u} at later more) a b =
-    rest_together k j n m u x y (turn_together k j n c d m u both turn later (legal_rest k n m x rest a) (legal_rest j n u y more b)) rest more a b
-
-move_together : (k j n : ℕ) (c d x y : ClusterView) → Together c d → IsMove n c x → IsMove n d y → LegalSoFar k x.ledger.history → LegalSoFar j y.ledger.history → Together x y
-move_together k j n c d x y both (inr begins) right a b = absurd (never_begins n c x both.left begins)
-move_together k j n c d x y both (inl left) (inr begins) a b = absurd (never_begins n d y both.right begins)
-move_together k j n c d x y both (inl left) (inl right) a b =
-    rest_together k j n left.0 right.0 x y
-    (turn_together k j n c d left.0 right.0 both left.1 right.1 (legal_rest k n left.0 x left.2 a) (legal_rest j n right.0 y right.2 b)) left.2 right.2 a b
-
--- An agent that waits changes nothing that is told
-
-waited : (n : ℕ) (c d : ClusterView) → Stands c → Turned Waiting n c d → Same d c
-waited n c d stands turn =
-    let b = turn.before in
-    let was : StandsAt c n b = stands.each n b turn.agent in
-    let on = waits_for_one n c d stands turn in
-    let stays = stays_here b c.ledger.history d.ledger.history c.ledger.agents on.0 (calm_awake b c.ledger.history was.calm was.tied) was.tied.awaits on.1 on.2 in
-    record {
-      agents = turn.agents ∙ ap (slice_set c.agents n) turn.turn.1 ∙ set_same c.agents n b turn.agent;
-      number = turn.number;
-      ledgers = subst (λ l. Alike l c.ledger.history) (sym stays.history) (by_asked (λ l. Alike l c.ledger.history) c.ledger.history b.number on.0 (same c.ledger.history) (after_wait c.ledger.history b.number on.0));
-    }
+-- an agent that begins to sleep at a word, which is the one that it waits for, through its ticket of this row
+pub record Lies (n : ℕ) (c d : ClusterView) : Type 0 where
+  pub before : AgentView
+  pub here : slice_get c.agents n ≡ Some before
+  pub agents : d.agents ≡ c.agents
+  pub number : d.ledger.agents ≡ c.ledger.agents
+  pub object : ℕ
+  pub index : ℕ
+  pub word : ℕ
+  pub row : Row
+  pub asks : need before ≡ asks_ledger (for_word object index (Task.Sleep word))
+  pub ticket : Some row ≡ at object (tickets before)
+  pub up : asleep c.ledger.history n ≡ false
+  pub found : word_of c.ledger.history row.block index ≡ word
+  pub reached : word_at c.ledger.history row.serial index ≡ word
+  pub history : d.ledger.history ≡ Acted n (Slept row.serial index word) ∷ c.ledger.history
 
 pub same_through : (c d e : ClusterView) → Same c d → Same d e → Same c e
 same_through c d e a b = record { agents = a.agents ∙ b.agents; number = a.number ∙ b.number; ledgers = through c.ledger.history d.ledger.history e.ledger.history a.ledgers b.ledgers }
@@ -296,11 +291,72 @@ same_through c d e a b = record { agents = a.agents ∙ b.agents; number = a.num
 pub same_turned : (c d : ClusterView) → Same c d → Same d c
 same_turned c d a = record { agents = sym a.agents; number = sym a.number; ledgers = turned c.ledger.history d.ledger.history a.ledgers }
 
-pub left_waits : (n : ℕ) (c d x : ClusterView) → Together c d → Turned Waiting n c x → Together x d
-left_waits n c d x both turn = record { left = stands_after Waiting n c x both.left turn; right = both.right; same = same_through x c d (waited n c x both.left turn) both.same }
+idle_agents : (n : ℕ) (c d : ClusterView) → (turn : Turned Waiting n c d) → d.agents ≡ c.agents
+idle_agents n c d turn = turn.agents ∙ ap (slice_set c.agents n) turn.turn.1 ∙ set_same c.agents n turn.before turn.agent
 
-pub right_waits : (n : ℕ) (c d y : ClusterView) → Together c d → Turned Waiting n d y → Together c y
-right_waits n c d y both turn = record { left = both.left; right = stands_after Waiting n d y both.right turn; same = same_through c d y both.same (same_turned y d (waited n d y both.right turn)) }
+-- it waits for a message, which tells nothing
+waited : (n : ℕ) (c d : ClusterView) → StandsBy AnyPlan c → (turn : Turned Waiting n c d) → WaitsOn turn.before c.ledger d.ledger → Same d c
+waited n c d stands turn on =
+    let b = turn.before in
+    let was = stands.each n b turn.agent in
+    let stays = stays_here b c.ledger.history d.ledger.history c.ledger.agents on.0 (up_of b c.ledger.history was.tied (ap asks_to_sleep on.1)) was.tied.awaits on.1 on.2 in
+    record {
+      agents = idle_agents n c d turn;
+      number = turn.number;
+      ledgers = subst (λ l. Alike l c.ledger.history) (sym stays.history) (by_asked (λ l. Alike l c.ledger.history) c.ledger.history b.number on.0 (same c.ledger.history) (after_wait c.ledger.history b.number on.0));
+    }
+
+-- or it sleeps on, or begins to
+slept_or_lies : (n : ℕ) (c d : ClusterView) → StandsBy AnyPlan c → (turn : Turned Waiting n c d) → SleepsOn turn.before c.ledger d.ledger → Same d c ⊎ Lies n c d
+slept_or_lies n c d stands turn on =
+    by_rest (Some Stay) d.ledger.history l c.ledger.agents b.number on.1 on.2 on.3 on.6
+    (λ sleeping told more. inl (unchanged (roused_stays l d.ledger.history c.ledger.agents b.number more (some_turn _ told))))
+    (λ waiting told more. no_message b l on.0 on.1 on.2 was.tied on.4 waiting)
+    (λ up there told more. inr (lies up there (roused_stays (begun_at l b.number on.3 on.1 on.2) d.ledger.history c.ledger.agents b.number more (some_turn _ told) ∙ ap (λ a. Acted a (Slept on.3.serial on.1 on.2) ∷ l) was.number)))
+    (λ up other told more. let clash : ◌≡◌ {A = Option Turn} (Some Stay) None = told in cc)
+  where
+    b : AgentView
+    b = turn.before
+
+    l : Ledger
+    l = c.ledger.history
+
+    was : StandsAtBy AnyPlan c n b
+    was = stands.each n b turn.agent
+
+    unchanged : d.ledger.history ≡ l → Same d c
+    unchanged is = record { agents = idle_agents n c d turn; number = turn.number; ledgers = subst (λ k. Alike k l) (sym is) (same l) }
+
+    -- it reaches the word through the ticket
+    reaches : d.ledger.history ≡ Acted n (Slept on.3.serial on.1 on.2) ∷ l → on.2 ≡ word_at l on.3.serial on.1
+    reaches history =
+        let legal : LegalSoFar d.ledger.agents (Acted n (Slept on.3.serial on.1 on.2) ∷ l) = subst (LegalSoFar d.ledger.agents) history turn.legal.0 in
+        let may : ComesNext d.ledger.agents l (Acted n (Slept on.3.serial on.1 on.2)) None = subst (ComesNext d.ledger.agents l (Acted n (Slept on.3.serial on.1 on.2))) stands.undrained legal.0 in
+        its_word_as l n on.3.serial on.1 on.2 may.0
+
+    lies : asleep l b.number ≡ false → word_of l on.3.block on.1 ≡ on.2 → d.ledger.history ≡ Acted n (Slept on.3.serial on.1 on.2) ∷ l → Lies n c d
+    lies up there history = record {
+      before = b;
+      here = turn.agent;
+      agents = idle_agents n c d turn;
+      number = turn.number;
+      object = on.0;
+      index = on.1;
+      word = on.2;
+      row = on.3;
+      asks = on.4;
+      ticket = on.5;
+      up = ap (asleep l) (sym was.number) ∙ up;
+      found = there;
+      reached = sym (reaches history);
+      history = history;
+    }
+
+pub waits_or_lies : (n : ℕ) (c d : ClusterView) → StandsBy AnyPlan c → Turned Waiting n c d → Same d c ⊎ Lies n c d
+waits_or_lies n c d stands turn = elim turn.told [
+  | inl on ↦ inl (waited n c d stands turn on)
+  | inr on ↦ slept_or_lies n c d stands turn on
+]
 
 -- Who moves
 
@@ -333,28 +389,20 @@ nothing_due b stopped is = cc
 nothing_due b ended is = refl
 
 -- where all have ended none moves
-pub none_moves : (n : ℕ) (c d : ClusterView) → Stands c → all_over c ≡ true → Turned Moved n c d → ⊥
+pub none_moves : (n : ℕ) (c d : ClusterView) → StandsBy AnyPlan c → all_over c ≡ true → Turned Moved n c d → ⊥
 none_moves n c d stands all turn =
     let b = turn.before in
-    let was : StandsAt c n b = stands.each n b turn.agent in
+    let was : StandsAtBy AnyPlan c n b = stands.each n b turn.agent in
     let known : n < c.ledger.agents = (let there = within c.agents n b turn.agent in let size = stands.size in omega (arith, there, size)) in
     let closed : is_ended (phase b.history) ≡ true = sym was.seated.over ∙ ap (has_ended c.ledger.history) was.number ∙ ended_where_all c.ledger.history c.ledger.agents n known all in
     subst (λ d. Permits (with_row turn.turn.1 b).over (receivers b.plan.jobs) b.history d turn.turn.0) (nothing_due b (phase b.history) closed) turn.turn.2.permitted
 
-no_move : (n : ℕ) (c d : ClusterView) → Stands c → all_over c ≡ true → IsMove n c d → ⊥
-no_move n c d stands all (inl m) = none_moves n c m.0 stands all m.1
-no_move n c d stands all (inr begins) = never_begins n c d stands begins
-
--- To the end
-
-pub runs_same : (k j : ℕ) (c d x y : ClusterView) → Together c d → RunsOut c x → RunsOut d y → LegalSoFar k x.ledger.history → LegalSoFar j y.ledger.history → Same x y
-runs_same k j c d x y both (waits n {mid = m} turn quiet rest) other a b = runs_same k j m d x y (left_waits n c d m both turn) rest other a b
-runs_same k j c d x y both (over is) (waits n {mid = u} turn quiet rest) a b = runs_same k j c u x y (right_waits n c d u both turn) (over is) rest a b
-runs_same k j c d x y both (moves n is move more) (waits i {mid = u} turn quiet rest) a b = runs_same k j c u x y (right_waits i c d u both turn) (moves n is move more) rest a b
-runs_same k j c d x y both (over is) (over at) a b = both.same
-runs_same k j c d x y both (over is) (moves n {mid = m} at move more) a b = absurd (no_move n d m both.right (sym (same_over c d both.same) ∙ is) move)
-runs_same k j c d x y both (moves n {mid = m} at move more) (over is) a b = absurd (no_move n c m both.left (same_over c d both.same ∙ is) move)
-runs_same k j c d x y both (moves n {mid = m} is move more) (moves i {mid = u} at other rest) a b =
-    let mover_is : Some n ≡ Some i = sym is ∙ same_mover c d both.same ∙ at in
-    let one : i ≡ n = cc in
-    runs_same k j m u x y (move_together k j n c d m u both move (subst (λ i. IsMove i d u) one other) (legal_run k m x more a) (legal_run j u y rest b)) more rest a b
+-- nor begins to sleep
+pub none_lies : (n : ℕ) (c d : ClusterView) → StandsBy AnyPlan c → all_over c ≡ true → Lies n c d → ⊥
+none_lies n c d stands all lies =
+    let b = lies.before in
+    let was : StandsAtBy AnyPlan c n b = stands.each n b lies.here in
+    let known : n < c.ledger.agents = (let there = within c.agents n b lies.here in let size = stands.size in omega (arith, there, size)) in
+    let closed : is_over b ≡ true = sym was.seated.over ∙ ap (has_ended c.ledger.history) was.number ∙ ended_where_all c.ledger.history c.ledger.agents n known all in
+    let clash : asks_nothing ≡ asks_ledger (for_word lies.object lies.index (Task.Sleep lies.word)) = sym (over_asks_nothing b closed) ∙ lies.asks in
+    cc

@@ -100,7 +100,7 @@ pass_off : (s : ℕ) (d : Deed) → of_sleep d ≡ true → is_pass s d ≡ fals
 pass_off s (Passes u) is = cc
 pass_off s _ is = refl
 
-met_calm : (t left : Tickets) (w : Asking) (ds : List Deed) → is_about_sleep w ≡ false → after t w ds ≡ Some left → has_sleep ds ≡ false
+pub met_calm : (t left : Tickets) (w : Asking) (ds : List Deed) → is_about_sleep w ≡ false → after t w ds ≡ Some left → has_sleep ds ≡ false
 met_calm t left nothing ds calm e = none_sleeps ds (some_if_true _ t left e)
 met_calm t left (to_open n v) ds calm e = sole_sleeps (opening t n v) ds left (opening_off t n v) e
 met_calm t left (to_measure b v) ds calm e = none_sleeps ds (and_parts (no_more ds) _ (some_if_true _ t left e)).0

@@ -39,7 +39,7 @@ or_swapped true true c = refl
 or_swapped true false c = refl
 or_swapped false b c = refl
 
-struck_listed : (s q : ℕ) (ns ms : List ℕ) → strike s ns ≡ Some ms → listed q ns ≡ ((s == q) || listed q ms)
+pub struck_listed : (s q : ℕ) (ns ms : List ℕ) → strike s ns ≡ Some ms → listed q ns ≡ ((s == q) || listed q ms)
 struck_listed s q [] ms is = cc
 struck_listed s q (n ∷ ns) ms is = by_first (λ ks at. struck_listed s q ns ks at) (n == s) refl is
   where

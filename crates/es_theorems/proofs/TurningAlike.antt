@@ -101,7 +101,8 @@ step n c words i d along holds turn = record { event = e; row = r; is = turn.tur
       legal = legal;
       part_is = doing.part_is;
       alike = doing.alike;
-      moved = move i l d.ledger.history b e r before now turn.turn.2 was.calm doing;
+      moved = move i l d.ledger.history b e r before now turn.turn.2 doing;
+      never = was.calm;
       calm = calm;
       told = turn.told.0;
     }

@@ -5,6 +5,7 @@ pub mod TurnsLaws
 pub mod Doing
 pub mod Settled
 pub mod Move
+pub mod Rousing
 pub mod Together
 pub mod ThreadsLaws
 pub mod Calm

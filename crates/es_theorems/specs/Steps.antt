@@ -27,6 +27,7 @@ use Rattle.es_theorems.specs.Alike.{Alike}
 use Rattle.es_theorems.specs.Calm.{Calm}
 use Rattle.es_theorems.specs.Doing.{did}
 use Rattle.es_theorems.specs.Move.{Move}
+use Rattle.es_theorems.specs.Sleepless.{never_sleeps_in}
 use Rattle.es_theorems.specs.Together.{Stands}
 use Rattle.es_theorems.specs.Alone.{Finds, Letter, Touch, Words, posted_by, touch_by}
 use Rattle.es_theorems.specs.Renamed.{got_in, letter_of, local_of, locals_of, name, renamed, renamed_row, sent_in}
@@ -66,6 +67,7 @@ pub record AtTurn (n : ℕ) (c : ClusterView) (i : ℕ) (m : Ledger) (b : AgentV
   pub part_is : part m i ≡ part c.ledger.history i ++ ds
   pub alike : Alike m (did i ds c.ledger.history)
   pub moved : Move i c.ledger.history b e r ds
+  pub never : never_sleeps_in b.plan ≡ true
   pub calm : Calm i m
   pub told : (s : ℕ) → need b ≡ asks_message s → (told c.ledger.history c.ledger.agents b.number s).0 ≢ Stay
 

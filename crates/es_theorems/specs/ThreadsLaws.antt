@@ -42,9 +42,9 @@ TurnsAreOutcomes = (plan : Plan) (turns : List ℕ) (end : ClusterView) (o : Out
 abbrev pub ByTurnsIsAnOutcome : Type 0
 ByTurnsIsAnOutcome = (plan : Plan) (c : ClusterView) (o : Outcome) → RunsToEnd (first_state plan) c → EndsIn c o → IsClusterOutcome plan o
 
--- So each plan has an outcome, whose agents never sleep and name others alone and whose callbacks collect nothing.
+-- So each plan has an outcome, whose agents name others alone and whose callbacks collect nothing.
 abbrev pub EachPlanHasAnOutcome : Type 0
-EachPlanHasAnOutcome = (plan : Plan) → never_sleeps plan ≡ true → all_name_others plan ≡ true → list_all callbacks_collect_nothing plan.agents ≡ true → (o : Outcome) × IsClusterOutcome plan o
+EachPlanHasAnOutcome = (plan : Plan) → all_name_others plan ≡ true → list_all callbacks_collect_nothing plan.agents ≡ true → (o : Outcome) × IsClusterOutcome plan o
 
 -- what turns of the plan end in is the same, whatever turns they are
 abbrev pub TurnsEndAlike : Plan → Type 0

@@ -1,4 +1,4 @@
-//! What holds of runs in threads and of turns; but for two laws, of plans whose agents never sleep. Each law is the
+//! What holds of runs in threads and of turns; but for three laws, of plans whose agents never sleep. Each law is the
 //! contract of a function that does nothing.
 
 ghost use Rattle.es_theorems.specs.ThreadsLaws.{ByTurnsIsAnOutcome, EachPlanHasAnOutcome, ThreadsEndAsTurnsDo, ThreadsRefineTurns, ThreadsReportAsTurnsDo, TurnsAreOutcomes};

@@ -1,4 +1,5 @@
-//! What holds of runs by turns of plans whose agents never sleep. Each law is the contract of a function that does nothing.
+//! What holds of runs by turns: of plans whose agents never sleep that two come to the same, and of every plan that
+//! agents go on and come to an end. Each law is the contract of a function that does nothing.
 
 ghost use Rattle.es_theorems.specs.TurnsLaws.{EachAgentTakesATurn, EachPlanComesToAnEnd, NoClusterIsStuck, TurnsAreOneRun, TurnsHaveOneEnd, WhatIsLeftComesToAnEnd, WhatIsLeftHasOneEnd};
 
@@ -21,18 +22,18 @@ pub fn turns_are_one_run()
 {}
 
 /// Whichever agents took turns, each agent that is asked takes one, as the rules and its plan say: it has one
-/// event more, or it waits on for a message, or it has ended.
+/// event more, or it waits on for a message or at a word, or it has ended.
 pub fn each_agent_takes_a_turn()
     ensures { EachAgentTakesATurn }
 {}
 
 /// No cluster is stuck (ECMA-262, Agents and Agent Clusters): whichever agents took turns, if some agent has not
-/// ended, some agent moves, once those that wait are asked.
+/// ended, some agent moves, once those that wait or sleep are asked.
 pub fn no_cluster_is_stuck()
     ensures { NoClusterIsStuck }
 {}
 
-/// Each plan in which no callback collects has an end by turns.
+/// Each plan in which no callback collects has an end by turns, whether its agents sleep or not.
 pub fn each_plan_comes_to_an_end()
     ensures { EachPlanComesToAnEnd }
 {}
