@@ -71,10 +71,10 @@ goes_awake n l c a d taken same other = by (c == a) refl
 pub taken_till_woken : (n : ℕ) (l : Ledger) (e : LedgerEvent) (a : ℕ) → LegalSoFar n (e ∷ l) → was_taken l a ≡ true → Goes l e a
 taken_till_woken n l (Acted c Ended) a legal taken =
     goes_awake n l c a Ended taken (λ e. inr (inr (ap (λ a. Acted a Ended) (eqb-true c a e))))
-        (λ e. stays_taken l (Acted c Ended ∷ l) a (ap (λ t. cond t false (asleep l a)) e) (has_some a (λ w. not (w.agent == c)) (waiters l)) taken)
+    (λ e. stays_taken l (Acted c Ended ∷ l) a (ap (λ t. cond t false (asleep l a)) e) (has_some a (λ w. not (w.agent == c)) (waiters l)) taken)
 taken_till_woken n l (Acted c Woke) a legal taken =
     goes_awake n l c a Woke taken (λ e. inr (inl (ap (λ a. Acted a Woke) (eqb-true c a e))))
-        (λ e. stays_taken l (Acted c Woke ∷ l) a (ap (λ t. cond t false (asleep l a)) e) (λ is. is) taken)
+    (λ e. stays_taken l (Acted c Woke ∷ l) a (ap (λ t. cond t false (asleep l a)) e) (λ is. is) taken)
 taken_till_woken n l (Acted c TimedOut) a legal taken =
     let off = apart (is_listed l) c a (listed_before n l c (owed l) legal.0) (unlisted l a taken) in
     inl (stays_taken l (Acted c TimedOut ∷ l) a (ap (λ t. cond t false (asleep l a)) off) (has_some a (λ w. not (w.agent == c)) (waiters l)) taken)
