@@ -34,7 +34,7 @@ use Rattle.es_cluster.proofs.Histories.{are_ended}
 use Rattle.es_cluster.proofs.Rounds.{hears}
 use Rattle.es_theorems.proofs.Cluster.{Well, ask, inside_turned, quiet_all, quiet_turned, well_all, well_first, works_of}
 use Rattle.es_theorems.specs.TurnsLaws.{SomeAgentMoves}
-use Rattle.es_theorems.proofs.Going.{Only}
+use Rattle.es_theorems.specs.Going.{Only}
 use Rattle.es_theorems.proofs.Only.{none_held, only_after}
 use Rattle.es_theorems.proofs.Stepping.{turns_append}
 

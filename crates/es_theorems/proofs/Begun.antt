@@ -1,9 +1,9 @@
 -- Two runs of one plan, in one of which an agent has begun to sleep that in the other slept and timed out at once.
-use Rattle.std.proofs.Common.{◌≡◌, ℕ, ◌<◌, ◌==◌, ◌&&◌, ◌||◌, not, Bool, true, false, cond, sym, ◌∙◌, ap, refl, subst, arith, List, [], ◌∷◌, ◌++◌, Option, Some, None, zero, suc, inl, inr}
+use Rattle.std.proofs.Common.{◌≡◌, ℕ, ◌<◌, ◌==◌, ◌&&◌, ◌||◌, not, Bool, true, false, cond, sym, ◌∙◌, ap, refl, subst, arith, List, [], ◌∷◌, ◌++◌, Option, Some, None, inl, inr}
 use Rattle.std.specs.Prelude.{pos, slice_get, slice_set}
 use Rattle.std.specs.List.{list_any, position_from}
 use Rattle.std.specs.Option.{option_map_or}
-use Rattle.std.proofs.lemmas.Bool.{and_parts, cases_Bool, eq-eqb, eqb-false, eqb-true, false≢true}
+use Rattle.std.proofs.lemmas.Bool.{and_parts, cases_Bool, eq-eqb, eqb-true, false≢true}
 use Rattle.es_value.specs.declared.value.Value.{Value}
 use Rattle.es_value.specs.declared.value.Value.TheVariants.{Object}
 use Rattle.es_event.specs.declared.access.Task.{Task}
@@ -23,7 +23,7 @@ use Rattle.es_event.specs.Jobs.{receivers}
 use Rattle.es_event.specs.Legal.{values_of}
 use Rattle.es_event.specs.Ledger.{Ledger, ended as has_ended, waits, word as word_of, holder_of}
 use Rattle.es_event.specs.LegalLedger.{LegalSoFar, all_ended, all_stuck, is_chosen, is_stuck}
-use Rattle.es_event.specs.Order.{due, run, RunsNow}
+use Rattle.es_event.specs.Order.{due, RunsNow}
 use Rattle.es_event.specs.Runs.{IsRunOver}
 use Rattle.es_event.specs.Waiters.{asleep, block_by, is_listed, waiter, waiters}
 use Rattle.es_event.proofs.Extending.{all_refusals}
@@ -57,22 +57,23 @@ use Rattle.es_theorems.specs.Settled.{serial_at, word_at}
 use Rattle.es_theorems.specs.Together.{AnyPlan, Same, StandsAtBy, StandsBy, Together}
 use Rattle.es_theorems.proofs.Deciding.{agrees_row, asks_so}
 use Rattle.es_theorems.proofs.Running.{Lies, Step, meet, same_mover, stands_after, step_from, step_of, shorter}
+use Rattle.es_theorems.proofs.Choosing.{ended_below}
 use Rattle.es_theorems.proofs.Telling.{after_one, same, same_holder, through, turned}
 use Rattle.es_theorems.proofs.Waiting.{last_listed, slept_through}
 
 -- A wait that is done
 
 -- the event is that of the command that asks for this
-record Does (b : AgentView) (e : Event) (o i w : ℕ) : Type 0 where
-  due : Command
-  asked : DueCommand b due (for_word o i (Task.Sleep w))
-  command : Command
-  values : List Value
-  answer : Answer
-  is : e ≡ Did (command, values, answer)
-  same : command ≡ due
+pub record Does (b : AgentView) (e : Event) (o i w : ℕ) : Type 0 where
+  pub due : Command
+  pub asked : DueCommand b due (for_word o i (Task.Sleep w))
+  pub command : Command
+  pub values : List Value
+  pub answer : Answer
+  pub is : e ≡ Did (command, values, answer)
+  pub same : command ≡ due
 
-does_wait : (b : AgentView) (e : Event) (r : Option Row) (o i w : ℕ) → IsRunOver b.over b.plan b.history → IsNext (with_row r b) e → need b ≡ asks_ledger (for_word o i (Task.Sleep w)) → Does b e o i w
+pub does_wait : (b : AgentView) (e : Event) (r : Option Row) (o i w : ℕ) → IsRunOver b.over b.plan b.history → IsNext (with_row r b) e → need b ≡ asks_ledger (for_word o i (Task.Sleep w)) → Does b e o i w
 does_wait b e r o i w history next asks = by e (subst (λ d. Permits (with_row r b).over (receivers b.plan.jobs) b.history d e) at.1.1 next.permitted)
   where
     at : (c : Command) × RunsNow (due b.plan b.history) c × (collects c ≡ false) × (request b c ≡ Some (for_word o i (Task.Sleep w)))
@@ -98,16 +99,6 @@ does_wait b e r o i w history next asks = by e (subst (λ d. Permits (with_row r
 one_listed : (t : ℕ) (ws : List Waiter) (x : Waiter) → (x.agent == t) ≡ false → list_any (λ (w : Waiter). w.agent == t) (ws ++ x ∷ []) ≡ list_any (λ (w : Waiter). w.agent == t) ws
 one_listed t [] x other = ap (λ b. b || false) other
 one_listed t (w ∷ ws) x other = ap (λ b. (w.agent == t) || b) (one_listed t ws x other)
-
-below_ended : (l : Ledger) (n i : ℕ) → all_ended l n ≡ true → i < n → has_ended l i ≡ true
-below_ended l zero i all less = absurd (omega (arith, less))
-below_ended l (suc n) i all less = elim (cases_Bool (i == n)) [
-  | inl e ↦ ap (has_ended l) (eqb-true i n e) ∙ (and_parts (has_ended l n) (all_ended l n) all).0
-  | inr e ↦ let other = eqb-false i n e in below_ended l n i (and_parts (has_ended l n) (all_ended l n) all).1 (below i n less other)
-]
-  where
-    below : (i n : ℕ) → i < suc n → (i ≡ n → ⊥) → i < n
-    below i n less other = omega (arith, less, other)
 
 -- the cluster in which agent n has begun to sleep
 abbrev lain : ClusterView → ℕ → ℕ → ℕ → ℕ → ClusterView
@@ -151,7 +142,7 @@ lowest k d n s i w b r stands legal here asks chosen =
         (ap (λ a. has_ended m a || is_stuck m a) was.number ∙ settled_at m d.ledger.agents j parts.0 (let size = stands.size in let inside = within d.agents j y at in omega (arith, size, inside)))
 
     lower : (j : ℕ) (y : AgentView) → j < n → slice_get d.agents j ≡ Some y → not (is_over y) ≡ false
-    lower j y less at = let was = stands.each j y at in ap not (sym was.seated.over ∙ (ap (has_ended m) was.number ∙ below_ended m n j rest.0 less))
+    lower j y less at = let was = stands.each j y at in ap not (sym was.seated.over ∙ (ap (has_ended m) was.number ∙ ended_below m n j rest.0 less))
 
     left : not (is_over b) ≡ true
     left = let was = stands.each n b here in ap not (sym was.seated.over ∙ ap (has_ended m) was.number) ∙ rest.1

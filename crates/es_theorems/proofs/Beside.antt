@@ -19,13 +19,12 @@ use Rattle.es_event.specs.Ledger.{Ledger, ended, front, holder_of, opened, port_
 use Rattle.es_event.specs.Waiters.{asleep, asleep_after, block_by, is_at, is_listed, taken_there, waiter, waiters, waiters_after, without_first}
 use Rattle.es_event.specs.LegalLedger.{ComesNext, IsPostable, LegalSoFar, MayAct, MayCome, Reaches, ReachesAs, all_ended, all_stuck, has_message, is_chosen, is_stuck, owed, skips}
 use Rattle.es_ledger.proofs.Lines.{rows_moved}
-use Rattle.es_match.specs.Deeds.{Deed, Accesses, Ends, Passes, Spends, Takes, deed, taking, words_in, acting, sleep_of}
+use Rattle.es_match.specs.Deeds.{Deed, Accesses, Ends, Passes, Spends, Takes, deed, taking, words_in, acting, sleep_of, sleeps_after}
 use Rattle.es_match.specs.Patience.{has_drained, may_do, may_stir}
 use Rattle.es_match.specs.declared.deed.Sleep.{Sleep}
 use Rattle.es_match.proofs.Sleeping.{has_a_sleep}
 use Rattle.es_theorems.specs.Ahead.{Acts, May}
 use Rattle.es_theorems.specs.Ready.{Goes, Ready}
-use Rattle.es_theorems.specs.Calm.{is_calm}
 use Rattle.es_theorems.proofs.Choosing.{Chosen, Skips, Stuck, chosen_is, chosen_one, skips_is, stuck_here, stuck_is}
 use Rattle.es_cluster.proofs.Growing.{doer, ended_other, waits_other}
 use Rattle.es_ledger.proofs.Waking.{awake_unlisted}
@@ -94,7 +93,7 @@ beside_spent k l s a b r legal is other = record {
 -- Where one is chosen, an agent that goes on waits in vain
 
 stuck_beside : (k : ℕ) (l : Ledger) (a b : ℕ) → LegalSoFar k l → Goes k l a → Chosen l k b → Stuck l a
-stuck_beside k l a b legal goes chosen = stuck_is l a (awake_unlisted k l a legal goes.awake) (stuck_here l k a chosen.stuck goes.known goes.going)
+stuck_beside k l a b legal goes chosen = stuck_is l a (awake_unlisted k l a legal goes.awake) (stuck_here l k a chosen.stuck goes.lives.known goes.lives.going)
 
 -- An end
 
@@ -215,6 +214,12 @@ ready_asleep k l a c (Acted b (Passed s)) awake ready = refl
 ready_asleep k l a c (Acted b Ended) awake ready = end_asleep l b c (ap (asleep l) ready.0 ∙ awake)
 ready_asleep k l a c _ awake ready = absurd ready
 
+pub ready_sleeps : (k : ℕ) (l : Ledger) (a c : ℕ) (f : LedgerEvent) → asleep l a ≡ false → Ready k l a f → sleep_of (f ∷ l) c ≡ sleep_of l c
+ready_sleeps k l a c (Spent s) awake ready = refl
+ready_sleeps k l a c (Acted b (Passed s)) awake ready = refl
+ready_sleeps k l a c (Acted b Ended) awake ready = end_sleeps l b c (ap (asleep l) ready.0 ∙ awake)
+ready_sleeps k l a c _ awake ready = absurd ready
+
 -- It may be done
 
 pub ready_deed : (k : ℕ) (l : Ledger) (a : ℕ) (f : LedgerEvent) → Ready k l a f → (d : Deed) × (deed l f ≡ Some (a, d)) × (may_do (waits l a) d ≡ true)
@@ -226,22 +231,15 @@ ready_deed k l a _ ready = absurd ready
 ready_comes : (k : ℕ) (l : Ledger) (a : ℕ) (f : LedgerEvent) → Goes k l a → Ready k l a f → MayCome k l f
 ready_comes k l a (Spent s) goes ready = ap is_some ready.0.1
 ready_comes k l a (Acted c (Passed s)) goes ready = (ap (waits l) ready.0 ∙ ready.1, ap (λ c. skips l k c s) ready.0 ∙ ready.2)
-ready_comes k l a (Acted c Ended) goes ready = (subst (λ c. c < k) (sym ready.0) goes.known, ap (ended l) ready.0 ∙ goes.going)
+ready_comes k l a (Acted c Ended) goes ready = (subst (λ c. c < k) (sym ready.0) goes.lives.known, ap (ended l) ready.0 ∙ goes.lives.going)
 ready_comes k l a _ goes ready = absurd ready
-
-ready_calm : (k : ℕ) (l : Ledger) (a : ℕ) (f : LedgerEvent) → Ready k l a f → is_calm f ≡ true
-ready_calm k l a (Spent s) ready = refl
-ready_calm k l a (Acted c (Passed s)) ready = refl
-ready_calm k l a (Acted c Ended) ready = refl
-ready_calm k l a _ ready = absurd ready
 
 pub ready_may : (k : ℕ) (l : Ledger) (a : ℕ) (f : LedgerEvent) → Goes k l a → Ready k l a f → May k l f
 ready_may k l a f goes ready =
     let does = ready_deed k l a f ready in
     record {
-      legal = subst (ComesNext k l f) (sym goes.paid) (ready_comes k l a f goes ready);
-      acts = subst (Acts k l) (sym does.1) (goes.known, goes.going, goes.undrained, does.2, ap (λ b. may_stir b does.0) goes.awake);
-      calm = ready_calm k l a f ready;
+      legal = subst (ComesNext k l f) (sym goes.lives.paid) (ready_comes k l a f goes ready);
+      acts = subst (Acts k l) (sym does.1) (goes.lives.known, goes.lives.going, goes.lives.undrained, does.2, ap (λ b. may_stir b does.0) goes.awake);
     }
 
 -- Another's event still may come
@@ -331,11 +329,14 @@ pub asleep_beside : (k : ℕ) (l : Ledger) (f x : LedgerEvent) (b c : ℕ) → B
 asleep_beside k l f (Acted u act) b c is = ap (asleep_after u act c) (is.asleep c)
 asleep_beside k l f _ b c is = is.asleep c
 
+pub sleeps_beside : (k : ℕ) (l : Ledger) (f x : LedgerEvent) (b c : ℕ) → Beside k l f b → sleep_of (x ∷ f ∷ l) c ≡ sleep_of (x ∷ l) c
+sleeps_beside k l f (Acted u act) b c is = ap (sleeps_after u act c) (is.sleeps c)
+sleeps_beside k l f _ b c is = is.sleeps c
+
 pub may_beside : (k : ℕ) (l : Ledger) (f x : LedgerEvent) (b : ℕ) (d : Deed) → Beside k l f b → has_drained (f ∷ l) ≡ false → owed l ≡ None → deed l x ≡ Some (b, d) → May k l x → May k (f ∷ l) x
 may_beside k l f x b d is undrained paid mine may =
     let acts : Acts k l (Some (b, d)) = subst (Acts k l) mine may.acts in
     record {
       legal = subst (ComesNext k (f ∷ l) x) (sym is.owes) (comes_beside k l f x b d is mine (subst (ComesNext k l x) paid may.legal));
       acts = subst (Acts k (f ∷ l)) (sym (deed_beside k l f x b d is mine ∙ mine)) (acts.0, is.ends ∙ acts.1, undrained, ap (λ w. may_do w d) is.waits ∙ acts.3, ap (λ t. may_stir t d) (is.asleep b) ∙ acts.4);
-      calm = may.calm;
     }

@@ -33,7 +33,7 @@ bring_one k x xs ys l a f legal goes ready away steps rest = record {
   steps = (one.first, (one.second, same_steps k (xs ++ ys) (f ∷ x ∷ l) (x ∷ f ∷ l) one.same rest.steps.1));
   parts = λ c.
       ap (λ ds. part_of c (deed l x) ++ ds) (rest.parts c)
-      ∙ ap (λ ds. part_of c (deed l x) ++ (part_of c (deed (x ∷ l) f) ++ ds)) (same_ahead k (xs ++ ys) (f ∷ x ∷ l) (x ∷ f ∷ l) c rest.steps.1 one.same.alike)
+      ∙ ap (λ ds. part_of c (deed l x) ++ (part_of c (deed (x ∷ l) f) ++ ds)) (same_ahead (xs ++ ys) (f ∷ x ∷ l) (x ∷ f ∷ l) c one.same)
       ∙ ap (λ o. part_of c o ++ (part_of c (deed (x ∷ l) f) ++ after c)) away.0.2
       ∙ ap (λ o. part_of c (Some (b, d)) ++ (part_of c o ++ after c)) (one.mine ∙ does.1)
       ∙ one_of_two a b c d does.0 (after c) away.0.3
@@ -61,4 +61,4 @@ pub bring : (k : ℕ) (xs ys : List LedgerEvent) (l : Ledger) (a : ℕ) (f : Led
 bring k [] ys l a f legal goes ready away steps = rearranged_not k (f ∷ ys) l steps
 bring k (x ∷ xs) ys l a f legal goes ready away steps =
     bring_one k x xs ys l a f legal goes ready away steps
-    (bring k xs ys (x ∷ l) a f (steps.0.legal, legal) (goes_after k l a away.0.0 x away.0.1 away.0.2 away.0.3 goes) (ready_after k l a away.0.0 f x away.0.1 legal away.0.2 away.0.3 goes.paid steps.0 ready) away.1 steps.1)
+    (bring k xs ys (x ∷ l) a f (steps.0.legal, legal) (goes_after k l a away.0.0 x away.0.1 away.0.2 away.0.3 goes) (ready_after k l a away.0.0 f x away.0.1 legal away.0.2 away.0.3 goes.lives.paid steps.0 ready) away.1 steps.1)

@@ -37,15 +37,13 @@ use Rattle.es_event.specs.Waiters.{asleep}
 use Rattle.es_event.proofs.Left.{each_of, is_first, left_holds}
 use Rattle.es_match.specs.Asks.{Asking, nothing, to_open, to_measure, to_compare, to_access, to_miss, to_sleep, to_notify, to_post, to_receive, to_refuse, to_pass, to_empty, to_close, asks, asks_did, asks_word, given}
 use Rattle.es_ledger.specs.LedgerView.{LedgerView}
-use Rattle.es_ledger.specs.Turns.{told}
-use Rattle.es_ledger.specs.declared.turn.Turn.TheVariants.{Stay}
 use Rattle.es_record.specs.AgentView.{AgentView}
 use Rattle.es_rules.specs.Needs.{Need, for_block, for_post, for_buffer_post, for_word, asked, asks_nobody, asks_marks, asks_copy, asks_late_marks, asks_ledger, asks_message, asks_closing, asks_nothing, at_word, gives_wait_result, need, posts_to}
 use Rattle.es_rules.proofs.Needs.{ledger_due, not_refused}
 use Rattle.es_cluster.specs.Midway.{asks_to_sleep}
 use Rattle.es_cluster.specs.Tied.{IsTied}
 use Rattle.es_cluster.specs.Turned.{WaitsOn, WaitsRightly}
-use Rattle.es_cluster.specs.declared.member.Progress.TheVariants.{Moved, Waiting}
+use Rattle.es_cluster.specs.declared.member.Progress.TheVariants.{Waiting}
 use Rattle.es_cluster.proofs.Midway.{awake}
 use Rattle.es_theorems.specs.Messages.{is_on_word, share_no_word, shares_no_word}
 use Rattle.es_theorems.specs.Sleepless.{is_for_sleep, is_of_sleep, never_sleeps, never_sleeps_in}
@@ -227,7 +225,3 @@ no_sleep b o i w calm is = let clash : true ≡ false = sym (ap asks_to_sleep is
 pub waits_on : (b : AgentView) (old new : LedgerView) → never_sleeps_in b.plan ≡ true → WaitsRightly Waiting b old new → WaitsOn b old new
 waits_on b old new calm (inl on) = on
 waits_on b old new calm (inr on) = absurd (no_sleep b on.0 on.1 on.2 calm on.4)
-
--- where it goes on, it was not told to wait for a message
-pub moves_on : (b : AgentView) (old new : LedgerView) → never_sleeps_in b.plan ≡ true → ((s : ℕ) → need b ≡ asks_message s → (told old.history old.agents b.number s).0 ≡ Stay → ⊥) → WaitsRightly Moved b old new
-moves_on b old new calm first = (first, λ o i w r asks. absurd (no_sleep b o i w calm asks))

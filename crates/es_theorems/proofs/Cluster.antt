@@ -36,7 +36,7 @@ use Rattle.es_cluster.proofs.Mover.{by_asked}
 use Rattle.es_cluster.proofs.Sleeping.{begun_at, by_rest, no_message, roused_stays, some_turn}
 use Rattle.es_cluster.proofs.Standing.{by_place, mapped_still, placed_after, placed_here, set_length, tied_after, tied_of, within}
 use Rattle.es_cluster.proofs.Turning.{stepped}
-use Rattle.es_theorems.proofs.Going.{Going, Racked, Standing, Turn}
+use Rattle.es_theorems.specs.Going.{AllGoing, Going, Racked, Standing, Turn}
 use Rattle.es_theorems.proofs.Only.{only_beside}
 use Rattle.es_theorems.proofs.Rack.{held_beside}
 use Rattle.es_theorems.proofs.Racked.{goes_on_after, quiet}
@@ -48,7 +48,7 @@ pub record Well (c : ClusterView) : Type 0 where
   pub tied : AreTied c.agents c.ledger
   pub legal : LegalLedger c.ledger.agents c.ledger.history
   pub whole : c.failed ≡ false
-  pub going : (n : ℕ) (b : AgentView) → slice_get c.agents n ≡ Some b → Going b c.ledger.history
+  pub going : AllGoing c
 
 -- After a turn
 
@@ -64,29 +64,6 @@ going_beside n m b l k grows legal other g = record {
   newest_is = g.newest_is;
   rack = record { held = held_beside m n l k b.number (tickets b) grows legal other g.rack.held; apart = g.rack.apart; only = only_beside n l k b.number (tickets b) grows other g.rack.only };
 }
-
-well_after : (p : Progress) (n : ℕ) (c d : ClusterView) → Well c → (t : Turned p n c d) → Going t.after d.ledger.history → Well d
-well_after p n c d w t g = record {
-  placed = subst (λ bs. ArePlaced bs d.ledger) (sym t.agents) (placed_after c.agents c.ledger d.ledger n t.after here w.placed still stay);
-  tied = subst (λ bs. AreTied bs d.ledger) (sym t.agents) (tied_after c.agents c.ledger d.ledger n t.after here w.placed w.tied (tied_of p t.after d.ledger.history t.tied) stay);
-  legal = t.legal;
-  whole = t.whole.1;
-  going = λ i b is.
-      by_place (λ i b. Going b d.ledger.history) c.agents n t.after here g
-      (λ j y other at. going_beside n d.ledger.agents y c.ledger.history d.ledger.history t.ledger t.legal.0 (λ same. other (sym (w.placed.each j y at).number ∙ same)) (w.going j y at))
-      i b (ap (λ bs. slice_get bs i) (sym t.agents) ∙ is);
-}
-  where
-    here : n < length c.agents
-    here = within c.agents n t.before t.agent
-
-    stay : OthersStay n c.ledger d.ledger
-    stay = (t.number, t.ledger)
-
-    still : IsPlaced d.ledger n t.after
-    still =
-        let same = takes_same p t.before t.after t.turn in
-        placed_here t.before t.after c.ledger d.ledger n (w.placed.each n t.before t.agent) same.0 same.1 t.seated t.number
 
 -- one that waits or sleeps on holds what it held, whatever the ledger recorded of it
 waits_still : (k : ℕ) (b : AgentView) (l m : LedgerView) → WaitsRightly Waiting b l m → IsTied b l.history → LegalSoFar k l.history → Going b l.history → Going b m.history
@@ -110,15 +87,43 @@ waits_still k b l m told tied legal g = record { run = g.run; rising = g.rising;
         (λ awake there told more. is (begun_at l.history b.number on.3 on.1 on.2) (roused_stays (begun_at l.history b.number on.3 on.1 on.2) m.history l.agents b.number more (some_turn _ told)) (acted (Slept on.3.serial on.1 on.2)))
         (λ awake other told more. let clash : ◌≡◌ {A = Option Told} (Some Stay) None = told in cc)
 
+-- each is in its place, and it and its part in the ledger go together
+abbrev pub AllTied : ClusterView → Type 0
+AllTied c = (n : ℕ) (b : AgentView) → slice_get c.agents n ≡ Some b → (b.number ≡ n) × IsTied b c.ledger.history
+
+goes_still : (p : Progress) (n : ℕ) (c d : ClusterView) → AllTied c → LegalLedger c.ledger.agents c.ledger.history → AllGoing c → (t : Turned p n c d) → Going t.after d.ledger.history
+goes_still Moved n c d tied legal going t =
+    let was = tied n t.before t.agent in
+    let grows = subst (λ n. GrowsBy n c.ledger.history d.ledger.history) (sym was.0) t.ledger in
+    goes_on_after d.ledger.agents t.before t.after c.ledger.history d.ledger.history (going n t.before t.agent) was.1 legal.1 t.legal.0 grows t.turn t.tied.tied
+goes_still Waiting n c d tied legal going t = subst (λ b. Going b d.ledger.history) (sym t.turn.1) (waits_still c.ledger.agents t.before c.ledger d.ledger t.told (tied n t.before t.agent).1 legal.0 (going n t.before t.agent))
+goes_still Ended n c d tied legal going t = subst (λ b. Going b d.ledger.history) (sym t.turn.1) (subst (λ (l : LedgerView). Going t.before l.history) (sym t.told) (going n t.before t.agent))
+
+pub all_going : (p : Progress) (n : ℕ) (c d : ClusterView) → AllTied c → LegalLedger c.ledger.agents c.ledger.history → AllGoing c → Turned p n c d → AllGoing d
+all_going p n c d tied legal going t i b is =
+    by_place (λ i b. Going b d.ledger.history) c.agents n t.after (within c.agents n t.before t.agent) (goes_still p n c d tied legal going t)
+    (λ j y other at. going_beside n d.ledger.agents y c.ledger.history d.ledger.history t.ledger t.legal.0 (λ same. other (sym (tied j y at).0 ∙ same)) (going j y at))
+    i b (ap (λ bs. slice_get bs i) (sym t.agents) ∙ is)
+
 pub well_turned : (p : Progress) (n : ℕ) (c d : ClusterView) → Well c → Turned p n c d → Well d
-well_turned Moved n c d w t =
-    let b = t.before in
-    let grows = subst (λ n. GrowsBy n c.ledger.history d.ledger.history) (sym (w.placed.each n b t.agent).number) t.ledger in
-    well_after Moved n c d w t (goes_on_after d.ledger.agents b t.after c.ledger.history d.ledger.history (w.going n b t.agent) (w.tied.each n b t.agent) w.legal.1 t.legal.0 grows t.turn t.tied.tied)
-well_turned Waiting n c d w t =
-    well_after Waiting n c d w t (subst (λ b. Going b d.ledger.history) (sym t.turn.1) (waits_still c.ledger.agents t.before c.ledger d.ledger t.told (w.tied.each n t.before t.agent) w.legal.0 (w.going n t.before t.agent)))
-well_turned Ended n c d w t =
-    well_after Ended n c d w t (subst (λ b. Going b d.ledger.history) (sym t.turn.1) (subst (λ (l : LedgerView). Going t.before l.history) (sym t.told) (w.going n t.before t.agent)))
+well_turned p n c d w t = record {
+  placed = subst (λ bs. ArePlaced bs d.ledger) (sym t.agents) (placed_after c.agents c.ledger d.ledger n t.after here w.placed still stay);
+  tied = subst (λ bs. AreTied bs d.ledger) (sym t.agents) (tied_after c.agents c.ledger d.ledger n t.after here w.placed w.tied (tied_of p t.after d.ledger.history t.tied) stay);
+  legal = t.legal;
+  whole = t.whole.1;
+  going = all_going p n c d (λ i b is. ((w.placed.each i b is).number, w.tied.each i b is)) w.legal w.going t;
+}
+  where
+    here : n < length c.agents
+    here = within c.agents n t.before t.agent
+
+    stay : OthersStay n c.ledger d.ledger
+    stay = (t.number, t.ledger)
+
+    still : IsPlaced d.ledger n t.after
+    still =
+        let same = takes_same p t.before t.after t.turn in
+        placed_here t.before t.after c.ledger d.ledger n (w.placed.each n t.before t.agent) same.0 same.1 t.seated t.number
 
 -- A turn that is asked for
 
@@ -177,6 +182,9 @@ going_bare b bare new = record {
   rack = subst (Racked b.number []) (sym (no_tickets b bare)) (record { held = tt; apart = tt; only = λ k r is other. cc });
 }
 
+pub going_first : (p : Plan) → AllGoing (first_state p)
+going_first p n b is = let bare = first_bare (length p.agents) 0 p.agents n b is in going_bare b bare.0 bare.1
+
 pub well_first : (p : Plan) → all_name_others p ≡ true → Well (first_state p)
 well_first p others =
     let holds = first_holds p.agents (first_state p).agents (first_state p).ledger refl refl refl others in
@@ -185,7 +193,7 @@ well_first p others =
       tied = holds.1;
       legal = (tt, refl);
       whole = refl;
-      going = λ n b is. (let bare = first_bare (length p.agents) 0 p.agents n b is in going_bare b bare.0 bare.1);
+      going = going_first p;
     }
 
 pub well_all : (ns : List ℕ) (c d : ClusterView) → Well c → AllTurned ns c d → Well d

@@ -1,5 +1,5 @@
 -- What an agent's deeds find in a ledger they find in each that tells the same, and they leave the same of it.
-use Rattle.std.proofs.Common.{◌≡◌, ℕ, ◌+◌, ◌==◌, ◌∙◌, not, true, filter, length, take, sym, ap, refl, subst, List, [], ◌∷◌, ◌++◌, Option, Some, None}
+use Rattle.std.proofs.Common.{◌≡◌, ℕ, ◌+◌, ◌==◌, ◌∙◌, not, filter, length, take, sym, ap, refl, subst, List, [], ◌∷◌, ◌++◌, Option, Some, None}
 use Rattle.std.specs.List.{list_any}
 use Rattle.std.specs.Option.{option_map, option_map_or}
 use Rattle.std.proofs.lemmas.Bool.{and_parts, not-true}
@@ -13,11 +13,10 @@ use Rattle.es_event.specs.Access.{IsStorable}
 use Rattle.es_event.specs.Ledger.{Ledger, front, holder_of, word}
 use Rattle.es_event.specs.Waiters.{is_at, is_listed, taken_there}
 use Rattle.es_event.specs.LegalLedger.{Reaches, ReachesAs, has_message, IsPostable, MayCome}
-use Rattle.es_match.specs.Deeds.{Deed, Opens, Posts, Takes, Spends, Accesses, Waits, Passes, Ends, Sleeps, Notifies, Wakes, TimesOut, Owned, deed, is_wait, taking, words_in, sleep_of}
+use Rattle.es_match.specs.Deeds.{Deed, Opens, Posts, Takes, Spends, Accesses, Waits, Passes, Ends, Sleeps, Notifies, Wakes, TimesOut, Owned, deed, taking, words_in, sleep_of}
 use Rattle.es_theorems.specs.Alike.{Alike}
-use Rattle.es_theorems.specs.Calm.{is_calm}
 use Rattle.es_theorems.specs.Doing.{event_of, did, IsNew, Fits, AllFit}
-use Rattle.es_theorems.proofs.Telling.{same_front, same_message, same_holder, after_one, after_wait}
+use Rattle.es_theorems.proofs.Telling.{same_front, same_message, same_holder, after_one}
 
 -- In a ledger that tells the same
 
@@ -81,10 +80,6 @@ did_more l n (c ∷ ds) d = did_more (event_of n c ∷ l) n ds d
 pub all_fit_more : (l : Ledger) (n : ℕ) (ds : List Deed) (d : Deed) → AllFit n ds l → Fits (did n ds l) n d → AllFit n (ds ++ d ∷ []) l
 all_fit_more l n [] d fit is = (is, tt)
 all_fit_more l n (c ∷ ds) d fit is = (fit.0, all_fit_more (event_of n c ∷ l) n ds d fit.1 is)
-
-pub wait_alone : (l : Ledger) (n : ℕ) (d : Deed) → is_wait d ≡ true → is_calm (event_of n d) ≡ true → Alike (event_of n d ∷ l) l
-wait_alone l n (Waits s) is calm = after_wait l n s
-wait_alone l n _ is calm = cc
 
 -- What an event that may come means as a deed
 

@@ -27,7 +27,7 @@ use Rattle.es_cluster.proofs.Draining.{Outlasts}
 use Rattle.es_theorems.specs.Ahead.{Acts, Steps, ahead, played}
 use Rattle.es_theorems.specs.Through.{IsIdle}
 use Rattle.es_theorems.specs.Unmoved.{Kept, NoneHeld, Ownerless, Unmoved, letters}
-use Rattle.es_theorems.proofs.Awake.{less_or}
+use Rattle.es_theorems.proofs.Starting.{less_or}
 use Rattle.es_theorems.proofs.Spending.{uncounted}
 use Rattle.es_ledger.proofs.Numbered.{none_only, numbered, only_by}
 

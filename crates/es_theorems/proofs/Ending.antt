@@ -38,12 +38,10 @@ use Rattle.es_theorems.specs.ThreadsLaws.{ComesByTurns, TurnsEndAlike, TurnsRepo
 use Rattle.es_theorems.specs.Through.{Through}
 use Rattle.es_theorems.specs.Underway.{Left, Underway}
 use Rattle.es_theorems.specs.Unmoved.{Kept, Ownerless, Unmoved}
-use Rattle.es_theorems.specs.Sleepless.{never_sleeps}
 use Rattle.es_theorems.proofs.Draining.{held_before, idle_all, kept_outlasts, none_holds, none_left, none_letters, ownerless_ahead, same_tables, unmoved_far, unmoved_same}
 use Rattle.es_theorems.proofs.Gathering.{legal_far}
 use Rattle.es_theorems.proofs.Settling.{finished}
-use Rattle.es_theorems.proofs.Awake.{less_or}
-use Rattle.es_theorems.proofs.Starting.{nobody_at, played_all, size_of, starts, wholes_of}
+use Rattle.es_theorems.proofs.Starting.{less_or, nobody_at, played_all, size_of, starts, wholes_of}
 use Rattle.es_theorems.proofs.Through.{through}
 use Rattle.es_theorems.proofs.TurningThreads.{next_of}
 use Rattle.es_theorems.proofs.Coming.{some_if_is}
@@ -78,8 +76,8 @@ all_ended_of : (l : Ledger) (n : ℕ) → ((i : ℕ) → i < n → has_ended l i
 all_ended_of l zero each = refl
 all_ended_of l (suc n) each = ap (λ b. b && all_ended l n) (each n (omega arith)) ∙ all_ended_of l n (λ i less. each i (omega (arith, less)))
 
-pub refines : (p : Plan) (o : Outcome) → never_sleeps p ≡ true → IsClusterOutcome p o → ComesByTurns p o
-refines p o calm r = record {
+pub refines : (p : Plan) (o : Outcome) → IsClusterOutcome p o → ComesByTurns p o
+refines p o r = record {
   turns = t.turns;
   end = e;
   turned = t.turned;
@@ -106,7 +104,7 @@ refines p o calm r = record {
     n = length p.agents
 
     t : Through n r.agents (first_state p) o.ledger
-    t = through (length o.ledger) n r.agents (first_state p) o.ledger (wholes_of p o r) (starts p o calm r) (omega arith)
+    t = through (length o.ledger) n r.agents (first_state p) o.ledger (wholes_of p o r) (starts p o r) (omega arith)
 
     e : ClusterView
     e = t.after
@@ -238,10 +236,10 @@ refines p o calm r = record {
 
 -- Where turns end alike
 
-pub ends_alike : (p : Plan) (o q : Outcome) → never_sleeps p ≡ true → TurnsEndAlike p → IsClusterOutcome p o → IsClusterOutcome p q → SameEnd o q
-ends_alike p o q calm alike a b =
-    let x = refines p o calm a in
-    let y = refines p q calm b in
+pub ends_alike : (p : Plan) (o q : Outcome) → TurnsEndAlike p → IsClusterOutcome p o → IsClusterOutcome p q → SameEnd o q
+ends_alike p o q alike a b =
+    let x = refines p o a in
+    let y = refines p q b in
     let both = alike x.turns y.turns x.end y.end x.outcome y.outcome x.turned x.ends y.turned y.ends in
     record {
       names = x.same.names ∙ both.names ∙ sym y.same.names;
@@ -251,8 +249,8 @@ ends_alike p o q calm alike a b =
           (through_ledgers (reverse x.outcome.ledger) (reverse y.outcome.ledger) (reverse q.ledger) both.ledgers (turned_ledgers (reverse q.ledger) (reverse y.outcome.ledger) y.same.ledgers));
     }
 
-pub reports_alike : (p : Plan) (o q : Outcome) → never_sleeps p ≡ true → TurnsReportAlike p → IsClusterOutcome p o → IsClusterOutcome p q → report o ≡ report q
-reports_alike p o q calm alike a b =
-    let x = refines p o calm a in
-    let y = refines p q calm b in
+pub reports_alike : (p : Plan) (o q : Outcome) → TurnsReportAlike p → IsClusterOutcome p o → IsClusterOutcome p q → report o ≡ report q
+reports_alike p o q alike a b =
+    let x = refines p o a in
+    let y = refines p q b in
     x.reported ∙ alike x.turns y.turns x.end y.end x.outcome y.outcome x.turned x.ends y.turned y.ends ∙ sym y.reported

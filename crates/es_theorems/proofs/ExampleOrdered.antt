@@ -212,7 +212,7 @@ never_races ns c o turned ends = free_by_steps ordered 12 w12 refl they_go they_
 
 one_report : (o q : Outcome) → IsClusterOutcome ordered o → IsClusterOutcome ordered q → report o ≡ report q
 one_report o q a b =
-    let y = refines ordered q refl b in
+    let y = refines ordered q b in
     turned_reports ordered y.turns y.end o y.outcome refl a y.turned (never_races y.turns y.end y.outcome y.turned y.ends) y.ends ∙ sym y.reported
 
 -- Where threads may come to something else, some race by turns

@@ -116,7 +116,7 @@ loaded_first = record {
 -- So each comes by a list of turns, and the lists end otherwise
 
 pub by_turns : ComesByTurns racing (ends 7 store_first) × ComesByTurns racing (ends 0 load_first)
-by_turns = (refines racing (ends 7 store_first) refl stored_first, refines racing (ends 0 load_first) refl loaded_first)
+by_turns = (refines racing (ends 7 store_first) stored_first, refines racing (ends 0 load_first) loaded_first)
 
 -- the word that is said
 word_said : Event → ℕ
@@ -126,7 +126,7 @@ word_said _ = 0
 pub end_otherwise : TurnsEndAlike racing → ⊥
 unfolding word_said
 end_otherwise alike =
-    let same = ends_alike racing (ends 7 store_first) (ends 0 load_first) refl alike stored_first loaded_first in
+    let same = ends_alike racing (ends 7 store_first) (ends 0 load_first) alike stored_first loaded_first in
     let clash : ◌≡◌ {A = ℕ} 7 0 = ap (λ hs. word_said (slice_index_or (slice_index_or hs 1 []) 2 Closed)) same.histories in
     cc
 
@@ -141,6 +141,6 @@ zero_there = refl
 
 pub report_otherwise : TurnsReportAlike racing → ⊥
 report_otherwise alike =
-    let same = reports_alike racing (ends 7 store_first) (ends 0 load_first) refl alike stored_first loaded_first in
+    let same = reports_alike racing (ends 7 store_first) (ends 0 load_first) alike stored_first loaded_first in
     let clash : ◌≡◌ {A = ℕ} 55 48 = sym seven ∙ ap (λ t. slice_index_or t 65 0) same ∙ zero_there in
     cc

@@ -1,12 +1,12 @@
 -- The deeds of one turn are gathered before what others do.
-use Rattle.std.proofs.Common.{◌≡◌, ℕ, suc, ◌==◌, ◌&&◌, not, Bool, true, false, cond, sym, ◌∙◌, ap, refl, subst, List, [], ◌∷◌, ◌++◌, append-nil, Option, Some, None, inl, inr, ne_eqb, eq-eqb, eqb-true}
+use Rattle.std.proofs.Common.{◌≡◌, ℕ, suc, ◌==◌, ◌&&◌, not, Bool, true, false, cond, sym, ◌∙◌, ap, refl, subst, List, [], ◌∷◌, ◌++◌, append-nil, Option, Some, None, inl, inr, ◌⊎◌, ne_eqb, eq-eqb, eqb-true}
 use Rattle.std.specs.Prelude.{is_some}
 use Rattle.std.specs.Option.{option_and_then, option_map}
 use Rattle.std.proofs.lemmas.Bool.{and_right, cases_Bool, eqb-false, false≢true}
 use Rattle.es_event.specs.declared.ledger_event.Body.TheVariants.{Plain, Block}
 use Rattle.es_event.specs.declared.ledger_event.LedgerEvent.{LedgerEvent}
 use Rattle.es_event.specs.declared.ledger_event.LedgerEvent.TheVariants.{Opened, Posted, Taken, Spent, Accessed, Drained, Acted}
-use Rattle.es_event.specs.declared.ledger_event.Act.TheVariants.{Waiting, Ended}
+use Rattle.es_event.specs.declared.ledger_event.Act.TheVariants.{Waiting, Ended, Slept}
 use Rattle.es_event.specs.declared.row.Row.{Row}
 use Rattle.es_event.specs.declared.row.Entry.{Entry}
 use Rattle.es_event.specs.declared.row.Holder.{Holder}
@@ -14,20 +14,24 @@ use Rattle.es_event.specs.declared.row.Holder.TheVariants.{Agent, Port, Nobody}
 use Rattle.es_event.specs.Rows.{held_by, line_of, moved, row}
 use Rattle.es_event.specs.Ledger.{Ledger, by_agent, front, holder_of, moved_if, serial_in, size, table, waits}
 use Rattle.es_event.specs.LegalLedger.{ComesNext, LegalSoFar, MayCome}
-use Rattle.es_match.specs.Deeds.{Deed, Owned, Opens, Posts, Spends, Accesses, Waits, Ends, deed, is_wait, part_of, Sleeps}
-use Rattle.es_match.specs.Patience.{ends_wait, may_do}
+use Rattle.es_match.specs.Deeds.{Deed, Owned, Opens, Posts, Spends, Accesses, Waits, Ends, deed, is_wait, part_of, sleep_of, Sleeps, TimesOut, Wakes}
+use Rattle.es_match.specs.Patience.{ends_sleep, ends_wait, may_do, may_stir}
+use Rattle.es_event.specs.Waiters.{asleep}
+use Rattle.es_match.proofs.Sleeping.{has_a_sleep}
+use Rattle.es_cluster.proofs.Sleeping.{sleeps_now}
+use Rattle.es_theorems.specs.Doing.{event_of}
 use Rattle.es_theorems.proofs.Doing.{meant}
+use Rattle.es_theorems.proofs.Turning.{its_sleep, woken_by}
 use Rattle.es_theorems.specs.Ahead.{Acts, Elsewhere, May, Rearranged, Steps, ahead, played}
 use Rattle.es_theorems.specs.Found.{AreSpends, First, Found, Gathered}
-use Rattle.es_theorems.specs.Ready.{Goes, Ready}
-use Rattle.es_theorems.specs.Calm.{is_calm}
+use Rattle.es_theorems.specs.Ready.{Goes, Lives, Ready}
 use Rattle.es_theorems.proofs.Bringing.{bring, rearranged_not}
 use Rattle.es_theorems.proofs.Choosing.{ended_below}
-use Rattle.es_cluster.proofs.Growing.{doer, waits_other}
+use Rattle.es_cluster.proofs.Growing.{doer, sleep_other, waits_other}
 use Rattle.es_theorems.proofs.Holding.{line_first, line_other, line_last}
 use Rattle.es_theorems.proofs.Framing.{spender}
 use Rattle.es_theorems.proofs.Liking.{like_through}
-use Rattle.es_theorems.proofs.Swapping.{goes_after}
+use Rattle.es_theorems.proofs.Swapping.{lives_after}
 use Rattle.es_theorems.proofs.Only.{first_is}
 
 -- While an agent goes on, each event is somebody's
@@ -40,8 +44,8 @@ reaches_some : (o : Option (ℕ × Row)) (i : ℕ) (f : Row → Type 0) → Ratt
 reaches_some None i f is = absurd is
 reaches_some (Some p) i f is = refl
 
-pub owner_of : (k : ℕ) (l : Ledger) (x : LedgerEvent) (a : ℕ) → Goes k l a → May k l x → (b : ℕ) × (d : Deed) × (deed l x ≡ Some (b, d))
-owner_of k l x a goes may = at x (subst (ComesNext k l x) goes.paid may.legal)
+pub owner_of : (k : ℕ) (l : Ledger) (x : LedgerEvent) (a : ℕ) → Lives k l a → May k l x → (b : ℕ) × (d : Deed) × (deed l x ≡ Some (b, d))
+owner_of k l x a lives may = at x (subst (ComesNext k l x) lives.paid may.legal)
   where
     at : (x : LedgerEvent) → MayCome k l x → (b : ℕ) × (d : Deed) × (deed l x ≡ Some (b, d))
     at (Opened b w s c) is = (c, Opens b w s, refl)
@@ -50,7 +54,7 @@ owner_of k l x a goes may = at x (subst (ComesNext k l x) goes.paid may.legal)
     at (Spent s) is = let o = some_owner (holder_of l s) (Spends s) is in (o.0, Spends s, o.1)
     at (Accessed s i m old) is = let o = some_owner (holder_of l s) (Accesses s i m old) (reaches_some (holder_of l s) i _ is) in (o.0, Accesses s i m old, o.1)
     at (Acted c act) is = (c, Rattle.es_match.specs.Deeds.acting (Rattle.es_match.specs.Deeds.sleep_of l c) act, refl)
-    at (Drained s r) is = absurd (false≢true (sym goes.going ∙ ended_below l k a is.0 goes.known))
+    at (Drained s r) is = absurd (false≢true (sym lives.going ∙ ended_below l k a is.0 lives.known))
 
 -- Its next event
 
@@ -68,12 +72,12 @@ nothing_before a [] ys l away = refl
 nothing_before a (x ∷ xs) ys l away =
     ap (λ p. p ++ ahead (xs ++ ys) (x ∷ l) a) (part_none a away.0.0 away.0.1 (deed l x) away.0.2 away.0.3) ∙ nothing_before a xs ys (x ∷ l) away.1
 
-pub find : (k a : ℕ) (es : List LedgerEvent) (l : Ledger) (d : Deed) (ds : List Deed) → Goes k l a → Steps k es l → ahead es l a ≡ d ∷ ds → Found a es l
-find k a [] l d ds goes steps is = cc
-find k a (x ∷ es) l d ds goes steps is =
-    let o = owner_of k l x a goes steps.0 in
+pub find : (k a : ℕ) (es : List LedgerEvent) (l : Ledger) (d : Deed) (ds : List Deed) → Lives k l a → Steps k es l → ahead es l a ≡ d ∷ ds → Found a es l
+find k a [] l d ds lives steps is = cc
+find k a (x ∷ es) l d ds lives steps is =
+    let o = owner_of k l x a lives steps.0 in
     at o.0 o.1 o.2 (a == o.0) refl
-    (λ other. find k a es (x ∷ l) d ds (goes_after k l a o.0 x o.1 o.2 other goes) steps.1 (sym (ap (λ p. p ++ ahead es (x ∷ l) a) (part_none a o.0 o.1 (deed l x) o.2 other)) ∙ is))
+    (λ other. find k a es (x ∷ l) d ds (lives_after k l a o.0 x o.1 o.2 other lives) steps.1 (sym (ap (λ p. p ++ ahead es (x ∷ l) a) (part_none a o.0 o.1 (deed l x) o.2 other)) ∙ is))
   where
     at : (b : ℕ) (e : Deed) → deed l x ≡ Some (b, e) → (t : Bool) → (a == b) ≡ t → ((a ≡ b → ⊥) → Found a es (x ∷ l)) → Found a (x ∷ es) l
     at b e mine true same rest = record { before = []; event = x; behind = es; split = refl; away = tt; does = e; mine = mine ∙ ap (λ b. Some (b, e)) (sym (eqb-true a b same)) }
@@ -84,13 +88,17 @@ find k a (x ∷ es) l d ds goes steps is =
 
 -- What is known behind the others
 
-pub goes_far : (k a : ℕ) (xs : List LedgerEvent) (l : Ledger) → Elsewhere a xs l → Goes k l a → Goes k (played xs l) a
-goes_far k a [] l away goes = goes
-goes_far k a (x ∷ xs) l away goes = goes_far k a xs (x ∷ l) away.1 (goes_after k l a away.0.0 x away.0.1 away.0.2 away.0.3 goes)
+pub lives_far : (k a : ℕ) (xs : List LedgerEvent) (l : Ledger) → Elsewhere a xs l → Lives k l a → Lives k (played xs l) a
+lives_far k a [] l away lives = lives
+lives_far k a (x ∷ xs) l away lives = lives_far k a xs (x ∷ l) away.1 (lives_after k l a away.0.0 x away.0.1 away.0.2 away.0.3 lives)
 
 pub waits_far : (a : ℕ) (xs : List LedgerEvent) (l : Ledger) → Elsewhere a xs l → waits (played xs l) a ≡ waits l a
 waits_far a [] l away = refl
 waits_far a (x ∷ xs) l away = waits_far a xs (x ∷ l) away.1 ∙ waits_other l x away.0.0 a away.0.1 away.0.2 away.0.3
+
+sleeps_far : (a : ℕ) (xs : List LedgerEvent) (l : Ledger) → Elsewhere a xs l → sleep_of (played xs l) a ≡ sleep_of l a
+sleeps_far a [] l away = refl
+sleeps_far a (x ∷ xs) l away = sleeps_far a xs (x ∷ l) away.1 ∙ sleep_other l x away.0.0 a away.0.1 away.0.2 away.0.3
 
 pub steps_apart : (k : ℕ) (xs ys : List LedgerEvent) (l : Ledger) → Steps k (xs ++ ys) l → Steps k ys (played xs l)
 steps_apart k [] ys l steps = steps
@@ -160,11 +168,6 @@ not_wait s (Waits t) is = cc
 not_wait s (Sleeps u i w) is = cc
 not_wait s _ is = refl
 
--- in an event by which nobody sleeps
-pub a_wait : (a : ℕ) (d : Deed) → is_wait d ≡ true → is_calm (Rattle.es_theorems.specs.Doing.event_of a d) ≡ true → (s : ℕ) × (d ≡ Waits s)
-a_wait a (Waits s) is calm = (s, refl)
-a_wait a _ is calm = cc
-
 pub same_head : (d e : Deed) (ds es : List Deed) → d ∷ ds ≡ e ∷ es → d ≡ e
 same_head d e ds es is = cc
 
@@ -181,41 +184,82 @@ found_acts k a es l f steps = subst (Acts k (played f.before l)) f.mine (found_m
 pub found_ahead : (a : ℕ) (es : List LedgerEvent) (l : Ledger) (f : Found a es l) → ahead es l a ≡ part_of a (deed (played f.before l) f.event) ++ ahead f.behind (f.event ∷ played f.before l) a
 found_ahead a es l f = ap (λ es. ahead es l a) f.split ∙ nothing_before a f.before (f.event ∷ f.behind) l f.away
 
--- the agent's next deed ends its wait
-pub next_ends : (k a : ℕ) (es : List LedgerEvent) (l : Ledger) (d : Deed) (ds : List Deed) (s : ℕ) → Goes k l a → Steps k es l → waits l a ≡ Some s → ahead es l a ≡ d ∷ ds → ends_wait s d ≡ true
-next_ends k a es l d ds s goes steps waiting is =
-    let f = find k a es l d ds goes steps is in
-    let acts = found_acts k a es l f steps in
-    let ends : ends_wait s f.does ≡ true = sym (ap (λ w. may_do w f.does) (waits_far a f.before l f.away ∙ waiting)) ∙ acts.3 in
-    let whole = sym (found_ahead a es l f ∙ ap (λ p. p ++ ahead f.behind (f.event ∷ played f.before l) a) (part_mine a f.does (deed (played f.before l) f.event) f.mine (not_wait s f.does ends))) ∙ is in
-    ap (ends_wait s) (sym (same_head f.does d (ahead f.behind (f.event ∷ played f.before l) a) ds whole)) ∙ ends
+-- what was found is its next deed, unless it begins a wait or a sleep
+found_is : (a : ℕ) (es : List LedgerEvent) (l : Ledger) (d : Deed) (ds : List Deed) (f : Found a es l) → is_wait f.does ≡ false → ahead es l a ≡ d ∷ ds → (f.does ≡ d) × (ahead f.behind (f.event ∷ played f.before l) a ≡ ds)
+found_is a es l d ds f quick is =
+    let rest = ahead f.behind (f.event ∷ played f.before l) a in
+    let whole = sym (found_ahead a es l f ∙ ap (λ p. p ++ rest) (part_mine a f.does (deed (played f.before l) f.event) f.mine quick)) ∙ is in
+    (same_head f.does d rest ds whole, same_tail f.does d rest ds whole)
 
-wait_goes : (k l' : ℕ) (a s : ℕ) (l : Ledger) → Goes k l a → Goes k (Acted a (Waiting s) ∷ l) a
-wait_goes k l' a s l goes = record { known = goes.known; going = goes.going; awake = goes.awake; paid = refl; undrained = goes.undrained }
+pub found_event : (k a : ℕ) (es : List LedgerEvent) (l : Ledger) (f : Found a es l) → Lives k l a → Steps k es l → f.event ≡ event_of a f.does
+found_event k a es l f lives steps =
+    (meant k (played f.before l) f.event a f.does (subst (ComesNext k (played f.before l) f.event) (lives_far k a f.before l f.away lives).paid (found_may k a es l f steps).0.legal) f.mine).event
+
+-- the agent's next deed ends its wait
+pub next_ends : (k a : ℕ) (es : List LedgerEvent) (l : Ledger) (d : Deed) (ds : List Deed) (s : ℕ) → Lives k l a → Steps k es l → waits l a ≡ Some s → ahead es l a ≡ d ∷ ds → ends_wait s d ≡ true
+next_ends k a es l d ds s lives steps waiting is =
+    let f = find k a es l d ds lives steps is in
+    let ends : ends_wait s f.does ≡ true = sym (ap (λ w. may_do w f.does) (waits_far a f.before l f.away ∙ waiting)) ∙ (found_acts k a es l f steps).3 in
+    ap (ends_wait s) (sym (found_is a es l d ds f (not_wait s f.does ends) is).0) ∙ ends
+
+-- or its sleep
+ends_no_wait : (d : Deed) → ends_sleep d ≡ true → is_wait d ≡ false
+ends_no_wait (Wakes o) is = refl
+ends_no_wait (TimesOut o) is = refl
+ends_no_wait _ is = cc
+
+woken : (l : Ledger) (a : ℕ) (d : Deed) → ends_sleep d ≡ true → deed l (event_of a d) ≡ Some (a, d) → woken_by d ≡ sleep_of l a
+woken l a (Wakes p) ends is = sym (its_sleep a (sleep_of l a) p Wakes woken_by (λ p. refl) is)
+woken l a (TimesOut p) ends is = sym (its_sleep a (sleep_of l a) p TimesOut woken_by (λ p. refl) is)
+woken l a _ ends is = cc
+
+pub next_stirs : (k a : ℕ) (es : List LedgerEvent) (l : Ledger) (d : Deed) (ds : List Deed) → Lives k l a → Steps k es l → asleep l a ≡ true → ahead es l a ≡ d ∷ ds → (ends_sleep d ≡ true) × (woken_by d ≡ sleep_of l a)
+next_stirs k a es l d ds lives steps sleeps is =
+    let f = find k a es l d ds lives steps is in
+    let far = played f.before l in
+    let still : sleep_of far a ≡ sleep_of l a = sleeps_far a f.before l f.away in
+    let down : asleep far a ≡ true = sym (has_a_sleep far a) ∙ ap is_some still ∙ has_a_sleep l a ∙ sleeps in
+    let ends : ends_sleep f.does ≡ true = sym (ap (λ t. may_stir t f.does) down) ∙ (found_acts k a es l f steps).4 in
+    let same = (found_is a es l d ds f (ends_no_wait f.does ends) is).0 in
+    (ap ends_sleep (sym same) ∙ ends, ap woken_by (sym same) ∙ woken far a f.does ends (ap (deed far) (sym (found_event k a es l f lives steps)) ∙ f.mine) ∙ still)
 
 pub waits_now : (l : Ledger) (a s : ℕ) → waits (Acted a (Waiting s) ∷ l) a ≡ Some s
 waits_now l a s = ap (λ b. cond b (Some s) (waits l a)) (eq-eqb a a refl)
 
--- where the next deed ends no wait, none is recorded before it
-pub found_next : (k a : ℕ) (es : List LedgerEvent) (l : Ledger) (d : Deed) (ds : List Deed) → Goes k l a → Steps k es l → ((s : ℕ) → ends_wait s d ≡ false) → ahead es l a ≡ d ∷ ds → (f : Found a es l) × (f.does ≡ d) × (is_wait d ≡ false) × (ahead f.behind (f.event ∷ played f.before l) a ≡ ds)
-found_next k a es l d ds goes steps none is = let f = find k a es l d ds goes steps is in at f (is_wait f.does) refl
+-- where a deed begins a wait or a sleep
+pub begins : (d : Deed) → is_wait d ≡ true → ((s : ℕ) × (d ≡ Waits s)) ⊎ ((s : ℕ) × (i : ℕ) × (w : ℕ) × (d ≡ Sleeps s i w))
+begins (Waits s) is = inl (s, refl)
+begins (Sleeps s i w) is = inr (s, i, w, refl)
+begins _ is = cc
+
+-- where the next deed ends no wait and no sleep, none is recorded before it
+pub found_next : (k a : ℕ) (es : List LedgerEvent) (l : Ledger) (d : Deed) (ds : List Deed) → Lives k l a → Steps k es l → ((s : ℕ) → ends_wait s d ≡ false) → ends_sleep d ≡ false → ahead es l a ≡ d ∷ ds
+    → (f : Found a es l) × (f.does ≡ d) × (is_wait d ≡ false) × (ahead f.behind (f.event ∷ played f.before l) a ≡ ds)
+found_next k a es l d ds lives steps none stays is = let f = find k a es l d ds lives steps is in at f (is_wait f.does) refl
   where
     at : (f : Found a es l) (w : Bool) → is_wait f.does ≡ w → (f : Found a es l) × (f.does ≡ d) × (is_wait d ≡ false) × (ahead f.behind (f.event ∷ played f.before l) a ≡ ds)
-    at f false w =
-        let far = played f.before l in
-        let whole = sym (found_ahead a es l f ∙ ap (λ p. p ++ ahead f.behind (f.event ∷ far) a) (part_mine a f.does (deed far f.event) f.mine w)) ∙ is in
-        let same = same_head f.does d (ahead f.behind (f.event ∷ far) a) ds whole in
-        (f, same, ap is_wait (sym same) ∙ w, same_tail f.does d (ahead f.behind (f.event ∷ far) a) ds whole)
-    at f true w =
-        let far = played f.before l in
-        let may = found_may k a es l f steps in
-        let goes_there = goes_far k a f.before l f.away goes in
-        let its = (meant k far f.event a f.does (subst (ComesNext k far f.event) goes_there.paid may.0.legal) f.mine).event in
-        let wait = a_wait a f.does w (ap is_calm (sym its) ∙ may.0.calm) in
-        let event : f.event ≡ Acted a (Waiting wait.0) = its ∙ ap (λ d. Rattle.es_theorems.specs.Doing.event_of a d) wait.1 in
-        let rest : ahead f.behind (Acted a (Waiting wait.0) ∷ far) a ≡ d ∷ ds =
-        ap (λ e. ahead f.behind (e ∷ far) a) (sym event) ∙ ap (λ p. p ++ ahead f.behind (f.event ∷ far) a) (sym (part_wait a a f.does (deed far f.event) f.mine w)) ∙ sym (found_ahead a es l f) ∙ is in
-        absurd (false≢true (sym (none wait.0) ∙ next_ends k a f.behind (Acted a (Waiting wait.0) ∷ far) d ds wait.0 (wait_goes k k a wait.0 far goes_there) (subst (λ e. Steps k f.behind (e ∷ far)) event may.1) (waits_now far a wait.0) rest))
+    at f false w = let same = found_is a es l d ds f w is in (f, same.0, ap is_wait (sym same.0) ∙ w, same.1)
+    at f true w = absurd (elim (begins f.does w) [
+      | inl x ↦ let e = Acted a (Waiting x.0) in
+          false≢true (sym (none x.0) ∙ next_ends k a f.behind (e ∷ far) d ds x.0 (record { known = there.known; going = there.going; paid = refl; undrained = there.undrained }) (then e (event x.1)) (waits_now far a x.0) (rest e (event x.1)))
+      | inr x ↦ let e = Acted a (Slept x.0 x.1 x.2) in
+          false≢true (sym stays ∙ (next_stirs k a f.behind (e ∷ far) d ds (record { known = there.known; going = there.going; paid = refl; undrained = there.undrained }) (then e (event x.3)) (sleeps_now a (asleep far a)) (rest e (event x.3))).0)
+    ])
+      where
+        far : Ledger
+        far = played f.before l
+
+        there : Lives k far a
+        there = lives_far k a f.before l f.away lives
+
+        event : {c : Deed} → f.does ≡ c → f.event ≡ event_of a c
+        event does = found_event k a es l f lives steps ∙ ap (event_of a) does
+
+        then : (e : LedgerEvent) → f.event ≡ e → Steps k f.behind (e ∷ far)
+        then e is = subst (λ e. Steps k f.behind (e ∷ far)) is (found_may k a es l f steps).1
+
+        rest : (e : LedgerEvent) → f.event ≡ e → ahead f.behind (e ∷ far) a ≡ d ∷ ds
+        rest e same = ap (λ e. ahead f.behind (e ∷ far) a) (sym same) ∙ ap (λ p. p ++ ahead f.behind (f.event ∷ far) a) (sym (part_wait a a f.does (deed far f.event) f.mine w)) ∙ sym (found_ahead a es l f) ∙ is
 
 -- It is brought
 
@@ -225,7 +269,7 @@ rearranged_cons k e es fs l may r = record { steps = (may, r.steps); parts = λ 
 pub rearranged_through : (k : ℕ) (es fs gs : List LedgerEvent) (l : Ledger) → Rearranged k es fs l → Rearranged k fs gs l → Rearranged k es gs l
 rearranged_through k es fs gs l r q = record { steps = q.steps; parts = λ a. r.parts a ∙ q.parts a; like = like_through (played es l) (played fs l) (played gs l) r.like q.like; size = r.size ∙ q.size }
 
-pub brought : (k a : ℕ) (es : List LedgerEvent) (l : Ledger) (d : Deed) (ds : List Deed) (f : Found a es l) → LegalSoFar k l → Goes k l a → Steps k es l → Ready k l a f.event → is_wait d ≡ false → f.event ≡ Rattle.es_theorems.specs.Doing.event_of a d → deed l f.event ≡ Some (a, d) → ahead es l a ≡ d ∷ ds
+pub brought : (k a : ℕ) (es : List LedgerEvent) (l : Ledger) (d : Deed) (ds : List Deed) (f : Found a es l) → LegalSoFar k l → Goes k l a → Steps k es l → Ready k l a f.event → is_wait d ≡ false → f.event ≡ event_of a d → deed l f.event ≡ Some (a, d) → ahead es l a ≡ d ∷ ds
     → First k a d ds es l
 brought k a es l d ds f legal goes steps ready w event mine is = record {
   event = f.event;
@@ -241,24 +285,20 @@ brought k a es l d ds f legal goes steps ready w event mine is = record {
 
 spends_first : (k a : ℕ) (es : List LedgerEvent) (l : Ledger) (q : ℕ) (ds : List Deed) → LegalSoFar k l → Goes k l a → Steps k es l → waits l a ≡ None → ahead es l a ≡ Spends q ∷ ds → First k a (Spends q) ds es l
 spends_first k a es l q ds legal goes steps free is =
-    let n = found_next k a es l (Spends q) ds goes steps (λ s. refl) is in
+    let n = found_next k a es l (Spends q) ds goes.lives steps (λ s. refl) refl is in
     let f = n.0 in
     let far = played f.before l in
-    let goes_there = goes_far k a f.before l f.away goes in
     let mine : deed far f.event ≡ Some (a, Spends q) = f.mine ∙ ap (λ d. Some (a, d)) n.1 in
-    let event : f.event ≡ Spent q = (meant k far f.event a (Spends q) (subst (ComesNext k far f.event) goes_there.paid (found_may k a es l f steps).0.legal) mine).event in
+    let event : f.event ≡ Spent q = found_event k a es l f goes.lives steps ∙ ap (event_of a) n.1 in
     let by = spender far q a (Spends q) (Spends q) (ap (deed far) (sym event) ∙ mine) in
     let held : holder_of l q ≡ Some (a, by.0) = held_far a f.before l q by.0 f.away by.1 in
     brought k a es l (Spends q) ds f legal goes steps (subst (Ready k l a) (sym event) ((by.0, held), free)) refl event (ap (deed l) event ∙ ap (option_map (λ p. (p.0, Spends q))) held) is
 
 ends_first : (k a : ℕ) (es : List LedgerEvent) (l : Ledger) (ds : List Deed) → LegalSoFar k l → Goes k l a → Steps k es l → waits l a ≡ None → ahead es l a ≡ Ends ∷ ds → First k a Ends ds es l
 ends_first k a es l ds legal goes steps free is =
-    let n = found_next k a es l Ends ds goes steps (λ s. refl) is in
+    let n = found_next k a es l Ends ds goes.lives steps (λ s. refl) refl is in
     let f = n.0 in
-    let far = played f.before l in
-    let goes_there = goes_far k a f.before l f.away goes in
-    let mine : deed far f.event ≡ Some (a, Ends) = f.mine ∙ ap (λ d. Some (a, d)) n.1 in
-    let event : f.event ≡ Acted a Ended = (meant k far f.event a Ends (subst (ComesNext k far f.event) goes_there.paid (found_may k a es l f steps).0.legal) mine).event in
+    let event : f.event ≡ Acted a Ended = found_event k a es l f goes.lives steps ∙ ap (event_of a) n.1 in
     brought k a es l Ends ds f legal goes steps (subst (Ready k l a) (sym event) (refl, free)) refl event (ap (deed l) event) is
 
 -- They are gathered
@@ -283,7 +323,7 @@ gather k a (Spends q ∷ ds) more es l legal steps goes free spends is =
     let f = spends_first k a es l q (ds ++ more) legal g steps w is in
     gathered_more k a (Spends q) ds (ds ++ more) es l f refl
     (gather k a ds more f.behind (f.event ∷ l) (f.same.steps.0.legal, legal) f.same.steps.1
-    (λ some. subst (λ e. Goes k (e ∷ l) a) (sym f.is) (record { known = g.known; going = g.going; awake = g.awake; paid = refl; undrained = g.undrained }))
+    (λ some. subst (λ e. Goes k (e ∷ l) a) (sym f.is) (record { lives = record { known = g.lives.known; going = g.lives.going; paid = refl; undrained = g.lives.undrained }; awake = g.awake }))
     (λ some. subst (λ e. waits (e ∷ l) a ≡ None) (sym f.is) w)
     spends f.deeds)
 gather k a (Ends ∷ ds) more es l legal steps goes free spends is =

@@ -14,7 +14,6 @@ pub mod Running
 pub mod Begun
 pub mod OneRun
 pub mod Ends
-pub mod Going
 pub mod Holding
 pub mod Only
 pub mod Rack
@@ -40,11 +39,13 @@ mod Gathering
 pub mod Playing
 mod TurningThreads
 mod Needing
+mod Sleeps
 mod Settling
 mod Stepping
+mod Pausing
 mod Hearing
+mod Resting
 mod Through
-mod Awake
 mod Dozing
 mod Starting
 pub mod Draining
@@ -84,5 +85,5 @@ mod Reporting
 pub mod Reports
 mod ExampleWords
 mod ExampleSleepless
-mod ExampleSleep
 mod ExampleOrdered
+mod ExampleSleep

@@ -1,5 +1,5 @@
--- After two histories that tell the same, of waits too, the same may come, and means the same.
-use Rattle.std.proofs.Common.{◌≡◌, ℕ, zero, suc, ◌+◌, ◌&&◌, ◌||◌, Bool, not, false, sym, ◌∙◌, ap, refl, subst, List, [], ◌∷◌, ◌++◌, Option, Some, None, true}
+-- After two histories that tell the same, of waits and of sleeps too, the same may come, and means the same.
+use Rattle.std.proofs.Common.{◌≡◌, ℕ, zero, suc, ◌+◌, ◌&&◌, ◌||◌, Bool, not, false, sym, ◌∙◌, ap, refl, subst, List, [], ◌∷◌, ◌++◌, Option, Some, None}
 use Rattle.std.specs.Prelude.{nat_lt, is_some}
 use Rattle.std.specs.Option.{option_and_then, option_map, option_map_or}
 use Rattle.es_event.specs.declared.ledger_event.Body.{Body}
@@ -7,27 +7,24 @@ use Rattle.es_event.specs.declared.ledger_event.Body.TheVariants.{Plain, Block}
 use Rattle.es_event.specs.declared.ledger_event.LedgerEvent.{LedgerEvent}
 use Rattle.es_event.specs.declared.ledger_event.LedgerEvent.TheVariants.{Opened, Posted, Taken, Spent, Accessed, Drained, Acted}
 use Rattle.es_event.specs.declared.ledger_event.Act.TheVariants.{Waiting, Passed, Ended, Slept, Notified, Woke, TimedOut}
-use Rattle.es_event.specs.declared.ledger_event.Act.{Act}
 use Rattle.es_event.specs.Access.{IsStorable}
 use Rattle.es_event.specs.Rows.{count_of, held}
 use Rattle.es_event.specs.Ledger.{Ledger, awaited, ended, front, holder_of, serial_in, waits, word}
 use Rattle.es_event.specs.Waiters.{is_listed, taken_there}
 use Rattle.es_event.specs.LegalLedger.{ComesNext, IsPostable, MayCome, Reaches, ReachesAs, all_ended, all_stuck, has_message, is_chosen, is_stuck, owed, skips}
 use Rattle.es_event.specs.Totals.{is_drained}
-use Rattle.es_match.specs.Deeds.{Owned, Accesses, Spends, Takes, deed, part_of, taking, acting, sleep_of}
+use Rattle.es_match.specs.Deeds.{Owned, Accesses, Spends, Takes, deed, part_of, taking, acting, sleep_of, sleeps_after}
 use Rattle.es_match.specs.Patience.{may_do, may_stir}
-use Rattle.es_match.specs.declared.deed.Sleep.{Sleep}
 use Rattle.es_theorems.specs.Alike.{Alike}
 use Rattle.es_theorems.specs.Ahead.{Acts, Like, May, Steps, ahead, played}
-use Rattle.es_theorems.specs.Calm.{is_calm, is_calm_act}
 use Rattle.es_theorems.proofs.Telling.{after_one, same, same_front, same_holder, same_message, through}
 use Rattle.es_theorems.proofs.Doing.{reaches_as, reaches_so, same_listed, same_taken, same_words_in}
 
 pub like : (l : Ledger) → Like l l
-like l = record { alike = same l; waits = λ a. refl; owes = refl; drained = refl }
+like l = record { alike = same l; waits = λ a. refl; sleeps = λ a. refl; owes = refl; drained = refl }
 
 pub like_through : (l m k : Ledger) → Like l m → Like m k → Like l k
-like_through l m k a b = record { alike = through l m k a.alike b.alike; waits = λ n. a.waits n ∙ b.waits n; owes = a.owes ∙ b.owes; drained = a.drained ∙ b.drained }
+like_through l m k a b = record { alike = through l m k a.alike b.alike; waits = λ n. a.waits n ∙ b.waits n; sleeps = λ n. a.sleeps n ∙ b.sleeps n; owes = a.owes ∙ b.owes; drained = a.drained ∙ b.drained }
 
 -- One event more
 
@@ -35,10 +32,15 @@ owed_after : (l m : Ledger) (e : LedgerEvent) → Alike l m → owed (e ∷ l) �
 owed_after l m (Drained s r) a = ap (option_and_then serial_in) (same_front l m s r a)
 owed_after l m _ a = refl
 
+sleep_after : (l m : Ledger) (e : LedgerEvent) (a : ℕ) → sleep_of l a ≡ sleep_of m a → sleep_of (e ∷ l) a ≡ sleep_of (e ∷ m) a
+sleep_after l m (Acted c act) a is = ap (sleeps_after c act a) is
+sleep_after l m _ a is = is
+
 pub like_after : (l m : Ledger) (e : LedgerEvent) → Like l m → Like (e ∷ l) (e ∷ m)
 like_after l m e k = record {
   alike = after_one l m e k.alike;
   waits = λ a. ap (awaited e a) (k.waits a);
+  sleeps = λ a. sleep_after l m e a (k.sleeps a);
   owes = owed_after l m e k.alike;
   drained = ap (λ b. is_drained e || b) k.drained;
 }
@@ -52,24 +54,16 @@ like_played (e ∷ es) l m k = like_played es (e ∷ l) (e ∷ m) (like_after l 
 same_taking : (l m : Ledger) (s r : ℕ) → Alike l m → taking l s (front l s r) ≡ taking m s (front m s r)
 same_taking l m s r a = ap (λ b. taking l s b) (same_front l m s r a) ∙ ap (λ w. Takes s (front m s r) w) (same_words_in l m (front m s r) a)
 
-same_act : (o p : Option Sleep) (act : Act) → is_calm_act act ≡ true → acting o act ≡ acting p act
-same_act o p (Slept s i w) calm = cc
-same_act o p (Notified s i c t) calm = cc
-same_act o p Woke calm = cc
-same_act o p TimedOut calm = cc
-same_act o p _ calm = refl
+pub same_deed : (l m : Ledger) (e : LedgerEvent) → Like l m → deed l e ≡ deed m e
+same_deed l m (Taken s r) k = ap (λ d. Some (r, d)) (same_taking l m s r k.alike)
+same_deed l m (Spent s) k = ap (λ o. option_map (λ p. (p.0, Spends s)) o) (same_holder l m s k.alike)
+same_deed l m (Accessed s i d old) k = ap (λ o. option_map (λ p. (p.0, Accesses s i d old)) o) (same_holder l m s k.alike)
+same_deed l m (Acted b act) k = ap (λ o. Some (b, acting o act)) (k.sleeps b)
+same_deed l m _ k = refl
 
-pub same_deed : (l m : Ledger) (e : LedgerEvent) → is_calm e ≡ true → Alike l m → deed l e ≡ deed m e
-same_deed l m (Taken s r) calm a = ap (λ d. Some (r, d)) (same_taking l m s r a)
-same_deed l m (Spent s) calm a = ap (λ o. option_map (λ p. (p.0, Spends s)) o) (same_holder l m s a)
-same_deed l m (Accessed s i d old) calm a = ap (λ o. option_map (λ p. (p.0, Accesses s i d old)) o) (same_holder l m s a)
-same_deed l m (Acted b act) calm a = ap (λ d. Some (b, d)) (same_act (sleep_of l b) (sleep_of m b) act calm)
-same_deed l m _ calm a = refl
-
-pub same_ahead : (n : ℕ) (es : List LedgerEvent) (l m : Ledger) (a : ℕ) → Steps n es l → Alike l m → ahead es l a ≡ ahead es m a
-same_ahead n [] l m a steps k = refl
-same_ahead n (e ∷ es) l m a steps k =
-    ap (λ o. part_of a o ++ ahead es (e ∷ l) a) (same_deed l m e steps.0.calm k) ∙ ap (λ ds. part_of a (deed m e) ++ ds) (same_ahead n es (e ∷ l) (e ∷ m) a steps.1 (after_one l m e k))
+pub same_ahead : (es : List LedgerEvent) (l m : Ledger) (a : ℕ) → Like l m → ahead es l a ≡ ahead es m a
+same_ahead [] l m a k = refl
+same_ahead (e ∷ es) l m a k = ap (λ o. part_of a o ++ ahead es (e ∷ l) a) (same_deed l m e k) ∙ ap (λ ds. part_of a (deed m e) ++ ds) (same_ahead es (e ∷ l) (e ∷ m) a (like_after l m e k))
 
 -- What may come
 
@@ -146,8 +140,7 @@ same_acts n l m (Some p) k is = (is.0, sym (k.alike.ends p.0) ∙ is.1, sym k.dr
 pub same_may : (n : ℕ) (l m : Ledger) (e : LedgerEvent) → Like l m → May n l e → May n m e
 same_may n l m e k is = record {
   legal = subst (ComesNext n m e) k.owes (comes_next n l m e (owed l) k is.legal);
-  acts = subst (Acts n m) (same_deed l m e is.calm k.alike) (same_acts n l m (deed l e) k is.acts);
-  calm = is.calm;
+  acts = subst (Acts n m) (same_deed l m e k) (same_acts n l m (deed l e) k is.acts);
 }
 
 pub same_steps : (n : ℕ) (es : List LedgerEvent) (l m : Ledger) → Like l m → Steps n es l → Steps n es m

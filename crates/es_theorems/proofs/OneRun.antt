@@ -1,5 +1,5 @@
 -- Two runs by turns of one plan have the same moves, turn by turn, and come to the same.
-use Rattle.std.proofs.Common.{◌≡◌, inl, inr, ℕ, zero, suc, ◌+◌, ◌<◌, ◌≤◌, true, false, cond, sym, ◌∙◌, ap, refl, subst, arith, List, [], ◌∷◌, ◌++◌, length, Option, Some, None}
+use Rattle.std.proofs.Common.{◌≡◌, inl, inr, ℕ, zero, suc, ◌+◌, ◌<◌, ◌≤◌, true, cond, sym, ◌∙◌, ap, refl, subst, arith, List, [], ◌∷◌, ◌++◌, length, Option, Some, None}
 use Rattle.std.specs.Prelude.{slice_get, slice_set}
 use Rattle.std.specs.Option.{option_map_or}
 use Rattle.std.proofs.lemmas.Bool.{eq-eqb, false≢true}
@@ -179,10 +179,9 @@ behind_on k again (t ∷ ts) us n c d x y small behind at fits over on others en
         let turn = subst (λ m. Turned Moved m c t.after) agent (subst (λ p. Turned p t.agent c t.after) e (turn_from t c at.0 at.1)) in
         let both = catches_up n c d t.after behind turn in
         let busy_is : busy_after t.progress t.agent t.after ≡ busy n d = one_busy n t.agent Moved t.progress d t.after refl e agent (sym both.same.agents) in
-        let met = again ts us (busy n d) t.after d x y (omega (arith, small)) both at.2 (subst (λ o. AreMoves o ts None) busy_is fits.1) over on others end in
-        (
-            ap (λ ms. ms ++ moves_of ts) (one_move t.agent n t.progress Moved t.after d e refl (sym agent) both.same.agents) ∙ ap (λ ms. (n, slice_get d.agents n) ∷ ms) met.moves,
-            met.same,
+        let met = again ts us (busy n d) t.after d x y (omega (arith, small)) both at.2 (subst (λ o. AreMoves o ts None) busy_is fits.1) over on others end in (
+          ap (λ ms. ms ++ moves_of ts) (one_move t.agent n t.progress Moved t.after d e refl (sym agent) both.same.agents) ∙ ap (λ ms. (n, slice_get d.agents n) ∷ ms) met.moves,
+          met.same,
         )
     by (lies e down) rest =
         let agent = mine (ahead_of t c at.0 down e at.1) in

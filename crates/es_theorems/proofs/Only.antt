@@ -18,7 +18,7 @@ use Rattle.es_event.proofs.Entries.{inner}
 use Rattle.es_match.specs.Deeds.{Deed, deed}
 use Rattle.es_match.specs.Meets.{Tickets}
 use Rattle.es_cluster.specs.Tied.{AreDeedsOf, GrowsBy}
-use Rattle.es_theorems.proofs.Going.{Only, OtherThan}
+use Rattle.es_theorems.specs.Going.{Only, OtherThan}
 use Rattle.es_theorems.proofs.Holding.{fresh, line_first, line_last, line_moved, line_other, none_moved, one_line}
 
 -- Who held it before

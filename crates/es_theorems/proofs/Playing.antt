@@ -11,9 +11,10 @@ use Rattle.es_event.specs.declared.ledger_event.Act.TheVariants.{Waiting, Passed
 use Rattle.es_event.specs.declared.row.Row.{Row}
 use Rattle.es_event.specs.declared.access.WaitResult.{WaitResult}
 use Rattle.es_event.specs.Ledger.{Ledger, ended, front, holder_of, is_end_of, waits}
+use Rattle.es_event.specs.LegalLedger.{MayCome}
 use Rattle.es_event.specs.Waiters.{asleep}
-use Rattle.es_match.specs.Deeds.{Deed, Owned, Opens, Posts, Takes, Spends, Accesses, Waits, Passes, Ends, deed, is_wait, part, part_of, taking, Sleeps, Notifies, Wakes, TimesOut, sleep_of}
-use Rattle.es_match.specs.Patience.{drained_last, ends_wait, has_drained, is_nobodys, is_patient, may_do, patient, may_stir}
+use Rattle.es_match.specs.Deeds.{Deed, Owned, Opens, Posts, Takes, Spends, Accesses, Waits, Passes, Ends, deed, is_sleep, is_wait, part, part_of, taking, Sleeps, Notifies, Wakes, TimesOut, sleep_of}
+use Rattle.es_match.specs.Patience.{drained_last, ends_sleep, ends_wait, has_drained, is_nobodys, is_patient, may_do, patient, may_stir}
 use Rattle.es_match.specs.Asks.{Asking, nothing, to_open, to_measure, to_compare, to_access, to_miss, to_sleep, to_notify, to_post, to_receive, to_refuse, to_pass, to_empty, to_close}
 use Rattle.es_match.specs.Meets.{Tickets, after, is_access, is_one, is_pass, is_post, is_refusal, no_more, opening, pair, receiving, serials_of, sole, spends, strike, within, is_end_of_sleep, is_miss, is_notify}
 use Rattle.es_cluster.specs.Tied.{GrowsBy}
@@ -22,6 +23,9 @@ use Rattle.es_theorems.specs.Ahead.{Acts, Steps, ahead, played}
 use Rattle.es_theorems.specs.Found.{AllMine, AreSpends}
 use Rattle.es_theorems.specs.Underway.{closes, has_end, is_end}
 use Rattle.es_cluster.proofs.Growing.{doer}
+use Rattle.es_cluster.proofs.Midway.{still_awake}
+use Rattle.es_theorems.specs.Doing.{event_of}
+use Rattle.es_theorems.proofs.Doing.{meant}
 use Rattle.es_theorems.proofs.Gathering.{part_mine}
 use Rattle.es_theorems.proofs.Commands.{some_if_true, sole_of, one_of}
 use Rattle.es_value.specs.declared.value.Value.{Value}
@@ -71,7 +75,7 @@ last_played k (e ∷ es) l steps is = last_played k es (e ∷ l) steps.1 (ap (λ
 
 -- Waits
 
-free_unless : (w : Option ℕ) (d : Deed) → may_do w d ≡ true → ((s : ℕ) → ends_wait s d ≡ false) → w ≡ None
+pub free_unless : (w : Option ℕ) (d : Deed) → may_do w d ≡ true → ((s : ℕ) → ends_wait s d ≡ false) → w ≡ None
 free_unless None d may none = refl
 free_unless (Some s) d may none = absurd (false≢true (sym (none s) ∙ may))
 
@@ -101,6 +105,29 @@ pub free_played : (k : ℕ) (es : List LedgerEvent) (l : Ledger) (a : ℕ) → S
 free_played k [] l a steps mine free = free
 free_played k (e ∷ es) l a steps mine free =
     free_played k es (e ∷ l) a steps.1 mine.1 (free_after l e a mine.0.0 mine.0.1 mine.0.2 (ap (λ w. may_do w mine.0.0) free))
+
+-- Sleeps
+
+no_sleep_begun : (d : Deed) → is_wait d ≡ false → is_sleep d ≡ false
+no_sleep_begun (Sleeps s i w) quick = cc
+no_sleep_begun _ quick = refl
+
+risen : (l : Ledger) (a : ℕ) (d : Deed) → ends_sleep d ≡ true → asleep (event_of a d ∷ l) a ≡ false
+risen l a (Wakes o) ends = ap (λ t. cond t false (asleep l a)) (eq-eqb a a refl)
+risen l a (TimesOut o) ends = ap (λ t. cond t false (asleep l a)) (eq-eqb a a refl)
+risen l a _ ends = cc
+
+-- who did something else than to begin a sleep is awake
+pub awake_after : (k : ℕ) (l : Ledger) (x : LedgerEvent) (a : ℕ) (d : Deed) → MayCome k l x → deed l x ≡ Some (a, d) → is_wait d ≡ false → may_stir (asleep l a) d ≡ true → asleep (x ∷ l) a ≡ false
+awake_after k l x a d comes is quick stirs = by (asleep l a) refl stirs
+  where
+    by : (t : Bool) → asleep l a ≡ t → may_stir t d ≡ true → asleep (x ∷ l) a ≡ false
+    by false up stirs = still_awake l x a d is (no_sleep_begun d quick) up
+    by true down stirs = ap (λ e. asleep (e ∷ l) a) (meant k l x a d comes is).event ∙ risen l a d stirs
+
+pub awake_played : (es : List LedgerEvent) (l : Ledger) (a : ℕ) → AllMine a es l → asleep l a ≡ false → asleep (played es l) a ≡ false
+awake_played [] l a mine up = up
+awake_played (e ∷ es) l a mine up = awake_played es (e ∷ l) a mine.1 (still_awake l e a mine.0.0 mine.0.1 (no_sleep_begun mine.0.0 mine.0.2) up)
 
 -- Ends
 

@@ -13,7 +13,7 @@ use Rattle.es_match.specs.Meets.{Tickets}
 use Rattle.es_cluster.specs.Tied.{AreDeedsOf, GrowsBy}
 use Rattle.es_cluster.specs.Turned.{spent}
 use Rattle.es_cluster.proofs.Growing.{by_ticket}
-use Rattle.es_theorems.proofs.Going.{AllHeld, Apart, OtherThan}
+use Rattle.es_theorems.specs.Going.{AllHeld, Apart, OtherThan}
 use Rattle.es_theorems.proofs.Holding.{held_on}
 
 -- Lists

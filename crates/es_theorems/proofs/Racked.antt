@@ -47,7 +47,7 @@ use Rattle.es_cluster.specs.Turned.{GrowsByOne}
 use Rattle.es_cluster.proofs.Growing.{part_own, part_waits}
 use Rattle.es_theorems.proofs.Coming.{some_if_is}
 use Rattle.es_theorems.proofs.Commands.{none_more, one_of, sole_of, some_if_true}
-use Rattle.es_theorems.proofs.Going.{Apart, Going, OtherThan, Racked}
+use Rattle.es_theorems.specs.Going.{Apart, Going, OtherThan, Racked}
 use Rattle.es_theorems.proofs.Holding.{held_new, held_taken, not_mine, not_yet}
 use Rattle.es_theorems.proofs.Newest.{came_next}
 use Rattle.es_theorems.proofs.Only.{Gives, back, dropped, only_after, only_more, spent_off}

@@ -77,13 +77,13 @@ run_turns c d (moves n {mid = mid} is move more) =
 -- what comes of threads is the same as what comes of these turns
 turned_so : (plan : Plan) (ns : List ℕ) (c : ClusterView) (o q : Outcome) → never_sleeps plan ≡ true → IsClusterOutcome plan o → AllTurned ns (first_state plan) c → has_no_race c.ledger.history ≡ true → EndsIn (with_drained c) q → SayAlike o q
 turned_so plan ns c o q calm a left free ends =
-    let x = refines plan o calm a in
+    let x = refines plan o a in
     let both = says_alike plan ns x.turns c x.end q x.outcome calm left ends free x.turned x.ends in
     record { names = x.same.names ∙ sym both.names; histories = x.same.histories ∙ sym both.histories }
 
 pub turned_reports : (plan : Plan) (ns : List ℕ) (c : ClusterView) (o q : Outcome) → never_sleeps plan ≡ true → IsClusterOutcome plan o → AllTurned ns (first_state plan) c → has_no_race c.ledger.history ≡ true → EndsIn (with_drained c) q → report o ≡ report q
 turned_reports plan ns c o q calm a left free ends =
-    let x = refines plan o calm a in
+    let x = refines plan o a in
     let both = says_alike plan ns x.turns c x.end q x.outcome calm left ends free x.turned x.ends in
     x.reported ∙ sym (reports_same (with_drained c) (with_drained x.end) q x.outcome (number_far ns (first_state plan) c left ∙ sym (number_far x.turns (first_state plan) x.end x.turned)) both ends x.ends)
 
@@ -118,13 +118,13 @@ wordless_say_alike plan ns ms c d o q shares left a right b = says_alike plan ns
 
 pub says_in_threads : (plan : Plan) (o q : Outcome) → share_no_word plan ≡ true → IsClusterOutcome plan o → IsClusterOutcome plan q → SayAlike o q
 says_in_threads plan o q shares a b =
-    let y = refines plan q (wordless_calm plan shares) b in
+    let y = refines plan q b in
     let one = turned_so plan y.turns y.end o y.outcome (wordless_calm plan shares) a y.turned (messages_alone plan y.turns y.end shares y.turned) y.ends in
     record { names = one.names ∙ sym y.same.names; histories = one.histories ∙ sym y.same.histories }
 
 pub reports_in_threads : (plan : Plan) (o q : Outcome) → share_no_word plan ≡ true → IsClusterOutcome plan o → IsClusterOutcome plan q → report o ≡ report q
 reports_in_threads plan o q shares a b =
-    let y = refines plan q (wordless_calm plan shares) b in
+    let y = refines plan q b in
     turned_reports plan y.turns y.end o y.outcome (wordless_calm plan shares) a y.turned (messages_alone plan y.turns y.end shares y.turned) y.ends ∙ sym y.reported
 
 pub alone_by_turns : (plan : Plan) → share_no_word plan ≡ true → HasNoRaceByTurns plan

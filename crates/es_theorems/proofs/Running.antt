@@ -26,7 +26,7 @@ use Rattle.es_cluster.specs.Turned.{GrowsByOne, WaitsOn, SleepsOn}
 use Rattle.es_cluster.specs.declared.member.Progress.{Progress}
 use Rattle.es_cluster.specs.declared.member.Progress.TheVariants.{Moved, Waiting, Ended}
 use Rattle.es_cluster.proofs.Midway.{ended_where_all, awake as up_of}
-use Rattle.es_cluster.specs.Moves.{over, all_over, goes_on, goes_on_by, is_over, mover, or_else}
+use Rattle.es_cluster.specs.Moves.{all_over, goes_on, goes_on_by, is_over, mover, or_else}
 use Rattle.es_cluster.specs.State.{ClusterView, first_views, first_state}
 use Rattle.es_cluster.specs.Turns.{Takes, Turned}
 use Rattle.es_cluster.proofs.Beginning.{first_view, first_length}

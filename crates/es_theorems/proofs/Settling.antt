@@ -15,22 +15,25 @@ use Rattle.es_match.specs.Goes.{asked, goes}
 use Rattle.es_match.specs.Meets.{Came, Tickets, after, came_after, no_more, serials_of, some_if, spends}
 use Rattle.es_match.proofs.Bridge.{chained, mapped, reverse_cons}
 use Rattle.es_record.specs.AgentView.{AgentView, with_row}
-use Rattle.es_rules.specs.Needs.{asks_message, need}
+use Rattle.es_rules.specs.Needs.{asks_ledger, asks_message, for_word, need}
 use Rattle.es_agent.specs.Tickets.{is_ended, tickets}
 use Rattle.es_agent.proofs.Racks.{open_after, open_before}
 use Rattle.es_cluster.specs.Tied.{came_to}
 use Rattle.es_cluster.specs.declared.member.Progress.TheVariants.{Moved}
 use Rattle.es_cluster.proofs.Growing.{grows_none}
+use Rattle.es_cluster.proofs.Midway.{free as free_of}
+use Rattle.es_event.specs.declared.access.Task.{Task}
+use Rattle.es_event.specs.Waiters.{asleep}
 use Rattle.es_cluster.specs.Ends.{IsWhole}
 use Rattle.es_cluster.specs.State.{ClusterView}
-use Rattle.es_theorems.specs.Together.{StandsAt}
+use Rattle.es_theorems.specs.Together.{AnyPlan, StandsAtBy}
 use Rattle.es_theorems.specs.Ahead.{Rearranged, ahead}
 use Rattle.es_theorems.specs.Grown.{Unfolded, asked_by, deeds_asked, grown}
 use Rattle.es_theorems.specs.Underway.{Left, Settled, Turn, Underway, has_end}
 use Rattle.es_theorems.proofs.Needing.{EndsFirst, closes_is, message_first}
 use Rattle.es_theorems.proofs.Playing.{end_asked}
 use Rattle.es_theorems.proofs.TurningThreads.{next_of, turn}
-use Rattle.es_theorems.proofs.Calm.{moves_on}
+use Rattle.es_theorems.proofs.Sleeps.{awake_unless, sleep_first}
 
 abbrev pub left_as : (a : Account) (b : AgentView) (ds es : List Deed) → ds ≡ es → Left a b ds → Left a b es
 left_as a b ds es same left = record { plan = left.plan; rest = left.rest; history = left.history; final = left.final; go = ap (goes (between_jobs b.history) (came_to b) left.rest) (sym same) ∙ left.go; said = left.said }
@@ -38,6 +41,7 @@ left_as a b ds es same left = record { plan = left.plan; rest = left.rest; histo
 pub rearranged_on : (n : ℕ) (all : List Account) (c : ClusterView) (es fs : List LedgerEvent) → Underway n all c es → Rearranged n es fs c.ledger.history → Underway n all c fs
 rearranged_on n all c es fs u r = record {
   stands = u.stands;
+  going = u.going;
   number = u.number;
   legal = u.legal;
   whole = u.whole;
@@ -100,7 +104,7 @@ pub local_turn : (n : ℕ) (all : List Account) (c : ClusterView) (es : List Led
     → (left : Left (account_of all i) b (ahead es c.ledger.history i)) → left.rest ≡ e ∷ rest → (x : Unfolded b e rest (ahead es c.ledger.history i) left.final) → deeds_asked b e ≡ 0
     → Turn n all c i (grown b x.row e) c.ledger.history es rest
 local_turn n all c es i b e rest u here left is x none =
-    turn n all c [] es i b e rest u here left is x (grows_none i m) (λ j other. refl) first free over (moves_on b c.ledger (record { agents = c.ledger.agents; history = m }) was.calm (λ s asks. absurd (no_message s asks)))
+    turn n all c [] es i b e rest u here left is x (grows_none i m) (λ j other. refl) first free awake over (λ s asks stay. no_message s asks, λ o j w r asks here stay. no_sleep o j w asks)
   where
     m : Ledger
     m = c.ledger.history
@@ -108,7 +112,7 @@ local_turn n all c es i b e rest u here left is x none =
     ds : List Deed
     ds = ahead es m i
 
-    was : StandsAt c i b
+    was : StandsAtBy AnyPlan c i b
     was = u.stands.each i b here
 
     first : [] ≡ take (deeds_asked b e) ds
@@ -120,12 +124,16 @@ local_turn n all c es i b e rest u here left is x none =
     no_message : (s : ℕ) → need b ≡ asks_message s → ⊥
     no_message s asks = no_first s (deeds_asked b e) ds none (message_first b x.row e s (take (deeds_asked b e) ds) met.0 was.run x.next asks met.1 x.named)
 
+    no_sleep : (o j w : ℕ) → need b ≡ asks_ledger (for_word o j (Task.Sleep w)) → ⊥
+    no_sleep o j w asks =
+        let one = sleep_first b x.row e o j w (take (deeds_asked b e) ds) met.0 was.run x.next asks met.1 in
+        let clash : [] ≡ one.0 ∷ [] = first ∙ one.1 in cc
+
     free : waits m i ≡ None
-    free = at (waits m i) refl
-      where
-        at : (w : Option ℕ) → waits m i ≡ w → waits m i ≡ None
-        at None w = w
-        at (Some s) w = absurd (no_message s (was.tied.awaits s (ap (waits m) was.number ∙ w)))
+    free = ap (waits m) (sym was.number) ∙ free_of b m was.tied no_message
+
+    awake : asleep m i ≡ false
+    awake = ap (asleep m) (sym was.number) ∙ awake_unless b m was.tied no_sleep
 
     over : has_ended m i ≡ is_ended (phase (e ∷ b.history))
     over =

@@ -24,10 +24,7 @@ use Rattle.es_match.specs.Patience.{is_patient, may_do, may_stir, patient}
 use Rattle.es_match.proofs.Bridge.{mapped}
 use Rattle.es_record.specs.AgentView.{AgentView}
 use Rattle.es_cluster.specs.Tied.{IsSettled, came_to}
-use Rattle.es_cluster.proofs.Growing.{doer}
-use Rattle.es_cluster.proofs.Midway.{awake_if}
-use Rattle.es_theorems.specs.Ahead.{Steps, played}
-use Rattle.es_theorems.specs.Calm.{Calm, has_sleep, is_calm, is_calm_act, of_sleep}
+use Rattle.es_theorems.specs.Calm.{Calm, has_sleep, is_calm_act, of_sleep}
 use Rattle.es_theorems.specs.Sleepless.{never_sleeps_in}
 use Rattle.es_theorems.proofs.Calm.{event_calm, is_about_sleep}
 use Rattle.es_theorems.proofs.Commands.{one_of, sole_of, some_if_true}
@@ -164,10 +161,6 @@ act_calm l a (Notified s i m k) calm = untold l a (Notifies s i m k) refl refl c
 act_calm l a Woke calm = untold l a (Wakes (sleep_of l a)) refl refl calm.none
 act_calm l a TimedOut calm = untold l a (TimesOut (sleep_of l a)) refl refl calm.none
 
-pub calm_is : (l : Ledger) (x : LedgerEvent) (a : ℕ) (d : Deed) → Calm a (x ∷ l) → deed l x ≡ Some (a, d) → is_calm x ≡ true
-calm_is l (Acted c act) a d calm is = act_calm l a act (subst (λ c. Calm a (Acted c act ∷ l)) (doer (deed l (Acted c act)) a c d is) calm)
-calm_is l _ a d calm is = refl
-
 -- it was awake before
 awake_then : (l : Ledger) (a c : ℕ) (act : Act) (t : Bool) → (c == a) ≡ t → Calm a (Acted c act ∷ l) → asleep l a ≡ false
 awake_then l a c act true here calm = by act (subst (λ c. Calm a (Acted c act ∷ l)) (eqb-true c a here) calm)
@@ -210,16 +203,3 @@ calm_before l x a calm = record {
 pub calm_view : (b : AgentView) (n : ℕ) (l : Ledger) → b.number ≡ n → never_sleeps_in b.plan ≡ true → Follows b.over b.plan b.history → IsSettled b l → Calm n l
 calm_view b n l number calm follows settled =
     subst (λ n. Calm n l) number (record { awake = settled.awake; none = part_calm b.over b.plan b.history (part l b.number) (came_to b) calm follows settled.tied.ties; patience = settled.tied.waits_end })
-
--- Who stays awake
-
-pub awake_one : (l : Ledger) (x : LedgerEvent) (a : ℕ) → is_calm x ≡ true → asleep l a ≡ false → asleep (x ∷ l) a ≡ false
-awake_one l (Acted c Ended) a calm awake = awake_if (c == a) (asleep l a) awake
-awake_one l (Acted c (Slept s i w)) a calm awake = cc
-awake_one l (Acted c Woke) a calm awake = cc
-awake_one l (Acted c TimedOut) a calm awake = cc
-awake_one l _ a calm awake = awake
-
-pub awake_played : (k : ℕ) (xs : List LedgerEvent) (l : Ledger) (a : ℕ) → Steps k xs l → asleep l a ≡ false → asleep (played xs l) a ≡ false
-awake_played k [] l a steps awake = awake
-awake_played k (x ∷ xs) l a steps awake = awake_played k xs (x ∷ l) a steps.1 (awake_one l x a steps.0.calm awake)

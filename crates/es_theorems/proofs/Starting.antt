@@ -1,15 +1,15 @@
 -- Before the first event all that an outcome tells is to follow.
-use Rattle.std.proofs.Common.{◌≡◌, ℕ, zero, suc, ◌+◌, ◌<◌, ◌≤◌, ◌&&◌, ◌||◌, not, Bool, true, false, cond, sym, ◌∙◌, ap, refl, subst, arith, List, [], ◌∷◌, ◌++◌, append-nil, append_assoc, length, map, reverse, Option, Some, None, inl, inr, ◌==◌}
+use Rattle.std.proofs.Common.{◌≡◌, ◌⊎◌, ℕ, zero, suc, ◌+◌, ◌<◌, ◌≤◌, ◌&&◌, ◌||◌, not, Bool, true, false, cond, sym, ◌∙◌, ap, refl, subst, arith, List, [], ◌∷◌, ◌++◌, append-nil, append_assoc, length, map, reverse, Option, Some, None, inl, inr}
 use Rattle.std.specs.Prelude.{slice_get}
 use Rattle.std.specs.List.{AllByRecursion}
 use Rattle.std.specs.Option.{option_map, option_map_or}
-use Rattle.std.proofs.lemmas.Bool.{and_parts, false≢true, or_right, not-true, eqb-true}
+use Rattle.std.proofs.lemmas.Bool.{and_parts, false≢true, or_right, not-true}
 use Rattle.std.proofs.lemmas.List.{reverse-append, reverse-reverse, length-map}
 use Rattle.es_event.specs.declared.event.Event.{Event}
 use Rattle.es_event.specs.declared.event.Event.TheVariants.{Did, Refused, Closed}
 use Rattle.es_event.specs.declared.ledger_event.LedgerEvent.{LedgerEvent}
 use Rattle.es_event.specs.declared.ledger_event.LedgerEvent.TheVariants.{Spent, Acted}
-use Rattle.es_event.specs.declared.ledger_event.Act.TheVariants.{Waiting, Ended}
+use Rattle.es_event.specs.declared.ledger_event.Act.TheVariants.{Waiting, Ended, Slept}
 use Rattle.es_event.specs.declared.outcome.Outcome.{Outcome}
 use Rattle.es_event.specs.declared.plan.AgentPlan.{AgentPlan}
 use Rattle.es_event.specs.declared.plan.Plan.{Plan}
@@ -22,8 +22,7 @@ use Rattle.es_event.specs.LegalLedger.{ComesNext, LegalSoFar, MayCome, owed}
 use Rattle.es_event.specs.Order.{Phase, between, handed, inside, stopped, ended, phase, due_at}
 use Rattle.es_event.specs.Sharing.{Buffers}
 use Rattle.es_event.specs.Waiters.{asleep}
-use Rattle.es_event.proofs.Left.{each_of}
-use Rattle.es_match.specs.Deeds.{Deed, Owned, Ends, Spends, deed, is_wait, part, part_of, acting, sleep_of}
+use Rattle.es_match.specs.Deeds.{Deed, Owned, Ends, Spends, deed, is_wait, part, part_of}
 use Rattle.es_match.specs.Patience.{drained_last, has_drained, is_nobodys, is_patient, may_do, patient, may_stir}
 use Rattle.es_match.specs.Asks.{Asking, to_close, asks, between_jobs}
 use Rattle.es_match.specs.Cluster.{Account, DeedsMeet, account_of, nobody}
@@ -32,25 +31,30 @@ use Rattle.es_match.specs.Meets.{Came, Tickets, after, nothing_came, serials_of}
 use Rattle.es_match.proofs.Bridge.{mapped, ties_mean_goes}
 use Rattle.es_record.specs.AgentView.{AgentView}
 use Rattle.es_agent.specs.Tickets.{is_ended}
-use Rattle.es_agent.proofs.Racks.{open_after}
 use Rattle.es_cluster.specs.Ends.{IsWhole}
 use Rattle.es_cluster.specs.State.{first_state, first_views}
 use Rattle.es_cluster.proofs.Beginning.{first_view}
 use Rattle.es_theorems.specs.Doing.{event_of}
 use Rattle.es_theorems.proofs.Doing.{meant}
-use Rattle.es_theorems.proofs.Running.{stands_first}
+use Rattle.es_theorems.proofs.Running.{stands_anyhow}
 use Rattle.es_outcome.specs.Outcomes.{IsClusterOutcome}
 use Rattle.es_theorems.specs.Ahead.{Acts, Steps, ahead, played}
 use Rattle.es_theorems.specs.Found.{AreSpends}
 use Rattle.es_theorems.specs.Underway.{Left, Underway, closes, has_end, is_end}
-use Rattle.es_theorems.specs.Calm.{Calm, has_sleep, is_calm}
-use Rattle.es_theorems.specs.Sleepless.{never_sleeps, never_sleeps_in}
-use Rattle.es_theorems.proofs.Gathering.{a_wait, part_mine}
+use Rattle.es_theorems.proofs.Gathering.{begins, part_mine}
 use Rattle.es_theorems.proofs.Needing.{did_not_close, refused_not}
-use Rattle.es_theorems.proofs.Playing.{end_asked, part_played, spends_so, end_is}
+use Rattle.es_theorems.proofs.Playing.{end_asked, part_played, spends_so}
 use Rattle.es_theorems.proofs.Commands.{some_if_true}
-use Rattle.es_theorems.proofs.Sleepless.{calm_before, calm_is, part_calm}
-use Rattle.es_theorems.proofs.Awake.{ended_awake, less_or, stranger_awake}
+use Rattle.es_ledger.proofs.Taken.{sleeper_below}
+use Rattle.es_theorems.proofs.Cluster.{going_first}
+
+pub less_or : (a n : ℕ) → (a < n) ⊎ (n ≤ a)
+less_or a zero = inr (omega arith)
+less_or zero (suc n) = inl (omega arith)
+less_or (suc a) (suc n) = elim (less_or a n) [
+  | inl e ↦ inl (omega (arith, e))
+  | inr e ↦ inr (omega (arith, e))
+]
 
 -- Nothing is done after the end
 
@@ -142,39 +146,6 @@ ended_part (e ∷ l) a is = at (is_end_of e a) refl is (ended_part l a)
     at true now is before = has_end_append (part l a) (part_of a (deed l e)) ∙ ap (λ b. has_end (part l a) || b) (end_part l e a now) ∙ or_right (has_end (part l a)) true refl
     at false now is before = has_end_append (part l a) (part_of a (deed l e)) ∙ ap (λ b. b || has_end (part_of a (deed l e))) (before is)
 
--- and who closed did
-
-only_closing : (over : Buffers) (plan : AgentPlan) (h : History) (e : Event) → Follows over plan (e ∷ h) → is_ended (phase (e ∷ h)) ≡ true → (e ≡ Closed → ⊥) → ⊥
-only_closing over plan h e follows over' other = false≢true (sym (open_after h e other (open_at over (receivers plan.jobs) plan h (phase h) e follows.0)) ∙ over')
-
-closed_part : (over : Buffers) (plan : AgentPlan) (h : History) (ds : List Deed) (c : Came) → Follows over plan h → DeedsMeet h ds c → is_ended (phase h) ≡ true → has_end ds ≡ true
-closed_part over plan [] ds c follows meets over' = cc
-closed_part over plan (Closed ∷ h) ds c follows (before, now, d, split, meets, brought) over' =
-    let m = mapped _ (after d.tickets to_close now) c brought in
-    ap has_end split ∙ has_end_append before now ∙ ap (λ b. has_end before || b) (end_asked d.tickets m.0 to_close now m.1) ∙ or_right (has_end before) true refl
-closed_part over plan (e ∷ h) ds c follows meets over' = absurd (only_closing over plan h e follows over' (λ f. cc))
-
-its_end : (l : Ledger) (e : LedgerEvent) (a : ℕ) (o : Owned) → deed l e ≡ o → has_end (part_of a o) ≡ true → is_end_of e a ≡ true
-its_end l e a None does is = cc
-its_end l e a (Some p) does is = by (p.0 == a) (is_wait p.1) refl is
-  where
-    by : (t w : Bool) → (p.0 == a) ≡ t → has_end (cond (t && not w) (p.1 ∷ []) []) ≡ true → is_end_of e a ≡ true
-    by true false here is = end_is l e a p.1 (does ∙ ap (λ b. Some (b, p.1)) (eqb-true p.0 a here)) ∙ sym (or_nothing (is_end p.1)) ∙ is
-      where
-        or_nothing : (b : Bool) → (b || false) ≡ b
-        or_nothing true = refl
-        or_nothing false = refl
-    by true true here is = cc
-    by false w here is = cc
-
-pub part_ended : (l : Ledger) (a : ℕ) → has_end (part l a) ≡ true → has_ended l a ≡ true
-part_ended [] a is = cc
-part_ended (e ∷ l) a is = at (has_end (part l a)) refl (part_ended l a) (sym (has_end_append (part l a) (part_of a (deed l e))) ∙ is)
-  where
-    at : (b : Bool) → has_end (part l a) ≡ b → (has_end (part l a) ≡ true → has_ended l a ≡ true) → (has_end (part l a) || has_end (part_of a (deed l e))) ≡ true → has_ended (e ∷ l) a ≡ true
-    at true some before is = ap (λ b. is_end_of e a || b) (before some) ∙ or_right (is_end_of e a) true refl
-    at false none before is = ap (λ b. b || has_ended l a) (its_end l e a (deed l e) refl (sym (ap (λ b. b || has_end (part_of a (deed l e))) none) ∙ is))
-
 -- Parts of what is legal, patient, and drained last
 
 pub legal_before : (k : ℕ) (es : List LedgerEvent) (l : Ledger) → LegalSoFar k (played es l) → LegalSoFar k l
@@ -194,7 +165,6 @@ last_before (e ∷ es) l is = (and_parts (is_nobodys (deed l e) || not (has_drai
 pub record Parted (n : ℕ) (l : Ledger) : Type 0 where
   pub closed : (a : ℕ) (ps qs : List Deed) → part l a ≡ ps ++ qs → has_end ps ≡ true → qs ≡ []
   pub known : (a : ℕ) → n ≤ a → part l a ≡ []
-  pub calm : (a : ℕ) → Calm a l
 
 no_wait : (l : Ledger) (k a : ℕ) (d : Deed) → deed l (Spent k) ≡ Some (a, d) → is_wait d ≡ true → ⊥
 no_wait l k a d is w = at (holder_of l k) is
@@ -203,9 +173,9 @@ no_wait l k a d is w = at (holder_of l k) is
     at None is = cc
     at (Some p) is = let clash : is_wait (Spends k) ≡ true = ap (λ o. option_map_or (λ p. is_wait p.1) o true) is ∙ w in cc
 
-acts_of : (n : ℕ) (x : LedgerEvent) (es : List LedgerEvent) (l : Ledger) (o : Owned) → Parted n (played (x ∷ es) l) → ComesNext n l x (owed l) → is_calm x ≡ true → deed l x ≡ o → patient (x ∷ l) ≡ true → drained_last (x ∷ l) ≡ true → Acts n l o
-acts_of n x es l None parted comes calm is patience last = tt
-acts_of n x es l (Some p) parted comes calm is patience last = at (is_wait p.1) refl
+acts_of : (n : ℕ) (x : LedgerEvent) (es : List LedgerEvent) (l : Ledger) (o : Owned) → Parted n (played (x ∷ es) l) → LegalSoFar n (x ∷ l) → deed l x ≡ o → patient (x ∷ l) ≡ true → drained_last (x ∷ l) ≡ true → Acts n l o
+acts_of n x es l None parted legal is patience last = tt
+acts_of n x es l (Some p) parted legal is patience last = at (is_wait p.1) refl
   where
     patient_here : (may_do (waits l p.0) p.1 ≡ true) × (may_stir (asleep l p.0) p.1 ≡ true)
     patient_here = and_parts _ _ (ap (is_patient l) (sym is) ∙ (and_parts (is_patient l (deed l x)) (patient l) patience).0)
@@ -222,13 +192,14 @@ acts_of n x es l (Some p) parted comes calm is patience last = at (is_wait p.1) 
     waits_so : (o : Option ℕ) → owed l ≡ o → ComesNext n l x o → is_wait p.1 ≡ true → (p.0 < n) × (has_ended l p.0 ≡ false)
     waits_so None none comes w =
         let its = (meant n l x p.0 p.1 comes is).event in
-        let wait = a_wait p.0 p.1 w (ap is_calm (sym its) ∙ calm) in
-        let it : MayCome n l (Acted p.0 (Waiting wait.0)) = subst (MayCome n l) (its ∙ ap (event_of p.0) wait.1) comes in
-        (it.0, it.5)
+        elim (begins p.1 w) [
+          | inl b ↦ let it : MayCome n l (Acted p.0 (Waiting b.0)) = subst (MayCome n l) (its ∙ ap (event_of p.0) b.1) comes in (it.0, it.5)
+          | inr b ↦ let it : MayCome n l (Acted p.0 (Slept b.0 b.1 b.2)) = subst (MayCome n l) (its ∙ ap (event_of p.0) b.3) comes in (sleeper_below n l p.0 b.0 b.1 b.2 None legal.1 it, it.2)
+        ]
     waits_so (Some k) owes comes w = absurd (no_wait l k p.0 p.1 (ap (deed l) (sym comes) ∙ is) w)
 
     at : (w : Bool) → is_wait p.1 ≡ w → Acts n l (Some p)
-    at true w = let so = waits_so (owed l) refl comes w in (so.0, so.1, undrained, may, stirs)
+    at true w = let so = waits_so (owed l) refl legal.0 w in (so.0, so.1, undrained, may, stirs)
     at false quick = (known, going (has_ended l p.0) refl, undrained, may, stirs)
       where
         later : List Deed
@@ -251,22 +222,11 @@ acts_of n x es l (Some p) parted comes calm is patience last = at (is_wait p.1) 
         going false e = e
         going true e = let none : p.1 ∷ later ≡ [] = parted.closed p.0 (part l p.0) (p.1 ∷ later) whole (ended_part l p.0 e) in cc
 
-calm_then : (es : List LedgerEvent) (l : Ledger) (a : ℕ) → Calm a (played es l) → Calm a l
-calm_then [] l a calm = calm
-calm_then (e ∷ es) l a calm = calm_before l e a (calm_then es (e ∷ l) a calm)
-
-calm_event : (x : LedgerEvent) (l : Ledger) → ((a : ℕ) → Calm a (x ∷ l)) → is_calm x ≡ true
-calm_event (Acted c act) l calm = calm_is l (Acted c act) c (acting (sleep_of l c) act) (calm c) refl
-calm_event _ l calm = refl
-
 pub steps_of : (n : ℕ) (es : List LedgerEvent) (l : Ledger) → Parted n (played es l) → LegalSoFar n (played es l) → patient (played es l) ≡ true → drained_last (played es l) ≡ true → Steps n es l
 steps_of n [] l parted legal patience last = tt
 steps_of n (x ∷ es) l parted legal patience last =
-    let comes = (legal_before n es (x ∷ l) legal).0 in
-    let calm = calm_event x l (λ a. calm_then es (x ∷ l) a (parted.calm a)) in (
-      record { legal = comes; acts = acts_of n x es l (deed l x) parted comes calm refl (patient_before es (x ∷ l) patience) (last_before es (x ∷ l) last); calm = calm },
-      steps_of n es (x ∷ l) parted legal patience last,
-    )
+    let so_far = legal_before n es (x ∷ l) legal in
+    (record { legal = so_far.0; acts = acts_of n x es l (deed l x) parted so_far refl (patient_before es (x ∷ l) patience) (last_before es (x ∷ l) last) }, steps_of n es (x ∷ l) parted legal patience last)
 
 -- The accounts
 
@@ -298,40 +258,15 @@ played_is (e ∷ es) l = played_is es (e ∷ l) ∙ sym (ap (λ k. k ++ l) (reve
 pub played_all : (o : Outcome) → played o.ledger [] ≡ reverse o.ledger
 played_all o = played_is o.ledger [] ∙ append-nil (reverse o.ledger)
 
-plan_there : (ps : List AgentPlan) (i : ℕ) → i < length ps → (q : AgentPlan) × (slice_get ps i ≡ Some q)
-plan_there [] i less = absurd (omega (arith, less))
-plan_there (p ∷ ps) zero less = (p, refl)
-plan_there (p ∷ ps) (suc i) less = plan_there ps i (omega (arith, less))
-
 -- the parts of an outcome's ledger
-parted_of : (p : Plan) (o : Outcome) → never_sleeps p ≡ true → IsClusterOutcome p o → Parted (length p.agents) (reverse o.ledger)
-parted_of p o calm r = record { closed = closed; known = known; calm = λ a. record { awake = awake a; none = none a; patience = r.cluster.waits } }
+parted_of : (p : Plan) (o : Outcome) → IsClusterOutcome p o → Parted (length p.agents) (reverse o.ledger)
+parted_of p o r = record { closed = closed; known = known }
   where
     known : (a : ℕ) → length p.agents ≤ a → part (reverse o.ledger) a ≡ []
     known a beyond =
         let c = r.cluster.parts a in
         let empty = nobody_at r.agents a (let size = size_of p o r in omega (arith, size, beyond)) in
         (subst (λ b. DeedsMeet b.history (part (reverse o.ledger) a) c.0) empty c.1).0
-
-    calm_at : (a : ℕ) → a < length p.agents → never_sleeps_in (account_of r.agents a).plan ≡ true
-    calm_at a less =
-        let q = plan_there p.agents a less in
-        ap never_sleeps_in (account_plan r.agents a q.0 (ap (λ ps. slice_get ps a) r.runs.plans_are ∙ q.1)) ∙ each_of never_sleeps_in p.agents a q.0 calm q.1
-
-    none : (a : ℕ) → has_sleep (part (reverse o.ledger) a) ≡ false
-    none a = elim (less_or a (length p.agents)) [
-      | inl e ↦ let w = wholes_of p o r a e in let c = r.cluster.parts a in part_calm (account_of r.agents a).over (account_of r.agents a).plan (account_of r.agents a).history (part (reverse o.ledger) a) c.0 (calm_at a e) w.1.0 c.1
-      | inr e ↦ ap has_sleep (known a e)
-    ]
-
-    awake : (a : ℕ) → asleep (reverse o.ledger) a ≡ false
-    awake a = elim (less_or a (length p.agents)) [
-      | inl e ↦ let w = wholes_of p o r a e in
-          let c = r.cluster.parts a in
-          ended_awake (length p.agents) (reverse o.ledger) a r.legal.0
-          (part_ended (reverse o.ledger) a (closed_part (account_of r.agents a).over (account_of r.agents a).plan (account_of r.agents a).history (part (reverse o.ledger) a) c.0 w.1.0 c.1 (ap is_ended w.1.1)))
-      | inr e ↦ stranger_awake (length p.agents) (reverse o.ledger) a r.legal.0 e
-    ]
 
     no_rest : (q qs : List Deed) → q ++ qs ≡ [] → qs ≡ []
     no_rest [] qs is = is
@@ -368,14 +303,15 @@ first_left p o r i m q is =
       said = c.2;
     }
 
-pub starts : (p : Plan) (o : Outcome) → never_sleeps p ≡ true → (r : IsClusterOutcome p o) → Underway (length p.agents) r.agents (first_state p) o.ledger
-starts p o calm r = record {
-  stands = stands_first p calm;
+pub starts : (p : Plan) (o : Outcome) → (r : IsClusterOutcome p o) → Underway (length p.agents) r.agents (first_state p) o.ledger
+starts p o r = record {
+  stands = stands_anyhow p;
+  going = going_first p;
   number = refl;
   legal = tt;
   whole = refl;
   steps =
-      steps_of (length p.agents) o.ledger [] (subst (Parted (length p.agents)) (sym (played_all o)) (parted_of p o calm r)) (subst (LegalSoFar (length p.agents)) (sym (played_all o)) r.legal.0)
+      steps_of (length p.agents) o.ledger [] (subst (Parted (length p.agents)) (sym (played_all o)) (parted_of p o r)) (subst (LegalSoFar (length p.agents)) (sym (played_all o)) r.legal.0)
       (ap patient (played_all o) ∙ r.cluster.waits) (ap drained_last (played_all o) ∙ r.cluster.drains);
   strangers = λ a beyond. refl;
   waits_end = refl;

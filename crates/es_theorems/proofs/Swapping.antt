@@ -24,8 +24,8 @@ use Rattle.es_match.specs.Deeds.{Deed, Spends, deed}
 use Rattle.es_match.specs.Patience.{has_drained, may_do}
 use Rattle.es_match.proofs.Sleeping.{has_a_sleep}
 use Rattle.es_theorems.specs.Ahead.{Acts, Like, May}
-use Rattle.es_theorems.specs.Ready.{Goes, Ready}
-use Rattle.es_theorems.proofs.Beside.{Beside, beside, deed_beside, lists_beside, may_beside, ready_deed, ready_lists, ready_may, ready_asleep, asleep_beside}
+use Rattle.es_theorems.specs.Ready.{Goes, Lives, Ready}
+use Rattle.es_theorems.proofs.Beside.{Beside, beside, deed_beside, lists_beside, may_beside, ready_deed, ready_lists, ready_may, ready_asleep, ready_sleeps, asleep_beside, sleeps_beside}
 use Rattle.es_theorems.proofs.Choosing.{Skips, alone_goes, skips_is}
 use Rattle.es_cluster.proofs.Growing.{doer, ended_other, sleep_other, waits_other}
 use Rattle.es_theorems.proofs.Turning.{owes_nothing}
@@ -35,17 +35,19 @@ use Rattle.es_ledger.proofs.Numbered.{none_next, numbered}
 
 -- It stays ready
 
+pub lives_after : (k : ℕ) (l : Ledger) (a b : ℕ) (x : LedgerEvent) (d : Deed) → deed l x ≡ Some (b, d) → (a ≡ b → ⊥) → Lives k l a → Lives k (x ∷ l) a
+lives_after k l a b x d is other lives = record {
+  known = lives.known;
+  going = ended_other l x b a d is other ∙ lives.going;
+  paid = owes_nothing l x b d is;
+  undrained = ap (λ e. e || has_drained l) (drains_nothing l x b d is) ∙ lives.undrained;
+}
+
 asleep_other : (l : Ledger) (x : LedgerEvent) (b a : ℕ) (d : Deed) → deed l x ≡ Some (b, d) → (a ≡ b → ⊥) → asleep (x ∷ l) a ≡ asleep l a
 asleep_other l x b a d is other = sym (has_a_sleep (x ∷ l) a) ∙ ap is_some (sleep_other l x b a d is other) ∙ has_a_sleep l a
 
 pub goes_after : (k : ℕ) (l : Ledger) (a b : ℕ) (x : LedgerEvent) (d : Deed) → deed l x ≡ Some (b, d) → (a ≡ b → ⊥) → Goes k l a → Goes k (x ∷ l) a
-goes_after k l a b x d is other goes = record {
-  known = goes.known;
-  going = ended_other l x b a d is other ∙ goes.going;
-  awake = asleep_other l x b a d is other ∙ goes.awake;
-  paid = owes_nothing l x b d is;
-  undrained = ap (λ e. e || has_drained l) (drains_nothing l x b d is) ∙ goes.undrained;
-}
+goes_after k l a b x d is other goes = record { lives = lives_after k l a b x d is other goes.lives; awake = asleep_other l x b a d is other ∙ goes.awake }
 
 -- a port to which another agent than its sender did something, and not its receiver
 port_other : (l : Ledger) (x : LedgerEvent) (b s a : ℕ) (d : Deed) → deed l x ≡ Some (b, d) → (a ≡ b → ⊥) → (s ≡ b → ⊥) → port_of (x ∷ l) s a ≡ port_of l s a
@@ -192,7 +194,7 @@ pub record Swap (k : ℕ) (l : Ledger) (f x : LedgerEvent) : Type 0 where
 pub swap : (k : ℕ) (l : Ledger) (f x : LedgerEvent) (a b : ℕ) (d : Deed) → LegalSoFar k l → Goes k l a → Ready k l a f → May k l x → deed l x ≡ Some (b, d) → (a ≡ b → ⊥) → Swap k l f x
 swap k l f x a b d legal goes ready may is other = record {
   first = ready_may k l a f goes ready;
-  second = may_beside k l f x b d next undrained goes.paid is may;
+  second = may_beside k l f x b d next undrained goes.lives.paid is may;
   same = record {
     alike = record {
       opened = added (option_map_or {U = ℕ} (λ p. 1) (opens f) 0) (option_map_or {U = ℕ} (λ p. 1) (opens x) 0) (opened l);
@@ -204,14 +206,15 @@ swap k l f x a b d legal goes ready may is other = record {
           ap (λ o. newest_word o c i (word (x ∷ l) c i)) (plain.writes (x ∷ l))
           ∙ sym (ap (λ o. newest_word o c i (word (f ∷ l) c i)) (writes_beside k l f x b d next is)
           ∙ ap (λ o. newest_word (writes l x) c i (newest_word o c i (word l c i))) (plain.writes l));
-      waiters = ready_lists k (x ∷ l) a f (may.legal, legal) (goes_after k l a b x d is other goes).awake still ∙ sym (lists_beside k l f x b d next is comes);
-      asleep = λ c. ready_asleep k (x ∷ l) a c f (goes_after k l a b x d is other goes).awake still ∙ sym (asleep_beside k l f x b c next);
+      waiters = ready_lists k (x ∷ l) a f (may.legal, legal) up still ∙ sym (lists_beside k l f x b d next is comes);
+      asleep = λ c. ready_asleep k (x ∷ l) a c f up still ∙ sym (asleep_beside k l f x b c next);
       ends = λ c. or_swapped (is_end_of f c) (is_end_of x c) (ended l c);
       posted = counted_twice is_posted f x l;
       taken = counted_twice is_taken f x l;
       drained = counted_twice is_drained f x l;
     };
     waits = λ c. waits_swap k l f x a b c d legal ready next is other;
+    sleeps = λ c. ready_sleeps k (x ∷ l) a c f up still ∙ sym (sleeps_beside k l f x b c next);
     owes = owes_nothing (x ∷ l) f a later.0 later.1 ∙ sym (owes_nothing (f ∷ l) x b d (deed_beside k l f x b d next is ∙ is));
     drained = or_swapped (is_drained f) (is_drained x) (has_drained l);
   };
@@ -220,7 +223,10 @@ swap k l f x a b d legal goes ready may is other = record {
 }
   where
     comes : MayCome k l x
-    comes = subst (ComesNext k l x) goes.paid may.legal
+    comes = subst (ComesNext k l x) goes.lives.paid may.legal
+
+    up : asleep (x ∷ l) a ≡ false
+    up = (goes_after k l a b x d is other goes).awake
 
     plain : Plainly f
     plain = plainly k l a f ready
@@ -229,10 +235,10 @@ swap k l f x a b d legal goes ready may is other = record {
     next = beside k l f a b legal goes ready (λ same. other (sym same))
 
     still : Ready k (x ∷ l) a f
-    still = ready_after k l a b f x d legal is other goes.paid may ready
+    still = ready_after k l a b f x d legal is other goes.lives.paid may ready
 
     later : (g : Deed) × (deed (x ∷ l) f ≡ Some (a, g)) × (may_do (waits (x ∷ l) a) g ≡ true)
     later = ready_deed k (x ∷ l) a f still
 
     undrained : has_drained (f ∷ l) ≡ false
-    undrained = ap (λ e. e || has_drained l) plain.drains ∙ goes.undrained
+    undrained = ap (λ e. e || has_drained l) plain.drains ∙ goes.lives.undrained

@@ -1,8 +1,8 @@
 -- Turn after turn, until nothing follows that an agent does.
-use Rattle.std.proofs.Common.{◌≡◌, ℕ, zero, suc, ◌<◌, Bool, true, false, sym, ◌∙◌, ap, refl, subst, arith, List, [], ◌∷◌, ◌++◌, length, Some, None}
+use Rattle.std.proofs.Common.{◌≡◌, ℕ, zero, suc, ◌<◌, Bool, true, false, sym, ◌∙◌, ap, refl, subst, arith, List, [], ◌∷◌, ◌++◌, length, Some, None, inl, inr}
 use Rattle.es_event.specs.declared.ledger_event.LedgerEvent.{LedgerEvent}
 use Rattle.es_event.specs.declared.ledger_event.LedgerEvent.TheVariants.{Acted}
-use Rattle.es_event.specs.declared.ledger_event.Act.TheVariants.{Waiting as WaitingEvent}
+use Rattle.es_event.specs.declared.ledger_event.Act.TheVariants.{Waiting as WaitingEvent, Slept}
 use Rattle.es_event.specs.LegalLedger.{ComesNext}
 use Rattle.es_match.specs.Deeds.{Deed, Owned, deed, is_wait}
 use Rattle.es_match.specs.Cluster.{Account, account_of}
@@ -13,9 +13,9 @@ use Rattle.es_theorems.proofs.Doing.{meant}
 use Rattle.es_theorems.specs.Through.{Through}
 use Rattle.es_theorems.specs.Ahead.{played}
 use Rattle.es_theorems.specs.Underway.{Stepped, Underway}
-use Rattle.es_theorems.specs.Calm.{is_calm}
-use Rattle.es_theorems.proofs.Gathering.{a_wait}
+use Rattle.es_theorems.proofs.Gathering.{begins}
 use Rattle.es_theorems.proofs.Hearing.{wait_step}
+use Rattle.es_theorems.proofs.Resting.{sleep_step}
 use Rattle.es_theorems.proofs.Liking.{like, like_through}
 use Rattle.es_theorems.proofs.Stepping.{deed_step, turns_append}
 
@@ -26,9 +26,13 @@ step n all c x es i d wholes u mine = at (is_wait d) refl
     at false quick = deed_step n all c x es i d wholes u mine quick
     at true w =
         let its = (meant n c.ledger.history x i d (subst (ComesNext n c.ledger.history x) u.stands.undrained u.steps.0.legal) mine).event in
-        let wait = a_wait i d w (ap is_calm (sym its) ∙ u.steps.0.calm) in
-        let event : x ≡ Acted i (WaitingEvent wait.0) = its ∙ ap (event_of i) wait.1 in
-        subst (λ x. Stepped n all c (x ∷ es)) (sym event) (wait_step n all c es i wait.0 wholes (subst (λ x. Underway n all c (x ∷ es)) event u))
+        elim (begins d w) [
+          | inl b ↦ begun (Acted i (WaitingEvent b.0)) (its ∙ ap (event_of i) b.1) (wait_step n all c es i b.0 wholes)
+          | inr b ↦ begun (Acted i (Slept b.0 b.1 b.2)) (its ∙ ap (event_of i) b.3) (sleep_step n all c es i b.0 b.1 b.2 wholes)
+        ]
+      where
+        begun : (y : LedgerEvent) → x ≡ y → (Underway n all c (y ∷ es) → Stepped n all c (y ∷ es)) → Stepped n all c (x ∷ es)
+        begun y is next = subst (λ x. Stepped n all c (x ∷ es)) (sym is) (next (subst (λ x. Underway n all c (x ∷ es)) is u))
 
 pub through : (fuel n : ℕ) (all : List Account) (c : ClusterView) (es : List LedgerEvent) → ((i : ℕ) → i < n → IsWhole (account_of all i)) → Underway n all c es → length es < suc fuel → Through n all c es
 through fuel n all c [] wholes u less = record { turns = []; after = c; turned = refl; behind = []; on = u; idle = tt; like = like c.ledger.history; parts = λ a. refl }

@@ -88,7 +88,7 @@ use Rattle.es_cluster.proofs.Sleeping.{Rested, begun_at, by_rest, goes_on_at, re
 use Rattle.es_cluster.proofs.Tying.{access_ties, admitted_ties, buffer_ties, closed_ties, collected_ties, finished_ties, local_ties, notify_ties, opened_ties, opening_grows, opens, owned, post_grows, post_ties, receive_ties, refused_ties, spending_grows, takes, taking_grows}
 use Rattle.es_cluster.proofs.Mover.{asked_awaits, asked_ends, by_asked}
 use Rattle.es_theorems.proofs.Calm.{post_no_word, word_asked}
-use Rattle.es_theorems.proofs.Going.{AllHeld, Going, Standing, Turn}
+use Rattle.es_theorems.specs.Going.{AllHeld, Going, Standing, Turn}
 use Rattle.es_theorems.proofs.Holding.{held_taken, holds_it, front_plain, word_small}
 use Rattle.es_theorems.proofs.Rack.{apart_picked, held_picked, spend_all}
 
@@ -106,7 +106,7 @@ held_contains n l [] r held c = let less = c.1 in absurd (omega (arith, less))
 held_contains n l (t ∷ ts) r held (zero, less, same) = subst (λ r. holder_of l r.serial ≡ Some (n, r)) same held.0
 held_contains n l (t ∷ ts) r held (suc k, less, same) = held_contains n l ts r held.1 (k, omega (arith, less), same)
 
-held_at : (n o : ℕ) (l : Ledger) (ts : Tickets) (r : Row) → AllHeld n l ts → Some r ≡ at o ts → holder_of l r.serial ≡ Some (n, r)
+pub held_at : (n o : ℕ) (l : Ledger) (ts : Tickets) (r : Row) → AllHeld n l ts → Some r ≡ at o ts → holder_of l r.serial ≡ Some (n, r)
 held_at n o l [] r held is = cc
 held_at n o l (t ∷ ts) r held is = step (t.0 == o) is (held_at n o l ts r held.1)
   where

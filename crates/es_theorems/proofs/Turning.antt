@@ -154,16 +154,16 @@ began n s i w l m x fits patient = record {
   is = ap (λ t. cond t (sleep_by s i w) (sleep_of m n)) (eq-eqb n n refl);
 }
 
-its_sleep : (n : ℕ) (o p : Option Sleep) (f : Option Sleep → Deed) (g : Deed → Option Sleep) → ((p : Option Sleep) → g (f p) ≡ p) → ◌≡◌ {A = Owned} (Some (n, f o)) (Some (n, f p)) → o ≡ p
+pub its_sleep : (n : ℕ) (o p : Option Sleep) (f : Option Sleep → Deed) (g : Deed → Option Sleep) → ((p : Option Sleep) → g (f p) ≡ p) → ◌≡◌ {A = Owned} (Some (n, f o)) (Some (n, f p)) → o ≡ p
 its_sleep n o p f g back is = sym (back o) ∙ ap (λ x. option_map_or (λ q. g q.1) x None) is ∙ back p
 
-woken_by : Deed → Option Sleep
+-- the sleep that it ends
+abbrev pub woken_by : Deed → Option Sleep
 woken_by (Wakes p) = p
 woken_by (TimesOut p) = p
 woken_by _ = None
 
 next_done : (k n : ℕ) (l m : Ledger) (d : Deed) (x : DoneAll n l m) → LegalSoFar k m → MayCome k m (event_of n d) → deed m (event_of n d) ≡ Some (n, d) → Fits m n d → is_patient m (Some (n, d)) ≡ true → DoneAll n l (event_of n d ∷ m)
-unfolding woken_by
 next_done k n l m (Opens b w s) x legal may is fits patient = plainly n l m (Opens b w s) x is fits patient refl refl refl (λ up. (up, refl)) (λ e. e)
 next_done k n l m (Posts r c) x legal may is fits patient = plainly n l m (Posts r c) x is fits patient refl refl refl (λ up. (up, refl)) (λ e. e)
 next_done k n l m (Takes s c w) x legal may is fits patient = plainly n l m (Takes s c w) x is fits patient refl refl refl (λ up. (up, refl)) (λ e. e)
@@ -182,7 +182,7 @@ next_done k n l m (Wakes p) x legal may is fits patient =
     shown_next n l m (Wakes p) awake x is fits refl refl (may_end x.last m n p x.is may.0 (its_sleep n (sleep_of m n) p Wakes woken_by (λ p. refl) is), refl) (ap (λ t. cond t None (sleep_of m n)) (eq-eqb n n refl))
 next_done k n l m (TimesOut p) x legal may is fits patient =
     shown_next n l m (TimesOut p) awake x is fits refl refl (may_end x.last m n p x.is (listed_asleep k m n legal may.0) (its_sleep n (sleep_of m n) p TimesOut woken_by (λ p. refl) is), refl)
-        (ap (λ t. cond t None (sleep_of m n)) (eq-eqb n n refl))
+    (ap (λ t. cond t None (sleep_of m n)) (eq-eqb n n refl))
 
 done_next : (k n : ℕ) (l m : Ledger) (e : LedgerEvent) (d : Deed) → DoneAll n l m → LegalSoFar k m → MayCome k m e → deed m e ≡ Some (n, d) → is_patient m (deed m e) ≡ true → DoneAll n l (e ∷ m)
 done_next k n l m e d x legal may is patient =
@@ -236,12 +236,11 @@ CameSo b e r ds =
 came_so : (n : ℕ) (l m : Ledger) (b : AgentView) (e : Event) (r : Option Row) (ds : List Deed) → DeedsMeet b.history (part l n) (came_to b) → DeedsMeet (e ∷ b.history) (part m n) (came_to (after_event b r e)) → part m n ≡ part l n ++ ds → CameSo b e r ds
 came_so n l m b e r ds before now is =
     let met = came_next b.history (part l n) ds (came_to b) (came_to (after_event b r e)) e before (subst (λ p. DeedsMeet (e ∷ b.history) p (came_to (after_event b r e))) is now) in
-    let had = mapped _ (after (tickets b) (asked_by b e) ds) (came_to (after_event b r e)) met in
-    (
-        had.0,
-        had.1,
-        row_came b r (ticket_in (asked_by b e) ds) (ap (λ c. c.ever) had.2),
-        append_cancel_left (refused_senders b.plan b.history) (refused_in (asked_by b e) ds) (cond (is_refusal_asked (asked_by b e)) (awaited b.plan (job b.history)) []) (ap (λ c. c.refused) had.2),
+    let had = mapped _ (after (tickets b) (asked_by b e) ds) (came_to (after_event b r e)) met in (
+      had.0,
+      had.1,
+      row_came b r (ticket_in (asked_by b e) ds) (ap (λ c. c.ever) had.2),
+      append_cancel_left (refused_senders b.plan b.history) (refused_in (asked_by b e) ds) (cond (is_refusal_asked (asked_by b e)) (awaited b.plan (job b.history)) []) (ap (λ c. c.refused) had.2),
     )
 
 pub move : (n : ℕ) (l m : Ledger) (b : AgentView) (e : Event) (r : Option Row) → DeedsMeet b.history (part l n) (came_to b) → DeedsMeet (e ∷ b.history) (part m n) (came_to (after_event b r e)) → IsNext (with_row r b) e → (x : Done n l m) → Move n l b e r x.deeds

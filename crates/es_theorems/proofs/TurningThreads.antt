@@ -12,7 +12,6 @@ use Rattle.es_event.specs.LegalLedger.{LegalSoFar, owed}
 use Rattle.es_event.specs.Order.{phase}
 use Rattle.es_event.specs.Runs.{IsRunOver}
 use Rattle.es_event.specs.Waiters.{asleep}
-use Rattle.es_theorems.proofs.Sleepless.{awake_played}
 use Rattle.es_match.specs.Deeds.{Deed, part}
 use Rattle.es_match.specs.Asks.{between_jobs, ends_job}
 use Rattle.es_match.specs.Cluster.{Account, account_of, refused_senders}
@@ -22,6 +21,7 @@ use Rattle.es_record.specs.AgentView.{AgentView}
 use Rattle.es_agent.specs.Tickets.{is_ended}
 use Rattle.es_cluster.specs.Tied.{GrowsBy, IsSettled, came_to}
 use Rattle.es_cluster.specs.Turned.{WaitsRightly}
+use Rattle.es_cluster.specs.declared.member.Progress.{Progress}
 use Rattle.es_cluster.specs.declared.member.Progress.TheVariants.{Moved}
 use Rattle.es_cluster.proofs.Growing.{part_stays}
 use Rattle.es_cluster.specs.Ends.{IsWhole}
@@ -29,7 +29,8 @@ use Rattle.es_cluster.specs.State.{ClusterView}
 use Rattle.es_cluster.specs.Turns.{Turned}
 use Rattle.es_cluster.proofs.Standing.{by_place, set_here, within}
 use Rattle.es_cluster.proofs.Midway.{no_sleep}
-use Rattle.es_theorems.specs.Together.{StandsAt}
+use Rattle.es_theorems.specs.Going.{AllGoing}
+use Rattle.es_theorems.specs.Together.{AnyPlan, StandsAtBy}
 use Rattle.es_theorems.proofs.Running.{stands_after}
 use Rattle.es_theorems.proofs.Turning.{still_owes_nothing}
 use Rattle.es_theorems.specs.Ahead.{ahead, played}
@@ -38,7 +39,7 @@ use Rattle.es_theorems.specs.Underway.{Left, Turn, Underway}
 use Rattle.es_theorems.proofs.Gathering.{legal_far, steps_apart, steps_first}
 use Rattle.es_theorems.proofs.Playing.{ahead_append, last_played, part_played, patient_played}
 use Rattle.es_theorems.proofs.Unfolding.{unfolds}
-use Rattle.es_theorems.proofs.Calm.{calm_awake}
+use Rattle.es_theorems.proofs.Cluster.{all_going}
 
 -- what is left when the first are taken
 pub rest_is : (k : ℕ) (ds xs ys : List Deed) → xs ≡ take k ds → ds ≡ xs ++ ys → drop k ds ≡ ys
@@ -57,16 +58,22 @@ next_of a b ds e rest history whole left is =
     all : a.history ≡ reverse (e ∷ rest) ++ b.history
     all = left.history ∙ ap (λ es. reverse es ++ b.history) is
 
+-- its agents go on, whatever turn is taken
+pub going_after : (n : ℕ) (all : List Account) (c : ClusterView) (es : List LedgerEvent) (p : Progress) (i : ℕ) (d : ClusterView) → Underway n all c es → Turned p i c d → AllGoing d
+going_after n all c es p i d u turned =
+    all_going p i c d (λ j b is. let was = u.stands.each j b is in (was.number, was.tied)) (subst (λ k. LegalSoFar k c.ledger.history) (sym u.number) u.legal, u.stands.undrained) u.going turned
+
 pub turn : (n : ℕ) (all : List Account) (c : ClusterView) (xs ys : List LedgerEvent) (i : ℕ) (b : AgentView) (e : Event) (rest : List Event) → (u : Underway n all c (xs ++ ys)) → (here : slice_get c.agents i ≡ Some b)
     → (left : Left (account_of all i) b (ahead (xs ++ ys) c.ledger.history i)) → left.rest ≡ e ∷ rest → (x : Unfolded b e rest (ahead (xs ++ ys) c.ledger.history i) left.final)
     → GrowsBy i c.ledger.history (played xs c.ledger.history) → ((j : ℕ) → (j ≡ i → ⊥) → ahead xs c.ledger.history j ≡ []) → ahead xs c.ledger.history i ≡ take (deeds_asked b e) (ahead (xs ++ ys) c.ledger.history i)
-    → waits (played xs c.ledger.history) i ≡ None → has_ended (played xs c.ledger.history) i ≡ is_ended (phase (e ∷ b.history)) → WaitsRightly Moved b c.ledger (record { agents = c.ledger.agents; history = played xs c.ledger.history })
+    → waits (played xs c.ledger.history) i ≡ None → asleep (played xs c.ledger.history) i ≡ false → has_ended (played xs c.ledger.history) i ≡ is_ended (phase (e ∷ b.history)) → WaitsRightly Moved b c.ledger (record { agents = c.ledger.agents; history = played xs c.ledger.history })
     → Turn n all c i (grown b x.row e) (played xs c.ledger.history) ys rest
-turn n all c xs ys i b e rest u here left is x grows others deeds free over told = record {
+turn n all c xs ys i b e rest u here left is x grows others deeds free awake over told = record {
   after = after;
   turned = turned;
   on = record {
     stands = stands_after Moved i c after u.stands turned;
+    going = going_after n all c (xs ++ ys) Moved i after u turned;
     number = u.number;
     legal = legal;
     whole = refl;
@@ -91,7 +98,7 @@ turn n all c xs ys i b e rest u here left is x grows others deeds free over told
     after : ClusterView
     after = record { agents = slice_set c.agents i new; ledger = record { agents = c.ledger.agents; history = played xs m }; failed = false }
 
-    was : StandsAt c i b
+    was : StandsAtBy AnyPlan c i b
     was = u.stands.each i b here
 
     legal : LegalSoFar n (played xs m)
@@ -101,7 +108,7 @@ turn n all c xs ys i b e rest u here left is x grows others deeds free over told
     split = part_played xs m b.number ∙ ap (λ ds. part m b.number ++ ds) (ap (ahead xs m) was.number ∙ deeds)
 
     up : asleep (played xs m) b.number ≡ false
-    up = awake_played n xs m b.number (steps_first n xs ys m u.steps) (calm_awake b m was.calm was.tied)
+    up = ap (asleep (played xs m)) was.number ∙ awake
 
     settled : IsSettled new (played xs m)
     settled = record {

@@ -52,7 +52,7 @@ end_none t left b i n v ds e = let one = one_of (is_notify t b i n v) ds e in ap
     by (Notifies s j m k) is = refl
     by _ is = cc
 
-no_end : (t left : Tickets) (w : Asking) (ds : List Deed) → is_ending w ≡ false → after t w ds ≡ Some left → has_end ds ≡ false
+pub no_end : (t left : Tickets) (w : Asking) (ds : List Deed) → is_ending w ≡ false → after t w ds ≡ Some left → has_end ds ≡ false
 no_end t left (to_notify b i n v) ds off e = end_none t left b i n v ds (some_if_true _ t left e)
 no_end t left (to_sleep b i w r) ds off e = cc
 no_end t left nothing ds off e = rest_calm [] ds (met_calm t left nothing ds refl e)
@@ -155,9 +155,9 @@ settles_miss n l t v i w a r ds ends met row fit led =
         let word_is = its_word l s j old fits ∙ ap (λ s. word_at l s j) serial ∙ ap (word_at l (serial_at t v)) index in
         settled_as n l (serial_at t v) (unsigned_abs i) w a r ds false (is_listed l n) false (up_of (asleep l n) x.1.0) refl (ap (λ o. o == w) (sym word_is) ∙ not-true (old == w) last.1) ends
         (
-            ap (λ ds. did n ds l) x.0 ∙ ap (λ s. Accessed s j done old ∷ l) serial ∙ ap (λ j. Accessed (serial_at t v) j done old ∷ l) index
-            ∙ ap (λ done. Accessed (serial_at t v) (unsigned_abs i) done old ∷ l) (same_change Change.Keep done last.0)
-            ∙ ap (λ old. Accessed (serial_at t v) (unsigned_abs i) Change.Keep old ∷ l) word_is
+        ap (λ ds. did n ds l) x.0 ∙ ap (λ s. Accessed s j done old ∷ l) serial ∙ ap (λ j. Accessed (serial_at t v) j done old ∷ l) index
+        ∙ ap (λ done. Accessed (serial_at t v) (unsigned_abs i) done old ∷ l) (same_change Change.Keep done last.0)
+        ∙ ap (λ old. Accessed (serial_at t v) (unsigned_abs i) Change.Keep old ∷ l) word_is
         ) row
     at (Accesses s j done old) met (inr x) = cc
     at _ met x = cc
@@ -201,8 +201,8 @@ settles_timed_out n l t v i w a r ds ends met row fit led =
         let word_is = its_word_as l n k j u fits ∙ ap (λ s. word_at l s j) serial ∙ ap (word_at l (serial_at t v)) index in
         settled_as n l (serial_at t v) (unsigned_abs i) w a r ds false (is_listed l n) true (up_of (asleep l n) x.3) refl (eq-eqb (word_at l (serial_at t v) (unsigned_abs i)) w (sym word_is ∙ word_of)) ends
         (
-            ap (λ ds. did n ds l) x.4 ∙ ap (λ s. Acted n TimedOutEvent ∷ Acted n (Slept s j u) ∷ l) serial ∙ ap (λ j. Acted n TimedOutEvent ∷ Acted n (Slept (serial_at t v) j u) ∷ l) index
-            ∙ ap (λ u. Acted n TimedOutEvent ∷ Acted n (Slept (serial_at t v) (unsigned_abs i) u) ∷ l) word_of
+        ap (λ ds. did n ds l) x.4 ∙ ap (λ s. Acted n TimedOutEvent ∷ Acted n (Slept s j u) ∷ l) serial ∙ ap (λ j. Acted n TimedOutEvent ∷ Acted n (Slept (serial_at t v) j u) ∷ l) index
+        ∙ ap (λ u. Acted n TimedOutEvent ∷ Acted n (Slept (serial_at t v) (unsigned_abs i) u) ∷ l) word_of
         ) row
     at _ met x = cc
 
@@ -235,11 +235,10 @@ slept_through n l t left m v i w a r ds up found met came fit led =
         let u = x.2 in
         let began : is_sleep_at t v i w (Some (record { serial = k; index = j; word = u })) ≡ true = subst (λ o. is_sleep_at t v i w o ≡ true) x.5.0 met in
         let parts = and_parts (is_ticket t v k) (same_index i j && (u == w)) began in
-        let rest = and_parts (same_index i j) (u == w) parts.1 in
-        (
-            o,
-            x.4 ∙ ap (λ s. Sleeps s j u ∷ TimesOut o ∷ []) (its_serial t v k parts.0) ∙ ap (λ j. Sleeps (serial_at t v) j u ∷ TimesOut o ∷ []) (its_index i j rest.0)
-            ∙ ap (λ u. Sleeps (serial_at t v) (unsigned_abs i) u ∷ TimesOut o ∷ []) (eqb-true u w rest.1),
+        let rest = and_parts (same_index i j) (u == w) parts.1 in (
+          o,
+          x.4 ∙ ap (λ s. Sleeps s j u ∷ TimesOut o ∷ []) (its_serial t v k parts.0) ∙ ap (λ j. Sleeps (serial_at t v) j u ∷ TimesOut o ∷ []) (its_index i j rest.0)
+              ∙ ap (λ u. Sleeps (serial_at t v) (unsigned_abs i) u ∷ TimesOut o ∷ []) (eqb-true u w rest.1),
         )
     at _ met x = cc
 

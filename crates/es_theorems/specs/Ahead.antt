@@ -4,21 +4,19 @@ use Rattle.es_event.specs.declared.ledger_event.LedgerEvent.{LedgerEvent}
 use Rattle.es_event.specs.Ledger.{Ledger, ended, waits}
 use Rattle.es_event.specs.Waiters.{asleep}
 use Rattle.es_event.specs.LegalLedger.{ComesNext, owed}
-use Rattle.es_match.specs.Deeds.{Deed, Owned, deed, part_of}
+use Rattle.es_match.specs.Deeds.{Deed, Owned, deed, part_of, sleep_of}
 use Rattle.es_match.specs.Patience.{has_drained, may_do, may_stir}
 use Rattle.es_theorems.specs.Alike.{Alike}
-use Rattle.es_theorems.specs.Calm.{is_calm}
 
 -- who does it is one of n agents and has not ended, nothing was drained, and a wait or a sleep is ended by it
 abbrev pub Acts : ℕ → Ledger → Owned → Type 0
 Acts n l None = ⊤
 Acts n l (Some p) = (p.0 < n) × (ended l p.0 ≡ false) × (has_drained l ≡ false) × (may_do (waits l p.0) p.1 ≡ true) × (may_stir (asleep l p.0) p.1 ≡ true)
 
--- the event may come next, its agent may do it, and nobody sleeps by it
+-- the event may come next, and its agent may do it
 pub record May (n : ℕ) (l : Ledger) (e : LedgerEvent) : Type 0 where
   pub legal : ComesNext n l e (owed l)
   pub acts : Acts n l (deed l e)
-  pub calm : is_calm e ≡ true
 
 -- these events, the oldest first, may come one after the other
 abbrev pub Steps : ℕ → List LedgerEvent → Ledger → Type 0
@@ -35,10 +33,11 @@ abbrev pub ahead : List LedgerEvent → Ledger → ℕ → List Deed
 ahead [] l a = []
 ahead (e ∷ es) l a = part_of a (deed l e) ++ ahead es (e ∷ l) a
 
--- two histories tell the same, of waits too, and after both the same may come
+-- two histories tell the same, of waits and of sleeps too, and after both the same may come
 pub record Like (l m : Ledger) : Type 0 where
   pub alike : Alike l m
   pub waits : (a : ℕ) → waits l a ≡ waits m a
+  pub sleeps : (a : ℕ) → sleep_of l a ≡ sleep_of m a
   pub owes : owed l ≡ owed m
   pub drained : has_drained l ≡ has_drained m
 

@@ -1,9 +1,7 @@
--- Internal: events and deeds by which nobody sleeps, and an agent that never slept.
+-- Internal: acts and deeds by which nobody sleeps, and an agent that never slept.
 use Rattle.std.specs.Prelude.{ℕ, ◌≡◌, ◌||◌, Bool, true, false, List, [], ◌∷◌}
 use Rattle.es_event.specs.declared.ledger_event.Act.{Act}
 use Rattle.es_event.specs.declared.ledger_event.Act.TheVariants.{Waiting, Passed, Ended, Slept, Notified, Woke, TimedOut}
-use Rattle.es_event.specs.declared.ledger_event.LedgerEvent.{LedgerEvent}
-use Rattle.es_event.specs.declared.ledger_event.LedgerEvent.TheVariants.{Opened, Posted, Taken, Spent, Accessed, Drained, Acted}
 use Rattle.es_event.specs.Ledger.{Ledger}
 use Rattle.es_event.specs.Waiters.{asleep}
 use Rattle.es_match.specs.Deeds.{Deed, Opens, Posts, Takes, Spends, Accesses, Waits, Passes, Ends, Sleeps, Notifies, Wakes, TimesOut, part}
@@ -18,15 +16,6 @@ is_calm_act (Slept s i w) = false
 is_calm_act (Notified s i m k) = false
 is_calm_act Woke = false
 is_calm_act TimedOut = false
-
-abbrev pub is_calm : LedgerEvent → Bool
-is_calm (Opened b w s a) = true
-is_calm (Posted a r m) = true
-is_calm (Taken s r) = true
-is_calm (Spent s) = true
-is_calm (Accessed s i m old) = true
-is_calm (Acted a d) = is_calm_act d
-is_calm (Drained s r) = true
 
 -- the agent does by it
 abbrev pub of_sleep : Deed → Bool

@@ -13,6 +13,7 @@ pub mod Ahead
 pub mod Ready
 pub mod Found
 pub mod Grown
+pub mod Going
 pub mod Underway
 pub mod Through
 pub mod Unmoved

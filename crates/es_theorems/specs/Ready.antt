@@ -9,13 +9,17 @@ use Rattle.es_event.specs.Waiters.{asleep}
 use Rattle.es_event.specs.LegalLedger.{owed, skips}
 use Rattle.es_match.specs.Patience.{has_drained}
 
--- of k agents, a has not ended and is awake, and nothing was drained
-pub record Goes (k : ℕ) (l : Ledger) (a : ℕ) : Type 0 where
+-- of k agents, a has not ended, and nothing was drained
+pub record Lives (k : ℕ) (l : Ledger) (a : ℕ) : Type 0 where
   pub known : a < k
   pub going : ended l a ≡ false
-  pub awake : asleep l a ≡ false
   pub paid : owed l ≡ None
   pub undrained : has_drained l ≡ false
+
+-- and it is awake
+pub record Goes (k : ℕ) (l : Ledger) (a : ℕ) : Type 0 where
+  pub lives : Lives k l a
+  pub awake : asleep l a ≡ false
 
 -- agent a may spend a ticket of its own, or end, or skip its job
 abbrev pub Ready : ℕ → Ledger → ℕ → LedgerEvent → Type 0

@@ -1,5 +1,4 @@
--- To believe: what is said of every outcome of a run in threads, mostly of plans whose agents never sleep; the contract of a function that does
--- nothing.
+-- To believe: what is said of every outcome of a run in threads; the contract of a function that does nothing.
 use Rattle.std.specs.Prelude.{ℕ, ◌≡◌, true, List, reverse}
 use Rattle.std.specs.List.{list_all}
 use Rattle.es_event.specs.declared.outcome.Outcome.{Outcome}
@@ -13,12 +12,11 @@ use Rattle.es_cluster.specs.Moves.{RunsToEnd, all_over, with_drained}
 use Rattle.es_cluster.specs.State.{ClusterView, first_state}
 use Rattle.es_cluster.specs.Turns.{AllTurned}
 use Rattle.es_theorems.specs.Alike.{SameEnd}
-use Rattle.es_theorems.specs.Sleepless.{never_sleeps}
 use Rattle.es_outcome.specs.Outcomes.{IsClusterOutcome}
 
 -- turns of the plan's agents, one after the other and from the first, after which all have ended; and what that ends in, once the messages
 -- that nobody took are taken out: the names and the histories of this outcome, and a ledger that tells the same, so the same report; and in
--- the ledger each agent did the same, in the same order, but for its waits
+-- the ledger each agent did the same, in the same order, but for its waits and the beginnings of its sleeps
 pub record ComesByTurns (p : Plan) (o : Outcome) : Type 0 where
   pub turns : List ℕ
   pub end : ClusterView
@@ -30,9 +28,9 @@ pub record ComesByTurns (p : Plan) (o : Outcome) : Type 0 where
   pub reported : report o ≡ report outcome
   pub parts : (a : ℕ) → part (reverse o.ledger) a ≡ part (reverse outcome.ledger) a
 
--- Whatever agents that never sleep come to beside each other, they come to by turns too: threads refine turns.
+-- Whatever agents come to beside each other, they come to by turns too: threads refine turns.
 abbrev pub ThreadsRefineTurns : Type 0
-ThreadsRefineTurns = (plan : Plan) (o : Outcome) → never_sleeps plan ≡ true → IsClusterOutcome plan o → ComesByTurns plan o
+ThreadsRefineTurns = (plan : Plan) (o : Outcome) → IsClusterOutcome plan o → ComesByTurns plan o
 
 -- And what turns come to, once all has been drained, is an outcome of agents that run beside each other.
 abbrev pub TurnsAreOutcomes : Type 0
@@ -51,10 +49,9 @@ abbrev pub TurnsEndAlike : Plan → Type 0
 TurnsEndAlike plan =
     (ns ms : List ℕ) (c d : ClusterView) (o q : Outcome) → AllTurned ns (first_state plan) c → EndsIn (with_drained c) o → AllTurned ms (first_state plan) d → EndsIn (with_drained d) q → SameEnd o q
 
--- So where all turns of a plan whose agents never sleep end alike, all its runs in threads do: who asks whether threads can differ has to look
--- at turns alone.
+-- So where all turns of a plan end alike, all its runs in threads do: who asks whether threads can differ has to look at turns alone.
 abbrev pub ThreadsEndAsTurnsDo : Type 0
-ThreadsEndAsTurnsDo = (plan : Plan) (o q : Outcome) → never_sleeps plan ≡ true → TurnsEndAlike plan → IsClusterOutcome plan o → IsClusterOutcome plan q → SameEnd o q
+ThreadsEndAsTurnsDo = (plan : Plan) (o q : Outcome) → TurnsEndAlike plan → IsClusterOutcome plan o → IsClusterOutcome plan q → SameEnd o q
 
 -- what turns of the plan report is the same, whatever turns they are
 abbrev pub TurnsReportAlike : Plan → Type 0
@@ -63,4 +60,4 @@ TurnsReportAlike plan =
 
 -- The same of reports alone, which do not tell in which order blocks were opened.
 abbrev pub ThreadsReportAsTurnsDo : Type 0
-ThreadsReportAsTurnsDo = (plan : Plan) (o q : Outcome) → never_sleeps plan ≡ true → TurnsReportAlike plan → IsClusterOutcome plan o → IsClusterOutcome plan q → report o ≡ report q
+ThreadsReportAsTurnsDo = (plan : Plan) (o q : Outcome) → TurnsReportAlike plan → IsClusterOutcome plan o → IsClusterOutcome plan q → report o ≡ report q

@@ -1,5 +1,5 @@
--- To believe: what is said of runs by turns as a whole: that two come to the same, where agents never sleep; that agents go on, and that each
--- plan comes to an end. Each is the contract of a function of its name that does nothing.
+-- To believe: what is said of runs by turns as a whole: that two come to the same; that agents go on, and that each plan comes to an end. Each
+-- is the contract of a function of its name that does nothing.
 use Rattle.std.specs.Prelude.{ℕ, ◌≡◌, ◌<◌, true, false, None, List, length}
 use Rattle.std.specs.List.{list_all}
 use Rattle.es_event.specs.declared.outcome.Outcome.{Outcome}

@@ -15,7 +15,8 @@ use Rattle.es_cluster.specs.Tied.{came_to}
 use Rattle.es_cluster.specs.declared.member.Progress.TheVariants.{Moved}
 use Rattle.es_cluster.specs.State.{ClusterView}
 use Rattle.es_cluster.specs.Turns.{AllTurned, Turned}
-use Rattle.es_theorems.specs.Together.{Stands}
+use Rattle.es_theorems.specs.Together.{AnyPlan, StandsBy}
+use Rattle.es_theorems.specs.Going.{AllGoing}
 use Rattle.es_theorems.specs.Ahead.{Like, Steps, ahead, played}
 use Rattle.es_theorems.specs.Grown.{deeds_asked}
 
@@ -30,7 +31,8 @@ pub record Left (a : Account) (b : AgentView) (ds : List Deed) : Type 0 where
 
 -- after the turns so far these events may follow, and by them each agent comes to its account
 pub record Underway (n : ℕ) (all : List Account) (c : ClusterView) (es : List LedgerEvent) : Type 0 where
-  pub stands : Stands c
+  pub stands : StandsBy AnyPlan c
+  pub going : AllGoing c
   pub number : c.ledger.agents ≡ n
   pub legal : LegalSoFar n c.ledger.history
   pub whole : c.failed ≡ false

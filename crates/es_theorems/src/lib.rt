@@ -1,8 +1,8 @@
-//! What holds of runs as a whole, of plans whose agents never sleep (Atomics.wait and notify). By turns an agent's next
-//! event, with what it does in the ledger, is settled by what it is and did and by what the ledger says, so two runs of
-//! one plan come to the same end; each agent that is asked takes a turn, so each plan comes to an end. A run in threads
-//! comes to nothing that turns do not come to. Agents that share no words, or whose accesses to words messages order, do
-//! the same, whatever their order. And of every plan: a sleeper's block stays.
+//! What holds of runs as a whole. By turns an agent's next event, with what it does in the ledger, is settled by what it
+//! is and did and by what the ledger says, so two runs of one plan come to the same end; each agent that is asked takes a
+//! turn, so each plan comes to an end. A run in threads comes to nothing that turns do not come to. A sleeper's block
+//! stays. And of plans whose agents never sleep (Atomics.wait and notify): those that share no words, or whose accesses
+//! to words messages order, do the same, whatever their order.
 #![tactic(auto)]
 
 mod races;

@@ -1,5 +1,4 @@
-//! What holds of runs in threads and of turns; but for three laws, of plans whose agents never sleep. Each law is the
-//! contract of a function that does nothing.
+//! What holds of runs in threads and of turns, of any plan. Each law is the contract of a function that does nothing.
 
 ghost use Rattle.es_theorems.specs.ThreadsLaws.{ByTurnsIsAnOutcome, EachPlanHasAnOutcome, ThreadsEndAsTurnsDo, ThreadsRefineTurns, ThreadsReportAsTurnsDo, TurnsAreOutcomes};
 
@@ -10,13 +9,13 @@ pub fn threads_refine_turns()
     ensures { ThreadsRefineTurns }
 {}
 
-/// And what a list of turns comes to, of any plan, once the messages that nobody took are taken out, is an outcome of
+/// And what a list of turns comes to, once the messages that nobody took are taken out, is an outcome of
 /// agents that run beside each other.
 pub fn turns_are_outcomes()
     ensures { TurnsAreOutcomes }
 {}
 
-/// So is what any plan's run by turns comes to, of which its report by turns is.
+/// So is what a plan's run by turns comes to, of which its report by turns is.
 pub fn by_turns_is_an_outcome()
     ensures { ByTurnsIsAnOutcome }
 {}

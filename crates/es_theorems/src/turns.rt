@@ -1,5 +1,5 @@
-//! What holds of runs by turns: of plans whose agents never sleep that two come to the same, and of every plan that
-//! agents go on and come to an end. Each law is the contract of a function that does nothing.
+//! What holds of runs by turns: that two of one plan come to the same, and that agents go on and come to an end. Each law
+//! is the contract of a function that does nothing.
 
 ghost use Rattle.es_theorems.specs.TurnsLaws.{EachAgentTakesATurn, EachPlanComesToAnEnd, NoClusterIsStuck, TurnsAreOneRun, TurnsHaveOneEnd, WhatIsLeftComesToAnEnd, WhatIsLeftHasOneEnd};
 

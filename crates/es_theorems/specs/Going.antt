@@ -1,5 +1,5 @@
 -- Internal: an agent that goes on, and what a turn of it comes to.
-use Rattle.std.proofs.Common.{ℕ, ◌≡◌, ◌≤◌, true, [], ◌∷◌, Some, reverse}
+use Rattle.std.specs.Prelude.{ℕ, ◌≡◌, ◌≤◌, ⊤, true, [], ◌∷◌, Some, reverse, slice_get}
 use Rattle.es_event.specs.declared.row.Row.{Row}
 use Rattle.es_event.specs.Identities.{made}
 use Rattle.es_event.specs.Ledger.{Ledger, holder_of}
@@ -15,21 +15,22 @@ use Rattle.es_agent.specs.Tickets.{tickets}
 use Rattle.es_cluster.specs.Tied.{GrowsBy, IsTied}
 use Rattle.es_cluster.specs.Turned.{IsSeated, IsTiedAfter, NamesOthers, WaitsRightly}
 use Rattle.es_cluster.specs.declared.member.Progress.{Progress}
+use Rattle.es_cluster.specs.State.{ClusterView}
 use Rattle.es_cluster.specs.Turns.{Takes}
 
 -- each of these tickets is agent n's
 abbrev pub AllHeld : ℕ → Ledger → Tickets → Type 0
-AllHeld n l [] = Unit {0}
+AllHeld n l [] = ⊤
 AllHeld n l (t ∷ ts) = (holder_of l t.1.serial ≡ Some (n, t.1)) × AllHeld n l ts
 
 -- none has this serial
 abbrev pub OtherThan : ℕ → Tickets → Type 0
-OtherThan k [] = Unit {0}
+OtherThan k [] = ⊤
 OtherThan k (t ∷ ts) = (t.1.serial ≡ k → ⊥) × OtherThan k ts
 
 -- no two have one serial
 abbrev pub Apart : Tickets → Type 0
-Apart [] = Unit {0}
+Apart [] = ⊤
 Apart (t ∷ ts) = OtherThan t.1.serial ts × Apart ts
 
 -- agent n holds nothing else
@@ -48,6 +49,10 @@ pub record Going (b : AgentView) (l : Ledger) : Type 0 where
   pub rising : is_rising_from 0 (reverse b.over) ≡ true
   pub newest_is : newest b.over ≤ made b.history
   pub rack : Racked b.number l (tickets b)
+
+-- so does each agent
+abbrev pub AllGoing : ClusterView → Type 0
+AllGoing c = (n : ℕ) (b : AgentView) → slice_get c.agents n ≡ Some b → Going b c.ledger.history
 
 -- it has its place and its part in the ledger, and names others alone
 pub record Standing (b : AgentView) (l : LedgerView) : Type 0 where
