@@ -1,6 +1,6 @@
 //! The agent: its calls, each of which records one event or shows what stands.
 
-ghost use Rattle.std.specs.Prelude.{◌≡◌, ◌+◌, ◌↔◌, ℕ, [], true, false, IsTrue, Option, List, Some, None, pos, is_some, length, reverse, IfOk, IfErr, OnOk, OnErr};
+ghost use Rattle.std.specs.Prelude.{◌≡◌, ◌+◌, ◌↔◌, ◌&&◌, not, ℕ, [], true, false, IsTrue, Option, List, Some, None, pos, is_some, length, reverse, IfOk, IfErr, OnOk, OnErr};
 ghost use Rattle.es_value.specs.Values.{identity};
 ghost use Rattle.es_event.specs.Access.{wait_text};
 ghost use Rattle.es_event.specs.Identities.{gone, is_in, made};
@@ -18,7 +18,7 @@ ghost use Rattle.es_record.specs.AgentView.{Records};
 ghost use Rattle.es_event.specs.Later.{snapshot};
 ghost use Rattle.es_record.specs.Graph.{AreMarksOf, AreLateMarks};
 ghost use Rattle.std.specs.Arc.{arc_value};
-ghost use Rattle.es_rules.specs.Needs.{need, asks_nobody, asks_marks, asks_copy, asks_late_marks, asks_message, asks_closing, TakesTicket, TakesWord, TakesWaitResult, TakesDone};
+ghost use Rattle.es_rules.specs.Needs.{need, asks_nobody, asks_marks, asks_copy, asks_late_marks, asks_message, asks_closing, runs_for_ledger, TakesTicket, TakesWord, TakesWaitResult, TakesDone};
 ghost use Rattle.es_rules.specs.Shown.{shown};
 ghost use Rattle.es_agent.specs.Tickets.{is_command, tickets, RecordsNext, Collects, Finishes, Admits, Receives, DoesWith, Skips};
 ghost use Rattle.es_agent.specs.Failing.{FailsToAdmit};
@@ -35,7 +35,7 @@ use es_record::AgentRecord;
 use es_registry::Tally;
 use es_rules::{
     Need, Stop, answered_done, answered_wait, answered_word, asks, asks_nobody, asks_somebody,
-    begun, do_alone, next_event, received, skipped,
+    begun, do_alone, is_for_ledger, next_event, received, skipped,
 };
 use es_ticket::{LedgerName, Rack, Ticket};
 use es_value::{Id, NoMemory, Value};
@@ -196,20 +196,35 @@ impl<L: LedgerName> AgentCore<L> {
         ensures ok { OnOk result (RecordsNext self.old self.new) }
         ensures err { OnErr result (self.new ≡ self.old) }
     {
-        let _ = self.perform_alone()?;
+        let _ = self.perform_due(true)?;
         Ok(())
     }
 
-    /// Takes the next step, where it asks nobody else, and records its one event: whether it did. Where it asks
-    /// somebody, or there is no memory, nothing has changed.
+    /// Takes the next step, where it asks nobody else, and records its one event: whether it did. A command that asks
+    /// the ledger, unless a rule refuses it, is not tried: `next` tells what it asks for. Where the step was not taken,
+    /// or there is no memory, nothing has changed.
     pub fn perform_alone(&mut self) -> Result<bool, NoMemory>
-        ensures asks { IfOk result (λ done. IsTrue done ↔ (need self.old ≡ asks_nobody)) }
+        ensures asks { IfOk result (λ done. IsTrue done ↔ ((need self.old ≡ asks_nobody) × (runs_for_ledger (due self.old.plan self.old.history) ≡ false))) }
+        ensures done { IfOk result (λ done. IsTrue done → RecordsNext self.old self.new) }
+        ensures left { IfOk result (λ done. done ≡ false → self.new ≡ self.old) }
+        ensures err { OnErr result (self.new ≡ self.old) }
+    {
+        self.perform_due(false)
+    }
+
+    // Takes the next step, where it asks nobody else: whether it did. Commands that ask the ledger, unless a rule refuses
+    // them, are tried where that is asked for.
+    fn perform_due(&mut self, tries_ledger: bool) -> Result<bool, NoMemory>
+        ensures asks { IfOk result (λ done. IsTrue done ↔ ((need self.old ≡ asks_nobody) × ((not tries_ledger && runs_for_ledger (due self.old.plan self.old.history)) ≡ false))) }
         ensures done { IfOk result (λ done. IsTrue done → RecordsNext self.old self.new) }
         ensures left { IfOk result (λ done. done ≡ false → self.new ≡ self.old) }
         ensures err { OnErr result (self.new ≡ self.old) }
     {
         let record = self.record.read();
         if let Due::Run(catches, command) = record.due() {
+            if !tries_ledger && is_for_ledger(command) {
+                return Ok(false);
+            }
             if asks_somebody(record, command) {
                 return Ok(false);
             }

@@ -5,9 +5,10 @@ ghost use Rattle.std.specs.Prelude.{◌≡◌, ◌↔◌, ◌||◌, ⊤, false, 
 ghost use Rattle.std.specs.Arc.{arc_value};
 ghost use Rattle.es_event.specs.Commands.{collects, posts};
 ghost use Rattle.es_event.specs.Later.{is_later};
+ghost use Rattle.es_event.specs.Order.{due};
 ghost use Rattle.es_agent.specs.Later.{IsLaterCopy};
 ghost use Rattle.es_agent.specs.Tickets.{Empties};
-ghost use Rattle.es_rules.specs.Needs.{need, asks_nobody, asks_copy, asks_nothing};
+ghost use Rattle.es_rules.specs.Needs.{need, asks_nobody, asks_copy, asks_nothing, runs_for_ledger};
 ghost use Rattle.es_rules.specs.Shown.{shown};
 ghost use Rattle.es_cluster.specs.Turned.{AreAskedFor, AsksMarks, beforehand, WaitsRightly, IsSeated, GrowsByOne, Proceeds, NamesOthers, OthersStay, ProceedsBeside};
 
@@ -43,10 +44,10 @@ impl<L: Planned> Member<L> {
         matches!(self.core.next(), Need::Ended)
     }
 
-    /// Its next event, where that asks nobody else: whether it happened. Where it asks somebody, or there is
-    /// no memory, nothing has changed.
+    /// Its next event, where that asks nobody else and is no command that asks the ledger unless a rule refuses it:
+    /// whether it happened. Where it did not, or there is no memory, nothing has changed.
     pub fn perform(&mut self) -> Result<bool, NoMemory>
-        ensures asks { IfOk result (λ done. IsTrue done ↔ (need self.old.core ≡ asks_nobody)) }
+        ensures asks { IfOk result (λ done. IsTrue done ↔ ((need self.old.core ≡ asks_nobody) × (runs_for_ledger (due self.old.core.plan self.old.core.history) ≡ false))) }
         ensures moves { IfOk result (λ done. IsTrue done → GrowsByOne self.old.core self.new.core) }
         ensures left { IfOk result (λ done. done ≡ false → self.new ≡ self.old) }
         ensures err { OnErr result (self.new ≡ self.old) }

@@ -1,6 +1,6 @@
 //! A turn of an agent: what it asks for is done in the ledger, and it takes the answer.
 
-ghost use Rattle.std.specs.Prelude.{◌≡◌, ◌<◌, ◌↔◌, false, IsTrue, OnErr, IfOk};
+ghost use Rattle.std.specs.Prelude.{◌≡◌, ◌<◌, false, IsTrue, OnErr, IfOk};
 ghost use Rattle.es_record.specs.Graph.{AreMarksOf, AreLateMarks};
 ghost use Rattle.es_rules.specs.Needs.{need, asks_nobody, asks_marks, asks_copy, asks_late_marks, asks_closing};
 ghost use Rattle.es_cluster.specs.Members.{member_of};
@@ -23,7 +23,7 @@ use hearing::hear;
 use words::do_at_word;
 
 /// One event of the agent, or none where it waits, sleeps or has ended. Most events ask nobody, so one that does not is tried
-/// first.
+/// first, but for commands that likely ask the ledger.
 pub(crate) fn turn<L: LedgerName>(
     core: &mut AgentCore<L>,
     stake: &mut Stake<L>,
@@ -37,7 +37,7 @@ pub(crate) fn turn<L: LedgerName>(
     ensures tied { IfOk result (λ p. StaysTied p core.old ledger.old core.new ledger.new) }
     ensures keeps { Keeps core.old ledger.old core.new stake.new ledger.new }
 {
-    if perform(core, stake, ledger)? {
+    if perform_alone(core, stake, ledger)? {
         return Ok(Progress::Moved);
     }
     ask(core, stake, ledger)
@@ -58,10 +58,7 @@ pub(crate) fn ask<L: LedgerName>(
     ensures keeps { Keeps core.old ledger.old core.new stake.new ledger.new }
 {
     match core.next() {
-        Need::Local => {
-            let _ = perform(core, stake, ledger)?;
-            Ok(Progress::Moved)
-        }
+        Need::Local => perform(core, stake, ledger),
         Need::Collect => collect(core, stake, ledger),
         Need::Later => begin_later(core, stake, ledger),
         Need::Finish => finish(core, stake, ledger),
@@ -86,14 +83,32 @@ pub(crate) fn ask<L: LedgerName>(
     }
 }
 
-// A step that asks nobody else, where one is due: whether it was taken.
+// A step that asks nobody else.
 fn perform<L: LedgerName>(
+    core: &mut AgentCore<L>,
+    stake: &Stake<L>,
+    ledger: &LedgerCore<L>,
+) -> Result<Progress, NoMemory>
+    requires due { need core.old ≡ asks_nobody }
+    requires ready { IsHeld core.old stake.now ledger.now }
+    ensures ok { IfOk result (λ p. Proceeds p (member_of core.old stake.now) (member_of core.new stake.now)) }
+    ensures told { IfOk result (λ p. WaitsRightly p core.old ledger.now ledger.now) }
+    ensures err { OnErr result (core.new ≡ core.old) }
+    ensures tied { IfOk result (λ p. StaysTied p core.old ledger.now core.new ledger.now) }
+    ensures keeps { Keeps core.old ledger.now core.new stake.now ledger.now }
+{
+    let _ = core.history();
+    core.perform()?;
+    Ok(Progress::Moved)
+}
+
+// The same, where one is due that likely asks nobody: whether it was taken.
+fn perform_alone<L: LedgerName>(
     core: &mut AgentCore<L>,
     stake: &Stake<L>,
     ledger: &LedgerCore<L>,
 ) -> Result<bool, NoMemory>
     requires ready { IsHeld core.old stake.now ledger.now }
-    ensures asks { IfOk result (λ done. IsTrue done ↔ (need core.old ≡ asks_nobody)) }
     ensures ok { IfOk result (λ done. IsTrue done → Proceeds Progress.Moved (member_of core.old stake.now) (member_of core.new stake.now)) }
     ensures told { IfOk result (λ done. IsTrue done → WaitsRightly Progress.Moved core.old ledger.now ledger.now) }
     ensures left { IfOk result (λ done. done ≡ false → core.new ≡ core.old) }

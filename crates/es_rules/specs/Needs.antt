@@ -46,6 +46,18 @@ asked (Atomic a) vs = at_word (first vs) (index_of a vs) (task_of a vs)
 asked (Post a y) vs = Some (posts_to a (first vs))
 asked _ vs = None
 
+-- no other command asks the ledger for anything
+abbrev pub is_for_ledger : Command → Bool
+is_for_ledger (SharedArrayBuffer to n) = true
+is_for_ledger (Atomic a) = true
+is_for_ledger (Post a y) = true
+is_for_ledger _ = false
+
+-- such a command is due
+abbrev pub runs_for_ledger : Due → Bool
+runs_for_ledger (run x c) = is_for_ledger c
+runs_for_ledger _ = false
+
 -- a command that is refused asks for nothing
 abbrev pub unless_refused : Option Refusal → Option Request → Option Request
 unless_refused None r = r

@@ -20,6 +20,7 @@ use std::alloc::Global;
 
 /// The due command, done with this word of shared memory, or with how many agents a notify took (The Atomics Object). It
 /// fails for want of memory alone.
+#[inline(always)]
 pub fn answered_word(agent: &AgentRecord, word: u32) -> Result<Done, NoMemory>
     requires { TakesWord (need agent.now) }
     ensures done { IfOk result (λ d. IsDone agent.now (Answer.Gives (Value.Number (pos word))) (Event.Did d)) }
@@ -61,6 +62,7 @@ pub fn answered_done(agent: &AgentRecord) -> Result<Done, NoMemory>
 }
 
 /// The due command, done with this answer.
+#[inline(always)]
 fn done(agent: &AgentRecord, answer: Answer) -> Result<Done, NoMemory>
     requires { MayGive agent.now answer }
     ensures done { IfOk result (λ d. IsDone agent.now answer (Event.Did d)) }

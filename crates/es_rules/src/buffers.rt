@@ -77,6 +77,7 @@ fn index_below(index: i64, words: u32) -> Option<usize>
 
 /// The buffer object and the index of a word, and what is done there (ValidateIntegerTypedArray,
 /// ValidateAtomicAccess), or the first refusal that applies.
+#[inline(always)]
 pub(crate) fn word_at(agent: &AgentRecord, atomic: &Atomic) -> Result<(Id, usize, Task), Refusal>
     ensures ok { IfOk result (λ p. (refusal_at agent.now atomic.now ≡ None) × (object_of (var (receivers agent.now.plan.jobs) agent.now.history atomic.now.buffer) ≡ Some p.0) × (p.1 ≡ unsigned_abs (number_or_0 (number_at agent.now atomic.now.index))) × (p.2 ≡ task_here agent.now atomic.now)) }
     ensures err { IfErr result (λ code. refusal_at agent.now atomic.now ≡ Some code) }
@@ -91,6 +92,7 @@ pub(crate) fn word_at(agent: &AgentRecord, atomic: &Atomic) -> Result<(Id, usize
 }
 
 /// What is done at a word, or the first refusal among the operands.
+#[inline(always)]
 fn task_at(agent: &AgentRecord, atomic: &Atomic) -> Result<Task, Refusal>
     ensures ok { IfOk result (λ t. (first_refusal (map of_number (numbers_at agent.now atomic.now.operation)) ≡ None) × (t ≡ task_here agent.now atomic.now)) }
     ensures err { IfErr result (λ code. first_refusal (map of_number (numbers_at agent.now atomic.now.operation)) ≡ Some code) }

@@ -4,7 +4,7 @@ ghost use Rattle.std.specs.Prelude.{◌≡◌, ◌↔◌, false, None};
 ghost use Rattle.std.specs.Option.{option_map};
 ghost use Rattle.es_event.specs.Later.{collects_now, snapshot};
 ghost use Rattle.es_event.specs.Order.{run, due_end};
-ghost use Rattle.es_rules.specs.Needs.{asks_nobody, need, need_of, request};
+ghost use Rattle.es_rules.specs.Needs.{asks_nobody, is_for_ledger, need, need_of, request};
 ghost use Rattle.es_rules.specs.Shown.{requested, shown};
 
 use crate::requests::{block_request, post_request, word_request};
@@ -76,6 +76,7 @@ pub fn asks(agent: &AgentRecord) -> Need<'_>
 }
 
 /// What the agent asks for where this command is due. While a later collection is open, another is refused.
+#[inline(always)]
 fn for_command<'a>(agent: &'a AgentRecord, command: &Command) -> Need<'a>
     ensures { shown result ≡ need_of agent.now (run None command.now) }
 {
@@ -141,6 +142,7 @@ pub fn asks_somebody(agent: &AgentRecord, command: &Command) -> bool
 }
 
 /// What the command asks the ledger for, unless a rule refuses it.
+#[inline(always)]
 fn request_of<'a>(agent: &'a AgentRecord, command: &Command) -> Option<Request<'a>>
     ensures { option_map requested result ≡ request agent.now command.now }
 {
@@ -151,4 +153,15 @@ fn request_of<'a>(agent: &'a AgentRecord, command: &Command) -> Option<Request<'
         // no other command asks the ledger
         _ => None,
     }
+}
+
+/// Whether the command asks the ledger for something, unless a rule refuses it.
+#[inline(always)]
+pub fn is_for_ledger(command: &Command) -> bool
+    ensures { result ≡ is_for_ledger command.now }
+{
+    matches!(
+        command,
+        Command::SharedArrayBuffer { .. } | Command::Atomic(_) | Command::Post { .. }
+    )
 }

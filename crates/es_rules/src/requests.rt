@@ -28,6 +28,7 @@ pub(crate) fn block_request<'a>(agent: &'a AgentRecord, words: u32) -> Option<Re
 }
 
 /// What is done at the word at an index of a buffer object's block.
+#[inline(always)]
 pub(crate) fn word_request<'a>(agent: &'a AgentRecord, atomic: &Atomic) -> Option<Request<'a>>
     ensures { option_map requested result ≡ unless_refused (refusal_at agent.now atomic.now)
         (at_word (var (receivers agent.now.plan.jobs) agent.now.history atomic.now.buffer) (number_or_0 (number_at agent.now atomic.now.index)) (task_here agent.now atomic.now)) }

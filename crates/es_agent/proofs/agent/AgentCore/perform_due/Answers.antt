@@ -2,7 +2,7 @@ use Rattle.std.proofs.Common.{ap, sym, ◌∙◌}
 use Rattle.es_event.specs.Due.{shown}
 use Rattle.es_event.specs.Later.{snapshot}
 use Rattle.es_agent.proofs.Opening.{opens_none}
-use Rattle.es_agent.proofs.agent.AgentCore.perform_alone.Goals as goal
+use Rattle.es_agent.proofs.agent.AgentCore.perform_due.Goals as goal
 
 pub record_done-requires-clause-opens : goal.record_done-requires-clause-opens
 record_done-requires-clause-opens g c =
