@@ -1,6 +1,7 @@
 pub mod Accounts
 mod Calls
 pub mod Bridge
+mod ByOne
 pub mod Calming
 pub mod Counting
 pub mod Deciding

@@ -4,7 +4,7 @@ use Rattle.std.specs.Option.{option_map_or}
 use Rattle.es_event.specs.declared.plan.AgentPlan.{AgentPlan}
 use Rattle.es_event.specs.History.{History}
 use Rattle.es_event.specs.Jobs.{job, on_of}
-use Rattle.es_event.specs.Ledger.{Ledger, waits}
+use Rattle.es_event.specs.Ledger.{Ledger}
 use Rattle.es_event.specs.Sharing.{Buffers}
 use Rattle.es_match.specs.Deeds.{Deed, part}
 use Rattle.es_match.specs.Patience.{patient, drained_last}

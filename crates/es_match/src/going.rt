@@ -3,20 +3,20 @@
 ghost use Rattle.std.specs.Prelude.{◌≡◌, true, take, drop, length, IfOk, OnOk};
 ghost use Rattle.std.specs.Option.{option_map};
 ghost use Rattle.es_match.specs.Asks.{to_open, to_receive, to_empty, to_close};
-ghost use Rattle.es_match.specs.Meets.{after, gives, nothing_came, pair, some_if, sole, within, add_ticket};
+ghost use Rattle.es_match.specs.Meets.{after, came_after, gives, is_one, nothing_came, pair, some_if, sole, within, add_ticket};
 ghost use Rattle.es_match.specs.Goes.{asked, goes};
 ghost use Rattle.es_match.specs.DeedsShown.{all_shown, shown};
 ghost use Rattle.es_match.specs.Split.{stretches_said};
-ghost use Rattle.es_match.specs.Shown.{asking, said};
+ghost use Rattle.es_match.specs.Shown.{asking, meets_one, said};
 
 use crate::came::Came;
 use crate::deed::Deed;
-use crate::meets::{compares, is_access, is_length, is_pass, is_plain, is_post, is_refusal};
+use crate::meets::{compares, is_length, is_plain, is_refusal};
+use crate::one_deed::OneDeed;
 use crate::rest::Rest;
 use crate::spending::are_spent;
 use crate::stretch::Stretch;
 use crate::tickets::{BufferTickets, object_in, serials_of, serials_within};
-use crate::waited::{is_end_of_sleep, is_miss, is_notify};
 use crate::want::{Want, asks_nothing, ends_job, want_at};
 use es_event::{Body, Event, Row};
 use es_value::{Id, IdSet, NoMemory, Value};
@@ -156,48 +156,12 @@ pub(crate) fn after(
             right,
             answer,
         } => Ok(deeds.is_empty() && compares(tickets, *left, *right, *answer)),
-        Want::Accessing {
-            buffer,
-            index,
-            access,
-            answer,
-        } => match one(deeds) {
-            Some(deed) => Ok(is_access(tickets, *buffer, *index, *access, *answer, &deed)),
-            None => Ok(false),
-        },
-        Want::Missing {
-            buffer,
-            index,
-            word,
-        } => match one(deeds) {
-            Some(deed) => Ok(is_miss(tickets, *buffer, *index, *word, &deed)),
-            None => Ok(false),
-        },
-        Want::Sleeping {
-            buffer,
-            index,
-            word,
-            ended,
-        } => match one(deeds) {
-            Some(deed) => Ok(is_end_of_sleep(tickets, *buffer, *index, *word, *ended, &deed)),
-            None => Ok(false),
-        },
-        Want::Notifying {
-            buffer,
-            index,
-            count,
-            answer,
-        } => match one(deeds) {
-            Some(deed) => Ok(is_notify(tickets, *buffer, *index, *count, *answer, &deed)),
-            None => Ok(false),
-        },
-        Want::Posting { receiver, value } => match one(deeds) {
-            Some(deed) => Ok(is_post(tickets, *receiver, *value, &deed)),
+        Want::OneDeed(wanted) => match one(deeds) {
+            Some(deed) => Ok(wanted.is_met(tickets, &deed)),
             None => Ok(false),
         },
         Want::Receiving { sender, value } => receive(tickets, *sender, value, deeds),
         Want::Refusal => Ok(two(deeds).is_some_and(|p| is_refusal(&p.0, &p.1))),
-        Want::Passing { sender } => Ok(one(deeds).is_some_and(|d| is_pass(*sender, &d))),
         Want::Emptying { ids } => empty(alloc, tickets, ids, deeds),
         Want::Closing => close(alloc, tickets, deeds),
     }
@@ -244,14 +208,7 @@ fn asked(tickets: &BufferTickets, want: &Want<'_>) -> usize
 {
     match want {
         Want::Nothing | Want::Length { .. } | Want::SameBlock { .. } => 0,
-        Want::Opening { .. }
-        | Want::Accessing { .. }
-        | Want::Missing { .. }
-        | Want::Sleeping { .. }
-        | Want::Notifying { .. }
-        | Want::Posting { .. }
-        | Want::Receiving { .. }
-        | Want::Passing { .. } => 1,
+        Want::Opening { .. } | Want::OneDeed(_) | Want::Receiving { .. } => 1,
         Want::Refusal => 2,
         Want::Emptying { ids } => count_within(ids, tickets.as_slice()),
         Want::Closing => tickets.as_slice().len() + 1,
@@ -277,6 +234,59 @@ fn take_next<'a>(
     Ok(())
 }
 
+/// Takes the next deed out of those that are left. Whether there is one, and it meets what is asked.
+#[inline(always)]
+fn meets_next(tickets: &BufferTickets, wanted: &OneDeed<'_>, rest: &mut Rest<'_, '_>) -> bool
+    ensures met { result ≡ is_one (meets_one tickets.now wanted.now) (take 1 rest.old) }
+    ensures left { rest.new ≡ drop 1 rest.old }
+{
+    match rest.next() {
+        Some(deed) => wanted.is_met(tickets, &deed),
+        None => false,
+    }
+}
+
+/// Takes the deeds that are wanted out of those that are left, in place of these, and takes in what comes with them. Whether
+/// they are what is wanted.
+#[inline(never)]
+fn take_wanted<'a>(
+    alloc: Global,
+    came: &mut Came,
+    deeds: &mut Vec<Deed<'a>>,
+    rest: &mut Rest<'a, '_>,
+    want: Want<'_>,
+) -> Result<bool, NoMemory>
+    ensures met { IfOk result (λ b. some_if b came.new ≡ came_after came.old (asking want.entry) (take (asked came.old.tickets (asking want.entry)) rest.old)) }
+    ensures left { OnOk result (rest.new ≡ drop (asked came.old.tickets (asking want.entry)) rest.old) }
+{
+    take_next(deeds, rest, asked(&came.tickets, &want))?;
+    came.take_in(alloc, &want, deeds.as_slice())
+}
+
+/// The same. Most events ask for one deed that brings nothing, or for none, which needs no list.
+#[inline(always)]
+fn go_on<'a>(
+    alloc: Global,
+    came: &mut Came,
+    deeds: &mut Vec<Deed<'a>>,
+    rest: &mut Rest<'a, '_>,
+    want: Want<'_>,
+) -> Result<bool, NoMemory>
+    ensures met { IfOk result (λ b. some_if b came.new ≡ came_after came.old (asking want.entry) (take (asked came.old.tickets (asking want.entry)) rest.old)) }
+    ensures left { OnOk result (rest.new ≡ drop (asked came.old.tickets (asking want.entry)) rest.old) }
+{
+    match want {
+        Want::OneDeed(wanted) => Ok(meets_next(&came.tickets, &wanted, rest)),
+        Want::Length { buffer, answer } => Ok(is_length(&came.tickets, buffer, answer)),
+        Want::SameBlock {
+            left,
+            right,
+            answer,
+        } => Ok(compares(&came.tickets, left, right, answer)),
+        _ => take_wanted(alloc, came, deeds, rest, want),
+    }
+}
+
 /// What has come to the agent, if the deeds of its part are what the history asks.
 pub(crate) fn goes(
     alloc: Global,
@@ -295,8 +305,7 @@ pub(crate) fn goes(
             continue;
         }
         let want = want_at(between, event);
-        take_next(&mut deeds, &mut rest, asked(&came.tickets, &want))?;
-        let is_met = came.take_in(alloc, &want, deeds.as_slice())?;
+        let is_met = go_on(alloc, &mut came, &mut deeds, &mut rest, want)?;
         if !is_met {
             return Ok(None);
         }

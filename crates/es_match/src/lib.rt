@@ -13,6 +13,7 @@ mod lines;
 mod mail;
 mod matching;
 mod meets;
+mod one_deed;
 mod parts;
 mod rest;
 mod spending;

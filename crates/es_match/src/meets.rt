@@ -12,12 +12,14 @@ use crate::tickets::BufferTickets;
 use es_event::{Access, Body};
 use es_value::{Value, same_value};
 
+#[inline(always)]
 pub(crate) fn same_index(index: i64, other: usize) -> bool
     ensures { result ≡ same_index index other }
 {
     index >= 0 && index as u64 == other as u64
 }
 
+#[inline(always)]
 pub(crate) fn is_number(value: Option<&Value>, number: usize) -> bool
     ensures { result ≡ is_number (said value.entry) number }
 {
@@ -36,6 +38,7 @@ fn is_boolean(value: Option<&Value>, truth: bool) -> bool
     }
 }
 
+#[inline(always)]
 pub(crate) fn is_ticket(tickets: &BufferTickets, buffer: Option<&Value>, serial: u64) -> bool
     ensures { result ≡ is_ticket tickets.now (said buffer.entry) serial }
 {
@@ -75,6 +78,7 @@ pub(crate) fn compares(
 }
 
 /// Whether the deed does this to a word, over the one that is the answer.
+#[inline(always)]
 pub(crate) fn is_access(
     tickets: &BufferTickets,
     buffer: Option<&Value>,
@@ -102,6 +106,7 @@ pub(crate) fn is_access(
 }
 
 /// Whether the answer is the word that was there, where the command gives it.
+#[inline(always)]
 fn answers(access: Access, answer: Option<&Value>, old: u32) -> bool
     ensures { result ≡ answers access (said answer.entry) old }
 {

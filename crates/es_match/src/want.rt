@@ -8,8 +8,9 @@ ghost use Rattle.es_match.specs.Shown.{asking, said};
 ghost use Rattle.es_event.specs.declared.event.Answer.{Answer as Answered};
 ghost use Rattle.es_event.specs.Answers.{answer_said};
 
+use crate::one_deed::OneDeed;
 use crate::word_want::want_at_word;
-use es_event::{Access, AnswerRef, Command, Event, Refusal, WaitResult};
+use es_event::{AnswerRef, Command, Event, Refusal};
 use es_value::{Id, Value};
 
 /// What an event asks of the ledger. An answer is the value that the command gave; none stands for
@@ -34,38 +35,8 @@ pub(crate) enum Want<'a> {
         right: Option<&'a Value>,
         answer: Option<&'a Value>,
     },
-    /// To do this to a word.
-    Accessing {
-        buffer: Option<&'a Value>,
-        index: i64,
-        access: Access,
-        answer: Option<&'a Value>,
-    },
-    /// To find another word than this.
-    Missing {
-        buffer: Option<&'a Value>,
-        index: i64,
-        word: u32,
-    },
-    /// To sleep where the word is this one; the sleep ended so.
-    Sleeping {
-        buffer: Option<&'a Value>,
-        index: i64,
-        word: u32,
-        ended: WaitResult,
-    },
-    /// To take so many out of a WaiterList at most.
-    Notifying {
-        buffer: Option<&'a Value>,
-        index: i64,
-        count: u32,
-        answer: Option<&'a Value>,
-    },
-    /// To post a value.
-    Posting {
-        receiver: usize,
-        value: Option<&'a Value>,
-    },
+    /// What one deed meets.
+    OneDeed(OneDeed<'a>),
     /// To take a message that gives a value.
     Receiving {
         sender: usize,
@@ -73,10 +44,6 @@ pub(crate) enum Want<'a> {
     },
     /// To take a message, and to spend its ticket.
     Refusal,
-    /// To skip a job.
-    Passing {
-        sender: usize,
-    },
     /// To spend the tickets of these objects.
     Emptying {
         ids: &'a [Id],
@@ -115,6 +82,7 @@ fn may_ask(command: &Command) -> bool
 }
 
 /// What an event asks of the ledger, where a job is under way or not.
+#[inline(always)]
 pub(crate) fn want_at<'a>(between: bool, event: &'a Event) -> Want<'a>
     ensures { asking result ≡ asks between event.now }
 {
@@ -138,24 +106,27 @@ pub(crate) fn want_at<'a>(between: bool, event: &'a Event) -> Want<'a>
         Event::Emptied { ids } => Want::Emptying {
             ids: ids.as_slice(),
         },
-        Event::Skipped { sender, .. } => Want::Passing { sender: *sender },
+        Event::Skipped { sender, .. } => Want::OneDeed(OneDeed::Passing { sender: *sender }),
         Event::Closed => Want::Closing,
     }
 }
 
 /// Whether no job is under way after the event.
+#[inline(always)]
 pub fn ends_job(event: &Event) -> bool
     ensures { result ≡ ends_job event.now }
 {
     matches!(event, Event::JobEnded | Event::Skipped { .. })
 }
 
+#[inline(always)]
 fn wants_room(code: Refusal) -> bool
     ensures { result ≡ wants_room code }
 {
     matches!(code, Refusal::TooManyValues)
 }
 
+#[inline(always)]
 fn given(answer: AnswerRef<'_>) -> Option<&Value>
     ensures { said result ≡ given (answer_said answer.entry) }
 {
@@ -165,6 +136,7 @@ fn given(answer: AnswerRef<'_>) -> Option<&Value>
     }
 }
 
+#[inline(always)]
 pub(crate) fn first(values: &[Value]) -> Option<&Value>
     ensures { said result ≡ first values.now }
 {
@@ -177,6 +149,7 @@ fn second(values: &[Value]) -> Option<&Value>
     values.get(1)
 }
 
+#[inline(always)]
 fn want_of<'a>(command: &Command, values: &'a [Value], answer: Option<&'a Value>) -> Want<'a>
     ensures { (r : Answered) → said answer.entry ≡ given r → asking result ≡ asks_did command.now values.now r }
 {
@@ -194,11 +167,11 @@ fn want_of<'a>(command: &Command, values: &'a [Value], answer: Option<&'a Value>
             right: second(values),
             answer,
         },
-        Command::Atomic(atomic) => want_at_word(atomic, values, answer),
-        Command::Post { receiver, .. } => Want::Posting {
+        Command::Atomic(atomic) => Want::OneDeed(want_at_word(atomic, values, answer)),
+        Command::Post { receiver, .. } => Want::OneDeed(OneDeed::Posting {
             receiver: *receiver,
             value: first(values),
-        },
+        }),
         _ => Want::Nothing,
     }
 }
