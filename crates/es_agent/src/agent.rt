@@ -9,6 +9,7 @@ ghost use Rattle.es_event.specs.WeakRefs.{kept};
 ghost use Rattle.es_event.specs.declared.row.Row.{Row as RowSaid};
 ghost use Rattle.es_event.specs.Sharing.{row_at};
 ghost use Rattle.es_event.specs.Registrations.{live, awaiting, unregistered, taken, tally as tally_said};
+ghost use Rattle.es_event.specs.Follows.{refused_now};
 ghost use Rattle.es_event.specs.Live.{Honest};
 ghost use Rattle.es_event.specs.Order.{due, run, is_cleaning_up};
 ghost use Rattle.es_event.specs.declared.command.Command.{Command as CommandSaid};
@@ -28,14 +29,14 @@ mod reach;
 
 use crate::admission::{AdmitFault, enter};
 use crate::recorder::Recorder;
-use es_event::{AgentPlan, Answer, Due, Event, Row, Sequence, WaitResult, catch_refusal};
+use es_event::{AgentPlan, Answer, Due, Event, Refusal, Row, Sequence, WaitResult, catch_refusal};
 use es_mark::{Graph, Marks};
 use es_parmark::Snapshot;
 use es_record::AgentRecord;
 use es_registry::Tally;
 use es_rules::{
     Need, Stop, answered_done, answered_wait, answered_word, asks, asks_nobody, asks_somebody,
-    begun, do_alone, is_for_ledger, next_event, received, skipped,
+    begun, caught, do_alone, is_for_ledger, next_event, received, skipped,
 };
 use es_ticket::{LedgerName, Rack, Ticket};
 use es_value::{Id, NoMemory, Value};
@@ -214,6 +215,7 @@ impl<L: LedgerName> AgentCore<L> {
 
     // Takes the next step, where it asks nobody else: whether it did. Commands that ask the ledger, unless a rule refuses
     // them, are tried where that is asked for.
+    #[inline(always)]
     fn perform_due(&mut self, tries_ledger: bool) -> Result<bool, NoMemory>
         ensures asks { IfOk result (λ done. IsTrue done ↔ ((need self.old ≡ asks_nobody) × ((not tries_ledger && runs_for_ledger (due self.old.plan self.old.history)) ≡ false))) }
         ensures done { IfOk result (λ done. IsTrue done → RecordsNext self.old self.new) }
@@ -221,7 +223,7 @@ impl<L: LedgerName> AgentCore<L> {
         ensures err { OnErr result (self.new ≡ self.old) }
     {
         let record = self.record.read();
-        if let Due::Run(catches, command) = record.due() {
+        if let Due::Run(_, command) = record.due() {
             if !tries_ledger && is_for_ledger(command) {
                 return Ok(false);
             }
@@ -233,19 +235,28 @@ impl<L: LedgerName> AgentCore<L> {
                 Ok(()) => self.record.record_done(done)?,
                 Err(Stop::Refused(code)) => {
                     drop(done);
-                    match catches {
-                        Some(to) => {
-                            let caught = catch_refusal(record.alloc(), to, code)?;
-                            self.record.record_done(caught)?;
-                        }
-                        None => self.record.record(Event::Refused { code })?,
-                    }
+                    self.refuse(code)?;
                 }
                 Err(Stop::NoMemory) => return Err(NoMemory),
             }
             return Ok(true);
         }
         self.perform_between()
+    }
+
+    /// Records that the due command is refused, or that this is caught. It stands alone, so that a command that is done makes
+    /// no place for it. Where there is no memory nothing has changed.
+    #[inline(never)]
+    fn refuse(&mut self, code: Refusal) -> Result<(), NoMemory>
+        requires due { (x : Option (List ℕ)) × (c : CommandSaid) × (due self.old.plan self.old.history ≡ run x c) }
+        requires refused { (x : Option (List ℕ)) (c : CommandSaid) → due self.old.plan self.old.history ≡ run x c → refused_now self.old.over (receivers self.old.plan.jobs) self.old.history c ≡ Some code }
+        ensures ok { OnOk result (RecordsNext self.old self.new) }
+        ensures err { OnErr result (self.new ≡ self.old) }
+    {
+        match caught(self.record.read(), code)? {
+            Some(done) => self.record.record_done(done),
+            None => self.record.record(Event::Refused { code }),
+        }
     }
 
     /// The same, where no command is due.

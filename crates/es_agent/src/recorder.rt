@@ -97,6 +97,17 @@ impl Recorder {
         if self.kept.is_none() {
             return self.record.record_done(done);
         }
+        self.record_done_noting(done)
+    }
+
+    /// The same, where a copy is kept.
+    #[inline(never)]
+    fn record_done_noting(&mut self, done: Done) -> Result<(), NoMemory>
+        requires next { IsNext self.old (Event.Did done) }
+        requires opens { begins_later (Event.Did done) ≡ false }
+        ensures ok { OnOk result (Records self.old (Event.Did done) self.new) }
+        ensures err { OnErr result (self.new ≡ self.old) }
+    {
         self.record_noting(Event::Did(done))
     }
 
@@ -115,7 +126,7 @@ impl Recorder {
         self.record_noting(event)
     }
 
-    /// The same, where a copy is kept: what a deref gives is noted.
+    /// Records an event, where a copy is kept: what a deref gives is noted.
     #[inline(never)]
     fn record_noting(&mut self, event: Event) -> Result<(), NoMemory>
         requires next { IsNext self.old event }

@@ -89,6 +89,7 @@ pub enum Change {
 
 impl Edit {
     /// What becomes of the word, where it is this one.
+    #[inline(always)]
     pub fn on(self, word: u32) -> Change
         ensures { result ≡ change_by self word }
     {
@@ -139,6 +140,7 @@ impl Modification {
 
 impl Change {
     /// Whether the same becomes of a word.
+    #[inline(always)]
     pub fn is_same(self, other: Change) -> bool
         ensures { result ≡ is_same_change self other }
     {
@@ -152,6 +154,7 @@ impl Change {
 }
 
 /// The word of 32 bits that is written for a number (ECMA-262, ToUint32).
+#[inline(always)]
 pub fn to_uint32(number: i64) -> u32
     ensures { result ≡ to_uint32 number }
 {

@@ -153,6 +153,7 @@ impl Atomic {
     }
 
     /// The word's place, where these are the values that the command takes; 0 where one of them is no number.
+    #[inline(always)]
     pub fn index_of(&self, values: &[Value]) -> i64
         ensures { result ≡ index_of self.now values.now }
     {
@@ -160,6 +161,7 @@ impl Atomic {
     }
 
     /// What is done to the word, where these are the values that the command takes.
+    #[inline(always)]
     pub fn access_of(&self, values: &[Value]) -> Access
         ensures { result ≡ access_of self.now values.now }
     {
@@ -171,6 +173,7 @@ impl Atomic {
     }
 
     /// What is done to the word, by these words of its operands.
+    #[inline(always)]
     pub fn access_by(&self, first: u32, second: u32) -> Access
         ensures { result ≡ record { edit = edit_of self.now.operation first second; gives_word = is_some (given_to self.now.operation) } }
     {
@@ -182,10 +185,10 @@ impl Atomic {
     }
 
     /// What is done at the word, where these are the values that the command takes.
+    #[inline(always)]
     pub fn task_of(&self, values: &[Value]) -> Task
         ensures { result ≡ task_of self.now values.now }
     {
-        let access = self.access_of(values);
         match &self.parts.operation {
             Operation::Wait { .. } => {
                 let rest = self.parts.index.rest(without_first(values));
@@ -196,7 +199,7 @@ impl Atomic {
                 let rest = self.parts.index.rest(without_first(values));
                 Task::Notify(most_taken(count.as_ref(), rest))
             }
-            _ => Task::Access(access),
+            _ => Task::Access(self.access_of(values)),
         }
     }
 
@@ -209,6 +212,7 @@ impl Atomic {
 }
 
 /// The number, and 0 where there is none.
+#[inline(always)]
 fn number_or_0(number: Result<i64, Refusal>) -> i64
     ensures { result ≡ number_or_0 number }
 {
@@ -217,6 +221,7 @@ fn number_or_0(number: Result<i64, Refusal>) -> i64
 
 impl Operation {
     /// The words of its operands, where these are the values of their variables.
+    #[inline(always)]
     fn words(&self, values: &[Value]) -> (u32, u32)
         ensures first { result.0 ≡ word_at 0 (numbers_of (operands_of self.now) values.now) }
         ensures second { result.1 ≡ word_at 1 (numbers_of (operands_of self.now) values.now) }
@@ -242,6 +247,7 @@ impl Operation {
     }
 
     /// What is done to the word, by these words of its operands.
+    #[inline(always)]
     fn edit(&self, first: u32, second: u32) -> Edit
         ensures { result ≡ edit_of self.now first second }
     {
@@ -256,6 +262,7 @@ impl Operation {
     }
 
     /// The variable that the word is assigned that was there, if one is.
+    #[inline(always)]
     pub fn assigns(&self) -> Option<&Name>
         ensures { option_copied result ≡ given_to self.now }
     {
@@ -313,6 +320,7 @@ impl Operation {
 }
 
 /// The word of an operand, where these are the values of the variables from it on.
+#[inline(always)]
 fn word_of(operand: &Operand, values: &[Value]) -> u32
     ensures { result ≡ to_uint32_said (number_or_0 (operand_number operand.now values.now)) }
 {

@@ -16,7 +16,6 @@ ghost use Rattle.es_record.specs.Newest.{newest};
 ghost use Rattle.es_event.specs.Cursor.{IsAt};
 ghost use Rattle.es_event.specs.Due.{shown};
 ghost use Rattle.es_event.specs.Later.{snapshot};
-ghost use Rattle.es_tables.specs.Plain.{IsPlain};
 ghost use Rattle.es_tables.specs.Effects.{Advances, IsQuiet};
 ghost use Rattle.es_tables.specs.Changes.{table_change};
 ghost use Rattle.es_tables.specs.Ready.{CanApply};
@@ -240,7 +239,8 @@ impl AgentRecord {
         self.record_with(event, None)
     }
 
-    /// Records a command that was done, which comes next; where there is no memory nothing has changed.
+    /// Records a command that was done, which comes next; where there is no memory nothing has changed. One that opens no
+    /// block, posts nothing and opens no later collection, as most do, moves the tables and the cursor alone.
     #[inline(always)]
     pub fn record_done(&mut self, done: Done) -> Result<(), NoMemory>
         requires { IsNext self.old (Event.Did done) }
@@ -248,20 +248,8 @@ impl AgentRecord {
         ensures err { OnErr result (self.new ≡ self.old) }
     {
         if !is_plain(done.command()) {
-            return self.record_with(Event::Did(done), None);
+            return self.record_counted(done);
         }
-        self.record_plain(done)
-    }
-
-    /// The same, of a command that opens no block, posts nothing and opens no later collection, as most do: it
-    /// moves the tables and the cursor alone.
-    #[inline(always)]
-    fn record_plain(&mut self, done: Done) -> Result<(), NoMemory>
-        requires next { IsNext self.old (Event.Did done) }
-        requires plain { IsPlain done.0 }
-        ensures ok { OnOk result (Records self.old (Event.Did done) self.new) }
-        ensures err { OnErr result (self.new ≡ self.old) }
-    {
         if let Err(error) = advance_done(&mut self.events, &mut self.tables, &done) {
             drop(done);
             return Err(error);
@@ -269,6 +257,16 @@ impl AgentRecord {
         self.cursor.pass_command(&self.plan);
         self.events.append(Event::Did(done));
         Ok(())
+    }
+
+    /// The same, of a command that may do one of these.
+    #[inline(never)]
+    fn record_counted(&mut self, done: Done) -> Result<(), NoMemory>
+        requires { IsNext self.old (Event.Did done) }
+        ensures ok { OnOk result (Records self.old (Event.Did done) self.new) }
+        ensures err { OnErr result (self.new ≡ self.old) }
+    {
+        self.record_with(Event::Did(done), None)
     }
 
     /// Records an event that comes next and by which a buffer object comes to the agent: the answer of

@@ -41,6 +41,7 @@ fn buffer_in(agent: &AgentRecord, value: &Value) -> Result<Id, Refusal>
 }
 
 /// How many words the block of a buffer object has.
+#[inline(always)]
 fn words(agent: &AgentRecord, buffer: Id) -> u32
     ensures { result ≡ option_map_or (λ r. r.words) (row_at agent.now.over buffer) 0 }
 {
@@ -61,6 +62,7 @@ fn block(agent: &AgentRecord, buffer: Id) -> u64
 }
 
 /// The index, where a block of so many words has a word there.
+#[inline(always)]
 fn index_below(index: i64, words: u32) -> Option<usize>
     ensures { result ≡ (if is_index index words then Some (unsigned_abs index) else None) }
 {
@@ -117,6 +119,7 @@ fn count_at(agent: &AgentRecord, count: &Option<Operand>) -> u32
 }
 
 /// The words of an operation's operands, or the first refusal among them.
+#[inline(always)]
 fn words_at(agent: &AgentRecord, operation: &Operation) -> Result<(u32, u32), Refusal>
     ensures ok { IfOk result (λ p. (first_refusal (map of_number (numbers_at agent.now operation.now)) ≡ None) × (p.0 ≡ word_of_number 0 (numbers_at agent.now operation.now)) × (p.1 ≡ word_of_number 1 (numbers_at agent.now operation.now))) }
     ensures err { IfErr result (λ code. first_refusal (map of_number (numbers_at agent.now operation.now)) ≡ Some code) }
@@ -143,6 +146,7 @@ fn words_at(agent: &AgentRecord, operation: &Operation) -> Result<(u32, u32), Re
 }
 
 /// The number of an operand, or why it has none.
+#[inline(always)]
 fn number_at(agent: &AgentRecord, operand: &Operand) -> Result<i64, Refusal>
     ensures { result ≡ number_at agent.now operand.now }
 {
@@ -189,6 +193,7 @@ pub(crate) fn postable(agent: &AgentRecord, value: &Value) -> Result<(), Refusal
     }
 }
 
+#[inline(never)]
 pub(crate) fn new_buffer(agent: &AgentRecord) -> Result<Answer, Stop>
     ensures { Completes (refuse_or (first_refusal (room agent.now.history ∷ room_for_block agent.now.history ∷ [])) (Answer.Gives (Value.Object (made agent.now.history + 1)))) result }
 {
@@ -197,6 +202,7 @@ pub(crate) fn new_buffer(agent: &AgentRecord) -> Result<Answer, Stop>
     Ok(Answer::Gives(Value::Object(object)))
 }
 
+#[inline(never)]
 pub(crate) fn length(agent: &AgentRecord, buffer: &Value) -> Result<Answer, Stop>
     requires there { has_identity_in (gone agent.now.history) buffer.now ≡ false }
     ensures { Completes (refuse_or (first_refusal (of_buffer agent.now.history buffer.now ∷ [])) (Answer.Gives (Value.Number (pos (words_of agent.now.over buffer.now))))) result }
@@ -205,6 +211,7 @@ pub(crate) fn length(agent: &AgentRecord, buffer: &Value) -> Result<Answer, Stop
     Ok(Answer::Gives(Value::Number(i64::from(words))))
 }
 
+#[inline(never)]
 pub(crate) fn same_block(agent: &AgentRecord, left: &Value, right: &Value) -> Result<Answer, Stop>
     requires left { has_identity_in (gone agent.now.history) left.now ≡ false }
     requires right { has_identity_in (gone agent.now.history) right.now ≡ false }
@@ -216,6 +223,7 @@ pub(crate) fn same_block(agent: &AgentRecord, left: &Value, right: &Value) -> Re
 }
 
 /// The refusal of a command on a word that asks the ledger for nothing.
+#[inline(never)]
 pub(crate) fn access(agent: &AgentRecord, atomic: &Atomic) -> Result<Answer, Stop>
     requires local { request agent.now (Command.Atomic atomic.now) ≡ None }
     ensures { Completes (refuse_or (refusal_at agent.now atomic.now) (answer_at atomic.now.operation silence)) result }
@@ -226,6 +234,7 @@ pub(crate) fn access(agent: &AgentRecord, atomic: &Atomic) -> Result<Answer, Sto
     }
 }
 
+#[inline(never)]
 pub(crate) fn post(agent: &AgentRecord, value: &Value) -> Result<Answer, Stop>
     requires there { has_identity_in (gone agent.now.history) value.now ≡ false }
     ensures { Completes (refuse_or (first_refusal (of_postable agent.now.history value.now ∷ room_for_post agent.now.history ∷ [])) Answer.Nothing) result }

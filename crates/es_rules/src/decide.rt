@@ -1,14 +1,15 @@
 //! The next event of an agent, decided from its record alone.
 
-ghost use Rattle.std.specs.Prelude.{◌≡◌, ◌+◌, ◌∷◌, ◌↔◌, [], false, None, Some, Ok, Err, Option, List, ℕ, nat_lt, IfOk, IfErr, OnOk, IsTrue, if◌then◌else◌};
+ghost use Rattle.std.specs.Prelude.{◌≡◌, ◌+◌, ◌∷◌, ◌↔◌, [], false, true, None, Some, Ok, Err, Option, List, ℕ, nat_lt, IfOk, IfErr, IfSome, IfNone, OnOk, IsTrue, if◌then◌else◌};
 ghost use Rattle.es_event.specs.declared.command.Command.{Command as CommandSaid};
 ghost use Rattle.es_event.specs.declared.event.Refusal.{Refusal as RefusalSaid};
 ghost use Rattle.es_value.specs.Limits.{most_identities};
 ghost use Rattle.es_event.specs.Commands.{reads};
-ghost use Rattle.es_event.specs.Later.{collects_now};
+ghost use Rattle.es_event.specs.Later.{begins_later, collects_now};
 ghost use Rattle.es_event.specs.Identities.{gone, has_identity_in, made};
 ghost use Rattle.es_event.specs.Heard.{silence};
 ghost use Rattle.es_event.specs.Jobs.{receivers};
+ghost use Rattle.es_event.specs.Literals.{literal_value};
 ghost use Rattle.es_event.specs.Rules.{completion, refuse_or, first_refusal, none_open, room, of_object, of_weakref, of_held_weakly, or_undefined, prop_of, keys_of, target_of};
 ghost use Rattle.es_event.specs.Legal.{values_of};
 ghost use Rattle.es_event.specs.Order.{due, run, RunsNow};
@@ -21,10 +22,12 @@ use crate::need::asks_somebody;
 use crate::operand::{four, held_weakly, object_in, one, three, two};
 use crate::stop::Stop;
 use crate::{buffers, ephemerons, registries};
-use es_event::{Answer, Command, Done, Due, Event, Refusal, Sequence, SharedList};
+use es_event::{
+    Answer, Command, Done, Due, Event, Literal, Refusal, Sequence, SharedList, catch_refusal,
+};
 use es_record::AgentRecord;
 use es_tables::Tag;
-use es_value::{Id, MOST_IDENTITIES, Name, NoMemory, Value, same_value};
+use es_value::{Id, MOST_IDENTITIES, Name, NoMemory, Text, Value, same_value};
 
 /// Whether the agent asks nobody for the event that comes next.
 #[inline(always)]
@@ -55,6 +58,22 @@ pub fn next_event(agent: &AgentRecord) -> Result<Event, NoMemory>
     }
 }
 
+/// What is done in the place of the due command, which a rule refuses with this code, where it stands behind a `try`: its
+/// variable catches that (ECMA-262, TryStatement). None where nothing catches it. It fails for want of memory alone.
+pub fn caught(agent: &AgentRecord, code: Refusal) -> Result<Option<Done>, NoMemory>
+    requires due { (x : Option (List ℕ)) × (c : CommandSaid) × (due agent.now.plan agent.now.history ≡ run x c) }
+    requires refused { (x : Option (List ℕ)) (c : CommandSaid) → due agent.now.plan agent.now.history ≡ run x c → refused_now agent.now.over (receivers agent.now.plan.jobs) agent.now.history c ≡ Some code }
+    ensures caught { IfOk result (λ o. IfSome o (λ d. IsNext agent.now (Event.Did d))) }
+    ensures opens { IfOk result (λ o. IfSome o (λ d. begins_later (Event.Did d) ≡ false)) }
+    ensures refused { IfOk result (λ o. IfNone o (IsNext agent.now (Event.Refused code))) }
+{
+    match agent.due() {
+        Due::Run(Some(to), _) => Ok(Some(catch_refusal(agent.alloc(), to, code)?)),
+        Due::Run(None, _) => Ok(None),
+        _ => unreachable!(),
+    }
+}
+
 /// Does the command that is due and asks nobody, which read what `done` has: it gives what the rules answer, and
 /// empties nothing. It fails where a rule refuses it, and for want of memory.
 #[inline(always)]
@@ -82,11 +101,11 @@ fn completion(agent: &AgentRecord, command: &Command, values: &[Value]) -> Resul
     ensures { Completes (completion agent.now.over agent.now.history command.now values.now silence) result }
 {
     match command {
-        Command::Let { literal, .. } => Ok(Answer::Gives(literal.value()?)),
+        Command::Let { literal, .. } => written(literal),
         Command::New { .. } => new_object(agent),
-        Command::Symbol { .. } => Ok(Answer::Gives(Value::Symbol(fresh(agent)?))),
-        Command::SymbolFor { text, .. } => Ok(Answer::Gives(Value::Registered(text.copy()?))),
-        Command::Copy { .. } => Ok(Answer::Gives(one(values).copy()?)),
+        Command::Symbol { .. } => new_symbol(agent),
+        Command::SymbolFor { text, .. } => registered(text),
+        Command::Copy { .. } => copied(one(values)),
         Command::Same { .. } => {
             let (left, right) = two(values);
             Ok(Answer::Gives(Value::Boolean(same_value(left, right))))
@@ -95,14 +114,10 @@ fn completion(agent: &AgentRecord, command: &Command, values: &[Value]) -> Resul
         Command::Collect | Command::CollectLater => collection(agent),
         Command::Set { .. } => {
             let (object, _) = two(values);
-            object_in(object)?;
-            Ok(Answer::Nothing)
+            set(object)
         }
         Command::Get { key, .. } => get(agent, one(values), key),
-        Command::Delete { .. } => {
-            object_in(one(values))?;
-            Ok(Answer::Gives(Value::Boolean(true)))
-        }
+        Command::Delete { .. } => delete(one(values)),
         Command::Keys { .. } => keys(agent, one(values)),
         Command::WeakRef { .. } => weakref(agent, one(values)),
         Command::Deref { .. } => deref(agent, one(values)),
@@ -153,7 +168,48 @@ fn completion(agent: &AgentRecord, command: &Command, values: &[Value]) -> Resul
     }
 }
 
+/// What a literal gives. This and those below stand alone, so that a command makes place for its own answer alone.
+#[inline(never)]
+fn written(literal: &Literal) -> Result<Answer, Stop>
+    ensures { Completes (Ok (Answer.Gives (literal_value literal.now))) result }
+{
+    Ok(Answer::Gives(literal.value()?))
+}
+
+/// The registered symbol of a text.
+#[inline(never)]
+fn registered(text: &Text) -> Result<Answer, Stop>
+    ensures { Completes (Ok (Answer.Gives (Value.Registered text.now))) result }
+{
+    Ok(Answer::Gives(Value::Registered(text.copy()?)))
+}
+
+/// Another variable's value.
+#[inline(never)]
+fn copied(value: &Value) -> Result<Answer, Stop>
+    ensures { Completes (Ok (Answer.Gives value.now)) result }
+{
+    Ok(Answer::Gives(value.copy()?))
+}
+
+#[inline(never)]
+fn set(object: &Value) -> Result<Answer, Stop>
+    ensures { Completes (refuse_or (first_refusal (of_object object.now ∷ [])) Answer.Nothing) result }
+{
+    object_in(object)?;
+    Ok(Answer::Nothing)
+}
+
+#[inline(never)]
+fn delete(object: &Value) -> Result<Answer, Stop>
+    ensures { Completes (refuse_or (first_refusal (of_object object.now ∷ [])) (Answer.Gives (Value.Boolean true))) result }
+{
+    object_in(object)?;
+    Ok(Answer::Gives(Value::Boolean(true)))
+}
+
 /// While a later collection is open, another is refused.
+#[inline(never)]
 fn collection(agent: &AgentRecord) -> Result<Answer, Stop>
     ensures { Completes (refuse_or (first_refusal (none_open agent.now.history ∷ [])) Answer.Nothing) result }
 {
@@ -174,12 +230,21 @@ pub(crate) fn fresh(agent: &AgentRecord) -> Result<Id, Refusal>
     }
 }
 
+#[inline(never)]
+fn new_symbol(agent: &AgentRecord) -> Result<Answer, Stop>
+    ensures { Completes (refuse_or (first_refusal (room agent.now.history ∷ [])) (Answer.Gives (Value.Symbol (made agent.now.history + 1)))) result }
+{
+    Ok(Answer::Gives(Value::Symbol(fresh(agent)?)))
+}
+
+#[inline(never)]
 fn new_object(agent: &AgentRecord) -> Result<Answer, Stop>
     ensures { Completes (refuse_or (first_refusal (room agent.now.history ∷ [])) (Answer.Gives (Value.Object (made agent.now.history + 1)))) result }
 {
     Ok(Answer::Gives(Value::Object(fresh(agent)?)))
 }
 
+#[inline(never)]
 fn get(agent: &AgentRecord, object: &Value, key: &Name) -> Result<Answer, Stop>
     requires there { has_identity_in (gone agent.now.history) object.now ≡ false }
     ensures { Completes (refuse_or (first_refusal (of_object object.now ∷ [])) (or_undefined (prop_of agent.now.history object.now key.now))) result }
@@ -190,6 +255,7 @@ fn get(agent: &AgentRecord, object: &Value, key: &Name) -> Result<Answer, Stop>
     }
 }
 
+#[inline(never)]
 fn keys(agent: &AgentRecord, object: &Value) -> Result<Answer, Stop>
     requires there { has_identity_in (gone agent.now.history) object.now ≡ false }
     ensures { Completes (refuse_or (first_refusal (of_object object.now ∷ [])) (Answer.Listed (keys_of agent.now.history object.now))) result }
@@ -198,6 +264,7 @@ fn keys(agent: &AgentRecord, object: &Value) -> Result<Answer, Stop>
     Ok(Answer::Listed(SharedList::of(Sequence::from_vec(keys))?))
 }
 
+#[inline(never)]
 fn weakref(agent: &AgentRecord, target: &Value) -> Result<Answer, Stop>
     ensures { Completes (refuse_or (first_refusal (of_held_weakly target.now ∷ room agent.now.history ∷ [])) (Answer.Gives (Value.Object (made agent.now.history + 1)))) result }
 {
@@ -205,6 +272,7 @@ fn weakref(agent: &AgentRecord, target: &Value) -> Result<Answer, Stop>
     new_object(agent)
 }
 
+#[inline(never)]
 fn deref(agent: &AgentRecord, weakref: &Value) -> Result<Answer, Stop>
     requires there { has_identity_in (gone agent.now.history) weakref.now ≡ false }
     ensures { Completes (refuse_or (first_refusal (of_weakref agent.now.history weakref.now ∷ [])) (or_undefined (target_of agent.now.history weakref.now))) result }

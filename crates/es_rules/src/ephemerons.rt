@@ -12,6 +12,7 @@ use es_record::AgentRecord;
 use es_tables::Tag;
 use es_value::Value;
 
+#[inline(never)]
 pub(crate) fn weakmap_set(agent: &AgentRecord, map: &Value, key: &Value) -> Result<Answer, Stop>
     requires there { has_identity_in (gone agent.now.history) map.now ≡ false }
     ensures { Completes (refuse_or (first_refusal (of_weakmap agent.now.history map.now ∷ of_held_weakly key.now ∷ [])) Answer.Nothing) result }
@@ -21,6 +22,7 @@ pub(crate) fn weakmap_set(agent: &AgentRecord, map: &Value, key: &Value) -> Resu
     Ok(Answer::Nothing)
 }
 
+#[inline(never)]
 pub(crate) fn weakmap_get(agent: &AgentRecord, map: &Value, key: &Value) -> Result<Answer, Stop>
     requires there { has_identity_in (gone agent.now.history) map.now ≡ false }
     ensures { Completes (refuse_or (first_refusal (of_weakmap agent.now.history map.now ∷ [])) (or_undefined (entry_of agent.now.history map.now key.now))) result }
@@ -33,6 +35,7 @@ pub(crate) fn weakmap_get(agent: &AgentRecord, map: &Value, key: &Value) -> Resu
 }
 
 /// Whether the WeakMap has the key: what `has` and `delete` alike answer.
+#[inline(never)]
 pub(crate) fn weakmap_has(agent: &AgentRecord, map: &Value, key: &Value) -> Result<Answer, Stop>
     requires there { has_identity_in (gone agent.now.history) map.now ≡ false }
     ensures { Completes (refuse_or (first_refusal (of_weakmap agent.now.history map.now ∷ [])) (Answer.Gives (Value.Boolean (is_some (entry_of agent.now.history map.now key.now))))) result }
@@ -42,6 +45,7 @@ pub(crate) fn weakmap_has(agent: &AgentRecord, map: &Value, key: &Value) -> Resu
     Ok(Answer::Gives(Value::Boolean(there)))
 }
 
+#[inline(never)]
 pub(crate) fn weakset_add(agent: &AgentRecord, set: &Value, member: &Value) -> Result<Answer, Stop>
     requires there { has_identity_in (gone agent.now.history) set.now ≡ false }
     ensures { Completes (refuse_or (first_refusal (of_weakset agent.now.history set.now ∷ of_held_weakly member.now ∷ [])) Answer.Nothing) result }
@@ -52,6 +56,7 @@ pub(crate) fn weakset_add(agent: &AgentRecord, set: &Value, member: &Value) -> R
 }
 
 /// Whether the WeakSet has the member: what `has` and `delete` alike answer.
+#[inline(never)]
 pub(crate) fn weakset_has(agent: &AgentRecord, set: &Value, member: &Value) -> Result<Answer, Stop>
     requires there { has_identity_in (gone agent.now.history) set.now ≡ false }
     ensures { Completes (refuse_or (first_refusal (of_weakset agent.now.history set.now ∷ [])) (Answer.Gives (Value.Boolean (is_member_of agent.now.history set.now member.now)))) result }

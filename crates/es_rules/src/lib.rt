@@ -19,6 +19,6 @@ pub use answered::{
     answered_done, answered_wait, answered_word, begun, brought, opened, received, refused_message,
     skipped,
 };
-pub use decide::{asks_nobody, do_alone, next_event};
+pub use decide::{asks_nobody, caught, do_alone, next_event};
 pub use need::{Need, Request, asks, asks_somebody, is_for_ledger};
 pub use stop::Stop;

@@ -15,6 +15,7 @@ use es_registry::Cell;
 use es_tables::Tag;
 use es_value::{NoMemory, Value};
 
+#[inline(never)]
 pub(crate) fn register(
     agent: &AgentRecord,
     registry: &Value,
@@ -36,6 +37,7 @@ pub(crate) fn register(
     Ok(Answer::Nothing)
 }
 
+#[inline(never)]
 pub(crate) fn unregister(
     agent: &AgentRecord,
     registry: &Value,

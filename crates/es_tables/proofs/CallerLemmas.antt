@@ -1,12 +1,11 @@
 -- What a caller cites: that the tables say what a history says, at first, after growths, and after each event.
-use Rattle.std.proofs.Common.{ℕ, ap, ◌∙◌, length, reverse, List, [], ◌∷◌}
+use Rattle.std.proofs.Common.{ℕ, ap, ◌∙◌, length, reverse, List, ◌∷◌}
 use Rattle.std.specs.Prelude.{is_some}
 use Rattle.es_event.specs.declared.event.Event.{Event}
 use Rattle.es_event.specs.Sharing.{Buffers}
 use Rattle.es_event.specs.Legal.{Lawful, LegalBy}
 use Rattle.es_event.specs.History.{History}
 use Rattle.es_event.specs.Jobs.{Receivers}
-use Rattle.es_props.specs.Heap.{keys}
 use Rattle.es_event.proofs.Alive.{Stays}
 use Rattle.es_tables.specs.Effects.{Advances, AssignsTo}
 use Rattle.es_tables.specs.Registries.{again_at}

@@ -20,6 +20,7 @@ use Rattle.es_props.specs.Heap.{has, property, keys}
 use Rattle.es_weakref.specs.WeakRefs.{target}
 use Rattle.es_ephemeron.specs.Ephemerons.{record_at}
 use Rattle.es_tables.specs.declared.table_change.TableChange.{TableChange}
+use Rattle.es_tables.specs.declared.table_change.TableChange.TheVariants.{NoChange}
 use Rattle.es_tables.specs.Changes.{table_change, put_of, born_of, points_of, entered_of, joined_of, registry_of, kept_of, clears, makes_of}
 use Rattle.es_registry.specs.Registries.{callback}
 use Rattle.es_tables.specs.Registries.{callback_after, cells_after, queue_after}
@@ -76,6 +77,10 @@ AssignsTo received to Closed = ⊤
 -- what the event assigns, where the value of a receipt goes to the variable `received`
 abbrev pub assigned_by : List ℕ → Event → Option (List ℕ × Value)
 assigned_by received e = assigned (λ h. received) [] e
+
+-- the event changes no table and assigns nothing
+abbrev pub IsStill : Event → Type 0
+IsStill e = ((again : Option ℕ) → NoChange ≡ table_change again e) × ((received : List ℕ) → None ≡ assigned_by received e)
 
 -- the tables after the change
 pub record Changed (s : TablesView) (c : TableChange) (t : TablesView) : Type 0 where

@@ -6,6 +6,7 @@ ghost use Rattle.es_event.specs.Ephemerons.{entered_by, joined_by};
 ghost use Rattle.es_event.specs.Identities.{identity, object_of, object_given};
 ghost use Rattle.es_event.specs.Properties.{put_by};
 ghost use Rattle.es_event.specs.Answers.{answer_said};
+ghost use Rattle.es_tables.specs.Effects.{IsStill};
 ghost use Rattle.es_tables.specs.Plain.{IsAssignment, IsPlain};
 ghost use Rattle.es_tables.specs.Changes.{table_change, table_change_by, identity_kept, pointing};
 ghost use Rattle.es_tables.specs.Registries.{change_by};
@@ -109,6 +110,14 @@ pub(crate) fn is_assignment(command: &Command) -> bool
         | Command::Atomic(_) => true,
         _ => false,
     }
+}
+
+/// Whether the event changes no table and assigns nothing, as a job's beginning and a refusal do.
+#[inline(always)]
+pub(crate) fn is_still(event: &Event) -> bool
+    ensures { IsTrue result → IsStill event.now }
+{
+    matches!(event, Event::JobBegun { .. } | Event::Refused { .. })
 }
 
 /// What a command does to the tables.

@@ -28,7 +28,7 @@ use crate::changes::{aim, enter, join, keep, make, put, write};
 use crate::growths::{reserve_born, reserve_entered, reserve_joined, reserve_put};
 use crate::registries::{make_change, reserve_change};
 use crate::table_change::{
-    TableChange, is_assignment, object_given, table_change, table_change_by,
+    TableChange, is_assignment, is_still, object_given, table_change, table_change_by,
 };
 use crate::tags::{Tag, Tags};
 use es_ephemeron::WeakTables;
@@ -389,6 +389,26 @@ impl Tables {
     /// cell's held value is assigned to, `received` that of the one that a message's value is assigned
     /// to, and `again` is the registry that is queued again where the event ends a job.
     pub fn advance(
+        &mut self,
+        event: &Event,
+        held: &Name,
+        received: &Name,
+        again: Option<Id>,
+    ) -> Result<(), NoMemory>
+        requires held { held.now ≡ codes "held" }
+        requires can { CanApply self.old (table_change again event.now) }
+        ensures ok { OnOk result (Advances received.now again event.now self.old self.new) }
+        ensures err { OnErr result (SameState self.old self.new) }
+    {
+        if is_still(event) {
+            return Ok(());
+        }
+        self.advance_otherwise(event, held, received, again)
+    }
+
+    /// The same, of any event.
+    #[inline(never)]
+    fn advance_otherwise(
         &mut self,
         event: &Event,
         held: &Name,
