@@ -96,10 +96,10 @@ pub(crate) fn is_access(
             change,
             old,
         } => {
-            is_ticket(tickets, buffer, *serial)
-                && same_index(at, *index)
-                && access.edit.on(*old).is_same(*change)
-                && answers(access, answer, *old)
+            // told first, where it is known what the command does
+            let is_done = access.edit.on(*old).is_same(*change);
+            let is_given = answers(access, answer, *old);
+            is_ticket(tickets, buffer, *serial) && same_index(at, *index) && is_done && is_given
         }
         _ => false,
     }

@@ -81,6 +81,7 @@ fn is_sleep_at(
 }
 
 /// Whether so many were to be taken at most, and the answer is how many were.
+#[inline(never)]
 pub(crate) fn is_notify(
     tickets: &BufferTickets,
     buffer: Option<&Value>,

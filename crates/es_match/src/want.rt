@@ -9,7 +9,6 @@ ghost use Rattle.es_event.specs.declared.event.Answer.{Answer as Answered};
 ghost use Rattle.es_event.specs.Answers.{answer_said};
 
 use crate::one_deed::OneDeed;
-use crate::word_want::want_at_word;
 use es_event::{AnswerRef, Command, Event, Refusal};
 use es_value::{Id, Value};
 
@@ -150,7 +149,7 @@ fn second(values: &[Value]) -> Option<&Value>
 }
 
 #[inline(always)]
-fn want_of<'a>(command: &Command, values: &'a [Value], answer: Option<&'a Value>) -> Want<'a>
+fn want_of<'a>(command: &'a Command, values: &'a [Value], answer: Option<&'a Value>) -> Want<'a>
     ensures { (r : Answered) → said answer.entry ≡ given r → asking result ≡ asks_did command.now values.now r }
 {
     match command {
@@ -167,7 +166,11 @@ fn want_of<'a>(command: &Command, values: &'a [Value], answer: Option<&'a Value>
             right: second(values),
             answer,
         },
-        Command::Atomic(atomic) => Want::OneDeed(want_at_word(atomic, values, answer)),
+        Command::Atomic(atomic) => Want::OneDeed(OneDeed::AtWord {
+            atomic,
+            values,
+            answer,
+        }),
         Command::Post { receiver, .. } => Want::OneDeed(OneDeed::Posting {
             receiver: *receiver,
             value: first(values),

@@ -4,67 +4,59 @@ ghost use Rattle.std.specs.Prelude.{◌≡◌};
 ghost use Rattle.es_event.specs.Commands.{first};
 ghost use Rattle.es_event.specs.Heard.{wait_given};
 ghost use Rattle.es_event.specs.Numbers.{index_of, task_of};
-ghost use Rattle.es_match.specs.Asks.{asks_wait, asks_word};
-ghost use Rattle.es_match.specs.Shown.{asking_one, said};
+ghost use Rattle.es_match.specs.DeedsShown.{shown};
+ghost use Rattle.es_match.specs.Shown.{meets_task, meets_wait, said};
 
-use crate::one_deed::OneDeed;
+use crate::deed::Deed;
+use crate::meets::is_access;
+use crate::tickets::BufferTickets;
+use crate::waited::{is_end_of_sleep, is_miss, is_notify};
 use crate::want::first;
 use es_event::{Atomic, Task, WaitResult};
 use es_value::Value;
 
-/// What a command on a word asks of the ledger that took these values and gave this.
+/// Whether the deed meets what a command on a word asks that took these values and gave this.
 #[inline(always)]
-pub(crate) fn want_at_word<'a>(
+pub(crate) fn meets_word(
+    tickets: &BufferTickets,
     atomic: &Atomic,
-    values: &'a [Value],
-    answer: Option<&'a Value>,
-) -> OneDeed<'a>
-    ensures { asking_one result ≡ asks_word (first values.now) (index_of atomic.now values.now) (task_of atomic.now values.now) (said answer.entry) }
+    values: &[Value],
+    answer: Option<&Value>,
+    deed: &Deed<'_>,
+) -> bool
+    ensures { result ≡ meets_task tickets.now (first values.now) (index_of atomic.now values.now) (task_of atomic.now values.now) (said answer.entry) (shown deed.now) }
 {
     let buffer = first(values);
     let index = atomic.index_of(values);
     match atomic.task_of(values) {
-        Task::Access(access) => OneDeed::Accessing {
-            buffer,
-            index,
-            access,
-            answer,
-        },
-        Task::Sleep(word) => want_of_wait(buffer, index, word, wait_result(answer)),
-        Task::Notify(count) => OneDeed::Notifying {
-            buffer,
-            index,
-            count,
-            answer,
-        },
+        Task::Access(access) => is_access(tickets, buffer, index, access, answer, deed),
+        Task::Sleep(word) => { meets_wait(tickets, buffer, index, word, wait_result(answer), deed) }
+        Task::Notify(count) => is_notify(tickets, buffer, index, count, answer, deed),
     }
 }
 
-/// What a wait asks that ended so.
-fn want_of_wait<'a>(
-    buffer: Option<&'a Value>,
+/// Whether the deed meets a wait that ended so.
+#[inline(never)]
+fn meets_wait(
+    tickets: &BufferTickets,
+    buffer: Option<&Value>,
     index: i64,
     word: u32,
     ended: WaitResult,
-) -> OneDeed<'a>
-    ensures { asking_one result ≡ asks_wait (said buffer.entry) index word ended }
+    deed: &Deed<'_>,
+) -> bool
+    ensures { result ≡ meets_wait tickets.now (said buffer.entry) index word ended (shown deed.now) }
 {
     match ended {
-        WaitResult::NotEqual => OneDeed::Missing {
-            buffer,
-            index,
-            word,
-        },
-        WaitResult::Woken | WaitResult::TimedOut => OneDeed::Sleeping {
-            buffer,
-            index,
-            word,
-            ended,
-        },
+        WaitResult::NotEqual => is_miss(tickets, buffer, index, word, deed),
+        WaitResult::Woken | WaitResult::TimedOut => {
+            is_end_of_sleep(tickets, buffer, index, word, ended, deed)
+        }
     }
 }
 
 /// How a wait ended that gave this.
+#[inline(never)]
 fn wait_result(answer: Option<&Value>) -> WaitResult
     ensures { result ≡ wait_given (said answer.entry) }
 {
