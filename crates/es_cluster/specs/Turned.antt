@@ -1,11 +1,13 @@
 -- To believe: what a turn of an agent asks of those who call it, and what it leaves of the agent and of the ledger.
-use Rattle.std.specs.Prelude.{ℕ, ◌≡◌, ◌≢◌, ◌<◌, ⊤, ◌⊎◌, Bool, List, Option, Some, map, ◌++◌}
+use Rattle.std.specs.Prelude.{ℕ, ◌≡◌, ◌≢◌, ◌<◌, ⊤, ◌⊎◌, Bool, true, false, List, Option, Some, map, ◌++◌}
 use Rattle.es_event.specs.declared.access.Task.{Task}
+use Rattle.es_event.specs.declared.atomic.Operation.{Operation}
+use Rattle.es_event.specs.declared.command.Command.TheVariants.{Atomic}
 use Rattle.es_event.specs.declared.event.Event.{Event}
 use Rattle.es_event.specs.declared.ledger_event.LedgerEvent.TheVariants.{Spent}
 use Rattle.es_event.specs.declared.row.Row.{Row}
 use Rattle.es_event.specs.Ledger.{Ledger, ended as has_ended}
-use Rattle.es_event.specs.Order.{phase}
+use Rattle.es_event.specs.Order.{Due, run, phase}
 use Rattle.es_ledger.specs.LedgerView.{LedgerView}
 use Rattle.es_ledger.specs.Sleeps.{rested}
 use Rattle.es_ledger.specs.Turns.{told}
@@ -63,6 +65,17 @@ beforehand (asks_ledger r) = Nothing
 beforehand (asks_message s) = Nothing
 beforehand asks_closing = Nothing
 beforehand asks_nothing = Nothing
+
+-- of the commands on a word all but two read or write it alone: a wait may sleep there, and a notify wakes others
+abbrev pub is_access : Operation → Bool
+is_access (Operation.Wait to n) = false
+is_access (Operation.Notify to c) = false
+is_access _ = true
+
+-- such a command is due
+abbrev pub runs_access : Due → Bool
+runs_access (run x (Atomic a)) = is_access a.operation
+runs_access _ = false
 
 -- the agent is one of the ledger's, and has ended there where it has closed
 pub record IsSeated (b : AgentView) (l : LedgerView) : Type 0 where

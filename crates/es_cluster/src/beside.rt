@@ -1,26 +1,26 @@
 //! An agent beside others, each of which has a thread: it has the ledger only where it asks the ledger,
 //! and does not know what the ledger says of it.
 
-ghost use Rattle.std.specs.Prelude.{◌≡◌, ◌↔◌, ◌||◌, ⊤, false, IsTrue, IfOk, OnOk, OnErr};
+ghost use Rattle.std.specs.Prelude.{◌≡◌, ◌≢◌, ◌<◌, ◌↔◌, ⊤, false, None, is_some, IsTrue, IfOk, IfSome, IfNone, OnOk, OnErr};
 ghost use Rattle.std.specs.Arc.{arc_value};
-ghost use Rattle.es_event.specs.Commands.{collects, posts};
-ghost use Rattle.es_event.specs.Later.{is_later};
-ghost use Rattle.es_event.specs.Order.{due};
+ghost use Rattle.es_event.specs.Later.{snapshot};
+ghost use Rattle.es_event.specs.Order.{due, due_end, run};
 ghost use Rattle.es_agent.specs.Later.{IsLaterCopy};
 ghost use Rattle.es_agent.specs.Tickets.{Empties};
-ghost use Rattle.es_rules.specs.Needs.{need, asks_nobody, asks_copy, asks_nothing, runs_for_ledger};
+ghost use Rattle.es_rules.specs.Needs.{need, need_of, asks_nobody, asks_copy, asks_nothing, runs_for_ledger};
 ghost use Rattle.es_rules.specs.Shown.{shown};
-ghost use Rattle.es_cluster.specs.Turned.{AreAskedFor, AsksMarks, beforehand, WaitsRightly, IsSeated, GrowsByOne, Proceeds, NamesOthers, OthersStay, ProceedsBeside};
+ghost use Rattle.es_cluster.specs.Turned.{AreAskedFor, AsksMarks, beforehand, WaitsRightly, IsSeated, GrowsByOne, Proceeds, NamesOthers, OthersStay, ProceedsBeside, runs_access};
 
 use crate::member::{Member, Progress};
 use crate::planned::Planned;
 use crate::spending::spend_shared;
-use crate::turns::ask;
+use crate::turns::{ask, ask_at_word};
 use es_agent::{AgentCore, Need, Request};
 use es_event::{Command, Due};
 use es_ledger::LedgerCore;
 use es_mark::Marks;
 use es_parmark::Snapshot;
+use es_record::AgentRecord;
 use es_ticket::{LedgerName, Rack};
 use es_value::NoMemory;
 use std::sync::{Arc, Mutex, Wait};
@@ -62,15 +62,10 @@ impl<L: Planned> Member<L> {
         ensures copy { result ≡ Beforehand.Copy → need self.now.core ≡ asks_copy }
         ensures marks { result ≡ Beforehand.Marks → AsksMarks (need self.now.core) }
     {
-        match self.core.record().due() {
-            Due::EndJob => asked_beforehand(&self.core.next()),
-            Due::Run(_, command) => {
-                if is_collection(command) {
-                    asked_beforehand(&self.core.next())
-                } else {
-                    Beforehand::Nothing
-                }
-            }
+        let record = self.core.record();
+        match record.due() {
+            Due::Run(_, command) => before_command(record, command),
+            Due::EndJob => before_end(record),
             _ => Beforehand::Nothing,
         }
     }
@@ -127,6 +122,24 @@ impl<L: Planned> Member<L> {
         ledger.look(&mut self.stake);
         ask(&mut self.core, &mut self.stake, ledger)
     }
+
+    /// One turn, beside other agents, where the agent has its place and its next command reads or writes a word of shared
+    /// memory, which names nobody and lets nobody go on who waits. None where another event comes next, and nothing has
+    /// changed.
+    pub fn turn_at_word(&mut self, ledger: &mut LedgerCore<L>) -> Result<Option<Progress>, NoMemory>
+        ensures ok { IfOk result (λ o. IfSome o (λ p. Proceeds p self.old self.new)) }
+        ensures asks { IsSeated self.old.core ledger.old → IfOk result (λ o. is_some o ≡ runs_access (due self.old.core.plan self.old.core.history)) }
+        ensures none { IfOk result (λ o. IfNone o ((self.new ≡ self.old) × (ledger.new ≡ ledger.old))) }
+        ensures err { OnErr result (self.new.core ≡ self.old.core) }
+        ensures others { OthersStay self.old.core.number ledger.old ledger.new }
+    {
+        let number = self.core.number();
+        if number >= ledger.agents() || ledger.has_ended(number) {
+            return Ok(None);
+        }
+        ledger.look(&mut self.stake);
+        ask_at_word(&mut self.core, &mut self.stake, ledger)
+    }
 }
 
 // Empties what the marks that the agent asks for lack, and hands out the tickets of buffer objects among it.
@@ -135,49 +148,58 @@ fn take_out<L: LedgerName>(core: &mut AgentCore<L>, marks: &Marks) -> Result<Rac
     ensures ok { IfOk result (λ r. Empties (λ _. ⊤) core.old r.tickets core.new) }
     ensures err { OnErr result (core.new ≡ core.old) }
 {
-    match core.next() {
-        Need::Collect => core.collect(marks),
-        Need::Finish => core.finish_later(marks),
-        _ => unreachable!(),
+    if core.record().is_open() {
+        core.finish_later(marks)
+    } else {
+        core.collect(marks)
     }
 }
 
-// What an agent that asks this needs before it has the ledger.
-fn asked_beforehand(asked: &Need<'_>) -> Beforehand
-    ensures { result ≡ beforehand (shown asked.now) }
+// What an agent needs before it has the ledger, where this command is due: one that collects, at once or later, is refused
+// while a later collection is open, and no other one needs anything.
+fn before_command(agent: &AgentRecord, command: &Command) -> Beforehand
+    ensures { result ≡ beforehand (need_of agent.now (run None command.now)) }
 {
-    match asked {
-        Need::Later => Beforehand::Copy,
-        Need::Collect | Need::Finish => Beforehand::Marks,
+    let open = agent.is_open();
+    match command {
+        Command::Collect if !open => Beforehand::Marks,
+        Command::CollectLater if !open => Beforehand::Copy,
         _ => Beforehand::Nothing,
     }
 }
 
-// Whether the command collects, at once or later: no other one needs anything before the agent has the ledger.
-fn is_collection(command: &Command) -> bool
-    ensures { result ≡ (collects command.now || is_later command.now) }
+// The same, where a job is to end: a later collection that is open is finished first.
+fn before_end(agent: &AgentRecord) -> Beforehand
+    ensures { result ≡ beforehand (need_of agent.now (due_end (snapshot agent.now.history))) }
 {
-    matches!(command, Command::Collect | Command::CollectLater)
+    if agent.is_open() {
+        Beforehand::Marks
+    } else {
+        Beforehand::Nothing
+    }
 }
 
 // Whether whom an agent asks to post to, or waits for, is one of so many agents, and not itself. What it asks for is
-// found only where it may name another.
+// found only where it would post to no other: such a command may be refused.
 fn names_others<L: LedgerName>(core: &AgentCore<L>, agents: usize) -> bool
     ensures only { IsTrue result → NamesOthers (need core.now) core.now.number agents }
     ensures all { NamesOthers (need core.now) core.now.number agents → IsTrue result }
 {
+    let number = core.number();
     match core.record().due() {
-        Due::Receive { .. } => are_others(&core.next(), core.number(), agents),
-        Due::Run(_, command) if posts(command) => are_others(&core.next(), core.number(), agents),
+        Due::Receive { sender, .. } => is_other(sender, number, agents),
+        Due::Run(_, Command::Post { receiver, .. }) => {
+            is_other(*receiver, number, agents) || are_others(&core.next(), number, agents)
+        }
         _ => true,
     }
 }
 
-// Whether the command posts a message: no other one names an agent.
-fn posts(command: &Command) -> bool
-    ensures { result ≡ posts command.now }
+// Whether this is one of so many agents, and not the one of this number.
+fn is_other(agent: usize, number: usize, agents: usize) -> bool
+    ensures { IsTrue result ↔ ((agent < agents) × (number ≢ agent)) }
 {
-    matches!(command, Command::Post { .. })
+    agent < agents && agent != number
 }
 
 // Whether whom an agent that asks this asks to post to, or waits for, is one of so many agents, and not itself.
@@ -186,10 +208,10 @@ fn are_others(asked: &Need<'_>, number: usize, agents: usize) -> bool
     ensures all { NamesOthers (shown asked.now) number agents → IsTrue result }
 {
     match asked {
-        Need::Message(sender) => *sender < agents && *sender != number,
+        Need::Message(sender) => is_other(*sender, number, agents),
         Need::Ledger(request) => match request {
             Request::Post { receiver, .. } | Request::PostBuffer { receiver, .. } => {
-                *receiver < agents && *receiver != number
+                is_other(*receiver, number, agents)
             }
             _ => true,
         },

@@ -1,10 +1,11 @@
 //! A turn of an agent: what it asks for is done in the ledger, and it takes the answer.
 
-ghost use Rattle.std.specs.Prelude.{◌≡◌, ◌<◌, false, IsTrue, OnErr, IfOk};
+ghost use Rattle.std.specs.Prelude.{◌≡◌, ◌<◌, false, IsTrue, OnErr, IfOk, IfSome, IfNone, is_some};
+ghost use Rattle.es_event.specs.Order.{due};
 ghost use Rattle.es_record.specs.Graph.{AreMarksOf, AreLateMarks};
 ghost use Rattle.es_rules.specs.Needs.{need, asks_nobody, asks_marks, asks_copy, asks_late_marks, asks_closing};
 ghost use Rattle.es_cluster.specs.Members.{member_of};
-ghost use Rattle.es_cluster.specs.Turned.{WaitsRightly, Keeps, NamesOthers, Proceeds, StaysTied};
+ghost use Rattle.es_cluster.specs.Turned.{WaitsRightly, Keeps, NamesOthers, Proceeds, StaysTied, is_access, runs_access};
 ghost use Rattle.es_cluster.specs.Midway.{IsHeld};
 
 mod asking;
@@ -15,8 +16,10 @@ use crate::member::Progress;
 use crate::spending::spend_all;
 use asking::{open, post, post_buffer};
 use es_agent::{AgentCore, Need, Request};
+use es_event::{Command, Due, Operation};
 use es_ledger::LedgerCore;
 use es_mark::Marks;
+use es_rules::asks_at;
 use es_ticket::{LedgerName, Stake};
 use es_value::NoMemory;
 use hearing::hear;
@@ -81,6 +84,53 @@ pub(crate) fn ask<L: LedgerName>(
         Need::Close => close(core, stake, ledger),
         Need::Ended => Ok(Progress::Ended),
     }
+}
+
+/// The same, where a command that reads or writes a word of shared memory is due; none, and nothing has changed, where
+/// another event comes next.
+#[inline(always)]
+pub(crate) fn ask_at_word<L: LedgerName>(
+    core: &mut AgentCore<L>,
+    stake: &mut Stake<L>,
+    ledger: &mut LedgerCore<L>,
+) -> Result<Option<Progress>, NoMemory>
+    requires ready { IsHeld core.old stake.old ledger.old }
+    ensures ok { IfOk result (λ o. IfSome o (λ p. Proceeds p (member_of core.old stake.old) (member_of core.new stake.new))) }
+    ensures asks { IfOk result (λ o. is_some o ≡ runs_access (due core.old.plan core.old.history)) }
+    ensures none { IfOk result (λ o. IfNone o ((core.new ≡ core.old) × (stake.new ≡ stake.old) × (ledger.new ≡ ledger.old))) }
+    ensures err { OnErr result (core.new ≡ core.old) }
+    ensures keeps { Keeps core.old ledger.old core.new stake.new ledger.new }
+{
+    let record = core.record();
+    let Due::Run(_, command) = record.due() else {
+        return Ok(None);
+    };
+    let Command::Atomic(atomic) = command else {
+        return Ok(None);
+    };
+    if !is_access(atomic.operation()) {
+        return Ok(None);
+    }
+    let progress = match asks_at(record, command) {
+        Need::Ledger(request) => match request {
+            Request::Word {
+                buffer,
+                index,
+                task,
+            } => do_at_word(core, stake, ledger, buffer, index, task)?,
+            _ => unreachable!(),
+        },
+        Need::Local => perform(core, stake, ledger)?,
+        _ => unreachable!(),
+    };
+    Ok(Some(progress))
+}
+
+// Whether a command on a word reads or writes it: a wait may sleep there, and a notify wakes others.
+fn is_access(operation: &Operation) -> bool
+    ensures { result ≡ is_access operation.now }
+{
+    !matches!(operation, Operation::Wait { .. } | Operation::Notify { .. })
 }
 
 // A step that asks nobody else.

@@ -20,5 +20,5 @@ pub use answered::{
     skipped,
 };
 pub use decide::{asks_nobody, caught, do_alone, next_event};
-pub use need::{Need, Request, asks, asks_somebody, is_for_ledger};
+pub use need::{Need, Request, asks, asks_at, asks_somebody, is_for_ledger};
 pub use stop::Stop;

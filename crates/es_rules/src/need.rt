@@ -66,7 +66,7 @@ pub fn asks(agent: &AgentRecord) -> Need<'_>
     ensures { shown result ≡ need agent.now }
 {
     match agent.due() {
-        Due::Run(_, command) => for_command(agent, command),
+        Due::Run(_, command) => asks_at(agent, command),
         Due::Receive { sender, .. } => Need::Message(sender),
         Due::Begin(_) | Due::Clean(_) | Due::Take(_) => Need::Local,
         Due::EndJob => for_end(agent),
@@ -77,7 +77,7 @@ pub fn asks(agent: &AgentRecord) -> Need<'_>
 
 /// What the agent asks for where this command is due. While a later collection is open, another is refused.
 #[inline(always)]
-fn for_command<'a>(agent: &'a AgentRecord, command: &Command) -> Need<'a>
+pub fn asks_at<'a>(agent: &'a AgentRecord, command: &Command) -> Need<'a>
     ensures { shown result ≡ need_of agent.now (run None command.now) }
 {
     match command {

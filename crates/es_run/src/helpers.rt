@@ -6,7 +6,7 @@ ghost use Rattle.es_rules.specs.Needs.{need, asks_late_marks};
 ghost use Rattle.es_cluster.specs.Turned.{AreAskedFor, AsksMarks};
 
 use crate::marked::{Marked, Pending};
-use es_agent::{AgentCore, Need};
+use es_agent::AgentCore;
 use es_cluster::{Member, Planned};
 use es_mark::Marks;
 use es_parmark::{Snapshot, mark_more, mark_parallel, mark_with};
@@ -55,15 +55,16 @@ impl Helpers {
         requires { AsksMarks (need member.now.core) }
         ensures { IfOk result (AreAskedFor (need member.now.core) member.now.core) }
     {
-        match member.core().next() {
-            Need::Collect => self.collected(rt, member),
-            Need::Finish => self.finished(rt, member.core(), open.take()),
-            _ => unreachable!(),
+        if member.core().record().is_open() {
+            self.finished(rt, member.core(), open.take())
+        } else {
+            self.collected(rt, member)
         }
     }
 
     /// The marks of the copy of the open later collection, with what derefs gave since: those that a thread
     /// found, where they are of an equal copy, and else made anew.
+    #[inline(never)]
     fn finished<L: Planned + Sync, R: Threads + Sync>(
         &self,
         rt: &R,

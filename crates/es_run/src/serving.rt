@@ -1,14 +1,16 @@
 //! The threads of a run: each agent's, and that of the watcher.
 
-ghost use Rattle.std.specs.Prelude.{◌<◌, vec_len};
+ghost use Rattle.std.specs.Prelude.{◌≡◌, ◌<◌, vec_len};
 ghost use Rattle.std.specs.Thread.{IsSync};
+ghost use Rattle.es_rules.specs.Needs.{need, asks_copy};
+ghost use Rattle.es_cluster.specs.Turned.{AsksMarks};
 
 use crate::cluster::Cluster;
 use crate::gate::Gate;
 use crate::helpers::Helpers;
 use crate::marked::Pending;
 use es_cluster::{Beforehand, Member, Planned, Progress};
-use es_event::{Act, Command, Due, LedgerEvent, Operation};
+use es_event::{Act, LedgerEvent};
 use es_ledger::LedgerCore;
 use es_value::NoMemory;
 use std::alloc::Global;
@@ -203,18 +205,31 @@ impl<L: Planned + Sync> Cluster<L> {
         gate: &G,
     ) -> Result<Pause, NoMemory> {
         match member.beforehand() {
+            Beforehand::Nothing => self.ask_ledger(rt, member, gate),
             Beforehand::Copy => {
-                let copy = member.begin_later()?;
-                *open = Some(helpers.begin(rt, scope, copy)?);
+                *open = Some(open_later(rt, member, scope, helpers)?);
                 Ok(Pause::NONE)
             }
             Beforehand::Marks => {
-                let marks = helpers.marks(rt, member, open)?;
-                member.empty(rt, &marks, &self.ledger)?;
+                self.empty(rt, member, helpers, open)?;
                 Ok(Pause::NONE)
             }
-            Beforehand::Nothing => self.ask_ledger(rt, member, gate),
         }
+    }
+
+    /// The next event of an agent that empties. It stands alone, so that who asks the ledger makes no room for it.
+    #[inline(never)]
+    fn empty<R: Threads + Wait + Sync>(
+        &self,
+        rt: &R,
+        member: &mut Member<L>,
+        helpers: &Helpers,
+        open: &mut Option<Pending>,
+    ) -> Result<(), NoMemory>
+        requires { AsksMarks (need member.old.core) }
+    {
+        let marks = helpers.marks(rt, member, open)?;
+        member.empty(rt, &marks, &self.ledger)
     }
 
     /// The same, of an agent that asks the ledger.
@@ -228,11 +243,14 @@ impl<L: Planned + Sync> Cluster<L> {
         let core: &mut LedgerCore<L> = &mut ledger;
         let mut pause = turn_with(member, core)?;
         for _ in 0..WORDS {
-            if pause.ends() || gate.holds() || !is_at_word(member) {
+            if pause.ends() || gate.holds() {
                 break;
             }
             // it lets nobody go on who waits
-            pause.progress = member.turn_beside(core)?;
+            match member.turn_at_word(core)? {
+                Some(progress) => pause.progress = progress,
+                None => break,
+            }
         }
         Ok(pause)
     }
@@ -281,6 +299,20 @@ impl<L: Planned + Sync> Cluster<L> {
     }
 }
 
+// Opens a later collection, whose copy is marked in a thread of its own.
+#[inline(never)]
+fn open_later<'s, E, L: Planned, R: Threads + Wait + Sync>(
+    rt: &'s R,
+    member: &mut Member<L>,
+    scope: &Scope<'s, E>,
+    helpers: &Helpers,
+) -> Result<Pending, NoMemory>
+    requires { need member.old.core ≡ asks_copy }
+{
+    let copy = member.begin_later()?;
+    helpers.begin(rt, scope, copy)
+}
+
 // One event of an agent, which has the ledger.
 fn turn_with<L: Planned>(
     member: &mut Member<L>,
@@ -293,25 +325,6 @@ fn turn_with<L: Planned>(
         wakes: wakes(ledger, before),
         seen: ledger.history().len(),
     })
-}
-
-// Whether the agent's next command reads or writes a word of shared memory.
-fn is_at_word<L: Planned>(member: &Member<L>) -> bool {
-    match member.core().record().due() {
-        Due::Run(_, command) => is_access(command),
-        _ => false,
-    }
-}
-
-// Whether a command on a word reads or writes it: a wait may sleep there, and a notify lets others go on.
-fn is_access(command: &Command) -> bool {
-    match command {
-        Command::Atomic(atomic) => !matches!(
-            atomic.operation(),
-            Operation::Wait { .. } | Operation::Notify { .. }
-        ),
-        _ => false,
-    }
 }
 
 // Whether an agent that waits or sleeps may go on, after what happened since the ledger had so many events: one that

@@ -15,6 +15,7 @@ use es_ticket::{LedgerName, Stake};
 use es_value::{Id, NoMemory};
 
 /// The agent does this at the word at an index of a buffer object's block.
+#[inline(always)]
 pub(crate) fn do_at_word<L: LedgerName>(
     core: &mut AgentCore<L>,
     stake: &mut Stake<L>,
@@ -39,6 +40,7 @@ pub(crate) fn do_at_word<L: LedgerName>(
 }
 
 // It reads or writes the word.
+#[inline(always)]
 fn access_word<L: LedgerName>(
     core: &mut AgentCore<L>,
     stake: &mut Stake<L>,
@@ -75,6 +77,7 @@ fn answer<L: LedgerName>(core: &mut AgentCore<L>, access: Access, old: u32) -> R
 }
 
 // It wakes those that sleep there first, so many at most (ECMA-262, Atomics.notify).
+#[inline(never)]
 fn notify<L: LedgerName>(
     core: &mut AgentCore<L>,
     stake: &mut Stake<L>,
@@ -99,6 +102,7 @@ fn notify<L: LedgerName>(
 
 // It sleeps where the word is this one, and goes on once it was taken or its time-out has passed (ECMA-262,
 // Atomics.wait).
+#[inline(never)]
 fn sleep<L: LedgerName>(
     core: &mut AgentCore<L>,
     stake: &mut Stake<L>,

@@ -1,8 +1,13 @@
-use Rattle.std.proofs.lemmas.Result.{IfOk-weaker}
+use Rattle.std.proofs.Common.{◌≡◌, true, false, sym, ◌∙◌, subst}
+use Rattle.std.specs.Prelude.{is_some}
+use Rattle.es_event.specs.Later.{snapshot}
+use Rattle.es_cluster.proofs.Needless.{are_marks, are_late_marks}
 use Rattle.es_cluster.proofs.beside.take_out.Goals as goal
 
-pub returns-in-Collect-clause-ok : goal.returns-in-Collect-clause-ok
-returns-in-Collect-clause-ok g c = IfOk-weaker c.collect.result _ _ (λ r e. (e.0, tt, e.2, e.3, e.4)) c.collect.ensures.ok
+pub finish_later-requires-clause-marks : goal.finish_later-requires-clause-marks
+finish_later-requires-clause-marks g c =
+    are_late_marks c.args.core.now c.args.marks.now c.requires (subst (λ b. is_some (snapshot b.history) ≡ true) c.record.ensures (sym c.is_open.ensures ∙ c.if-is_open.true))
 
-pub returns-in-Finish-clause-ok : goal.returns-in-Finish-clause-ok
-returns-in-Finish-clause-ok g c = IfOk-weaker c.finish_later.result _ _ (λ r e. (e.0, tt, e.2, e.3, e.4)) c.finish_later.ensures.ok
+pub collect-requires-clause-marks : goal.collect-requires-clause-marks
+collect-requires-clause-marks g c =
+    are_marks c.args.core.now c.args.marks.now c.requires (subst (λ b. is_some (snapshot b.history) ≡ false) c.record.ensures (sym c.is_open.ensures ∙ c.if-is_open.false))
