@@ -1,5 +1,6 @@
 -- Buffer objects by rising identity: the newest is the last, and a look-up finds the same from either end.
-use Rattle.std.proofs.Common.{◌≡◌, ◌<◌, ◌≤◌, ℕ, [], ◌∷◌, ◌++◌, Bool, true, false, cond, ◌==◌, reverse, Option, Some, None, Result, Ok, Err, IfErr, refl, ◌∙◌, ap, arith, inl, inr}
+use Rattle.std.proofs.Common.{◌≡◌, ◌<◌, ◌≤◌, ℕ, [], ◌∷◌, ◌++◌, Bool, true, false, cond, ◌==◌, length, reverse, sym, Option, Some, None, Result, Ok, Err, IfErr, refl, ◌∙◌, ap, arith, inl, inr}
+use Rattle.std.specs.Prelude.{slice_index_or}
 use Rattle.std.proofs.lemmas.Bool.{cases_Bool, eqb-true}
 use Rattle.std.proofs.lemmas.Bool.Decides.{nat_tests}
 use Rattle.std.proofs.lemmas.List.{reverse-append}
@@ -90,6 +91,11 @@ same_from n (t ∷ ts) o h =
 -- the table's look-up is that of the definitions
 pub same_row : (ts : Buffers) (o : ℕ) → is_rising_from 0 ts ≡ true → row_at (reverse ts) o ≡ at o ts
 same_row ts o h = same_from 0 ts o h
+
+-- of the first object
+pub first_row : (ts : Buffers) (o : ℕ) (d e : ℕ × Row) → is_rising_from 0 ts ≡ true → 1 ≤ length ts → ((slice_index_or ts 0 e).0 == o) ≡ true → Some (slice_index_or ts 0 d).1 ≡ row_at (reverse ts) o
+first_row [] o d e h some is = absurd (omega arith)
+first_row (t ∷ ts) o d e h some is = (let here : at o (t ∷ ts) ≡ Some t.1 = rw is refl in sym here) ∙ sym (same_row (t ∷ ts) o h)
 
 -- what holds at an error
 pub err_map : {A E : Type 0} (r : Result A E) (p q : E → Type 0) → ((e : E) → p e → q e) → IfErr r p → IfErr r q

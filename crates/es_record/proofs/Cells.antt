@@ -1,5 +1,5 @@
 -- What an agent's table of cells tells is what its history says of registrations.
-use Rattle.std.proofs.Common.{◌≡◌, ℕ, zero, suc, ◌+◌, ◌<◌, ◌≤◌, ◌==◌, ◌&&◌, Bool, true, false, cond, sym, ◌∙◌, ap, refl, subst, arith, List, [], map, Option, Some, None, Bor}
+use Rattle.std.proofs.Common.{◌≡◌, ℕ, zero, suc, ◌+◌, ◌<◌, ◌≤◌, ◌==◌, ◌&&◌, Bool, true, false, cond, sym, ◌∙◌, ap, refl, subst, arith, List, map, Option, Some, None, Bor}
 use Rattle.std.specs.Prelude.{is_some}
 use Rattle.std.specs.List.{list_any, find, count_by, range_with_len}
 use Rattle.std.specs.Option.{option_map, option_map_or, option_and_then, option_copied}
