@@ -29,7 +29,7 @@ mod reach;
 
 use crate::admission::{AdmitFault, enter};
 use crate::recorder::Recorder;
-use es_event::{AgentPlan, Answer, Due, Event, Refusal, Row, Sequence, WaitResult, catch_refusal};
+use es_event::{AgentPlan, Answer, Due, Event, Refusal, Row, Sequence, WaitResult};
 use es_mark::{Graph, Marks};
 use es_parmark::Snapshot;
 use es_record::AgentRecord;

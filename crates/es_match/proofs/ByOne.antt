@@ -1,5 +1,5 @@
 -- What one deed meets leaves what has come as it was.
-use Rattle.std.proofs.Common.{◌≡◌, ℕ, ℤ, Bool, true, false, List, [], ◌∷◌, ◌++◌, take, append-nil, refl, ◌∙◌, ap}
+use Rattle.std.proofs.Common.{◌≡◌, ℕ, ℤ, Bool, true, false, List, [], ◌++◌, append-nil, refl, ◌∙◌, ap}
 use Rattle.std.specs.Prelude.{Some}
 use Rattle.std.specs.Option.{option_map}
 use Rattle.es_match.specs.declared.one_deed.OneDeed.{OneDeed}
@@ -10,7 +10,7 @@ use Rattle.es_event.specs.declared.access.WaitResult.{WaitResult}
 use Rattle.es_event.specs.Commands.{first}
 use Rattle.es_event.specs.Heard.{wait_given}
 use Rattle.es_event.specs.Numbers.{index_of, task_of}
-use Rattle.es_match.specs.Asks.{asks_wait, asks_word, to_empty}
+use Rattle.es_match.specs.Asks.{asks_wait, asks_word}
 use Rattle.es_match.specs.Deeds.{Deed}
 use Rattle.es_match.specs.Goes.{asked}
 use Rattle.es_match.specs.Meets.{Came, Tickets, came_after, is_one, some_if}
@@ -53,13 +53,3 @@ pub asks_one : (t : Tickets) (w : OneDeed) → asked t (asking_one w) ≡ 1
 asks_one t (AtWord a vs v) = asks_one_task t (first vs.now) (index_of a.now vs.now) (task_of a.now vs.now) (said v)
 asks_one t (Posting a v) = refl
 asks_one t (Passing s) = refl
-
--- where the agent has no ticket, an emptying asks for no deed
-pub empties_none : (t : Tickets) (ever : Tickets) (refused : List ℕ) (ids : List ℕ) (ds : List Deed) → t ≡ []
-    → came_after (record { tickets = t; ever = ever; refused = refused }) (to_empty ids) (take (asked t (to_empty ids)) ds) ≡ Some (record { tickets = t; ever = ever; refused = refused })
-empties_none [] ever refused ids ds e = unchanged (record { tickets = []; ever = ever; refused = refused }) true
-empties_none (x ∷ t) ever refused ids ds e = absurd (cc)
-
-pub asks_none : (t : Tickets) (ids : List ℕ) → t ≡ [] → asked t (to_empty ids) ≡ 0
-asks_none [] ids e = refl
-asks_none (x ∷ t) ids e = absurd (cc)

@@ -283,7 +283,6 @@ fn go_on<'a>(
             right,
             answer,
         } => Ok(compares(&came.tickets, left, right, answer)),
-        Want::Emptying { .. } if came.tickets.is_empty() => Ok(true),
         _ => take_wanted(alloc, came, deeds, rest, want),
     }
 }

@@ -1,6 +1,6 @@
 //! The tickets of an agent's buffers.
 
-ghost use Rattle.std.specs.Prelude.{◌≡◌, ◌++◌, ◌∷◌, [], ℕ, IfOk, IsTrue, OnOk, OnErr, Some, None, nat_eq, if◌then◌else◌};
+ghost use Rattle.std.specs.Prelude.{◌≡◌, ◌++◌, ◌∷◌, [], ℕ, IfOk, OnOk, OnErr, Some, None, nat_eq, if◌then◌else◌};
 ghost use Rattle.std.specs.Option.{option_copied, option_or};
 ghost use Rattle.std.specs.HashMap.{get};
 ghost use Rattle.es_event.specs.Identities.{object_of};
@@ -59,14 +59,6 @@ impl BufferTickets {
             put_new(&mut rows, *object, *row)?;
         }
         Ok(BufferTickets { all, rows })
-    }
-
-    /// Whether there is none.
-    #[inline(always)]
-    pub fn is_empty(&self) -> bool
-        ensures { IsTrue result → self.now ≡ [] }
-    {
-        self.all.is_empty()
     }
 
     /// The tickets.
