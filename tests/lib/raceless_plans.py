@@ -1,6 +1,7 @@
 """Random plans without a race: their agents have words of their own in each block, or hand blocks on, or share none."""
 
 import random_plans
+import rules
 import third_plans
 
 MOST = 16384  # the most words of a block
@@ -71,9 +72,29 @@ def handed_on(rng):
 
 
 def random_plan(rng):
-    """A plan of version 1 or 2, or one of these as version 3 has it."""
-    plan = early_plan(rng)
-    return third_plans.in_variables(rng, plan) if rng.random() < 0.25 else plan
+    """A plan of version 1 or 2, or one of these as version 3 has it, with and without agents that wait at words."""
+    plan, version = early_plan(rng), rng.random()
+    if version < 0.75:
+        return plan
+    plan = third_plans.in_variables(rng, plan)
+    return plan if version < 0.8 else waiting(rng, plan)
+
+
+def waiting(rng, plan):
+    """The plan, of version 3, whose agents here and there wait at a word that they have just used, and say how that ended.
+    Nobody notifies, so who falls asleep sleeps until no agent can go on."""
+    for agent in plan["agents"]:
+        for job in agent["jobs"]:
+            job["run"] = [done for step in job["run"] for done in [step, *wait_after(rng, step)]]
+    return plan
+
+
+def wait_after(rng, step):
+    """A wait at the word of this command, as often as not for a number that may be there; mostly none."""
+    operands = dict(zip(rules.USES[step[0]], step[1:]))
+    if not {"b", "i"} <= operands.keys() or rng.random() > 0.15:
+        return []
+    return [["wait", "w", operands["b"], operands["i"], rng.choice([0, 0, 1, 2, 5])], ["say", "w"]]
 
 
 def early_plan(rng):

@@ -17,6 +17,7 @@ go on. Most are plans of agents that share, from random_plans.py, in which each 
 block (`apart`): of three agents the first has those whose indexes can be divided by 3, and the next those that follow
 them. In others blocks go from hand to hand (`handed_on`): an agent uses any word of a block, but only from taking it to
 posting it on. The rest are of agents that have nothing to do with each other.
+Some agents wait at words of their own, where nobody notifies: who falls asleep there goes on when no agent can.
 
 After the random plans comes one run in which an agent waits while another collects again and again: the program may
 take little more of the processors' time for it than by turns, as who waits sleeps. The better of up to PAIRS pairs of
@@ -70,7 +71,7 @@ MOST_STOLEN = 0.02  # the part of our processors' time that the host may take wh
 AUDITS = [1, 2, 5, 20, 100, 1000]
 HELPERS = [1, 2, 3, 8]
 # what a plan may have, as what its report then has
-PARTS = {**random_plans.PARTS, "refused commands": r"^error "}
+PARTS = {**random_plans.PARTS, "refused commands": r"^error ", "sleeps in vain": r'^say "timed-out"$'}
 
 
 def answer(program, data, *options):
