@@ -26,4 +26,4 @@ pub mod Tying
 pub mod Hearing
 pub mod Sleeping
 pub mod Audited
-pub mod Needless
+pub mod AskedMarks

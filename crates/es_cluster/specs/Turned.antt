@@ -66,7 +66,8 @@ beforehand (asks_message s) = Nothing
 beforehand asks_closing = Nothing
 beforehand asks_nothing = Nothing
 
--- of the commands on a word all but two read or write it alone: a wait may sleep there, and a notify wakes others
+-- a command on a word reads or writes it alone, but for a wait, which may sleep there, and a notify, which wakes others (The Atomics
+-- Object)
 abbrev pub is_access : Operation → Bool
 is_access (Operation.Wait to n) = false
 is_access (Operation.Notify to c) = false

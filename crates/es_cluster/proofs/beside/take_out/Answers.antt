@@ -1,7 +1,7 @@
 use Rattle.std.proofs.Common.{◌≡◌, true, false, sym, ◌∙◌, subst}
 use Rattle.std.specs.Prelude.{is_some}
 use Rattle.es_event.specs.Later.{snapshot}
-use Rattle.es_cluster.proofs.Needless.{are_marks, are_late_marks}
+use Rattle.es_cluster.proofs.AskedMarks.{are_marks, are_late_marks}
 use Rattle.es_cluster.proofs.beside.take_out.Goals as goal
 
 pub finish_later-requires-clause-marks : goal.finish_later-requires-clause-marks

@@ -3,7 +3,7 @@ use Rattle.std.specs.Prelude.{is_some}
 use Rattle.std.proofs.lemmas.Result.{IfOk-weaker}
 use Rattle.es_event.specs.Later.{snapshot}
 use Rattle.es_record.specs.Graph.{AreLateMarks}
-use Rattle.es_cluster.proofs.Needless.{asked_late_marks}
+use Rattle.es_cluster.proofs.AskedMarks.{asked_late_marks}
 use Rattle.es_run.proofs.helpers.Helpers.marks.Goals as goal
 
 pub returns-then-is_open : goal.returns-then-is_open

@@ -41,9 +41,6 @@ are_marks b m are shut = subst (λ n. AreAskedFor n b m) (collect_asked b (marks
 pub are_late_marks : (b : AgentView) (m : List Bool) → AreAskedFor (need b) b m → is_some (snapshot b.history) ≡ true → AreLateMarks b m
 are_late_marks b m are there = subst (λ n. AreAskedFor n b m) (finish_asked b (marks_asked (need b) b m are) there) are
 
--- marks of either kind are what is asked for
-pub asked_marks : (b : AgentView) → AsksMarks (need b) → is_some (snapshot b.history) ≡ false → (m : List Bool) → AreMarksOf b m → AreAskedFor (need b) b m
-asked_marks b asks shut m are = subst (λ n. AreAskedFor n b m) (sym (collect_asked b asks shut)) are
-
+-- marks of the copy are what is asked for
 pub asked_late_marks : (b : AgentView) → AsksMarks (need b) → is_some (snapshot b.history) ≡ true → (m : List Bool) → AreLateMarks b m → AreAskedFor (need b) b m
 asked_late_marks b asks there m are = subst (λ n. AreAskedFor n b m) (sym (finish_asked b asks there)) are
