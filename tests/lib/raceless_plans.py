@@ -90,7 +90,7 @@ def waiting(rng, plan):
 
 
 def wait_after(rng, step):
-    """A wait at the word of this command, as often as not for a number that may be there; mostly none."""
+    """Here and there a wait at the word of this command, for a small number: so it may sleep, or not."""
     operands = dict(zip(rules.USES[step[0]], step[1:]))
     if not {"b", "i"} <= operands.keys() or rng.random() > 0.15:
         return []

@@ -48,6 +48,7 @@ class Player(players.Player):
         super().skip()
 
     def close(self):
+        """Its end, whose line the report has."""
         self.shared = True
         self.end()
 
