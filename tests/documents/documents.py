@@ -156,7 +156,7 @@ def called():
     gate = read("check").split('rm -f "$program" "$calls"')[1]
     for name in ("program", "calls", "first"):
         gate = gate.replace(f'"${name}"', name.upper())
-    calls = re.findall(r"try \w+ tests/(.*)", gate)
+    calls = re.findall(r"begin \w+ tests/(.*)", gate)
     odd = sorted(set(calls) ^ {cell for head, cell in listed() if head == "At each gate"})
     return f"it and `check` differ in: {', '.join(odd)}" if odd else None
 
