@@ -29,14 +29,14 @@ mod reach;
 
 use crate::admission::{AdmitFault, enter};
 use crate::recorder::Recorder;
-use es_event::{AgentPlan, Answer, Due, Event, Refusal, Row, Sequence, WaitResult};
+use es_event::{AgentPlan, Answer, Done, Due, Event, Refusal, Row, Sequence, WaitResult};
 use es_mark::{Graph, Marks};
 use es_parmark::Snapshot;
 use es_record::AgentRecord;
 use es_registry::Tally;
 use es_rules::{
     Need, Stop, answered_done, answered_wait, answered_word, asks, asks_nobody, asks_somebody,
-    begun, caught, do_alone, is_for_ledger, next_event, received, skipped,
+    caught, do_alone, is_for_ledger, next_event, planned, received, skipped,
 };
 use es_ticket::{LedgerName, Rack, Ticket};
 use es_value::{Id, NoMemory, Value};
@@ -230,7 +230,8 @@ impl<L: LedgerName> AgentCore<L> {
             if asks_somebody(record, command) {
                 return Ok(false);
             }
-            let mut done = begun(record, command)?;
+            let mut done = Done::of(planned(record)?);
+            record.read(command, &mut done)?;
             match do_alone(record, command, &mut done) {
                 Ok(()) => self.record.record_done(done)?,
                 Err(Stop::Refused(code)) => {
@@ -384,7 +385,8 @@ impl<L: LedgerName> AgentCore<L> {
         ensures ok { OnOk result (DoesWith self.old (Answer.Gives (Value.Number (pos word))) self.new) }
         ensures err { OnErr result (self.new ≡ self.old) }
     {
-        let done = answered_word(self.record.read(), word)?;
+        let mut done = Done::of(planned(self.record.read())?);
+        answered_word(self.record.read(), word, &mut done)?;
         self.record.record_done(done)
     }
 
@@ -394,7 +396,8 @@ impl<L: LedgerName> AgentCore<L> {
         ensures ok { OnOk result (DoesWith self.old (Answer.Gives (Value.Text (wait_text ended))) self.new) }
         ensures err { OnErr result (self.new ≡ self.old) }
     {
-        let done = answered_wait(self.record.read(), ended)?;
+        let mut done = Done::of(planned(self.record.read())?);
+        answered_wait(self.record.read(), ended, &mut done)?;
         self.record.record_done(done)
     }
 
@@ -405,7 +408,8 @@ impl<L: LedgerName> AgentCore<L> {
         ensures ok { OnOk result (DoesWith self.old Answer.Nothing self.new) }
         ensures err { OnErr result (self.new ≡ self.old) }
     {
-        let done = answered_done(self.record.read())?;
+        let mut done = Done::of(planned(self.record.read())?);
+        answered_done(self.record.read(), &mut done)?;
         self.record.record_done(done)
     }
 

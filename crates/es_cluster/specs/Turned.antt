@@ -1,7 +1,7 @@
 -- To believe: what a turn of an agent asks of those who call it, and what it leaves of the agent and of the ledger.
-use Rattle.std.specs.Prelude.{ℕ, ◌≡◌, ◌≢◌, ◌<◌, ⊤, ◌⊎◌, Bool, true, false, List, Option, Some, map, ◌++◌}
+use Rattle.std.specs.Prelude.{ℕ, ◌≡◌, ◌≢◌, ◌<◌, ⊤, ◌⊎◌, not, Bool, false, List, Option, Some, map, ◌++◌}
+use Rattle.es_event.specs.Access.{is_of_sleep}
 use Rattle.es_event.specs.declared.access.Task.{Task}
-use Rattle.es_event.specs.declared.atomic.Operation.{Operation}
 use Rattle.es_event.specs.declared.command.Command.TheVariants.{Atomic}
 use Rattle.es_event.specs.declared.event.Event.{Event}
 use Rattle.es_event.specs.declared.ledger_event.LedgerEvent.TheVariants.{Spent}
@@ -66,16 +66,10 @@ beforehand (asks_message s) = Nothing
 beforehand asks_closing = Nothing
 beforehand asks_nothing = Nothing
 
--- a command on a word reads or writes it alone, but for a wait, which may sleep there, and a notify, which wakes others (The Atomics
--- Object)
-abbrev pub is_access : Operation → Bool
-is_access (Operation.Wait to n) = false
-is_access (Operation.Notify to c) = false
-is_access _ = true
-
--- such a command is due
+-- a command is due that reads or writes a word alone: no wait, which may sleep there, and no notify, which wakes others (The
+-- Atomics Object)
 abbrev pub runs_access : Due → Bool
-runs_access (run x (Atomic a)) = is_access a.operation
+runs_access (run x (Atomic a)) = not (is_of_sleep a.operation)
 runs_access _ = false
 
 -- the agent is one of the ledger's, and has ended there where it has closed

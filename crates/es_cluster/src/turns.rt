@@ -5,7 +5,7 @@ ghost use Rattle.es_event.specs.Order.{due};
 ghost use Rattle.es_record.specs.Graph.{AreMarksOf, AreLateMarks};
 ghost use Rattle.es_rules.specs.Needs.{need, asks_nobody, asks_marks, asks_copy, asks_late_marks, asks_closing};
 ghost use Rattle.es_cluster.specs.Members.{member_of};
-ghost use Rattle.es_cluster.specs.Turned.{WaitsRightly, Keeps, NamesOthers, Proceeds, StaysTied, is_access, runs_access};
+ghost use Rattle.es_cluster.specs.Turned.{WaitsRightly, Keeps, NamesOthers, Proceeds, StaysTied, runs_access};
 ghost use Rattle.es_cluster.specs.Midway.{IsHeld};
 
 mod asking;
@@ -16,7 +16,7 @@ use crate::member::Progress;
 use crate::spending::spend_all;
 use asking::{open, post, post_buffer};
 use es_agent::{AgentCore, Need, Request};
-use es_event::{Command, Due, Operation};
+use es_event::{Command, Due};
 use es_ledger::LedgerCore;
 use es_mark::Marks;
 use es_rules::asks_at;
@@ -108,7 +108,7 @@ pub(crate) fn ask_at_word<L: LedgerName>(
     let Command::Atomic(atomic) = command else {
         return Ok(None);
     };
-    if !is_access(atomic.operation()) {
+    if atomic.operation().is_of_sleep() {
         return Ok(None);
     }
     let progress = match asks_at(record, command) {
@@ -124,13 +124,6 @@ pub(crate) fn ask_at_word<L: LedgerName>(
         _ => unreachable!(),
     };
     Ok(Some(progress))
-}
-
-// Whether a command on a word reads or writes it: a wait may sleep there, and a notify wakes others.
-fn is_access(operation: &Operation) -> bool
-    ensures { result ≡ is_access operation.now }
-{
-    !matches!(operation, Operation::Wait { .. } | Operation::Notify { .. })
 }
 
 // A step that asks nobody else.

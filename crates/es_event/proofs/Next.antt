@@ -1,5 +1,5 @@
 -- What may come next: one event, but for what it hears from outside, and some event wherever something is due.
-use Rattle.std.proofs.Common.{◌≡◌, ℕ, ◌+◌, cond, ◌-◌, ◌==◌, ◌&&◌, Bool, true, false, sym, ◌∙◌, ap, refl, subst, List, [], ◌∷◌, Option, Some, None, Result, Ok, Err, is_none, ◌≤◌, arith, nat_lt, nat_le, not, if◌then◌else◌}
+use Rattle.std.proofs.Common.{◌≡◌, ℕ, ◌+◌, cond, ◌-◌, ◌==◌, ◌&&◌, Bool, true, false, sym, ◌∙◌, ap, refl, subst, List, [], ◌∷◌, Option, Some, None, Result, Ok, Err, is_none, ◌≤◌, arith, nat_lt, nat_le, not}
 use Rattle.std.specs.Prelude.{slice_get, is_some, nat_lt}
 use Rattle.std.specs.Option.{option_map, option_map_or, option_and_then}
 use Rattle.std.proofs.lemmas.Bool.{false≢true, and_parts, eq-eqb, and_from, le-leb, leb-true}

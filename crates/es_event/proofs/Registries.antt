@@ -13,7 +13,7 @@ use Rattle.es_event.specs.Commands.{first, second, third, fourth, Kind, ordinary
 use Rattle.es_event.specs.History.{History}
 use Rattle.es_event.specs.Identities.{identity, made, kind}
 use Rattle.es_event.specs.Jobs.{Receivers}
-use Rattle.es_event.specs.Registrations.{callback_in, callback, Cell, registers, registers_by, cell, live}
+use Rattle.es_event.specs.Registrations.{callback_in, callback, Cell, registers_by, cell}
 use Rattle.es_event.specs.Sharing.{Buffers}
 use Rattle.es_event.specs.Rules.{is_registry, kind_of, of_held_weakly, of_other, of_token, tests, first_refusal}
 use Rattle.es_event.specs.Heard.{heard_by}

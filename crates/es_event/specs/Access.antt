@@ -37,6 +37,15 @@ given_to (Operation.CompareExchange to e r) = Some to
 given_to (Operation.Wait to n) = Some to
 given_to (Operation.Notify to c) = Some to
 
+-- it waits at a word, or notifies those that do (Atomics.wait and notify); the others read or write the word alone
+abbrev pub is_of_sleep : Operation → Bool
+is_of_sleep (Operation.Load to) = false
+is_of_sleep (Operation.Store n) = false
+is_of_sleep (Operation.Modify to how n) = false
+is_of_sleep (Operation.CompareExchange to e r) = false
+is_of_sleep (Operation.Wait to n) = true
+is_of_sleep (Operation.Notify to c) = true
+
 -- What it comes to
 
 -- a number modulo 2^32: the word of 32 bits that is written for it (ToUint32)

@@ -1,5 +1,5 @@
 -- To believe: what an agent's event takes from outside of the agent.
-use Rattle.std.specs.Prelude.{ℕ, pos, codes, List, if◌then◌else◌}
+use Rattle.std.specs.Prelude.{ℕ, pos, codes, if◌then◌else◌}
 use Rattle.es_value.specs.declared.value.Value.{Value}
 use Rattle.es_value.specs.declared.value.Value.TheVariants.{Number, Text}
 use Rattle.std.specs.Str.{bytes_eq}

@@ -2,7 +2,7 @@
 
 ghost use Rattle.std.specs.Prelude.{◌≡◌, ◌∷◌, ◌++◌, [], false, IfOk, is_some};
 ghost use Rattle.std.specs.Option.{option_copied, option_to_list};
-ghost use Rattle.es_event.specs.Access.{edit_of, given_to, operands_of, to_uint32 as to_uint32_said, variables_of};
+ghost use Rattle.es_event.specs.Access.{edit_of, given_to, is_of_sleep, operands_of, to_uint32 as to_uint32_said, variables_of};
 ghost use Rattle.es_event.specs.Numbers.{access_of, count_of, cut, index_of, most_taken as most_taken_said, number_or_0, numbers_of, operand_number, task_of, word_at};
 ghost use Rattle.es_event.specs.Reading.{names_of};
 
@@ -220,6 +220,20 @@ fn number_or_0(number: Result<i64, Refusal>) -> i64
 }
 
 impl Operation {
+    /// Whether it waits at a word, or notifies those that do (ECMA-262, Atomics.wait and notify); the others read or write
+    /// the word alone.
+    pub fn is_of_sleep(&self) -> bool
+        ensures { result ≡ is_of_sleep self.now }
+    {
+        match self {
+            Operation::Wait { .. } | Operation::Notify { .. } => true,
+            Operation::Load { .. }
+            | Operation::Store { .. }
+            | Operation::Modify { .. }
+            | Operation::CompareExchange { .. } => false,
+        }
+    }
+
     /// The words of its operands, where these are the values of their variables.
     #[inline(always)]
     fn words(&self, values: &[Value]) -> (u32, u32)

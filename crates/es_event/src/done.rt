@@ -1,6 +1,6 @@
 //! A command that was done, as the event that did it has it.
 
-ghost use Rattle.std.specs.Prelude.{◌≡◌, ◌∷◌, [], OnOk};
+ghost use Rattle.std.specs.Prelude.{◌≡◌, ◌<◌, ◌++◌, ◌∷◌, [], length, OnOk};
 ghost use Rattle.es_event.specs.Answers.{answer_said};
 
 use crate::kept::Kept;
@@ -29,18 +29,19 @@ impl Drop for Done {
 }
 
 impl Model for Done {
-    ghost use Rattle.std.specs.Prelude.{List, ◌<◌, length, slice_index_or};
+    ghost use Rattle.std.specs.Prelude.{◌≡◌, List, ◌<◌, length, true, slice_index_or};
     ghost use Rattle.es_value.specs.declared.value.Value.{Value as Operand};
     ghost use Rattle.es_event.specs.declared.command.Command.{Command as CommandSaid};
     ghost use Rattle.es_event.specs.declared.command.Command.TheVariants.{Collect};
     ghost use Rattle.es_event.specs.declared.event.Answer.{Answer as AnswerSaid};
-    ghost use Rattle.es_event.specs.Kept.{place_in, values_in, answer_in};
+    ghost use Rattle.es_event.specs.declared.event.Answer.TheVariants.{Nothing};
+    ghost use Rattle.es_event.specs.Kept.{place_in, values_in, answer_in, has_room};
 
     ghost Value = { CommandSaid × List Operand × AnswerSaid };
 
     ghost view = { λ d. (slice_index_or d.commands (place_in d.kept) Collect, values_in d.kept, answer_in d.kept) };
 
-    ghost invariant = { λ d. place_in d.kept < length d.commands };
+    ghost invariant = { λ d. (place_in d.kept < length d.commands) × (answer_in d.kept ≡ Nothing → length (values_in d.kept) < 3 → has_room d.kept ≡ true) };
 }
 
 /// What a command gave, where it is kept.
@@ -55,7 +56,7 @@ pub enum AnswerRef<'a> {
 }
 
 impl Done {
-    /// A command that is done, which read nothing; it gave nothing yet.
+    /// A command that is done; it read and gave nothing yet.
     #[inline(always)]
     pub fn of(command: PlanCommand) -> Done
         ensures { result ≡ (command, [], Answer.Nothing) }
@@ -65,45 +66,23 @@ impl Done {
         Done { commands, kept }
     }
 
-    /// One that read this value.
+    /// It read this value too, the third at most. It gave nothing yet.
     #[inline(always)]
-    pub fn of_one(command: PlanCommand, value: Value) -> Done
-        ensures { result ≡ (command, value ∷ [], Answer.Nothing) }
+    pub fn read(&mut self, value: Value)
+        requires few { length self.old.1 < 3 }
+        requires nothing { self.old.2 ≡ Answer.Nothing }
+        ensures { self.new ≡ (self.old.0, self.old.1 ++ value ∷ [], Answer.Nothing) }
     {
-        let PlanCommand { commands, place } = command;
-        let kept = Kept::few(place, 1, [value, Value::Undefined, Value::Undefined]);
-        Done { commands, kept }
+        self.kept.read(value);
     }
 
-    /// One that read these two values, in this order.
-    #[inline(always)]
-    pub fn of_two(command: PlanCommand, first: Value, second: Value) -> Done
-        ensures { result ≡ (command, first ∷ second ∷ [], Answer.Nothing) }
+    /// It read these values, more than three, and none before. It gave nothing yet.
+    pub fn read_all(&mut self, values: Sequence<Value>)
+        requires many { 3 < length values }
+        requires nothing { (self.old.1 ≡ []) × (self.old.2 ≡ Answer.Nothing) }
+        ensures { self.new ≡ (self.old.0, values, Answer.Nothing) }
     {
-        let PlanCommand { commands, place } = command;
-        let kept = Kept::few(place, 2, [first, second, Value::Undefined]);
-        Done { commands, kept }
-    }
-
-    /// One that read these three values, in this order.
-    #[inline(always)]
-    pub fn of_three(command: PlanCommand, first: Value, second: Value, third: Value) -> Done
-        ensures { result ≡ (command, first ∷ second ∷ third ∷ [], Answer.Nothing) }
-    {
-        let PlanCommand { commands, place } = command;
-        let kept = Kept::few(place, 3, [first, second, third]);
-        Done { commands, kept }
-    }
-
-    /// One that read all these values, in order.
-    pub fn of_all(command: PlanCommand, values: Sequence<Value>) -> Done
-        ensures { result ≡ (command, values, Answer.Nothing) }
-    {
-        let PlanCommand { commands, place } = command;
-        Done {
-            commands,
-            kept: Kept::More(place, values),
-        }
+        self.kept.read_all(values);
     }
 
     /// The command.

@@ -1,6 +1,6 @@
 //! What was done, less the list of its command.
 
-ghost use Rattle.std.specs.Prelude.{◌≡◌, [], true, take, OnOk};
+ghost use Rattle.std.specs.Prelude.{◌≡◌, ◌<◌, ◌++◌, ◌∷◌, [], true, length, OnOk, OnErr};
 ghost use Rattle.es_event.specs.Answers.{answer_said};
 ghost use Rattle.es_event.specs.declared.event.Answer.TheVariants.{Nothing as NothingSaid, Gives as GivesSaid, Listed as ListedSaid};
 ghost use Rattle.es_event.specs.Held.{values_of};
@@ -47,30 +47,54 @@ pub(crate) struct Listing {
 }
 
 impl Kept {
-    /// Of the command at this place, which read so many values, up to three, the first of these.
-    #[inline(always)]
-    pub(crate) fn few(place: u32, read: u8, values: [Value; 3]) -> Kept
-        ensures place { place_in result ≡ place }
-        ensures values { values_in result ≡ take read values }
-        ensures answer { answer_in result ≡ NothingSaid }
-    {
-        Kept::Few {
-            read,
-            gave: false,
-            place,
-            values,
-        }
-    }
-
-    /// Of the command at this place, which read nothing.
+    /// Of the command at this place, which read nothing yet.
     #[inline(always)]
     pub(crate) fn none(place: u32) -> Kept
         ensures place { place_in result ≡ place }
         ensures values { values_in result ≡ [] }
         ensures answer { answer_in result ≡ NothingSaid }
+        ensures room { has_room result ≡ true }
     {
-        let values = [Value::Undefined, Value::Undefined, Value::Undefined];
-        Kept::few(place, 0, values)
+        Kept::Few {
+            read: 0,
+            gave: false,
+            place,
+            values: [Value::Undefined, Value::Undefined, Value::Undefined],
+        }
+    }
+
+    /// It read this value too, which lies beside those that it read.
+    #[inline(always)]
+    #[tactic(auto, using(std::proofs::lemmas::List::take_more_set))]
+    pub(crate) fn read(&mut self, value: Value)
+        requires room { has_room self.old ≡ true }
+        requires answer { answer_in self.old ≡ NothingSaid }
+        ensures place { place_in self.new ≡ place_in self.old }
+        ensures values { values_in self.new ≡ values_in self.old ++ value ∷ [] }
+        ensures answer { answer_in self.new ≡ NothingSaid }
+        ensures room { length (values_in self.new) < 3 → has_room self.new ≡ true }
+    {
+        let at = match self {
+            Kept::Few { read, .. } => *read,
+            _ => unreachable!(),
+        };
+        match self {
+            Kept::Few { values, .. } => values[at as usize] = value,
+            _ => unreachable!(),
+        }
+        match self {
+            Kept::Few { read, .. } => *read = at + 1,
+            _ => unreachable!(),
+        }
+    }
+
+    /// It read all these values.
+    pub(crate) fn read_all(&mut self, values: Sequence<Value>)
+        ensures place { place_in self.new ≡ place_in self.old }
+        ensures values { values_in self.new ≡ values }
+        ensures answer { answer_in self.new ≡ NothingSaid }
+    {
+        *self = Kept::More(self.place(), values);
     }
 
     /// Where the command stands in its list.
@@ -123,6 +147,7 @@ impl Kept {
         ensures place { place_in self.new ≡ place_in self.old }
         ensures values { OnOk result (values_in self.new ≡ values_in self.old) }
         ensures answer { OnOk result (answer_in self.new ≡ GivesSaid given) }
+        ensures left { OnErr result (has_room self.new ≡ true) }
     {
         if self.has_room() {
             self.give_last(given);
@@ -167,6 +192,7 @@ impl Kept {
         ensures place { place_in self.new ≡ place_in self.old }
         ensures values { OnOk result (values_in self.new ≡ values_in self.old) }
         ensures answer { OnOk result (answer_in self.new ≡ GivesSaid given) }
+        ensures left { OnErr result (has_room self.new ≡ true) }
     {
         let (place, values) = self.take_held();
         let giving = Box::new(alloc, Giving { values, given })?;
@@ -179,6 +205,7 @@ impl Kept {
         requires { answer_in self.old ≡ NothingSaid }
         ensures place { (result.0 ≡ place_in self.old) × (place_in self.new ≡ place_in self.old) }
         ensures values { values_of result.1 ≡ values_in self.old }
+        ensures room { has_room self.new ≡ true }
     {
         let place = self.place();
         let values = held(mem::replace(self, Kept::none(place)));
@@ -192,6 +219,7 @@ impl Kept {
         ensures place { place_in self.new ≡ place_in self.old }
         ensures values { OnOk result (values_in self.new ≡ values_in self.old) }
         ensures answer { OnOk result (answer_in self.new ≡ ListedSaid keys) }
+        ensures left { OnErr result (has_room self.new ≡ true) }
     {
         let (place, values) = self.take_held();
         let listing = Box::new(alloc, Listing { values, keys })?;

@@ -6,9 +6,9 @@ use Rattle.std.proofs.lemmas.List.{length-map}
 use Rattle.std.proofs.lemmas.List.Sums.{count_by-le-length, length-filter}
 use Rattle.std.proofs.lemmas.Map.Steps.{length-le_from_distinct_below}
 use Rattle.es_event.specs.declared.ledger_event.Act.{Act}
-use Rattle.es_event.specs.declared.ledger_event.Act.TheVariants.{Waiting, Passed, Ended, Slept, Notified, Woke, TimedOut}
+use Rattle.es_event.specs.declared.ledger_event.Act.TheVariants.{Ended, Slept, Notified, Woke, TimedOut}
 use Rattle.es_event.specs.declared.ledger_event.LedgerEvent.{LedgerEvent}
-use Rattle.es_event.specs.declared.ledger_event.LedgerEvent.TheVariants.{Opened, Posted, Taken, Spent, Accessed, Drained, Acted}
+use Rattle.es_event.specs.declared.ledger_event.LedgerEvent.TheVariants.{Acted}
 use Rattle.es_event.specs.declared.row.Row.{Row}
 use Rattle.es_event.specs.declared.waiter.Waiter.{Waiter}
 use Rattle.es_event.specs.Ledger.{Ledger, holder_of}
@@ -82,14 +82,7 @@ taken_till_woken n l (Acted c (Slept s i w)) a legal taken =
     let off = apart (λ x. not (asleep l x)) c a (ap not (awake_before n l c s i w (owed l) legal.0)) (ap not (is_asleep l a taken)) in
     inl (stays_taken l (Acted c (Slept s i w) ∷ l) a (ap (λ t. cond t true (asleep l a)) off) (λ is. has_more a (waiters l) (waiter c (block_by l s) i) is off) taken)
 taken_till_woken n l (Acted c (Notified s i m k)) a legal taken = inl (stays_taken l (Acted c (Notified s i m k) ∷ l) a refl (has_without a (block_by l s) i m (waiters l)) taken)
-taken_till_woken n l (Acted c (Waiting s)) a legal taken = inl taken
-taken_till_woken n l (Acted c (Passed s)) a legal taken = inl taken
-taken_till_woken n l (Opened b w s c) a legal taken = inl taken
-taken_till_woken n l (Posted c r m) a legal taken = inl taken
-taken_till_woken n l (Taken s r) a legal taken = inl taken
-taken_till_woken n l (Spent s) a legal taken = inl taken
-taken_till_woken n l (Accessed s i m old) a legal taken = inl taken
-taken_till_woken n l (Drained s r) a legal taken = inl taken
+taken_till_woken n l _ a legal taken = inl taken
 
 pub woken_was_taken : (n : ℕ) (l : Ledger) (a : ℕ) → LegalSoFar n (Acted a Woke ∷ l) → was_taken l a ≡ true
 woken_was_taken n l a legal = ap (λ t. asleep l a && not t) (untaken n l a (owed l) legal.0) ∙ ap (λ t. t && true) (asleep_before n l a (owed l) legal.0)
@@ -137,15 +130,7 @@ listed_till_taken n l (Acted c TimedOut) a legal is = by (c == a) refl
     by false e = inl (has_beside c a (waiters l) e is)
 listed_till_taken n l (Acted c (Slept s i w)) a legal is = inl (has_still a (waiters l) (waiter c (block_by l s) i) is)
 listed_till_taken n l (Acted c (Notified s i m k)) a legal is = notified n l c s i m k a legal.1 is
-listed_till_taken n l (Acted c Woke) a legal is = inl is
-listed_till_taken n l (Acted c (Waiting s)) a legal is = inl is
-listed_till_taken n l (Acted c (Passed s)) a legal is = inl is
-listed_till_taken n l (Opened b w s c) a legal is = inl is
-listed_till_taken n l (Posted c r m) a legal is = inl is
-listed_till_taken n l (Taken s r) a legal is = inl is
-listed_till_taken n l (Spent s) a legal is = inl is
-listed_till_taken n l (Accessed s i m old) a legal is = inl is
-listed_till_taken n l (Drained s r) a legal is = inl is
+listed_till_taken n l _ a legal is = inl is
 
 -- A notify of all
 

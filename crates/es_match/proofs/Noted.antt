@@ -5,7 +5,7 @@ use Rattle.std.specs.Option.{option_and_then, option_map, option_map_or}
 use Rattle.es_event.specs.declared.ledger_event.Body.{Body}
 use Rattle.es_event.specs.declared.ledger_event.Body.TheVariants.{Plain, Block}
 use Rattle.es_event.specs.declared.ledger_event.LedgerEvent.{LedgerEvent}
-use Rattle.es_event.specs.declared.ledger_event.LedgerEvent.TheVariants.{Opened, Posted, Taken, Spent, Accessed, Drained, Acted}
+use Rattle.es_event.specs.declared.ledger_event.LedgerEvent.TheVariants.{Opened, Posted, Taken, Spent, Acted}
 use Rattle.es_event.specs.declared.row.Entry.{Entry}
 use Rattle.es_event.specs.declared.row.Holder.{Holder}
 use Rattle.es_event.specs.declared.row.Holder.TheVariants.{Agent, Nobody}
@@ -79,20 +79,13 @@ line_said l (Opened b w s a) q = line_added (table l) _ q
 line_said l (Posted a r body) q = posted_said l a r body (table l) q
 line_said l (Taken s r) q = moved_said (option_and_then serial_in (front l s r)) (Agent r) (table l) q
 line_said l (Spent s) q = line_moved s Nobody (table l) q
-line_said l (Accessed s i m old) q = refl
-line_said l (Acted a d) q = refl
-line_said l (Drained s r) q = refl
+line_said l _ q = refl
 
 -- The sleep of an agent
 
 sleeps_said : (l : Ledger) (e : LedgerEvent) (a : ℕ) → sleeps_on e a (sleep_of l a) ≡ sleep_of (e ∷ l) a
-sleeps_said l (Opened b w s c) a = refl
-sleeps_said l (Posted c r m) a = refl
-sleeps_said l (Taken s r) a = refl
-sleeps_said l (Spent s) a = refl
-sleeps_said l (Accessed s i m old) a = refl
 sleeps_said l (Acted c d) a = refl
-sleeps_said l (Drained s r) a = refl
+sleeps_said l _ a = refl
 
 -- All pass
 

@@ -4,9 +4,9 @@ ghost use Rattle.std.specs.Prelude.{◌≡◌, not};
 ghost use Rattle.std.specs.List.{list_all, list_any};
 ghost use Rattle.es_event.specs.declared.plan.Callback.{Callback};
 ghost use Rattle.es_event.specs.declared.plan.Job.{Job};
-ghost use Rattle.es_theorems.specs.Sleepless.{is_for_sleep, is_of_sleep, never_sleeps, never_sleeps_in};
+ghost use Rattle.es_theorems.specs.Sleepless.{is_for_sleep, never_sleeps, never_sleeps_in};
 
-use es_event::{AgentPlan, Command, Operation, Plan};
+use es_event::{AgentPlan, Command, Plan};
 
 /// Whether no agent of the plan waits at a word, or notifies those that do (ECMA-262, Atomics.wait and notify).
 pub(crate) fn never_sleeps(plan: &Plan) -> bool
@@ -52,19 +52,7 @@ fn is_for_sleep(command: &Command) -> bool
     ensures { result ≡ is_for_sleep command.now }
 {
     match command {
-        Command::Atomic(atomic) => is_of_sleep(atomic.operation()),
+        Command::Atomic(atomic) => atomic.operation().is_of_sleep(),
         _ => false,
-    }
-}
-
-fn is_of_sleep(operation: &Operation) -> bool
-    ensures { result ≡ is_of_sleep operation.now }
-{
-    match operation {
-        Operation::Wait { .. } | Operation::Notify { .. } => true,
-        Operation::Load { .. }
-        | Operation::Store { .. }
-        | Operation::Modify { .. }
-        | Operation::CompareExchange { .. } => false,
     }
 }

@@ -5,7 +5,7 @@ use Rattle.es_value.specs.declared.value.Value.{Value}
 use Rattle.es_value.specs.declared.value.Value.TheVariants.{Object}
 use Rattle.es_event.specs.declared.access.Task.{Task}
 use Rattle.es_event.specs.declared.event.Answer.{Answer}
-use Rattle.es_event.specs.declared.event.Answer.TheVariants.{Gives}
+use Rattle.es_event.specs.declared.event.Answer.TheVariants.{Nothing, Gives}
 use Rattle.es_event.specs.declared.command.Command.{Command}
 use Rattle.es_event.specs.declared.command.Command.TheVariants.{SharedArrayBuffer, Atomic, Post}
 use Rattle.es_event.specs.declared.event.Event.{Event}
@@ -177,6 +177,10 @@ TakesWaitResult (asks_ledger (for_word o i t)) = gives_wait_result t ≡ true
 TakesWaitResult (asks_message s) = ⊥
 TakesWaitResult asks_closing = ⊥
 TakesWaitResult asks_nothing = ⊥
+
+-- the due command before it is done: it read and gave nothing yet
+abbrev pub IsBefore : AgentView → Command × List Value × Answer → Type 0
+IsBefore b d = RunsNow (due b.plan b.history) d.0 × (d.1 ≡ []) × (d.2 ≡ Nothing)
 
 -- the event is the due command, done with this answer
 abbrev pub IsDone : AgentView → Answer → Event → Type 0

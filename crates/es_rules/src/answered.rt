@@ -1,16 +1,14 @@
 //! The events of what came from outside: of the ledger's answers, and of messages.
 
-ghost use Rattle.std.specs.Prelude.{◌≡◌, ◌+◌, ◌∷◌, [], ℕ, true, false, None, pos, IfOk, nat_lt};
+ghost use Rattle.std.specs.Prelude.{◌≡◌, ◌+◌, ◌∷◌, [], ℕ, true, false, None, pos, IfOk, OnOk, nat_lt};
 ghost use Rattle.es_value.specs.Limits.{most_identities};
 ghost use Rattle.es_value.specs.Values.{identity};
 ghost use Rattle.es_event.specs.Access.{wait_text};
 ghost use Rattle.es_event.specs.Identities.{made};
 ghost use Rattle.es_event.specs.Order.{due, receive, RunsNow};
-ghost use Rattle.es_event.specs.Commands.{reads};
-ghost use Rattle.es_event.specs.Jobs.{receivers};
-ghost use Rattle.es_event.specs.Legal.{values_of};
-ghost use Rattle.es_record.specs.AgentView.{IsNext, AreThere, with_buffer};
-ghost use Rattle.es_rules.specs.Needs.{need, asks_message, asks_copy, TakesTicket, TakesWord, TakesWaitResult, TakesDone, IsDone, Brings};
+ghost use Rattle.es_event.specs.declared.command.Command.{Command as CommandSaid};
+ghost use Rattle.es_record.specs.AgentView.{IsNext, with_buffer};
+ghost use Rattle.es_rules.specs.Needs.{need, asks_message, asks_copy, TakesTicket, TakesWord, TakesWaitResult, TakesDone, IsBefore, IsDone, Brings};
 ghost use Rattle.es_rules.specs.Giving.{MayGive};
 
 use es_event::{Answer, Command, Done, Due, Event, PlanCommand, Refusal, Row, WaitResult};
@@ -18,27 +16,31 @@ use es_record::AgentRecord;
 use es_value::{NoMemory, Text, TextFault, Value};
 use std::alloc::Global;
 
-/// The due command, done with this word of shared memory, or with how many agents a notify took (The Atomics Object). It
-/// fails for want of memory alone.
+/// The due command, which was not done yet, is done with this word of shared memory, or with how many agents a notify took
+/// (The Atomics Object). It fails for want of memory alone.
 #[inline(always)]
-pub fn answered_word(agent: &AgentRecord, word: u32) -> Result<Done, NoMemory>
-    requires { TakesWord (need agent.now) }
-    ensures done { IfOk result (λ d. IsDone agent.now (Answer.Gives (Value.Number (pos word))) (Event.Did d)) }
-    ensures next { IfOk result (λ d. IsNext agent.now (Event.Did d)) }
+pub fn answered_word(agent: &AgentRecord, word: u32, done: &mut Done) -> Result<(), NoMemory>
+    requires takes { TakesWord (need agent.now) }
+    requires before { IsBefore agent.now done.old }
+    ensures done { OnOk result (IsDone agent.now (Answer.Gives (Value.Number (pos word))) (Event.Did done.new)) }
+    ensures next { OnOk result (IsNext agent.now (Event.Did done.new)) }
 {
-    done(agent, Answer::Gives(Value::Number(i64::from(word))))
+    answered(agent, Answer::Gives(Value::Number(i64::from(word))), done)
 }
 
-/// The due command, a wait, done with how it ended (Atomics.wait). It fails for want of memory alone.
-pub fn answered_wait(agent: &AgentRecord, ended: WaitResult) -> Result<Done, NoMemory>
-    requires { TakesWaitResult (need agent.now) }
-    ensures done { IfOk result (λ d. IsDone agent.now (Answer.Gives (Value.Text (wait_text ended))) (Event.Did d)) }
-    ensures next { IfOk result (λ d. IsNext agent.now (Event.Did d)) }
+/// The same of a wait, with how it ended (Atomics.wait).
+pub fn answered_wait(
+    agent: &AgentRecord,
+    ended: WaitResult,
+    done: &mut Done,
+) -> Result<(), NoMemory>
+    requires takes { TakesWaitResult (need agent.now) }
+    requires before { IsBefore agent.now done.old }
+    ensures done { OnOk result (IsDone agent.now (Answer.Gives (Value.Text (wait_text ended))) (Event.Did done.new)) }
+    ensures next { OnOk result (IsNext agent.now (Event.Did done.new)) }
 {
-    done(
-        agent,
-        Answer::Gives(Value::Text(text_of(agent.alloc(), ended)?)),
-    )
+    let text = text_of(agent.alloc(), ended)?;
+    answered(agent, Answer::Gives(Value::Text(text)), done)
 }
 
 /// How a wait ended, as a variable has it.
@@ -52,27 +54,28 @@ fn text_of(alloc: Global, ended: WaitResult) -> Result<Text, NoMemory>
     }
 }
 
-/// The due command, a store or a post, done. It fails for want of memory alone.
-pub fn answered_done(agent: &AgentRecord) -> Result<Done, NoMemory>
-    requires { TakesDone (need agent.now) }
-    ensures done { IfOk result (λ d. IsDone agent.now Answer.Nothing (Event.Did d)) }
-    ensures next { IfOk result (λ d. IsNext agent.now (Event.Did d)) }
+/// The same of a store or a post, which gives nothing.
+pub fn answered_done(agent: &AgentRecord, done: &mut Done) -> Result<(), NoMemory>
+    requires takes { TakesDone (need agent.now) }
+    requires before { IsBefore agent.now done.old }
+    ensures done { OnOk result (IsDone agent.now Answer.Nothing (Event.Did done.new)) }
+    ensures next { OnOk result (IsNext agent.now (Event.Did done.new)) }
 {
-    done(agent, Answer::Nothing)
+    answered(agent, Answer::Nothing, done)
 }
 
-/// The due command, done with this answer.
+/// The same, with this answer.
 #[inline(always)]
-fn done(agent: &AgentRecord, answer: Answer) -> Result<Done, NoMemory>
-    requires { MayGive agent.now answer }
-    ensures done { IfOk result (λ d. IsDone agent.now answer (Event.Did d)) }
-    ensures next { IfOk result (λ d. IsNext agent.now (Event.Did d)) }
+fn answered(agent: &AgentRecord, answer: Answer, done: &mut Done) -> Result<(), NoMemory>
+    requires gives { MayGive agent.now answer }
+    requires before { IsBefore agent.now done.old }
+    ensures done { OnOk result (IsDone agent.now answer (Event.Did done.new)) }
+    ensures next { OnOk result (IsNext agent.now (Event.Did done.new)) }
 {
     match agent.due() {
         Due::Run(_, command) => {
-            let mut done = begun(agent, command)?;
-            done.give(agent.alloc(), answer)?;
-            Ok(done)
+            agent.read(command, done)?;
+            done.give(agent.alloc(), answer)
         }
         _ => unreachable!(),
     }
@@ -153,27 +156,16 @@ fn giving(agent: &AgentRecord, command: &Command, answer: Answer) -> Result<Even
     requires { RunsNow (due agent.now.plan agent.now.history) command.now }
     ensures { IfOk result (λ e. e ≡ Event.Did (command.now, [], answer)) }
 {
-    let mut done = Done::of(planned(agent, command)?);
+    let mut done = Done::of(planned(agent)?);
     done.give(agent.alloc(), answer)?;
     Ok(Event::Did(done))
 }
 
-/// The due command, done as far as that it read its variables. It fails for want of memory alone.
-#[inline(always)]
-pub fn begun(agent: &AgentRecord, command: &Command) -> Result<Done, NoMemory>
-    requires { RunsNow (due agent.now.plan agent.now.history) command.now }
-    ensures read { IfOk result (λ d. d ≡ (command.now, values_of (receivers agent.now.plan.jobs) agent.now.history (reads command.now), Answer.Nothing)) }
-    ensures there { IfOk result (λ d. AreThere agent.now d.1) }
-{
-    let planned = planned(agent, command)?;
-    agent.reading(command, planned)
-}
-
 /// The due command, as its event has it. It fails for want of memory alone.
 #[inline(always)]
-fn planned(agent: &AgentRecord, command: &Command) -> Result<PlanCommand, NoMemory>
-    requires { RunsNow (due agent.now.plan agent.now.history) command.now }
-    ensures { IfOk result (λ c. c ≡ command.now) }
+pub fn planned(agent: &AgentRecord) -> Result<PlanCommand, NoMemory>
+    requires { (c : CommandSaid) × RunsNow (due agent.now.plan agent.now.history) c }
+    ensures { IfOk result (λ c. RunsNow (due agent.now.plan agent.now.history) c) }
 {
     match agent.due_command()? {
         Some(command) => Ok(command),

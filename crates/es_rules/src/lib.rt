@@ -16,8 +16,8 @@ mod requests;
 mod stop;
 
 pub use answered::{
-    answered_done, answered_wait, answered_word, begun, brought, opened, received, refused_message,
-    skipped,
+    answered_done, answered_wait, answered_word, brought, opened, planned, received,
+    refused_message, skipped,
 };
 pub use decide::{asks_nobody, caught, do_alone, next_event};
 pub use need::{Need, Request, asks, asks_at, asks_somebody, is_for_ledger};

@@ -194,45 +194,49 @@ beside_passed k l a b s legal goes waiting skip other = record {
 
 -- Each of them
 
+-- what holds after each way to be ready holds
+pub by_ready : (k : ℕ) (l : Ledger) (a : ℕ) (holds : LedgerEvent → Type 0)
+    → ((s : ℕ) (r : Row) → holder_of l s ≡ Some (a, r) → waits l a ≡ None → holds (Spent s))
+    → ((s : ℕ) → waits l a ≡ Some s → skips l k a s ≡ true → holds (Acted a (Passed s)))
+    → (waits l a ≡ None → holds (Acted a Ended))
+    → (f : LedgerEvent) → Ready k l a f → holds f
+by_ready k l a holds spends passes ends (Spent s) ready = spends s ready.0.0 ready.0.1 ready.1
+by_ready k l a holds spends passes ends (Acted b (Passed s)) ready = subst (λ b. holds (Acted b (Passed s))) (sym ready.0) (passes s ready.1 ready.2)
+by_ready k l a holds spends passes ends (Acted b Ended) ready = subst (λ b. holds (Acted b Ended)) (sym ready.0) (ends ready.1)
+by_ready k l a holds spends passes ends _ ready = absurd ready
+
 pub beside : (k : ℕ) (l : Ledger) (f : LedgerEvent) (a b : ℕ) → LegalSoFar k l → Goes k l a → Ready k l a f → (b ≡ a → ⊥) → Beside k l f b
-beside k l (Spent s) a b legal goes ready other = beside_spent k l s a b ready.0.0 legal ready.0.1 other
-beside k l (Acted c (Passed s)) a b legal goes ready other = subst (λ c. Beside k l (Acted c (Passed s)) b) (sym ready.0) (beside_passed k l a b s legal goes ready.1 ready.2 other)
-beside k l (Acted c Ended) a b legal goes ready other = subst (λ c. Beside k l (Acted c Ended) b) (sym ready.0) (beside_ended k l a b legal goes ready.1 other)
-beside k l _ a b legal goes ready other = absurd ready
+beside k l f a b legal goes ready other =
+    by_ready k l a (λ f. Beside k l f b)
+    (λ s r is free. beside_spent k l s a b r legal is other)
+    (λ s waiting skip. beside_passed k l a b s legal goes waiting skip other)
+    (λ free. beside_ended k l a b legal goes free other)
+    f ready
 
 -- What is ready leaves the WaiterLists alone
 
 pub ready_lists : (k : ℕ) (l : Ledger) (a : ℕ) (f : LedgerEvent) → LegalSoFar k l → asleep l a ≡ false → Ready k l a f → waiters (f ∷ l) ≡ waiters l
-ready_lists k l a (Spent s) legal awake ready = refl
-ready_lists k l a (Acted c (Passed s)) legal awake ready = refl
-ready_lists k l a (Acted c Ended) legal awake ready = end_lists k l c legal (ap (asleep l) ready.0 ∙ awake)
-ready_lists k l a _ legal awake ready = absurd ready
+ready_lists k l a f legal awake ready = by_ready k l a (λ f. waiters (f ∷ l) ≡ waiters l) (λ s r is free. refl) (λ s waiting skip. refl) (λ free. end_lists k l a legal awake) f ready
 
 pub ready_asleep : (k : ℕ) (l : Ledger) (a c : ℕ) (f : LedgerEvent) → asleep l a ≡ false → Ready k l a f → asleep (f ∷ l) c ≡ asleep l c
-ready_asleep k l a c (Spent s) awake ready = refl
-ready_asleep k l a c (Acted b (Passed s)) awake ready = refl
-ready_asleep k l a c (Acted b Ended) awake ready = end_asleep l b c (ap (asleep l) ready.0 ∙ awake)
-ready_asleep k l a c _ awake ready = absurd ready
+ready_asleep k l a c f awake ready = by_ready k l a (λ f. asleep (f ∷ l) c ≡ asleep l c) (λ s r is free. refl) (λ s waiting skip. refl) (λ free. end_asleep l a c awake) f ready
 
 pub ready_sleeps : (k : ℕ) (l : Ledger) (a c : ℕ) (f : LedgerEvent) → asleep l a ≡ false → Ready k l a f → sleep_of (f ∷ l) c ≡ sleep_of l c
-ready_sleeps k l a c (Spent s) awake ready = refl
-ready_sleeps k l a c (Acted b (Passed s)) awake ready = refl
-ready_sleeps k l a c (Acted b Ended) awake ready = end_sleeps l b c (ap (asleep l) ready.0 ∙ awake)
-ready_sleeps k l a c _ awake ready = absurd ready
+ready_sleeps k l a c f awake ready = by_ready k l a (λ f. sleep_of (f ∷ l) c ≡ sleep_of l c) (λ s r is free. refl) (λ s waiting skip. refl) (λ free. end_sleeps l a c awake) f ready
 
 -- It may be done
 
 pub ready_deed : (k : ℕ) (l : Ledger) (a : ℕ) (f : LedgerEvent) → Ready k l a f → (d : Deed) × (deed l f ≡ Some (a, d)) × (may_do (waits l a) d ≡ true)
-ready_deed k l a (Spent s) ready = (Spends s, ap (option_map (λ p. (p.0, Spends s))) ready.0.1, ap (λ w. may_do w (Spends s)) ready.1)
-ready_deed k l a (Acted c (Passed s)) ready = (Passes s, ap (λ c. Some (c, Passes s)) ready.0, ap (λ w. may_do w (Passes s)) ready.1 ∙ eq-eqb s s refl)
-ready_deed k l a (Acted c Ended) ready = (Ends, ap (λ c. Some (c, Ends)) ready.0, ap (λ w. may_do w Ends) ready.1)
-ready_deed k l a _ ready = absurd ready
+ready_deed k l a f ready =
+    by_ready k l a (λ f. (d : Deed) × (deed l f ≡ Some (a, d)) × (may_do (waits l a) d ≡ true))
+    (λ s r is free. (Spends s, ap (option_map (λ p. (p.0, Spends s))) is, ap (λ w. may_do w (Spends s)) free))
+    (λ s waiting skip. (Passes s, refl, ap (λ w. may_do w (Passes s)) waiting ∙ eq-eqb s s refl))
+    (λ free. (Ends, refl, ap (λ w. may_do w Ends) free))
+    f ready
 
 ready_comes : (k : ℕ) (l : Ledger) (a : ℕ) (f : LedgerEvent) → Goes k l a → Ready k l a f → MayCome k l f
-ready_comes k l a (Spent s) goes ready = ap is_some ready.0.1
-ready_comes k l a (Acted c (Passed s)) goes ready = (ap (waits l) ready.0 ∙ ready.1, ap (λ c. skips l k c s) ready.0 ∙ ready.2)
-ready_comes k l a (Acted c Ended) goes ready = (subst (λ c. c < k) (sym ready.0) goes.lives.known, ap (ended l) ready.0 ∙ goes.lives.going)
-ready_comes k l a _ goes ready = absurd ready
+ready_comes k l a f goes ready =
+    by_ready k l a (λ f. MayCome k l f) (λ s r is free. ap is_some is) (λ s waiting skip. (waiting, skip)) (λ free. (goes.lives.known, goes.lives.going)) f ready
 
 pub ready_may : (k : ℕ) (l : Ledger) (a : ℕ) (f : LedgerEvent) → Goes k l a → Ready k l a f → May k l f
 ready_may k l a f goes ready =

@@ -11,7 +11,7 @@ use Rattle.es_event.specs.declared.access.Task.{Task}
 use Rattle.es_event.specs.declared.atomic.AtomicParts.{AtomicParts}
 use Rattle.es_event.specs.declared.atomic.Operation.{Operation}
 use Rattle.es_event.specs.declared.command.Command.{Command}
-use Rattle.es_event.specs.declared.command.Command.TheVariants.{SharedArrayBuffer, Length, SameBlock, Atomic, Post}
+use Rattle.es_event.specs.declared.command.Command.TheVariants.{Atomic, Post}
 use Rattle.es_event.specs.declared.event.Answer.{Answer}
 use Rattle.es_event.specs.declared.event.Event.{Event}
 use Rattle.es_event.specs.declared.event.Event.TheVariants.{Did, Refused}
@@ -20,7 +20,7 @@ use Rattle.es_event.specs.declared.plan.AgentPlan.{AgentPlan}
 use Rattle.es_event.specs.declared.plan.Callback.{Callback}
 use Rattle.es_event.specs.declared.plan.Job.{Job}
 use Rattle.es_event.specs.declared.plan.Plan.{Plan}
-use Rattle.es_event.specs.Access.{given_to}
+use Rattle.es_event.specs.Access.{given_to, is_of_sleep}
 use Rattle.es_event.specs.Commands.{first, reads}
 use Rattle.es_event.specs.Follows.{Permits, done_for, refused_now}
 use Rattle.es_event.specs.Heard.{a_word, heard_at, silence, word_in}
@@ -38,7 +38,7 @@ use Rattle.es_event.proofs.Left.{each_of, is_first, left_holds}
 use Rattle.es_match.specs.Asks.{Asking, nothing, to_open, to_measure, to_compare, to_access, to_miss, to_sleep, to_notify, to_post, to_receive, to_refuse, to_pass, to_empty, to_close, asks, asks_did, asks_word, given}
 use Rattle.es_ledger.specs.LedgerView.{LedgerView}
 use Rattle.es_record.specs.AgentView.{AgentView}
-use Rattle.es_rules.specs.Needs.{Need, for_block, for_post, for_buffer_post, for_word, asked, asks_nobody, asks_marks, asks_copy, asks_late_marks, asks_ledger, asks_message, asks_closing, asks_nothing, at_word, gives_wait_result, need, posts_to}
+use Rattle.es_rules.specs.Needs.{Need, for_word, asked, asks_ledger, at_word, gives_wait_result, need, posts_to}
 use Rattle.es_rules.proofs.Needs.{ledger_due, not_refused}
 use Rattle.es_cluster.specs.Midway.{asks_to_sleep}
 use Rattle.es_cluster.specs.Tied.{IsTied}
@@ -46,28 +46,22 @@ use Rattle.es_cluster.specs.Turned.{WaitsOn, WaitsRightly}
 use Rattle.es_cluster.specs.declared.member.Progress.TheVariants.{Waiting}
 use Rattle.es_cluster.proofs.Midway.{awake}
 use Rattle.es_theorems.specs.Messages.{is_on_word, share_no_word, shares_no_word}
-use Rattle.es_theorems.specs.Sleepless.{is_for_sleep, is_of_sleep, never_sleeps, never_sleeps_in}
+use Rattle.es_theorems.specs.Sleepless.{is_for_sleep, never_sleeps, never_sleeps_in}
 
 -- A command at a word
 
 pub task_is : (o : Operation) (m : Access) (w : ℕ) (vs : List Value) → is_of_sleep o ≡ false → task_by o m w vs ≡ Task.Access m
-task_is (Operation.Load to) m w vs calm = refl
-task_is (Operation.Store n) m w vs calm = refl
-task_is (Operation.Modify to how n) m w vs calm = refl
-task_is (Operation.CompareExchange to e r) m w vs calm = refl
 task_is (Operation.Wait to n) m w vs calm = cc
 task_is (Operation.Notify to c) m w vs calm = cc
+task_is _ m w vs calm = refl
 
 pub task_access : (c : AtomicParts) (vs : List Value) → is_of_sleep c.operation ≡ false → task_of c vs ≡ Task.Access (access_of c vs)
 task_access c vs calm = task_is c.operation _ _ _ calm
 
 pub heard_is : (o : Operation) (a : Answer) → is_of_sleep o ≡ false → heard_at o a ≡ (if is_some (given_to o) then a_word (word_in a) else silence)
-heard_is (Operation.Load to) a calm = refl
-heard_is (Operation.Store n) a calm = refl
-heard_is (Operation.Modify to how n) a calm = refl
-heard_is (Operation.CompareExchange to e r) a calm = refl
 heard_is (Operation.Wait to n) a calm = cc
 heard_is (Operation.Notify to c) a calm = cc
+heard_is _ a calm = refl
 
 -- What the plan says
 
@@ -151,10 +145,6 @@ is_about_sleep to_close = false
 
 pub did_calm : (c : Command) (vs : List Value) (a : Answer) → is_for_sleep c ≡ false → is_about_sleep (asks_did c vs a) ≡ false
 did_calm (Atomic c) vs a calm = ap (λ t. is_about_sleep (asks_word (first vs) (index_of c vs) t (given a))) (task_access c vs calm)
-did_calm (SharedArrayBuffer to n) vs a calm = refl
-did_calm (Length to b) vs a calm = refl
-did_calm (SameBlock to b c) vs a calm = refl
-did_calm (Post q y) vs a calm = refl
 did_calm _ vs a calm = refl
 
 refused_calm : (t : Bool) → is_about_sleep (if t then to_refuse else nothing) ≡ false
@@ -203,17 +193,8 @@ pub calm_need : (b : AgentView) → never_sleeps_in b.plan ≡ true → asks_to_
 calm_need b calm = by (need b) refl
   where
     by : (d : Need) → need b ≡ d → asks_to_sleep d ≡ false
-    by asks_nobody is = refl
-    by asks_marks is = refl
-    by asks_copy is = refl
-    by asks_late_marks is = refl
-    by (asks_ledger (for_block n)) is = refl
-    by (asks_ledger (for_post a v)) is = refl
-    by (asks_ledger (for_buffer_post a o)) is = refl
     by (asks_ledger (for_word o i t)) is = ap gives_wait_result (calm_task b o i t calm is).1
-    by (asks_message s) is = refl
-    by asks_closing is = refl
-    by asks_nothing is = refl
+    by _ is = refl
 
 pub calm_awake : (b : AgentView) (l : Ledger) → never_sleeps_in b.plan ≡ true → IsTied b l → asleep l b.number ≡ false
 calm_awake b l calm tied = awake b l tied (calm_need b calm)

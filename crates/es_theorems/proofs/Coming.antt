@@ -137,8 +137,7 @@ word_plain b i (Task.Sleep w) v = ended (wait_given v)
   where
     ended : (r : WaitResult) → IsPlain (asks_wait b i w r)
     ended WaitResult.Woken = tt
-    ended WaitResult.NotEqual = tt
-    ended WaitResult.TimedOut = tt
+    ended _ = tt
 word_plain b i (Task.Notify n) v = tt
 
 did_plain : (c : Command) (vs : List Value) (a : Answer) → ((to : List ℕ) (n : ℕ) → c ≡ SharedArrayBuffer to n → ⊥) → IsPlain (asks_did c vs a)

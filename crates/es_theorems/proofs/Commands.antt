@@ -19,7 +19,7 @@ use Rattle.es_event.specs.declared.event.Answer.TheVariants.{Gives}
 use Rattle.es_event.specs.declared.ledger_event.Body.{Body}
 use Rattle.es_event.specs.declared.ledger_event.Body.TheVariants.{Plain, Block}
 use Rattle.es_event.specs.declared.row.Row.{Row}
-use Rattle.es_event.specs.Access.{is_same_change, change_by}
+use Rattle.es_event.specs.Access.{is_of_sleep, is_same_change, change_by}
 use Rattle.es_event.specs.Commands.{first}
 use Rattle.es_event.specs.Identities.{object_of}
 use Rattle.es_event.specs.Heard.{a_word, heard_by, silence, word_in}
@@ -34,7 +34,7 @@ use Rattle.es_match.specs.Deeds.{Deed, Opens, Posts, Accesses}
 use Rattle.es_match.specs.Meets.{Tickets, add_ticket, after, answers, carries, has_ticket, is_access, is_number, is_object, is_one, is_post, is_ticket, no_more, opening, opened_ticket, same_index, sole, some_if, ticket_in}
 use Rattle.es_theorems.specs.Doing.{AllFit, Fits, IsNew}
 use Rattle.es_theorems.specs.Settled.{access_by, block_at, body_for, came_row, deeds_of, heard_from, row_from, serial_at, word_at}
-use Rattle.es_theorems.specs.Sleepless.{is_for_sleep, is_of_sleep}
+use Rattle.es_theorems.specs.Sleepless.{is_for_sleep}
 use Rattle.es_theorems.proofs.Calm.{heard_is, task_access}
 
 -- Parts of what meets what is asked

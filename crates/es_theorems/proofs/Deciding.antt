@@ -14,6 +14,7 @@ use Rattle.es_event.specs.declared.event.Refusal.TheVariants.{TooManyValues}
 use Rattle.es_event.specs.declared.ledger_event.Body.{Body}
 use Rattle.es_event.specs.declared.ledger_event.Body.TheVariants.{Plain, Block}
 use Rattle.es_event.specs.declared.row.Row.{Row}
+use Rattle.es_event.specs.Access.{is_of_sleep}
 use Rattle.es_event.specs.Commands.{collects, reads, first}
 use Rattle.es_event.specs.Follows.{AtCommand, HasRoom, Permits, done_for, refused_now}
 use Rattle.es_event.specs.Identities.{made, object_of}
@@ -47,7 +48,7 @@ use Rattle.es_theorems.specs.Alike.{Alike}
 use Rattle.es_theorems.specs.Doing.{did}
 use Rattle.es_theorems.specs.Move.{Move, asked_by}
 use Rattle.es_theorems.specs.Rousing.{Way, shown}
-use Rattle.es_theorems.specs.Sleepless.{is_for_sleep, is_of_sleep}
+use Rattle.es_theorems.specs.Sleepless.{is_for_sleep}
 use Rattle.es_theorems.proofs.Commands.{Settles, no_row, none_more, settles, some_if_true}
 use Rattle.es_theorems.proofs.Messages.{Receives, Refuses, Says, Skips, next_words, taking_next, receives, refuses, skips}
 use Rattle.es_theorems.proofs.Spending.{in_any_order}
@@ -199,10 +200,7 @@ both_of_sleep n l b (Atomic c) d k vs us a z r q ds es p o sleeps x y = by c.ope
     by : (how : Operation) → c.operation ≡ how → is_of_sleep how ≡ true → Agree n l (Did (d, vs, a)) (Did (k, us, z)) r q ds es
     by (Operation.Wait to number) is e = both_waited n l b c to number d k vs us a z r q ds es is p o x y
     by (Operation.Notify to count) is e = both_notified n l b c to count d k vs us a z r q ds es is p o x y
-    by (Operation.Load to) is e = cc
-    by (Operation.Store number) is e = cc
-    by (Operation.Modify to how number) is e = cc
-    by (Operation.CompareExchange to expected number) is e = cc
+    by _ is e = cc
 both_of_sleep n l b _ d k vs us a z r q ds es p o sleeps x y = cc
 
 -- a command that does neither ends no sleep

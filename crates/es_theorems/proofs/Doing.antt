@@ -7,13 +7,15 @@ use Rattle.es_event.specs.declared.ledger_event.Body.{Body}
 use Rattle.es_event.specs.declared.ledger_event.Body.TheVariants.{Plain, Block}
 use Rattle.es_event.specs.declared.ledger_event.LedgerEvent.{LedgerEvent}
 use Rattle.es_event.specs.declared.ledger_event.LedgerEvent.TheVariants.{Opened, Posted, Taken, Spent, Accessed, Drained, Acted}
-use Rattle.es_event.specs.declared.ledger_event.Act.TheVariants.{Waiting, Passed, Ended, Slept, Notified, Woke, TimedOut}
+use Rattle.es_event.specs.declared.ledger_event.Act.{Act}
+use Rattle.es_event.specs.declared.ledger_event.Act.TheVariants.{Waiting}
 use Rattle.es_event.specs.declared.row.Row.{Row}
 use Rattle.es_event.specs.Access.{IsStorable}
 use Rattle.es_event.specs.Ledger.{Ledger, front, holder_of, word}
 use Rattle.es_event.specs.Waiters.{is_at, is_listed, taken_there}
 use Rattle.es_event.specs.LegalLedger.{Reaches, ReachesAs, has_message, IsPostable, MayCome}
-use Rattle.es_match.specs.Deeds.{Deed, Opens, Posts, Takes, Spends, Accesses, Waits, Passes, Ends, Sleeps, Notifies, Wakes, TimesOut, Owned, deed, taking, words_in, sleep_of}
+use Rattle.es_match.specs.Deeds.{Deed, Opens, Posts, Takes, Spends, Accesses, Passes, Sleeps, Notifies, Wakes, TimesOut, Owned, acting, deed, taking, words_in, sleep_of}
+use Rattle.es_match.specs.declared.deed.Sleep.{Sleep}
 use Rattle.es_theorems.specs.Alike.{Alike}
 use Rattle.es_theorems.specs.Doing.{event_of, did, IsNew, Fits, AllFit}
 use Rattle.es_theorems.proofs.Telling.{same_front, same_message, same_holder, after_one}
@@ -81,40 +83,54 @@ pub all_fit_more : (l : Ledger) (n : ℕ) (ds : List Deed) (d : Deed) → AllFit
 all_fit_more l n [] d fit is = (is, tt)
 all_fit_more l n (c ∷ ds) d fit is = (fit.0, all_fit_more (event_of n c ∷ l) n ds d fit.1 is)
 
--- What an event that may come means as a deed
+-- What an event means as a deed
+
+of_pair : (a n : ℕ) (x d : Deed) → ◌≡◌ {A = Owned} (Some (a, x)) (Some (n, d)) → (a ≡ n) × (x ≡ d)
+of_pair a n x d is = (ap (λ o. option_map_or (λ p. p.0) o n) is, ap (λ o. option_map_or (λ p. p.1) o d) is)
+
+deed_is : (e : LedgerEvent) (a n : ℕ) (x d : Deed) → e ≡ event_of a x → ◌≡◌ {A = Owned} (Some (a, x)) (Some (n, d)) → e ≡ event_of n d
+deed_is e a n x d event is = let parts = of_pair a n x d is in event ∙ ap (λ a. event_of a x) parts.0 ∙ ap (event_of n) parts.1
+
+held_is : (e : LedgerEvent) (o : Option (ℕ × Row)) (n : ℕ) (x d : Deed) → ((a : ℕ) → e ≡ event_of a x) → option_map {U = ℕ × Deed} (λ p. (p.0, x)) o ≡ Some (n, d) → e ≡ event_of n d
+held_is e None n x d event is = cc
+held_is e (Some p) n x d event is = deed_is e p.0 n x d (event p.0) is
+
+acted_is : (a : ℕ) (o : Option Sleep) (act : Act) → Acted a act ≡ event_of a (acting o act)
+acted_is a o (Waiting s) = refl
+acted_is a o _ = refl
+
+pub event_is : (l : Ledger) (e : LedgerEvent) (n : ℕ) (d : Deed) → deed l e ≡ Some (n, d) → e ≡ event_of n d
+event_is l (Opened b w s a) n d is = deed_is _ a n (Opens b w s) d refl is
+event_is l (Posted a r m) n d is = deed_is _ a n (Posts r m) d refl is
+event_is l (Taken s r) n d is = deed_is _ r n (taking l s (front l s r)) d refl is
+event_is l (Spent s) n d is = held_is _ (holder_of l s) n (Spends s) d (λ a. refl) is
+event_is l (Accessed s i m old) n d is = held_is _ (holder_of l s) n (Accesses s i m old) d (λ a. refl) is
+event_is l (Acted a act) n d is = deed_is _ a n (acting (sleep_of l a) act) d (acted_is a (sleep_of l a) act) is
+event_is l (Drained s r) n d is = cc
+
+-- What an event that may come finds
 
 pub record Meant (l : Ledger) (e : LedgerEvent) (n : ℕ) (d : Deed) : Type 0 where
   pub event : e ≡ event_of n d
   pub fits : Fits l n d
 
-of_pair : (a n : ℕ) (x d : Deed) → ◌≡◌ {A = Owned} (Some (a, x)) (Some (n, d)) → (a ≡ n) × (x ≡ d)
-of_pair a n x d is = (ap (λ o. option_map_or (λ p. p.0) o n) is, ap (λ o. option_map_or (λ p. p.1) o d) is)
-
-meant_here : (l : Ledger) (e : LedgerEvent) (a n : ℕ) (x d : Deed) → ◌≡◌ {A = Owned} (Some (a, x)) (Some (n, d)) → e ≡ event_of a x → Fits l a x → Meant l e n d
-meant_here l e a n x d is event fits =
-    let parts = of_pair a n x d is in
-    subst (λ d. Meant l e n d) parts.1 (subst (λ n. Meant l e n x) parts.0 (record { event = event; fits = fits }))
-
-meant_by : (l : Ledger) (e : LedgerEvent) (n : ℕ) (x d : Deed) (o : Option (ℕ × Row)) → option_map {U = ℕ × Deed} (λ p. (p.0, x)) o ≡ Some (n, d) → ((a : ℕ) → e ≡ event_of a x) → ((a : ℕ) → Fits l a x) → Meant l e n d
-meant_by l e n x d None is event fits = cc
-meant_by l e n x d (Some p) is event fits = meant_here l e p.0 n x d is (event p.0) (fits p.0)
-
 postable_new : (l : Ledger) (a : ℕ) (m : Body) → IsPostable l a m → IsNew l m
 postable_new l a (Plain v) is = tt
 postable_new l a (Block b s) is = is.0
 
+fits_when : (k : ℕ) (l : Ledger) (n : ℕ) (d : Deed) → MayCome k l (event_of n d) → deed l (event_of n d) ≡ Some (n, d) → Fits l n d
+fits_when k l n (Opens b w s) may is = (may.0, may.1)
+fits_when k l n (Posts r m) may is = postable_new l n m may.3
+fits_when k l n (Takes s m w) may is = subst (Fits l n) (of_pair n n (taking l s (front l s n)) (Takes s m w) is).1 (refl, refl, may)
+fits_when k l n (Accesses s i m old) may is = reaches_so (holder_of l s) i (λ r. (old ≡ word l r.block i) × IsStorable m) (λ r. old ≡ word l r.block i) (λ r e. e.0) may
+fits_when k l n (Passes s) may is = not-true (has_message l s n) (and_parts (not (has_message l s n)) _ may.1).0
+fits_when k l n (Sleeps s i w) may is = may.0
+fits_when k l n (Notifies s i m c) may is = may
+fits_when k l n (Wakes o) may is = may.1
+fits_when k l n (TimesOut o) may is = may.0
+fits_when k l n _ may is = tt
+
 pub meant : (k : ℕ) (l : Ledger) (e : LedgerEvent) (n : ℕ) (d : Deed) → MayCome k l e → deed l e ≡ Some (n, d) → Meant l e n d
-meant k l (Opened b w s a) n d may is = meant_here l (Opened b w s a) a n (Opens b w s) d is refl (may.0, may.1)
-meant k l (Posted a r m) n d may is = meant_here l (Posted a r m) a n (Posts r m) d is refl (postable_new l a m may.3)
-meant k l (Taken s r) n d may is = meant_here l (Taken s r) r n (taking l s (front l s r)) d is refl (refl, refl, may)
-meant k l (Spent s) n d may is = meant_by l (Spent s) n (Spends s) d (holder_of l s) is (λ a. refl) (λ a. tt)
-meant k l (Accessed s i m old) n d may is =
-    meant_by l (Accessed s i m old) n (Accesses s i m old) d (holder_of l s) is (λ a. refl) (λ a. reaches_so (holder_of l s) i (λ r. (old ≡ word l r.block i) × IsStorable m) (λ r. old ≡ word l r.block i) (λ r e. e.0) may)
-meant k l (Acted a (Waiting s)) n d may is = meant_here l (Acted a (Waiting s)) a n (Waits s) d is refl tt
-meant k l (Acted a (Passed s)) n d may is = meant_here l (Acted a (Passed s)) a n (Passes s) d is refl (not-true (has_message l s a) (and_parts (not (has_message l s a)) _ may.1).0)
-meant k l (Acted a Ended) n d may is = meant_here l (Acted a Ended) a n Ends d is refl tt
-meant k l (Acted a (Slept s i w)) n d may is = meant_here l (Acted a (Slept s i w)) a n (Sleeps s i w) d is refl may.0
-meant k l (Acted a (Notified s i m c)) n d may is = meant_here l (Acted a (Notified s i m c)) a n (Notifies s i m c) d is refl may
-meant k l (Acted a Woke) n d may is = meant_here l (Acted a Woke) a n (Wakes (sleep_of l a)) d is refl may.1
-meant k l (Acted a TimedOut) n d may is = meant_here l (Acted a TimedOut) a n (TimesOut (sleep_of l a)) d is refl may.0
-meant k l (Drained s r) n d may is = cc
+meant k l e n d may is =
+    let event = event_is l e n d is in
+    record { event = event; fits = fits_when k l n d (subst (MayCome k l) event may) (ap (deed l) (sym event) ∙ is) }

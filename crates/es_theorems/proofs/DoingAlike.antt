@@ -17,7 +17,7 @@ use Rattle.es_event.specs.declared.ledger_event.Body.{Body}
 use Rattle.es_event.specs.declared.ledger_event.LedgerEvent.TheVariants.{Opened}
 use Rattle.es_event.specs.declared.row.Entry.{Entry}
 use Rattle.es_event.specs.declared.row.Row.{Row}
-use Rattle.es_event.specs.Access.{change_by}
+use Rattle.es_event.specs.Access.{change_by, is_of_sleep}
 use Rattle.es_event.specs.Commands.{first}
 use Rattle.es_event.specs.Numbers.{access_of, index_of}
 use Rattle.es_event.specs.Follows.{Permits}
@@ -54,7 +54,6 @@ use Rattle.es_theorems.proofs.Playing.{spends_so}
 use Rattle.es_theorems.specs.Alone.{Finds, Letter, Local, Locals, Words, hears_at, letter, named, opened_row, over_block, plain, posted_by, touch_by}
 use Rattle.es_theorems.specs.Renamed.{HasWords, got_in, letter_of, local_of, locals_of, name, opens_in, renamed, renamed_row, sent_in}
 use Rattle.es_theorems.specs.Steps.{AreSilent, AtTurn, Does, HasCome, HasLine, IsOver, Keeps, Means, is_quiet, posts, touches}
-use Rattle.es_theorems.specs.Sleepless.{is_of_sleep}
 use Rattle.es_theorems.proofs.Learning.{held_opened}
 use Rattle.es_theorems.proofs.Names.{name_stays, no_name}
 use Rattle.es_theorems.proofs.Opened.{line_held, row_over}

@@ -4,9 +4,9 @@ use Rattle.std.specs.Prelude.{is_some}
 use Rattle.std.specs.Option.{option_and_then, option_map, option_map_or}
 use Rattle.std.proofs.lemmas.List.Sums.{sum_by-cons}
 use Rattle.std.proofs.lemmas.Bool.{and_parts, eq-eqb, eqb-true, false≢true, ne_eqb}
-use Rattle.es_event.specs.declared.ledger_event.Act.TheVariants.{Waiting, Passed, Ended, Slept, Notified, Woke, TimedOut}
+use Rattle.es_event.specs.declared.ledger_event.Act.TheVariants.{Ended, Slept, Woke, TimedOut}
 use Rattle.es_event.specs.declared.ledger_event.LedgerEvent.{LedgerEvent}
-use Rattle.es_event.specs.declared.ledger_event.LedgerEvent.TheVariants.{Opened, Posted, Taken, Spent, Accessed, Drained, Acted}
+use Rattle.es_event.specs.declared.ledger_event.LedgerEvent.TheVariants.{Opened, Posted, Taken, Spent, Drained, Acted}
 use Rattle.es_event.specs.declared.row.Entry.{Entry}
 use Rattle.es_event.specs.declared.row.Holder.{Holder}
 use Rattle.es_event.specs.declared.row.Holder.TheVariants.{Agent, Port, Nobody}
@@ -63,9 +63,6 @@ sleeper_holds n (Acted c (Slept k i w) ∷ l) a s legal waits is = by (c == a) r
 sleeper_holds n (Acted c Ended ∷ l) a s legal waits is = sleeper_holds n l a s legal.1 (patient_before l (Acted c Ended) waits) (sleeps_still (c == a) (sleep_of l a) s is)
 sleeper_holds n (Acted c Woke ∷ l) a s legal waits is = sleeper_holds n l a s legal.1 (patient_before l (Acted c Woke) waits) (sleeps_still (c == a) (sleep_of l a) s is)
 sleeper_holds n (Acted c TimedOut ∷ l) a s legal waits is = sleeper_holds n l a s legal.1 (patient_before l (Acted c TimedOut) waits) (sleeps_still (c == a) (sleep_of l a) s is)
-sleeper_holds n (Acted c (Waiting k) ∷ l) a s legal waits is = sleeper_holds n l a s legal.1 (patient_before l (Acted c (Waiting k)) waits) is
-sleeper_holds n (Acted c (Passed k) ∷ l) a s legal waits is = sleeper_holds n l a s legal.1 (patient_before l (Acted c (Passed k)) waits) is
-sleeper_holds n (Acted c (Notified k i m q) ∷ l) a s legal waits is = sleeper_holds n l a s legal.1 (patient_before l (Acted c (Notified k i m q)) waits) is
 sleeper_holds n (Spent k ∷ l) a s legal waits is =
     let parts = and_parts (is_patient l (by_holder l k (Spends k))) (patient l) waits in
     let held = sleeper_holds n l a s legal.1 parts.1 is in
@@ -73,8 +70,8 @@ sleeper_holds n (Spent k ∷ l) a s legal waits is =
 sleeper_holds n (Opened b w k c ∷ l) a s legal waits is = holds_on n l (Opened b w k c) a s.serial legal.1 (λ e. cc) (sleeper_holds n l a s legal.1 (patient_before l (Opened b w k c) waits) is)
 sleeper_holds n (Posted c r m ∷ l) a s legal waits is = holds_on n l (Posted c r m) a s.serial legal.1 (λ e. cc) (sleeper_holds n l a s legal.1 (patient_before l (Posted c r m) waits) is)
 sleeper_holds n (Taken t r ∷ l) a s legal waits is = holds_on n l (Taken t r) a s.serial legal.1 (λ e. cc) (sleeper_holds n l a s legal.1 (patient_before l (Taken t r) waits) is)
-sleeper_holds n (Accessed k i m old ∷ l) a s legal waits is = sleeper_holds n l a s legal.1 (patient_before l (Accessed k i m old) waits) is
 sleeper_holds n (Drained t r ∷ l) a s legal waits is = holds_on n l (Drained t r) a s.serial legal.1 (λ e. cc) (sleeper_holds n l a s legal.1 (patient_before l (Drained t r) waits) is)
+sleeper_holds n (e ∷ l) a s legal waits is = sleeper_holds n l a s legal.1 (patient_before l e waits) is
 
 -- a ticket that an agent holds is counted
 

@@ -115,8 +115,7 @@ unless f i j = elim (cases_Bool (i == j)) [
 
 is_writing : (c : Change) (old : ℕ) → is_some (written c old) ≡ changes c
 is_writing Change.Keep old = refl
-is_writing (Change.Write w) old = refl
-is_writing (Change.Add n) old = refl
+is_writing _ old = refl
 
 silent_none : (ds : List Deed) → AreSilent ds → got_in ds ≡ []
 silent_none [] are = refl

@@ -68,8 +68,7 @@ says over h t left v (Block b k) w r new gave came =
 
 of_sender : (s k : ℕ) (v : Value) (m : Option Body) (w : ℕ) → taken_ticket v (Takes s m w) ≡ taken_ticket v (Takes k m w)
 of_sender s k v None w = refl
-of_sender s k v (Some (Plain u)) w = refl
-of_sender s k v (Some (Block b q)) w = refl
+of_sender s k v _ w = refl
 
 pub receives : (over : Buffers) (h : History) (n : ℕ) (l : Ledger) (t left : Tickets) (s : ℕ) (v : Value) (r : Option Row) (ds : List Deed) → Arrives over h v
     → option_and_then (receiving t s v) (sole ds) ≡ Some left → option_map_or (taken_ticket v) (sole ds) [] ≡ came_row (made h) r → AllFit n ds l → Receives l n s (made h) v r ds

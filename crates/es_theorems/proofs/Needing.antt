@@ -144,9 +144,7 @@ miss_none t b i w s _ is = refl
 sleep_none : (t : Tickets) (b : Value) (i : ℤ) (w : ℕ) (r : WaitResult) (s : ℕ) (d : Deed) → ends_wait s d ≡ true → is_end_of_sleep t b i w r d ≡ false
 sleep_none t b i w WaitResult.Woken s (Wakes o) is = cc
 sleep_none t b i w WaitResult.TimedOut s (TimesOut o) is = cc
-sleep_none t b i w WaitResult.Woken s _ is = refl
-sleep_none t b i w WaitResult.TimedOut s _ is = refl
-sleep_none t b i w WaitResult.NotEqual s _ is = refl
+sleep_none t b i w _ s _ is = refl
 
 notify_none : (t : Tickets) (b : Value) (i : ℤ) (n : ℕ) (v : Value) (s : ℕ) (d : Deed) → ends_wait s d ≡ true → is_notify t b i n v d ≡ false
 notify_none t b i n v s (Notifies q j m k) is = cc
@@ -219,8 +217,7 @@ word_closes b i (Task.Sleep w) v = ended (wait_given v)
   where
     ended : (r : WaitResult) → closes (asks_wait b i w r) ≡ false
     ended WaitResult.Woken = refl
-    ended WaitResult.NotEqual = refl
-    ended WaitResult.TimedOut = refl
+    ended _ = refl
 word_closes b i (Task.Notify n) v = refl
 
 pub did_not_close : (c : Command) (vs : List Value) (a : Answer) → closes (asks_did c vs a) ≡ false

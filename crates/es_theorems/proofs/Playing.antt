@@ -1,19 +1,16 @@
 -- What events leave that follow one after the other.
 use Rattle.std.proofs.Common.{◌≡◌, ℕ, ◌&&◌, ◌||◌, not, Bool, true, false, cond, sym, ◌∙◌, ap, refl, subst, List, [], ◌∷◌, ◌++◌, append-nil, append_assoc, Option, Some, None, ◌⊎◌, inl, inr, ne_eqb, eq-eqb}
-use Rattle.std.specs.Option.{option_and_then, option_map, option_map_or}
+use Rattle.std.specs.Option.{option_and_then, option_map_or}
 use Rattle.std.specs.Prelude.{ℤ}
 use Rattle.std.proofs.lemmas.Bool.{and_parts, false≢true}
 use Rattle.es_event.specs.declared.ledger_event.Body.{Body}
 use Rattle.es_event.specs.declared.ledger_event.Body.TheVariants.{Plain, Block}
 use Rattle.es_event.specs.declared.ledger_event.LedgerEvent.{LedgerEvent}
-use Rattle.es_event.specs.declared.ledger_event.LedgerEvent.TheVariants.{Opened, Posted, Taken, Spent, Accessed, Drained, Acted}
-use Rattle.es_event.specs.declared.ledger_event.Act.TheVariants.{Waiting, Passed, Ended, Slept, Notified, Woke, TimedOut}
-use Rattle.es_event.specs.declared.row.Row.{Row}
 use Rattle.es_event.specs.declared.access.WaitResult.{WaitResult}
-use Rattle.es_event.specs.Ledger.{Ledger, ended, front, holder_of, is_end_of, waits}
+use Rattle.es_event.specs.Ledger.{Ledger, ended, is_end_of, waits}
 use Rattle.es_event.specs.LegalLedger.{MayCome}
 use Rattle.es_event.specs.Waiters.{asleep}
-use Rattle.es_match.specs.Deeds.{Deed, Owned, Opens, Posts, Takes, Spends, Accesses, Waits, Passes, Ends, deed, is_sleep, is_wait, part, part_of, taking, Sleeps, Notifies, Wakes, TimesOut, sleep_of}
+use Rattle.es_match.specs.Deeds.{Deed, Owned, Opens, Posts, Takes, Spends, Accesses, Waits, Passes, Ends, deed, is_sleep, is_wait, part, part_of, Sleeps, Notifies, Wakes, TimesOut}
 use Rattle.es_match.specs.Patience.{drained_last, ends_sleep, ends_wait, has_drained, is_nobodys, is_patient, may_do, patient, may_stir}
 use Rattle.es_match.specs.Asks.{Asking, nothing, to_open, to_measure, to_compare, to_access, to_miss, to_sleep, to_notify, to_post, to_receive, to_refuse, to_pass, to_empty, to_close}
 use Rattle.es_match.specs.Meets.{Tickets, after, is_access, is_one, is_pass, is_post, is_refusal, no_more, opening, pair, receiving, serials_of, sole, spends, strike, within, is_end_of_sleep, is_miss, is_notify}
@@ -22,10 +19,9 @@ use Rattle.es_cluster.proofs.Growing.{grows_none, grows_on, grows_one}
 use Rattle.es_theorems.specs.Ahead.{Acts, Steps, ahead, played}
 use Rattle.es_theorems.specs.Found.{AllMine, AreSpends}
 use Rattle.es_theorems.specs.Underway.{closes, has_end, is_end}
-use Rattle.es_cluster.proofs.Growing.{doer}
 use Rattle.es_cluster.proofs.Midway.{still_awake}
 use Rattle.es_theorems.specs.Doing.{event_of}
-use Rattle.es_theorems.proofs.Doing.{meant}
+use Rattle.es_theorems.proofs.Doing.{event_is, meant}
 use Rattle.es_theorems.proofs.Gathering.{part_mine}
 use Rattle.es_theorems.proofs.Commands.{some_if_true, sole_of, one_of}
 use Rattle.es_value.specs.declared.value.Value.{Value}
@@ -79,27 +75,14 @@ pub free_unless : (w : Option ℕ) (d : Deed) → may_do w d ≡ true → ((s : 
 free_unless None d may none = refl
 free_unless (Some s) d may none = absurd (false≢true (sym (none s) ∙ may))
 
-its_deed : (a b : ℕ) (d e : Deed) → ◌≡◌ {A = Owned} (Some (a, d)) (Some (b, e)) → d ≡ e
-its_deed a b d e is = ap (λ o. option_map_or (λ p. p.1) o e) is
-
-pub held_deed : (o : Option (ℕ × Row)) (a : ℕ) (e d : Deed) → option_map {U = ℕ × Deed} (λ p. (p.0, e)) o ≡ Some (a, d) → e ≡ d
-held_deed None a e d is = cc
-held_deed (Some p) a e d is = its_deed p.0 a e d is
-
 pub free_after : (l : Ledger) (x : LedgerEvent) (a : ℕ) (d : Deed) → deed l x ≡ Some (a, d) → is_wait d ≡ false → may_do (waits l a) d ≡ true → waits (x ∷ l) a ≡ None
-free_after l (Opened b w s c) a d is quick may = free_unless (waits l a) d may (λ s'. ap (ends_wait s') (sym (its_deed c a _ d is)))
-free_after l (Posted c r m) a d is quick may = free_unless (waits l a) d may (λ s'. ap (ends_wait s') (sym (its_deed c a _ d is)))
-free_after l (Taken s r) a d is quick may = ap (λ t. cond t None (waits l a)) (eq-eqb r a (doer (deed l (Taken s r)) a r d is))
-free_after l (Spent s) a d is quick may = free_unless (waits l a) d may (λ s'. ap (ends_wait s') (sym (held_deed (holder_of l s) a (Spends s) d is)))
-free_after l (Accessed s i m old) a d is quick may = free_unless (waits l a) d may (λ s'. ap (ends_wait s') (sym (held_deed (holder_of l s) a (Accesses s i m old) d is)))
-free_after l (Acted c (Waiting s)) a d is quick may = let same = its_deed c a (Waits s) d is in let clash = ap is_wait same ∙ quick in cc
-free_after l (Acted c (Passed s)) a d is quick may = ap (λ t. cond t None (waits l a)) (eq-eqb c a (doer (deed l (Acted c (Passed s))) a c d is))
-free_after l (Acted c (Slept s i w)) a d is quick may = free_unless (waits l a) d may (λ s'. ap (ends_wait s') (sym (its_deed c a _ d is)))
-free_after l (Acted c (Notified s i m k)) a d is quick may = free_unless (waits l a) d may (λ s'. ap (ends_wait s') (sym (its_deed c a _ d is)))
-free_after l (Acted c Woke) a d is quick may = free_unless (waits l a) d may (λ s'. ap (ends_wait s') (sym (its_deed c a _ d is)))
-free_after l (Acted c TimedOut) a d is quick may = free_unless (waits l a) d may (λ s'. ap (ends_wait s') (sym (its_deed c a _ d is)))
-free_after l (Acted c Ended) a d is quick may = free_unless (waits l a) d may (λ s'. ap (ends_wait s') (sym (its_deed c a _ d is)))
-free_after l (Drained s r) a d is quick may = cc
+free_after l x a d is quick may = ap (λ e. waits (e ∷ l) a) (event_is l x a d is) ∙ by d quick may
+  where
+    by : (d : Deed) → is_wait d ≡ false → may_do (waits l a) d ≡ true → waits (event_of a d ∷ l) a ≡ None
+    by (Takes s m w) quick may = ap (λ t. cond t None (waits l a)) (eq-eqb a a refl)
+    by (Passes s) quick may = ap (λ t. cond t None (waits l a)) (eq-eqb a a refl)
+    by (Waits s) quick may = cc
+    by d quick may = free_unless (waits l a) d may (λ s. refl)
 
 pub free_played : (k : ℕ) (es : List LedgerEvent) (l : Ledger) (a : ℕ) → Steps k es l → AllMine a es l → waits l a ≡ None → waits (played es l) a ≡ None
 free_played k [] l a steps mine free = free
@@ -131,20 +114,12 @@ awake_played (e ∷ es) l a mine up = awake_played es (e ∷ l) a mine.1 (still_
 
 -- Ends
 
+end_by : (a : ℕ) (d : Deed) → is_end_of (event_of a d) a ≡ is_end d
+end_by a Ends = eq-eqb a a refl
+end_by a _ = refl
+
 pub end_is : (l : Ledger) (x : LedgerEvent) (a : ℕ) (d : Deed) → deed l x ≡ Some (a, d) → is_end_of x a ≡ is_end d
-end_is l (Opened b w s c) a d is = ap is_end (its_deed c a (Opens b w s) d is)
-end_is l (Posted c r m) a d is = ap is_end (its_deed c a (Posts r m) d is)
-end_is l (Taken s r) a d is = ap is_end (its_deed r a (taking l s (front l s r)) d is)
-end_is l (Spent s) a d is = ap is_end (held_deed (holder_of l s) a (Spends s) d is)
-end_is l (Accessed s i m old) a d is = ap is_end (held_deed (holder_of l s) a (Accesses s i m old) d is)
-end_is l (Acted c (Waiting s)) a d is = ap is_end (its_deed c a (Waits s) d is)
-end_is l (Acted c (Passed s)) a d is = ap is_end (its_deed c a (Passes s) d is)
-end_is l (Acted c Ended) a d is = eq-eqb c a (doer (deed l (Acted c Ended)) a c d is) ∙ ap is_end (its_deed c a Ends d is)
-end_is l (Acted c (Slept s i w)) a d is = ap is_end (its_deed c a (Sleeps s i w) d is)
-end_is l (Acted c (Notified s i m k)) a d is = ap is_end (its_deed c a (Notifies s i m k) d is)
-end_is l (Acted c Woke) a d is = ap is_end (its_deed c a (Wakes (sleep_of l c)) d is)
-end_is l (Acted c TimedOut) a d is = ap is_end (its_deed c a (TimesOut (sleep_of l c)) d is)
-end_is l (Drained s r) a d is = cc
+end_is l x a d is = ap (λ e. is_end_of e a) (event_is l x a d is) ∙ end_by a d
 
 or_swapped : (a b c : Bool) → (a || (b || c)) ≡ ((b || a) || c)
 or_swapped true true c = refl
@@ -206,8 +181,7 @@ refusal_end (c ∷ d ∷ []) e = cc
 
 sleep_end : (t : Tickets) (b : Value) (i : ℤ) (w : ℕ) (r : WaitResult) → is_end_of_sleep t b i w r Ends ≡ false
 sleep_end t b i w WaitResult.Woken = refl
-sleep_end t b i w WaitResult.NotEqual = refl
-sleep_end t b i w WaitResult.TimedOut = refl
+sleep_end t b i w _ = refl
 
 pub end_asked : (t left : Tickets) (w : Asking) (ds : List Deed) → after t w ds ≡ Some left → has_end ds ≡ closes w
 end_asked t left nothing ds e = none_end ds (some_if_true _ t left e)

@@ -15,7 +15,7 @@ use Rattle.es_event.specs.declared.event.Answer.{Answer}
 use Rattle.es_event.specs.declared.event.Event.{Event}
 use Rattle.es_event.specs.declared.event.Event.TheVariants.{Did, Received, Refused}
 use Rattle.es_event.specs.declared.ledger_event.Act.{Act}
-use Rattle.es_event.specs.declared.ledger_event.Act.TheVariants.{Waiting, Passed, Ended, Slept, Notified, Woke, TimedOut}
+use Rattle.es_event.specs.declared.ledger_event.Act.TheVariants.{Waiting}
 use Rattle.es_event.specs.declared.ledger_event.Body.{Body}
 use Rattle.es_event.specs.declared.ledger_event.Body.TheVariants.{Plain, Block}
 use Rattle.es_event.specs.declared.ledger_event.LedgerEvent.{LedgerEvent}
@@ -162,12 +162,7 @@ turned_to o ts l m a n c d is f = let both : ◌≡◌ {A = ℕ × Deed} (a, c) 
 
 acted : (o : ℕ) (p : Option Sleep) (act : Act) (ts : Tickets) → after_deed o (acting p act) ts ≡ ts
 acted o p (Waiting s) ts = refl
-acted o p (Passed s) ts = refl
-acted o p Ended ts = refl
-acted o p (Slept s i w) ts = refl
-acted o p (Notified s i n k) ts = refl
-acted o p Woke ts = refl
-acted o p TimedOut ts = refl
+acted o p _ ts = refl
 
 racked_next : (k n o : ℕ) (l : Ledger) (e : LedgerEvent) (d : Deed) (ts : Tickets) → LegalSoFar k l → MayCome k l e → deed l e ≡ Some (n, d) → Racked n l ts → Racked n (e ∷ l) (after_deed o d ts)
 racked_next k n o l (Opened b w s a) d ts legal may is = turned_to o ts l (Opened b w s a ∷ l) a n (Opens b w s) d is (opened k a o b w s l ts legal may.1)
@@ -381,8 +376,7 @@ word_brings_none b i (Task.Sleep w) v ds = by (wait_given v)
   where
     by : (r : WaitResult) → ticket_in (asks_wait b i w r) ds ≡ []
     by WaitResult.Woken = refl
-    by WaitResult.NotEqual = refl
-    by WaitResult.TimedOut = refl
+    by _ = refl
 word_brings_none b i (Task.Notify n) v ds = refl
 
 did_made : (h : History) (c : Command) (vs : List Value) (a : Answer) (ds : List Deed) (t : ℕ × Row) → ticket_in (asks_did c vs a) ds ≡ t ∷ [] → made h + 1 ≤ made (Did (c, vs, a) ∷ h)
@@ -399,8 +393,6 @@ received_made h s v (Some d) t is = by d is
     with_body (Some o) r is = omega arith
 
     by : (d : Deed) → taken_ticket v d ≡ t ∷ [] → made h + 1 ≤ made (Received s v ∷ h)
-    by (Takes u None w) is = cc
-    by (Takes u (Some (Plain x)) w) is = cc
     by (Takes u (Some (Block b k)) w) is = with_body (object_of v) (row k b w) is
     by _ is = cc
 

@@ -74,17 +74,7 @@ One u ds d =
 none_left : (u : State) (ds : List Deed) → shown ds ≡ [] → Led u ds awake → (ds ≡ []) × (u ≡ awake)
 none_left u [] none led = (refl, sym led)
 none_left u (Sleeps s i w ∷ ds) none led = let rest = none_left led.0 ds none led.2 in let clash : sleeping (sleep_by s i w) ≡ awake = sym led.1.1 ∙ rest.1 in cc
-none_left u (Wakes p ∷ ds) none led = cc
-none_left u (TimesOut p ∷ ds) none led = cc
-none_left u (Opens b w s ∷ ds) none led = cc
-none_left u (Posts r m ∷ ds) none led = cc
-none_left u (Takes s m w ∷ ds) none led = cc
-none_left u (Spends s ∷ ds) none led = cc
-none_left u (Accesses s i m old ∷ ds) none led = cc
-none_left u (Waits s ∷ ds) none led = cc
-none_left u (Passes s ∷ ds) none led = cc
-none_left u (Ends ∷ ds) none led = cc
-none_left u (Notifies s i n k ∷ ds) none led = cc
+none_left u (_ ∷ ds) none led = cc
 
 head_of : List Deed → Deed → Deed
 head_of [] d = d

@@ -5,7 +5,7 @@ use Rattle.std.specs.Option.{option_and_then, option_map_or}
 use Rattle.std.proofs.lemmas.Bool.{and_parts, eqb-true, false≢true}
 use Rattle.es_value.specs.declared.value.Value.{Value}
 use Rattle.es_event.specs.declared.ledger_event.Act.{Act}
-use Rattle.es_event.specs.declared.ledger_event.Act.TheVariants.{Waiting, Passed, Ended, Slept, Notified, Woke, TimedOut}
+use Rattle.es_event.specs.declared.ledger_event.Act.TheVariants.{Ended, Slept, Notified, Woke, TimedOut}
 use Rattle.es_event.specs.declared.ledger_event.Body.{Body}
 use Rattle.es_event.specs.declared.ledger_event.Body.TheVariants.{Plain, Block}
 use Rattle.es_event.specs.declared.ledger_event.LedgerEvent.{LedgerEvent}
@@ -153,13 +153,11 @@ untold : {P : Type 0} (l : Ledger) (a : ℕ) (d : Deed) → of_sleep d ≡ true 
 untold l a d sleeps quick none = absurd (false≢true (sym none ∙ told_last l a d sleeps quick))
 
 act_calm : (l : Ledger) (a : ℕ) (act : Act) → Calm a (Acted a act ∷ l) → is_calm_act act ≡ true
-act_calm l a (Waiting s) calm = refl
-act_calm l a (Passed s) calm = refl
-act_calm l a Ended calm = refl
 act_calm l a (Slept s i w) calm = absurd (false≢true (sym calm.awake ∙ ap (λ t. cond t true (asleep l a)) (eq-eqb a a refl)))
 act_calm l a (Notified s i m k) calm = untold l a (Notifies s i m k) refl refl calm.none
 act_calm l a Woke calm = untold l a (Wakes (sleep_of l a)) refl refl calm.none
 act_calm l a TimedOut calm = untold l a (TimesOut (sleep_of l a)) refl refl calm.none
+act_calm l a _ calm = refl
 
 -- it was awake before
 awake_then : (l : Ledger) (a c : ℕ) (act : Act) (t : Bool) → (c == a) ≡ t → Calm a (Acted c act ∷ l) → asleep l a ≡ false
@@ -171,22 +169,18 @@ awake_then l a c act true here calm = by act (subst (λ c. Calm a (Acted c act �
 
     by : (act : Act) → Calm a (Acted a act ∷ l) → asleep l a ≡ false
     by Ended calm = stirs (asleep l a) (and_parts (may_do _ Ends) (may_stir (asleep l a) Ends) (and_parts (is_patient l (deed l (Acted a Ended))) (patient l) calm.patience).0).1
-    by (Waiting s) calm = calm.awake
-    by (Passed s) calm = calm.awake
     by (Slept s i w) calm = absurd (false≢true (act_calm l a (Slept s i w) calm))
-    by (Notified s i m k) calm = calm.awake
     by Woke calm = absurd (false≢true (act_calm l a Woke calm))
     by TimedOut calm = absurd (false≢true (act_calm l a TimedOut calm))
+    by _ calm = calm.awake
 awake_then l a c act false off calm = by act calm.awake
   where
     by : (act : Act) → asleep (Acted c act ∷ l) a ≡ false → asleep l a ≡ false
-    by (Waiting s) awake = awake
-    by (Passed s) awake = awake
-    by (Notified s i m k) awake = awake
     by Ended awake = sym (ap (λ t. cond t false (asleep l a)) off) ∙ awake
     by (Slept s i w) awake = sym (ap (λ t. cond t true (asleep l a)) off) ∙ awake
     by Woke awake = sym (ap (λ t. cond t false (asleep l a)) off) ∙ awake
     by TimedOut awake = sym (ap (λ t. cond t false (asleep l a)) off) ∙ awake
+    by _ awake = awake
 
 pub calm_before : (l : Ledger) (x : LedgerEvent) (a : ℕ) → Calm a (x ∷ l) → Calm a l
 calm_before l x a calm = record {

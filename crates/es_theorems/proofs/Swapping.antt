@@ -8,7 +8,6 @@ use Rattle.es_event.specs.declared.ledger_event.Body.{Body}
 use Rattle.es_event.specs.declared.ledger_event.Body.TheVariants.{Plain, Block}
 use Rattle.es_event.specs.declared.ledger_event.LedgerEvent.{LedgerEvent}
 use Rattle.es_event.specs.declared.ledger_event.LedgerEvent.TheVariants.{Opened, Posted, Taken, Spent, Accessed, Drained, Acted}
-use Rattle.es_event.specs.declared.ledger_event.Act.TheVariants.{Passed, Ended}
 use Rattle.es_event.specs.declared.row.Row.{Row}
 use Rattle.es_event.specs.declared.row.Entry.{Entry}
 use Rattle.es_event.specs.declared.row.Holder.TheVariants.{Agent, Port, Nobody}
@@ -25,7 +24,7 @@ use Rattle.es_match.specs.Patience.{has_drained, may_do}
 use Rattle.es_match.proofs.Sleeping.{has_a_sleep}
 use Rattle.es_theorems.specs.Ahead.{Acts, Like, May}
 use Rattle.es_theorems.specs.Ready.{Goes, Lives, Ready}
-use Rattle.es_theorems.proofs.Beside.{Beside, beside, deed_beside, lists_beside, may_beside, ready_deed, ready_lists, ready_may, ready_asleep, ready_sleeps, asleep_beside, sleeps_beside}
+use Rattle.es_theorems.proofs.Beside.{Beside, beside, by_ready, deed_beside, lists_beside, may_beside, ready_deed, ready_lists, ready_may, ready_asleep, ready_sleeps, asleep_beside, sleeps_beside}
 use Rattle.es_theorems.proofs.Choosing.{Skips, alone_goes, skips_is}
 use Rattle.es_cluster.proofs.Growing.{doer, ended_other, sleep_other, waits_other}
 use Rattle.es_theorems.proofs.Turning.{owes_nothing}
@@ -80,10 +79,13 @@ skips_still k l a b s x d legal is other paid may skip = let how = skips_is l k 
     at false how = absurd (other (sym (alone_goes k l a b x d legal (how.chosen refl) (subst (ComesNext k l x) paid may.legal) is acts.0 acts.1 acts.3 acts.4)))
 
 pub ready_after : (k : ℕ) (l : Ledger) (a b : ℕ) (f x : LedgerEvent) (d : Deed) → LegalSoFar k l → deed l x ≡ Some (b, d) → (a ≡ b → ⊥) → owed l ≡ None → May k l x → Ready k l a f → Ready k (x ∷ l) a f
-ready_after k l a b (Spent s) x d legal is other paid may ready = ((ready.0.0, holder_other k l x b a d s ready.0.0 legal is other ready.0.1), waits_other l x b a d is other ∙ ready.1)
-ready_after k l a b (Acted c (Passed s)) x d legal is other paid may ready = (ready.0, waits_other l x b a d is other ∙ ready.1, skips_still k l a b s x d legal is other paid may ready.2)
-ready_after k l a b (Acted c Ended) x d legal is other paid may ready = (ready.0, waits_other l x b a d is other ∙ ready.1)
-ready_after k l a b _ x d legal is other paid may ready = absurd ready
+ready_after k l a b f x d legal is other paid may ready =
+    let free = waits_other l x b a d is other in
+    by_ready k l a (λ f. Ready k (x ∷ l) a f)
+    (λ s r held idle. ((r, holder_other k l x b a d s r legal is other held), free ∙ idle))
+    (λ s waiting skip. (refl, free ∙ waiting, skips_still k l a b s x d legal is other paid may skip))
+    (λ idle. (refl, free ∙ idle))
+    f ready
 
 -- Both orders tell the same
 
@@ -160,10 +162,8 @@ plainly k l a _ ready = absurd ready
 
 -- whom agents wait for
 awaited_other : (f : LedgerEvent) (l : Ledger) (k a c : ℕ) (v : Option ℕ) → Ready k l a f → (c ≡ a → ⊥) → awaited f c v ≡ v
-awaited_other (Spent s) l k a c v ready other = refl
-awaited_other (Acted b Ended) l k a c v ready other = refl
-awaited_other (Acted b (Passed s)) l k a c v ready other = ap (λ t. cond t None v) (ne_eqb b c (λ same. other (sym same ∙ ready.0)))
-awaited_other _ l k a c v ready other = absurd ready
+awaited_other f l k a c v ready other =
+    by_ready k l a (λ f. awaited f c v ≡ v) (λ s r held free. refl) (λ s waiting skip. ap (λ t. cond t None v) (ne_eqb a c (λ same. other (sym same)))) (λ free. refl) f ready
 
 waits_swap : (k : ℕ) (l : Ledger) (f x : LedgerEvent) (a b c : ℕ) (d : Deed) → LegalSoFar k l → Ready k l a f → Beside k l f b → deed l x ≡ Some (b, d) → (a ≡ b → ⊥) → waits (f ∷ x ∷ l) c ≡ waits (x ∷ f ∷ l) c
 waits_swap k l f x a b c d legal ready is mine other = elim (cases_Bool (c == a)) [
@@ -177,10 +177,12 @@ added : (a b c : ℕ) → a + (b + c) ≡ b + (a + c)
 added a b c = omega arith
 
 deed_ready : (k : ℕ) (l m : Ledger) (a : ℕ) (f : LedgerEvent) → Ready k l a f → Ready k m a f → deed m f ≡ deed l f
-deed_ready k l m a (Spent s) left right = ap (option_map (λ p. (p.0, Spends s))) right.0.1 ∙ sym (ap (option_map (λ p. (p.0, Spends s))) left.0.1)
-deed_ready k l m a (Acted b (Passed s)) left right = refl
-deed_ready k l m a (Acted b Ended) left right = refl
-deed_ready k l m a _ left right = absurd left
+deed_ready k l m a f left right =
+    by_ready k l a (λ f. Ready k m a f → deed m f ≡ deed l f)
+    (λ s r held free right. ap (option_map (λ p. (p.0, Spends s))) right.0.1 ∙ sym (ap (option_map (λ p. (p.0, Spends s))) held))
+    (λ s waiting skip right. refl)
+    (λ free right. refl)
+    f left right
 
 -- Both orders
 

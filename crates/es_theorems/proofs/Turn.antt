@@ -340,7 +340,6 @@ storable_of (Operation.CompareExchange to e r) v w old few next small = if_writt
 -- what a command does at a word, where it asks for an access
 access_is : (o : Operation) (m a : Access) (w : ℕ) (ns : List Value) → task_by o m w ns ≡ Task.Access a → m ≡ a
 access_is (Operation.Wait to n) m a w ns is = cc
-access_is (Operation.Notify to c) m a w ns is = cc
 access_is _ m a w ns is = cc
 
 storable_asked : (c : Command) (vs : List Value) (o i old : ℕ) (a : Access) → asked_of c vs ≡ Some (for_word o i (Task.Access a)) → old < 2 ^ 32 → IsStorable (change_by a.edit old)

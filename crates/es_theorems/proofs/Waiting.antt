@@ -103,8 +103,7 @@ pub record SettlesWait (n : ℕ) (l : Ledger) (s i w : ℕ) (a : Answer) (r : Op
 
 in_given : (a : Answer) → wait_in a ≡ wait_given (given a)
 in_given Answer.Nothing = refl
-in_given (Answer.Gives v) = refl
-in_given (Answer.Listed ks) = refl
+in_given _ = refl
 
 up_of : (t : Bool) → (if t then sleeping None else awake) ≡ awake → t ≡ false
 up_of true is = cc

@@ -38,7 +38,9 @@ use Rattle.es_ledger.proofs.Sums.{sum_none, sum_one, sum_plus, sum_same, sum_zer
 use Rattle.es_theorems.proofs.Commands.{none_more, one_of, sole_of, some_if_true}
 use Rattle.es_theorems.specs.Found.{AreSpends}
 use Rattle.es_theorems.proofs.Draining.{counted, its_agents}
-use Rattle.es_theorems.proofs.Playing.{spends_so, held_deed}
+use Rattle.es_theorems.specs.Doing.{event_of}
+use Rattle.es_theorems.proofs.Doing.{event_is}
+use Rattle.es_theorems.proofs.Playing.{spends_so}
 use Rattle.es_cluster.specs.Tied.{AreDeedsOf}
 use Rattle.es_theorems.specs.Weights.{asked_weight, event_weight, history_weight, ledger_weight, weigh, weight}
 use Rattle.es_theorems.proofs.Spending.{test_turned}
@@ -98,9 +100,7 @@ met_weight x y z t left (to_sleep b i w r) ds met = let one = one_of (is_end_of_
     at : (r : WaitResult) (d : Deed) → is_end_of_sleep t b i w r d ≡ true → weight x y z d ≡ 0
     at WaitResult.Woken (Wakes o) met = refl
     at WaitResult.TimedOut (TimesOut o) met = refl
-    at WaitResult.Woken _ met = cc
-    at WaitResult.TimedOut _ met = cc
-    at WaitResult.NotEqual _ met = cc
+    at _ _ met = cc
 met_weight x y z t left (to_notify b i n v) ds met = let one = one_of (is_notify t b i n v) ds (some_if_true _ t left met) in ap (weigh x y z) one.1 ∙ sole_weight x y z one.0 ∙ at one.0 one.2
   where
     at : (d : Deed) → is_notify t b i n v d ≡ true → weight x y z d ≡ 0
@@ -142,8 +142,7 @@ opens_word b i (Task.Sleep w) v = ended (wait_given v)
   where
     ended : (r : WaitResult) → asked_weight 1 0 0 (asks_wait b i w r) ≡ 0
     ended WaitResult.Woken = refl
-    ended WaitResult.NotEqual = refl
-    ended WaitResult.TimedOut = refl
+    ended _ = refl
 opens_word b i (Task.Notify n) v = refl
 
 opens_did : (c : Command) (vs : List Value) (r : Answer) → asked_weight 1 0 0 (asks_did c vs r) ≡ option_map_or {U = ℕ} (λ n. 1) (opens_words c) 0
@@ -245,12 +244,12 @@ ledger_taken (e ∷ l) = counted is_taken l e ∙ ap (λ k. k + taken l) (one e)
 
 -- What one agent does
 
+same_weight : (x y z n : ℕ) (d : Deed) → weight x y z d ≡ event_weight x y z (event_of n d)
+same_weight x y z n Ends = refl
+same_weight x y z n _ = refl
+
 deed_weight : (x y z n : ℕ) (l : Ledger) (e : LedgerEvent) (d : Deed) → deed l e ≡ Some (n, d) → weight x y z d ≡ event_weight x y z e
-deed_weight x y z n l (Spent k) d is = ap (weight x y z) (sym (held_deed (holder_of l k) n (Spends k) d is))
-deed_weight x y z n l (Accessed k i m old) d is = ap (weight x y z) (sym (held_deed (holder_of l k) n (Accesses k i m old) d is))
-deed_weight x y z n l (Acted a act) d is = ap (weight x y z) (sym (deed_in is)) ∙ act_weight x y z (sleep_of l a) act
-deed_weight x y z n l (Drained s r) d is = cc
-deed_weight x y z n l _ d is = ap (weight x y z) (sym (deed_in is))
+deed_weight x y z n l e d is = same_weight x y z n d ∙ ap (event_weight x y z) (sym (event_is l e n d is))
 
 own_weight : (x y z n : ℕ) (d : Deed) → weigh x y z (part_of n (Some (n, d))) ≡ weight x y z d
 own_weight x y z n d = ap (λ t. weigh x y z (cond (t && not (is_wait d)) (d ∷ []) [])) (eq-eqb n n refl) ∙ at d

@@ -1,21 +1,12 @@
 -- To believe: a plan whose agents never sleep: no command waits at a word, or notifies those that do.
 use Rattle.std.specs.Prelude.{◌&&◌, not, Bool, true, false}
 use Rattle.std.specs.List.{list_all, list_any}
-use Rattle.es_event.specs.declared.atomic.Operation.{Operation}
+use Rattle.es_event.specs.Access.{is_of_sleep}
 use Rattle.es_event.specs.declared.command.Command.{Command}
 use Rattle.es_event.specs.declared.plan.AgentPlan.{AgentPlan}
 use Rattle.es_event.specs.declared.plan.Plan.{Plan}
 
--- it waits at a word or notifies (Atomics.wait and notify)
-abbrev pub is_of_sleep : Operation → Bool
-is_of_sleep (Operation.Load to) = false
-is_of_sleep (Operation.Store n) = false
-is_of_sleep (Operation.Modify to how n) = false
-is_of_sleep (Operation.CompareExchange to e r) = false
-is_of_sleep (Operation.Wait to n) = true
-is_of_sleep (Operation.Notify to c) = true
-
--- the command does
+-- the command waits at a word or notifies (Atomics.wait and notify)
 abbrev pub is_for_sleep : Command → Bool
 is_for_sleep (Command.Atomic a) = is_of_sleep a.operation
 is_for_sleep _ = false

@@ -1,6 +1,6 @@
 //! What an agent's history says of one variable or one object, read from the tables.
 
-ghost use Rattle.std.specs.Prelude.{◌≡◌, ◌≤◌, ◌+◌, ◌∷◌, [], true, false, Some, reverse, IfOk, IfErr};
+ghost use Rattle.std.specs.Prelude.{◌≡◌, ◌≤◌, ◌+◌, ◌∷◌, [], true, false, Some, reverse, IfOk, IfErr, OnOk};
 ghost use Rattle.std.specs.Option.{option_copied, option_map_or, option_and_then};
 ghost use Rattle.es_value.specs.Limits.{most_identities};
 ghost use Rattle.es_value.specs.Values.{identity};
@@ -19,9 +19,7 @@ ghost use Rattle.es_record.specs.AgentView.{AreThere};
 ghost use Rattle.es_record.specs.Tagged.{is_of};
 
 use super::AgentRecord;
-use es_event::{
-    AgentPlan, Answer, Command, Done, OperandNames, PlanCommand, Refusal, Row, Sequence,
-};
+use es_event::{AgentPlan, Answer, Command, Done, OperandNames, Refusal, Row, Sequence};
 use es_tables::Tag;
 use es_value::{Id, Name, NoMemory, Value};
 use std::alloc::Global;
@@ -97,20 +95,20 @@ impl AgentRecord {
         }
     }
 
-    /// The command, done as far as that it read the values of its variables, none of which is emptied. `planned` is
-    /// the command again, as its event has it. It fails for want of memory alone.
+    /// A command that is done reads the values of its variables, none of which is emptied. It fails for want of memory
+    /// alone; then nothing is said of what it read.
     #[inline(always)]
-    pub fn reading(&self, command: &Command, planned: PlanCommand) -> Result<Done, NoMemory>
-        requires { planned ≡ command.now }
-        ensures said { IfOk result (λ d. d ≡ (command.now, values_of (receivers self.now.plan.jobs) self.now.history (reads command.now), Answer.Nothing)) }
-        ensures there { IfOk result (λ d. AreThere self.now d.1) }
+    pub fn read(&self, command: &Command, done: &mut Done) -> Result<(), NoMemory>
+        requires { done.old ≡ (command.now, [], Answer.Nothing) }
+        ensures said { OnOk result (done.new ≡ (command.now, values_of (receivers self.now.plan.jobs) self.now.history (reads command.now), Answer.Nothing)) }
+        ensures there { OnOk result (AreThere self.now done.new.1) }
     {
         match command.reads() {
-            OperandNames::Nothing => Ok(Done::of(planned)),
-            OperandNames::One(a) => self.one(planned, a),
-            OperandNames::Two(a, b) => self.two(planned, a, b),
-            OperandNames::Three(a, b, c) => self.three(planned, a, b, c),
-            OperandNames::Four(a, b, c, d) => self.four(planned, a, b, c, d),
+            OperandNames::Nothing => Ok(()),
+            OperandNames::One(a) => self.read_one(done, a),
+            OperandNames::Two(a, b) => self.read_two(done, a, b),
+            OperandNames::Three(a, b, c) => self.read_three(done, a, b, c),
+            OperandNames::Four(a, b, c, d) => self.read_four(done, a, b, c, d),
         }
     }
 
@@ -122,59 +120,64 @@ impl AgentRecord {
         self.tables.variable(name)
     }
 
-    /// A command that read one variable. This and those below stand alone, so that a command makes place for no more
-    /// values than it reads.
+    /// The same of one variable. This and those below stand alone, so that a command makes place for no more values than
+    /// it reads.
     #[inline(never)]
-    fn one(&self, planned: PlanCommand, a: &Name) -> Result<Done, NoMemory>
-        ensures said { IfOk result (λ d. d ≡ (planned, values_of (receivers self.now.plan.jobs) self.now.history (a.now ∷ []), Answer.Nothing)) }
-        ensures there { IfOk result (λ d. AreThere self.now d.1) }
+    fn read_one(&self, done: &mut Done, a: &Name) -> Result<(), NoMemory>
+        requires { (done.old.1 ≡ []) × (done.old.2 ≡ Answer.Nothing) }
+        ensures said { OnOk result (done.new ≡ (done.old.0, values_of (receivers self.now.plan.jobs) self.now.history (a.now ∷ []), Answer.Nothing)) }
+        ensures there { OnOk result (AreThere self.now done.new.1) }
     {
-        let a = self.variable(a)?;
-        Ok(Done::of_one(planned, a))
+        done.read(self.variable(a)?);
+        Ok(())
     }
 
     /// Of two.
     #[inline(never)]
-    fn two(&self, planned: PlanCommand, a: &Name, b: &Name) -> Result<Done, NoMemory>
-        ensures said { IfOk result (λ d. d ≡ (planned, values_of (receivers self.now.plan.jobs) self.now.history (a.now ∷ b.now ∷ []), Answer.Nothing)) }
-        ensures there { IfOk result (λ d. AreThere self.now d.1) }
+    fn read_two(&self, done: &mut Done, a: &Name, b: &Name) -> Result<(), NoMemory>
+        requires { (done.old.1 ≡ []) × (done.old.2 ≡ Answer.Nothing) }
+        ensures said { OnOk result (done.new ≡ (done.old.0, values_of (receivers self.now.plan.jobs) self.now.history (a.now ∷ b.now ∷ []), Answer.Nothing)) }
+        ensures there { OnOk result (AreThere self.now done.new.1) }
     {
-        let a = self.variable(a)?;
-        let b = self.variable(b)?;
-        Ok(Done::of_two(planned, a, b))
+        done.read(self.variable(a)?);
+        done.read(self.variable(b)?);
+        Ok(())
     }
 
     /// Of three.
     #[inline(never)]
-    fn three(&self, planned: PlanCommand, a: &Name, b: &Name, c: &Name) -> Result<Done, NoMemory>
-        ensures said { IfOk result (λ d. d ≡ (planned, values_of (receivers self.now.plan.jobs) self.now.history (a.now ∷ b.now ∷ c.now ∷ []), Answer.Nothing)) }
-        ensures there { IfOk result (λ d. AreThere self.now d.1) }
+    fn read_three(&self, done: &mut Done, a: &Name, b: &Name, c: &Name) -> Result<(), NoMemory>
+        requires { (done.old.1 ≡ []) × (done.old.2 ≡ Answer.Nothing) }
+        ensures said { OnOk result (done.new ≡ (done.old.0, values_of (receivers self.now.plan.jobs) self.now.history (a.now ∷ b.now ∷ c.now ∷ []), Answer.Nothing)) }
+        ensures there { OnOk result (AreThere self.now done.new.1) }
     {
-        let a = self.variable(a)?;
-        let b = self.variable(b)?;
-        let c = self.variable(c)?;
-        Ok(Done::of_three(planned, a, b, c))
+        done.read(self.variable(a)?);
+        done.read(self.variable(b)?);
+        done.read(self.variable(c)?);
+        Ok(())
     }
 
     /// Of four.
     #[inline(never)]
-    fn four(
+    fn read_four(
         &self,
-        planned: PlanCommand,
+        done: &mut Done,
         a: &Name,
         b: &Name,
         c: &Name,
         d: &Name,
-    ) -> Result<Done, NoMemory>
-        ensures said { IfOk result (λ d'. d' ≡ (planned, values_of (receivers self.now.plan.jobs) self.now.history (a.now ∷ b.now ∷ c.now ∷ d.now ∷ []), Answer.Nothing)) }
-        ensures there { IfOk result (λ d'. AreThere self.now d'.1) }
+    ) -> Result<(), NoMemory>
+        requires { (done.old.1 ≡ []) × (done.old.2 ≡ Answer.Nothing) }
+        ensures said { OnOk result (done.new ≡ (done.old.0, values_of (receivers self.now.plan.jobs) self.now.history (a.now ∷ b.now ∷ c.now ∷ d.now ∷ []), Answer.Nothing)) }
+        ensures there { OnOk result (AreThere self.now done.new.1) }
     {
         let a = self.variable(a)?;
         let b = self.variable(b)?;
         let c = self.variable(c)?;
         let d = self.variable(d)?;
         let values = Vec::from_array(self.alloc, [a, b, c, d])?;
-        Ok(Done::of_all(planned, Sequence::from_vec(values)))
+        done.read_all(Sequence::from_vec(values));
+        Ok(())
     }
 
     /// The value under a key of an object, if the object has it (OrdinaryGet).

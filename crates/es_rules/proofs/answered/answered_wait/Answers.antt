@@ -5,5 +5,5 @@ use Rattle.es_rules.specs.Giving.{MayGive}
 use Rattle.es_rules.proofs.Answering.{may_give_wait_result}
 use Rattle.es_rules.proofs.answered.answered_wait.Goals as goal
 
-pub done-requires : goal.done-requires
-done-requires c = subst (λ t. MayGive c.args.agent.now (Gives (Text t))) (sym c.in_ok-text_of.ensures) (may_give_wait_result c.args.agent.now c.args.ended c.requires)
+pub answered-requires-clause-gives : goal.answered-requires-clause-gives
+answered-requires-clause-gives c = subst (λ t. MayGive c.args.agent.now (Gives (Text t))) (sym c.in_ok-text.ensures) (may_give_wait_result c.args.agent.now c.args.ended c.requires.takes)
