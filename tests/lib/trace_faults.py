@@ -103,15 +103,15 @@ def of_tried(count):
             count.add(f"refused: of a caught refusal {what} {form.words}", None if said else "accepted")
 
 
-def changed(chance, form, lines):
-    """Lists of lines with one thing changed, each of which is wrong."""
+def changes(chance, form, lines):
+    """Changes of one thing, each of which is wrong: from which line to which one, and what stands there then."""
     for at, line in enumerate(lines):
-        yield [*lines[:at], *lines[at + 1:]]
-        yield [*lines[:at], line, *lines[at:]]
+        yield at, at + 1, []
+        yield at, at, [line]
         is_kept = not isinstance(form, trace_forms.Pictures) and form.is_kept(line)
         if digits := [*re.finditer(r"\d", line)] if not is_kept else []:
             where = chance.choice(digits).start()
-            yield [*lines[:at], line[:where] + str((int(line[where]) + 1) % 10) + line[where + 1:], *lines[at + 1:]]
+            yield at, at + 1, [line[:where] + str((int(line[where]) + 1) % 10) + line[where + 1:]]
 
 
 def reasons(heap, is_all, told):
@@ -143,7 +143,8 @@ def of_plan(count, chance, what, data):
         text = trace_check.written(form, turns, names, is_all, chance.choice)
         count.expect(f"{what} as the model writes it", trace_check.fault(form, turns, names, is_all, text), None)
         lines = text.splitlines()
-        for wrong in chance.sample(found := [*changed(chance, form, lines)], min(10, len(found))):
+        for begin, end, put in chance.sample(found := [*changes(chance, form, lines)], min(10, len(found))):
+            wrong = [*lines[:begin], *put, *lines[end:]]
             said = trace_check.fault(form, turns, names, is_all, "".join(f"{line}\n" for line in wrong))
             count.add(f"refused: a change of {what}", None if said else f"accepted {wrong}")
     for heap in filter(None, (turn.heap for turn in turns)):
